@@ -75,6 +75,14 @@ module misspelt(input clk, input [3:0] data, output reg [3:0] r);
 endmodule
 """
 
+# Four registers behind a decoder: two before it hold as much.
+DECODER = """
+module decoder(input clk, input [1:0] select, output reg [3:0] line);
+    initial line = 4'b0001;
+    always @(posedge clk) line <= 4'b0001 << select;
+endmodule
+"""
+
 # Two counters of the same steps, of which each rests on itself.
 TWINS = """
 module twins(

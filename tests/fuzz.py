@@ -208,6 +208,50 @@ def compare_maps(rng, comparison):
     compare_lifts(rng, comparison, data, retimed, maps[1])
 
 
+def held_stay(c, d, moved, words):
+    """Whether each latch that the words hold is a latch of the moved circuit, with its reset and name: an output of the map is that latch."""
+    held = held_latches(c, [word.removeprefix('--keep=').encode() for word in words if word.startswith('--keep=')])
+    held |= {int(word.removeprefix('--keep-latch=')) for word in words if word.startswith('--keep-latch=')}
+    places = [moved.outputs[place] for place in held]
+    if any(lit % 2 or lit == 0 or lit > 2 * moved.inputs for lit in places):
+        return False
+    return all(c.latches[place][1] == d.latches[lit // 2 - 1][1] and c.symbols['l'].get(place) in (None, d.symbols['l'].get(lit // 2 - 1))
+               for place, lit in zip(held, places))
+
+
+def moved_backward(comparison, words, data):
+    """The circuit and the map that `backward` writes, and how many latches it says that there are; None where it refuses the file."""
+    write('in', data)
+    status, out, err = ran([comparison.program, 'backward', 'in', 'other', '--map', 'map', *words])
+    if status == 1 and err.startswith(('in: NoSuchName', 'in: NoSuchLatch')):
+        return None
+    said = [line for line in out.splitlines() if line.startswith('latches ')]
+    comparison.count((status, err, len(said)) == (0, '', 1), f'backward {words} on {data}: {status} {out} {err}')
+    return (content('other'), content('map'), said[0]) if status == 0 else None
+
+
+def compare_backward(rng, comparison):
+    """What `backward` writes of a circuit, or of what `retime` writes: `check` and the checker of maps accept its map, it is the same under
+    random sequences, and it has the latches that it says, no more than before; bounds hold, and held latches stay."""
+    c = random_files.tree(rng) if rng.random() < 0.5 else random_files.circuit(rng, 3, 5, 9)
+    data = random_files.any_file(rng, c)
+    if rng.random() < 0.5:
+        data = comparison.run(['retime', 'in', 'OUT'], {'in': data}) or data
+    c = read(data)[0]
+    words = [word for word in options(rng, c)[2:] if word not in ('--near', '--merge')]
+    moved = moved_backward(comparison, words, data)
+    if not moved:
+        return
+    d, m = read(moved[0])[0], read(moved[1])[0]
+    what = f'backward {words} on {data}: {moved}'
+    comparison.count(moved[2] == f'latches {len(c.latches)} to {len(d.latches)}' and len(d.latches) <= len(c.latches), f'latches, {what}')
+    comparison.count(ran([comparison.program, 'check', 'other', 'in', 'map']) == (0, 'retiming\n', ''), f'check, {what}')
+    comparison.count(map_checker.Judge().shows(*map(map_checker.read_circuit, (moved[0], data, moved[1]))), f'the checker of maps, {what}')
+    comparison.count(ran([comparison.program, 'same', 'in', 'other', *random_sequences(rng)]) == (0, 'same\n', ''), f'same, {what}')
+    comparison.count(keeps_bound(c, words, moved[0]), f'levels, {what}')
+    comparison.count(held_stay(c, d, m, words), f'held latches, {what}')
+
+
 def compare_merging(rng, comparison):
     """A circuit with a line of latches, and mostly with copies, whose latches are merged: that what is written is that of the reference, and
     that it is the same under random sequences."""
@@ -263,13 +307,14 @@ def named(rng, c, d):
 
 
 def compare_products(comparison, words, files):
-    """What `miter --certificate` writes: both circuits side by side, and the certificate."""
-    comparison.run(['miter', 'in', 'other', 'map', 'OUT', '--certificate', 'CERT', *words], files)
-    both = [content(name) for name in ('reference.cert', 'program.cert')]
-    comparison.count(both[0] == both[1], f'miter --certificate {words} on {files}\n{both}')
-    for name in ('reference.cert', 'program.cert'):
-        with contextlib.suppress(FileNotFoundError):
-            os.remove(name)
+    """What `product` writes, and `miter` with the option of that: both circuits side by side, and the certificate."""
+    for command, option in (('product', []), ('miter', ['--certificate'])):
+        comparison.run([command, 'in', 'other', 'map', 'OUT', *option, 'CERT', *words], files)
+        both = [content(name) for name in ('reference.cert', 'program.cert')]
+        comparison.count(both[0] == both[1], f'{command} {words} on {files}\n{both}')
+        for name in ('reference.cert', 'program.cert'):
+            with contextlib.suppress(FileNotFoundError):
+                os.remove(name)
 
 
 def compare_miters(rng, comparison, data, retimed, map_data):
@@ -376,13 +421,13 @@ def compare_with_one_worker(comparison, family):
 def compare_all(comparison, count, rng):
     """All comparisons, in the current folder: a small circuit of each family of bench/families.py; large ones, on which crews are
     compared with one worker; then small circuits with all sections in both spellings, pipelines of several frames, damaged files,
-    certificates, maps of states, and merged latches."""
+    certificates, maps of states, merged latches, and moves backward."""
     for family in FAMILIES:
         compare_crews(comparison, circuit_of(family))
     for family in LARGE:
         compare_with_one_worker(comparison, family)
     for k in range(count):
-        several = [compare_small, compare_small, compare_two, compare_damaged, compare_certificates, compare_maps, compare_merging]
+        several = [compare_small, compare_small, compare_two, compare_damaged, compare_certificates, compare_maps, compare_merging, compare_backward]
         compare = rng.choice(several) if k % 10 != 9 else compare_pipeline
         compare(rng, comparison)
 

@@ -3,6 +3,7 @@
     import fretime
     answer = fretime.retime(circuit)       # bytes of an .aig or .aag file
     answer.circuit, answer.frames, answer.report
+    fretime.backward(answer.circuit).circuit            # latches moved back over gates
     fretime.run(['stat', '-'], circuit).output          # any other command
 
 The program is the one beside this module, as a wheel has it, else the one on the path; `FRETIME` in the environment names another.
@@ -55,6 +56,26 @@ class Retimed:
 
 
 @dataclasses.dataclass(frozen=True)
+class FrameBack:
+    """A move of latches backward: the latches that may move before and after it, the gates that they moved over, and the variables that
+    have two latches then."""
+    before: int
+    after: int
+    gates: int
+    doubled: int
+
+
+@dataclasses.dataclass(frozen=True)
+class MovedBack:
+    """The circuit that was written, its frames, the report of `backward --json` as a dictionary (`docs/reports.schema.json`), and the
+    map of its states to those of the circuit that was given, where it was asked for (`docs/STATE_MAPS.md`)."""
+    circuit: bytes
+    frames: tuple[FrameBack, ...]
+    report: dict[str, Any]
+    map: bytes | None = None
+
+
+@dataclasses.dataclass(frozen=True)
 class Ran:
     """How a command ended: its exit status, and what it printed on standard output and on standard error."""
     status: int
@@ -100,6 +121,15 @@ def run(words: Iterable[str | os.PathLike[str]], input: bytes = b'', *, seconds:
     return Ran(ran.returncode, ran.stdout, ran.stderr)
 
 
+def choices(keep: Iterable[str], keep_latch: Iterable[int], frames: int | None, levels: int | None, no_longer: bool,
+            ascii: bool | None) -> list[str]:
+    """The options that `retime` and `backward` share."""
+    words = [f'--keep={name}' for name in keep] + [f'--keep-latch={place}' for place in keep_latch]
+    words += [] if frames is None else ['--frames', str(frames)]
+    words += ['--no-longer'] * no_longer + ([] if levels is None else ['--levels', str(levels)])
+    return words + ([] if ascii is None else ['--ascii' if ascii else '--binary'])
+
+
 def retime(circuit: bytes, *, near: bool = False, merge: bool = False, keep: Iterable[str] = (), keep_latch: Iterable[int] = (),
            frames: int | None = None, levels: int | None = None, no_longer: bool = False, workers: int = 1, ascii: bool | None = None,
            certificates: bool = False, map: bool = False, seconds: float | None = None) -> Retimed:
@@ -112,11 +142,7 @@ def retime(circuit: bytes, *, near: bool = False, merge: bool = False, keep: Ite
     subprocess.TimeoutExpired. A circuit that is refused, a name or place of no latch, or want of memory raises RetimeError.
     """
     words = ['retime', '-', '-', '--json', '--quiet', '--workers', str(workers)]
-    words += ['--near'] * near + ['--merge'] * merge
-    words += [f'--keep={name}' for name in keep] + [f'--keep-latch={place}' for place in keep_latch]
-    words += [] if frames is None else ['--frames', str(frames)]
-    words += ['--no-longer'] * no_longer + ([] if levels is None else ['--levels', str(levels)])
-    words += [] if ascii is None else ['--ascii' if ascii else '--binary']
+    words += ['--near'] * near + ['--merge'] * merge + choices(keep, keep_latch, frames, levels, no_longer, ascii)
     with tempfile.TemporaryDirectory(prefix='fretime-') as folder:
         text, states = pathlib.Path(folder, 'certificates'), pathlib.Path(folder, 'map')
         words += ['--cert', str(text)] * certificates + ['--map', str(states)] * map
@@ -126,6 +152,22 @@ def retime(circuit: bytes, *, near: bool = False, merge: bool = False, keep: Ite
             raise refused(ran, report)
         taken = tuple(Frame(**frame) for frame in report['frames'])
         return Retimed(ran.output, taken, text.read_bytes() if certificates else None, report, states.read_bytes() if map else None)
+
+
+def backward(circuit: bytes, *, keep: Iterable[str] = (), keep_latch: Iterable[int] = (), frames: int | None = None,
+             levels: int | None = None, no_longer: bool = False, ascii: bool | None = None, map: bool = False,
+             seconds: float | None = None) -> MovedBack:
+    """The circuit with its latches moved backward, frame by frame, until no move leaves fewer; best of a circuit that `retime` wrote.
+    The options and errors are those of `retime`."""
+    words = ['backward', '-', '-', '--json', *choices(keep, keep_latch, frames, levels, no_longer, ascii)]
+    with tempfile.TemporaryDirectory(prefix='fretime-') as folder:
+        states = pathlib.Path(folder, 'map')
+        ran = run(words + ['--map', str(states)] * map, circuit, seconds=seconds)
+        report = report_of(ran.messages)
+        if ran.status != 0 or report is None:
+            raise refused(ran, report)
+        taken = tuple(FrameBack(**frame) for frame in report['frames'])
+        return MovedBack(ran.output, taken, report, states.read_bytes() if map else None)
 
 
 def main() -> None:

@@ -10,6 +10,7 @@ PATHS = {
     'convert': (('IN', ORIGINAL), ('OUT', REMADE)),
     'sim': (('IN', READ), ('STIM', READ)),
     'miter': (('IN', READ), ('OUT', READ), ('MAP', ORIGINAL), ('MITER', REMADE)),
+    'product': (('IN', READ), ('OUT', READ), ('MAP', ORIGINAL), ('MODEL', REMADE), ('CERT', WRITTEN)),
     'lift': (('IN', READ), ('OUT', READ), ('MAP', READ), ('CERT', ORIGINAL), ('RESULT', REMADE)),
     'dot': (('IN', READ), ('OUT', WRITTEN)),
 }

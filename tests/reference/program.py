@@ -17,16 +17,17 @@ from reference.simulation import difference_text, is_too_long, random_stimulus, 
 from reference.waves import dump
 from reference.witnesses import carried_text
 
-PATHS = {'retime': 2, 'batch': 1, 'stat': 1, 'convert': 2, 'sim': 2, 'same': 3, 'verify': 2, 'check': 3, 'miter': 4, 'lift': 5, 'dot': 2,
+PATHS = {'retime': 2, 'batch': 1, 'stat': 1, 'convert': 2, 'sim': 2, 'same': 3, 'verify': 2, 'check': 3, 'miter': 4, 'product': 5, 'lift': 5, 'dot': 2,
          'witness': 3}
 OPTIONS = {'retime': {'--ascii', '--binary', '--workers', '--frames', '--near', '--merge', '--levels', '--no-longer', '--keep', '--keep-latch', '--cert', '--map',
                       '--progress', '--quiet'},
            'verify': {'--keep', '--keep-latch', '--merge', '--levels', '--no-longer', '--out'},
            'dot': {'--frame', '--merge', '--keep', '--keep-latch', '--around', '--depth'},
            'batch': {'--ascii', '--binary', '--workers', '--frames', '--near', '--merge', '--levels', '--no-longer'}, 'convert': {'--ascii', '--binary'},
-           'miter': {'--ascii', '--binary', '--certificate'}, 'lift': {'--ascii', '--binary'}, 'stat': {'--merge'}, 'witness': {'--merge'}, 'sim': {'--random', '--steps', '--seed', '--vcd'},
+           'miter': {'--ascii', '--binary', '--certificate'}, 'product': {'--ascii', '--binary'}, 'lift': {'--ascii', '--binary'}, 'stat': {'--merge'}, 'witness': {'--merge'}, 'sim': {'--random', '--steps', '--seed', '--vcd'},
            'same': {'--random', '--steps', '--seed', '--kept'}}
-WRITING = {'retime', 'convert', 'dot', 'miter', 'lift'}
+# How many of the last paths of a command are written.
+WRITING = {'retime': 1, 'convert': 1, 'dot': 1, 'miter': 1, 'product': 2, 'lift': 1}
 GREATEST = {'--workers': 64, '--frames': 2**28, '--keep-latch': 2**28 - 1, '--depth': 100, '--random': 2**20, '--steps': 2**22, '--seed': 2**32 - 1, '--levels': 2**32 - 1}
 LEAST = {'--seed': 0, '--keep-latch': 0, '--levels': 0}
 VALUED = {'--workers', '--frames', '--levels', '--keep', '--keep-latch', '--cert', '--map', '--out', '--certificate', '--around', '--depth', '--random',
@@ -109,7 +110,7 @@ def arguments(words):
         raise Ends(2, 'error: a depth of no neighbourhood')
     if command == 'dot' and '--merge' in options and '--frame' not in options:
         raise Ends(2, 'error: --merge without --frame')
-    outputs = paths[-1:] if command in WRITING else []
+    outputs = paths[len(paths) - WRITING.get(command, 0):]
     if (paths[:len(paths) - len(outputs)] + options.get('--kept', []) + options.get('--out', [])).count('-') > 1:
         raise Ends(2, 'error: standard input is read once')
     printed = ['-'] if command == 'sim' else []
@@ -351,12 +352,13 @@ def asked(paths, options):
     if not are_fitting(c[0], d[0], m[0]):
         return 1, 'shapes differ\n'
     spelling = letters_of(options, m[1])
-    if '--certificate' not in options:
+    certificates_to = options.get('--certificate', []) + paths[4:]
+    if not certificates_to:
         write(paths[3], text(miter(c[0], d[0], m[0]), spelling))
         return 0, ''
     model, witness_circuit = (text(product(c[0], d[0], m[0], is_model), spelling) for is_model in (True, False))
     write(paths[3], model)
-    write(options['--certificate'][0], witness_circuit)
+    write(certificates_to[0], witness_circuit)
     return 0, ''
 
 
@@ -416,7 +418,7 @@ def witness(paths, options):
 
 
 COMMANDS = {'retime': retime, 'batch': batch, 'stat': stat, 'convert': convert, 'sim': sim, 'same': same, 'verify': verify,
-            'check': check, 'miter': asked, 'lift': lift, 'dot': dot, 'witness': witness}
+            'check': check, 'miter': asked, 'product': asked, 'lift': lift, 'dot': dot, 'witness': witness}
 
 
 def run(words):

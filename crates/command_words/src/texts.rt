@@ -231,9 +231,9 @@ one to those of the other, as 'retime --map' writes it, and writes a model and a
 certificate for it, in the spelling of MAP if none is chosen.
 
 MODEL is IN and OUT side by side, under the same inputs. It is bad if a property
-of theirs differs. CERT is the same with an inductive invariant by MAP: a witness
-circuit for MODEL, as of 'lift'. If MAP shows that OUT is a retiming of IN, CERT
-passes the five checks for MODEL, as any SAT solver can find.";
+of theirs differs. CERT is the same with an inductive invariant by MAP: it is a
+witness circuit for MODEL, as of 'lift'. If MAP shows that OUT is a retiming of
+IN, CERT passes the five checks for MODEL, as any SAT solver can find.";
 
 pub(crate) const PRODUCT_EXAMPLE: &str = "Example:
   fretime retime counter.aag smaller.aag --map counter.map
@@ -290,7 +290,7 @@ Exit status: 0 done, 1 IN is no circuit, 2 command line, 3 device, 4 out of
 memory.";
 
 pub(crate) const CONVERT_ABOUT: &str =
-    "Writes a circuit as it was read; without a flag in the other spelling";
+    "Writes a circuit as it was read; without a flag in the other format";
 
 pub(crate) const SIM_ABOUT: &str = "Prints the values of all properties under a stimulus";
 

@@ -3,10 +3,10 @@ use Rattle.std.specs.Prelude.{ℕ, ◌≡◌, ◌⊎◌, Bool, true, false, List
 use Rattle.std.specs.Borrow.{Bor}
 use Rattle.std.specs.Str.{bytes_eq}
 use Rattle.counted_io.specs.Output.{Output}
-use Rattle.command_line.specs.StreamUses.{takes_stdout}
+use Rattle.command_line.specs.StreamUses.{moving_takes_stdout, takes_stdout}
 use Rattle.command_line.specs.declared.task.Drawing.{Drawing}
 use Rattle.command_line.specs.declared.task.Task.{Task}
-use Rattle.command_line.specs.declared.task.Task.TheVariants.{Retime, Batch, Stat, Convert, Sim, Same, Verify, Check, Miter, Lift, Dot, Witness, Explain}
+use Rattle.command_line.specs.declared.task.Task.TheVariants.{Retime, Backward, Batch, Stat, Convert, Sim, Same, Verify, Check, Miter, Product, Lift, Dot, Witness, Explain}
 use Rattle.circuit_files.specs.Codes.{status_of}
 use Rattle.circuit_files.specs.Outcomes.{outcome_of}
 use Rattle.circuit_files.specs.declared.outcome.Outcome.{Outcome}
@@ -36,6 +36,7 @@ if_json json name = if json then Some name else None
 -- the name of a task's command, where its failures are printed as objects; a batch prints its own
 abbrev pub object_command : Task → Option (List ℕ)
 object_command (Retime retiming) = if_json retiming.json (codes "retime")
+object_command (Backward moving) = if_json moving.json (codes "backward")
 object_command (Stat counting) = if_json counting.json (codes "stat")
 object_command (Same comparison) = if_json comparison.json (codes "same")
 object_command (Verify verification) = if_json verification.json (codes "verify")
@@ -44,6 +45,7 @@ object_command (Convert input output spelling) = None
 object_command (Sim simulation) = None
 object_command (Check checking) = None
 object_command (Miter asking) = None
+object_command (Product asking) = None
 object_command (Lift lifting) = None
 object_command (Dot drawing) = None
 object_command (Witness carrying) = None
@@ -52,6 +54,7 @@ object_command (Explain name) = None
 -- whether objects go to standard error, since standard output is given a circuit or certificates
 abbrev pub prints_aside : Task → Bool
 prints_aside (Retime retiming) = takes_stdout retiming
+prints_aside (Backward moving) = moving_takes_stdout moving
 prints_aside (Batch batch) = false
 prints_aside (Stat counting) = false
 prints_aside (Convert input output spelling) = false
@@ -60,6 +63,7 @@ prints_aside (Same comparison) = false
 prints_aside (Verify verification) = false
 prints_aside (Check checking) = false
 prints_aside (Miter asking) = false
+prints_aside (Product asking) = false
 prints_aside (Lift lifting) = false
 prints_aside (Dot drawing) = false
 prints_aside (Witness carrying) = false

@@ -6,7 +6,7 @@ use Rattle.reports.specs.Differences.{shapes_text}
 use Rattle.json_reports.specs.Differences.{shapes_data}
 use Rattle.json_reports.specs.Lines.{json_line}
 use Rattle.command_line.specs.declared.task.Task.{Task}
-use Rattle.command_line.specs.declared.task.Task.TheVariants.{Retime, Batch, Stat, Convert, Sim, Same, Verify, Check, Miter, Lift, Dot, Witness, Explain}
+use Rattle.command_line.specs.declared.task.Task.TheVariants.{Retime, Backward, Batch, Stat, Convert, Sim, Same, Verify, Check, Miter, Product, Lift, Dot, Witness, Explain}
 use Rattle.circuit_files.specs.Codes.{status_of}
 use Rattle.circuit_files.specs.Outcomes.{outcome_of}
 use Rattle.circuit_files.specs.declared.outcome.Outcome.{Outcome}
@@ -16,6 +16,7 @@ use Rattle.simulation_commands.specs.Comparing.{PrintsFinding}
 use Rattle.map_commands.specs.Checking.{PrintsCheck}
 use Rattle.map_commands.specs.Products.{PrintsAsked}
 use Rattle.map_commands.specs.Lifted.{PrintsLift}
+use Rattle.backward_commands.specs.Moving.{PrintsMoves}
 use Rattle.commands.specs.Drawings.{PrintsPicture}
 use Rattle.simulation_commands.specs.Fates.{PrintsFate}
 use Rattle.commands.specs.Pipes.{Converts, IsPipe, PrintsRetiming, WritesPipe}
@@ -39,6 +40,7 @@ MayGive (Err failure) old new = Prints (outcome_of failure) old new
 abbrev pub Does : (List ℕ → List ℕ → Type 0) → Task → Bool → Input → Input → Output → Output → Output → Outcome → Type 0
 Does FileGiven (Retime retiming) is_terminal before after old new said ended = PrintsRetiming FileGiven retiming is_terminal before old new said (Ok ended)
     × (IsPipe retiming → WritesPipe retiming before old new)
+Does FileGiven (Backward moving) is_terminal before after old new said ended = PrintsMoves FileGiven moving before after old new said ended
 Does FileGiven (Batch batch) is_terminal before after old new said ended = PrintsList batch.json ended old new
 Does FileGiven (Stat counting) is_terminal before after old new said ended = PrintsStatistics counting before after old new ended
 Does FileGiven (Convert input output spelling) is_terminal before after old new said ended = Converts FileGiven spelling input output before old new
@@ -47,6 +49,7 @@ Does FileGiven (Same comparison) is_terminal before after old new said ended = P
 Does FileGiven (Verify verification) is_terminal before after old new said ended = PrintsAuditOf verification before after old new ended
 Does FileGiven (Check checking) is_terminal before after old new said ended = PrintsCheck checking before after old new ended
 Does FileGiven (Miter asking) is_terminal before after old new said ended = PrintsAsked FileGiven asking.certificate asking before after old new ended
+Does FileGiven (Product asking) is_terminal before after old new said ended = PrintsAsked FileGiven asking.certificate asking before after old new ended
 Does FileGiven (Lift lifting) is_terminal before after old new said ended = PrintsLift FileGiven lifting before after old new ended
 Does FileGiven (Dot drawing) is_terminal before after old new said ended = PrintsPicture FileGiven drawing before after old new ended
 Does FileGiven (Witness carrying) is_terminal before after old new said ended = PrintsFate carrying before after old new ended

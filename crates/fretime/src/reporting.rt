@@ -75,6 +75,7 @@ fn command_with_objects(task: &Task<'_>) -> Option<&'static str>
 {
     match task {
         Task::Retime(retiming) if retiming.json => Some("retime"),
+        Task::Backward(moving) if moving.json => Some("backward"),
         Task::Stat(counting) if counting.json => Some("stat"),
         Task::Same(comparison) if comparison.json => Some("same"),
         Task::Verify(verification) if verification.json => Some("verify"),
@@ -88,6 +89,7 @@ fn prints_aside(task: &Task<'_>) -> bool
 {
     match task {
         Task::Retime(retiming) => retiming.takes_stdout(),
+        Task::Backward(moving) => moving.takes_stdout(),
         _ => false,
     }
 }

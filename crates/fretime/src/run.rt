@@ -16,6 +16,7 @@ use crate::clashes::clash_error;
 use crate::explaining::explain;
 use crate::name_files::{name_files, tell_returns_of, words_with_names};
 use crate::reporting::{report_failure, reported};
+use backward_commands::print_moves;
 use circuit_files::{Failure, Outcome};
 use clap::Error;
 use clap::error::ErrorKind;
@@ -77,6 +78,7 @@ fn run_task<
         Task::Retime(retiming) => {
             print_retimed(rt, alloc, retiming, is_terminal, stdin, out, err)
         }
+        Task::Backward(moving) => print_moves(rt, alloc, moving, stdin, out, err),
         Task::Batch(batch) => { Ok(retime_list(rt, alloc, batch, is_terminal, stdin, out, err)) }
         Task::Stat(counting) => print_statistics(rt, alloc, counting, stdin, out),
         Task::Convert(input, output, spelling) => {
@@ -89,6 +91,7 @@ fn run_task<
         }
         Task::Check(checking) => print_check(rt, alloc, checking, stdin, out),
         Task::Miter(asking) => write_miter(rt, alloc, asking, stdin, out),
+        Task::Product(asking) => write_miter(rt, alloc, asking, stdin, out),
         Task::Lift(lifting) => write_lifted(rt, alloc, lifting, stdin, out),
         Task::Dot(drawing) => { write_picture(rt, alloc, drawing, is_terminal, stdin, out, err) }
         Task::Witness(carrying) => print_witness_back(rt, alloc, carrying, stdin, out),

@@ -32,9 +32,13 @@ pub(crate) fn is_written(task: &Task<'_>, path: &str) -> bool {
             let beside = is_to_some(retiming.certificates, path) || is_to_some(retiming.map, path);
             !is_from(retiming.input, path) && (is_to(retiming.output, path) || beside)
         }
+        Task::Backward(moving) => {
+            let written = is_to(moving.output, path) || is_to_some(moving.map, path);
+            !is_from(moving.input, path) && written
+        }
         Task::Convert(input, output, _) => !is_from(*input, path) && is_to(*output, path),
         Task::Sim(simulation) => is_to_some(simulation.waves, path),
-        Task::Miter(asking) => {
+        Task::Miter(asking) | Task::Product(asking) => {
             let beside = is_to_some(asking.certificate, path);
             !is_from(asking.input, path) && (is_to(asking.output, path) || beside)
         }

@@ -18,6 +18,9 @@ returns-in-Retime-clause-does g c =
 pub returns-in-Retime-clause-prints : goal.returns-in-Retime-clause-prints
 returns-in-Retime-clause-prints g c = by_command c.print_retimed.result _ _ c.print_retimed.ensures.prints
 
+pub returns-in-Backward-clause-prints : goal.returns-in-Backward-clause-prints
+returns-in-Backward-clause-prints g c = by_command c.print_moves.result _ _ c.print_moves.ensures.prints
+
 pub returns-in-Batch-clause-prints : goal.returns-in-Batch-clause-prints
 returns-in-Batch-clause-prints g c = by_batch c.in-Batch.batch.json c.retime_list.result _ _ c.retime_list.ensures
 
@@ -41,6 +44,9 @@ returns-in-Check-clause-prints g c = by_command c.print_check.result _ _ c.print
 
 pub returns-in-Miter-clause-prints : goal.returns-in-Miter-clause-prints
 returns-in-Miter-clause-prints g c = by_command c.write_miter.result _ _ c.write_miter.ensures.prints
+
+pub returns-in-Product-clause-prints : goal.returns-in-Product-clause-prints
+returns-in-Product-clause-prints g c = by_command c.write_miter-in-Product.result _ _ c.write_miter-in-Product.ensures.prints
 
 pub returns-in-Lift-clause-prints : goal.returns-in-Lift-clause-prints
 returns-in-Lift-clause-prints g c = by_command c.write_lifted.result _ _ c.write_lifted.ensures.prints
