@@ -7,7 +7,7 @@ pub(crate) const LONG_ABOUT: &str =
 
 Circuits are files in the formats of AIGER 1.9, ASCII (aag) or binary (aig).
 
-'-' is standard input where a file is read, and standard output where a file is
+'-' is standard input when a file is read, and standard output when a file is
 written. A file of that name is './-'.
 
 What is written has a file of its own, by whatever paths files are named. A
@@ -32,7 +32,7 @@ long as that leaves fewer, and writes it.
 
 Only latches with a known reset (0 or 1) move. A netlist from RTL without
 initial values has none, and nothing moves then: give the registers initial
-values, or, where the reset sequence makes that right, set them to zero
+values, or, if the reset sequence makes that right, set them to zero
 (`setundef -init -zero` in Yosys, before `write_aiger`).
 
 With --merge, latches that always agree, or that never change, are merged once
@@ -57,7 +57,7 @@ With --map, MAP gets a circuit whose inputs are the latches of IN and whose
 outputs are those of OUT: step for step each latch of OUT holds what its output
 says, wherever the constraints of MAP are 1, which they always are. So a SAT
 solver can check the run, and what is proved of OUT is carried back to IN.
-Nothing is written where MAP would have too many variables.
+Nothing is written if MAP would have too many variables.
 
 Where OUT, MAP or FILE is '-', standard output, the lines that are printed go to
 standard error.
@@ -202,22 +202,22 @@ pub(crate) const MITER_ABOUT: &str = "Writes what a map of states has to meet as
 pub(crate) const MITER_LONG_ABOUT: &str =
     "Reads a circuit, the circuit that was made of it, and a map of the states of the
 one to those of the other, as 'retime --map' writes it, and writes a circuit
-without latches that is 1 where the map fails, in the spelling of MAP where none
+without latches that is 1 if the map fails, in the format of MAP if none
 is chosen. Its inputs are those of IN, then one for what each latch of IN holds.
 
-It has four outputs. 'reset' is 1 where from a first state of IN a constraint of
-MAP doesn't hold or MAP gives no first state of OUT; the others where the
-constraints of MAP hold: 'keep' where after a step they don't, 'next' where MAP
-then gives another state than the step of OUT, 'read' where a property of OUT
-isn't that of IN. So MAP shows that OUT is a retiming of IN where no output is
+It has four outputs. 'reset' is 1 if from a first state of IN a constraint of
+MAP doesn't hold or MAP gives no first state of OUT; the others if the
+constraints of MAP hold: 'keep' if after a step they don't, 'next' if MAP
+then gives another state than the step of OUT, 'read' if a property of OUT
+isn't that of IN. So MAP shows that OUT is a retiming of IN if no output is
 ever 1, as any SAT solver or equivalence checker can find.";
 
 pub(crate) const MITER_EXAMPLE: &str = "Example:
   fretime retime counter.aag smaller.aag --map counter.map
   fretime miter counter.aag smaller.aag counter.map counter.aig --binary
 
-MITER is made at its first byte: where something is refused, it stays as it was.
-'shapes differ' is printed where IN, OUT and MAP don't fit together.
+MITER is made at its first byte: if something is refused, it stays as it was.
+'shapes differ' is printed if IN, OUT and MAP don't fit together.
 
 Exit status: 0 done, 1 a file is refused, MAP is no map, or shapes differ,
 2 command line, 3 device, 4 out of memory.";
@@ -228,7 +228,7 @@ pub(crate) const PRODUCT_ABOUT: &str =
 pub(crate) const PRODUCT_LONG_ABOUT: &str =
     "Reads a circuit, the circuit that was made of it, and a map of the states of the
 one to those of the other, as 'retime --map' writes it, and writes a model and a
-certificate for it, in the spelling of MAP if none is chosen.
+certificate for it, in the format of MAP if none is chosen.
 
 MODEL is IN and OUT side by side, under the same inputs. It is bad if a property
 of theirs differs. CERT is the same with an inductive invariant by MAP: it is a
@@ -253,14 +253,14 @@ pub(crate) const LIFT_LONG_ABOUT: &str =
     "Reads a circuit, the circuit that was made of it, a map of the states of the one
 to those of the other, as 'retime --map' writes it, and a witness circuit for
 the second: what a model checker hands in to show that no bad state is reached.
-It writes the witness circuit for the first, in the spelling of CERT where none
+It writes the witness circuit for the first, in the format of CERT if none
 is chosen.
 
 A witness circuit is a certificate of the hardware model checking competition. A
 name '= 12' of an input or a latch says that it is the one of OUT with the
-literal 12; where no name says so, the first ones are those of OUT, in order.
+literal 12; if no name says so, the first ones are those of OUT, in order.
 RESULT has the inputs and latches of IN, and then CERT's own. Literals are those
-of binary files: 'convert' gives IN these, where another tool wrote it in ASCII.
+of binary files: 'convert' gives IN these, if another tool wrote it in ASCII.
 
 Where MAP is a map and CERT passes the five checks for OUT, RESULT passes them
 for IN, as any SAT solver can find; neither is checked here. 'check' checks the
@@ -270,8 +270,8 @@ pub(crate) const LIFT_EXAMPLE: &str = "Example:
   fretime retime ring.aag less.aag --map ring.map
   fretime lift ring.aag less.aag ring.map less.cert ring.cert
 
-RESULT is made at its first byte: where something is refused, it stays as it
-was. 'shapes differ' is printed where IN, OUT and MAP don't fit together.
+RESULT is made at its first byte: if something is refused, it stays as it
+was. 'shapes differ' is printed if IN, OUT and MAP don't fit together.
 
 Exit status: 0 done, 1 a file is refused, MAP is no map, CERT names what OUT
 hasn't, or shapes differ, 2 command line, 3 device, 4 out of memory.";
@@ -279,7 +279,7 @@ hasn't, or shapes differ, 2 command line, 3 device, 4 out of memory.";
 pub(crate) const STAT_ABOUT: &str = "Counts what a circuit has, as it was read";
 
 pub(crate) const STAT_EXAMPLE: &str =
-    "Latches are free where they have no known reset; free latches never move.
+    "Latches are free if they have no known reset; free latches never move.
 
 With --merge two last lines say how many latches 'retime --merge' would merge,
 and how many of these never change:
@@ -317,7 +317,7 @@ circuits differ.
 Without a stimulus at hand: --random 256 --steps 1000. 'sim' with the same
 numbers takes the same sequences.
 
-Where 'retime' left free latches out, B has fewer. LIST has the place of each of
+If 'retime' left free latches out, B has fewer. LIST has the place of each of
 B's among those of A, from 0, a line each, in order:
   fretime retime a.aag b.aag --json | jq '.free_kept[]' > kept
   fretime same a.aag b.aag --kept kept --random 256
@@ -332,11 +332,11 @@ pub(crate) const DOT_LONG_ABOUT: &str =
 -Tsvg OUT` draws it.
 
 Inputs are tags, latches boxes with their reset beside them, free latches
-dashed, held ones with a double line; gates are circles, gray where no latch can
+dashed, held ones with a double line; gates are circles, gray if no latch can
 move over them; outputs and other properties are notes. An edge with a dot is a
 negation. Names are those of the file.
 
-With --frame the circuit is cleaned first, and merged where --merge is given, as
+With --frame the circuit is cleaned first, and merged if --merge is given, as
 'retime' does; the gates over which 'retime' moves latches next are shaded, and
 what holds a latch afterwards has a bold line.
 
