@@ -42,4 +42,6 @@ mod tables;
 #[cfg(test)]
 mod watched;
 #[cfg(test)]
+mod wide_runs;
+#[cfg(test)]
 mod workers;

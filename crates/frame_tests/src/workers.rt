@@ -14,7 +14,7 @@ const TURNS: u64 = 1 << 28;
 
 /// In the first two phases a worker is held until the other one has left the phase.
 #[derive(Drop)]
-struct HeldGate {
+pub(crate) struct HeldGate {
     held: u32,
     /// Whether the other worker has left the read phase, and the delivery phase.
     left_read: AtomicU64,
@@ -26,7 +26,7 @@ struct HeldGate {
 }
 
 impl HeldGate {
-    fn new(held: u32) -> HeldGate {
+    pub fn new(held: u32) -> HeldGate {
         HeldGate {
             held,
             left_read: AtomicU64::new(0),
@@ -54,6 +54,14 @@ impl HeldGate {
             }
         }
         self.in_vain.fetch_add(1, Ordering::SeqCst);
+    }
+
+    /// Whether both workers were in the first phase, and none was held in vain.
+    pub fn saw_both_in_first(&self) -> bool {
+        self.left_read.load(Ordering::SeqCst) > 0
+            && self.passed.load(Ordering::SeqCst) >= 1
+            && self.left.load(Ordering::SeqCst) >= 1
+            && self.in_vain.load(Ordering::SeqCst) == 0
     }
 
     /// Whether both workers were in both phases, and none was held in vain.
