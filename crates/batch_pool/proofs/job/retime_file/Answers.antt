@@ -22,6 +22,7 @@ returns-in-Err g c =
       read = facts.read;
       circuit = facts.circuit;
       answer = tt;
+      levels = tt;
       unread = facts.unread;
       missing = facts.missing;
       unwritten = facts.unwritten;
