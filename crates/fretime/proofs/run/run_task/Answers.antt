@@ -37,7 +37,7 @@ pub returns-in-Same-clause-prints : goal.returns-in-Same-clause-prints
 returns-in-Same-clause-prints g c = by_command c.print_comparison.result _ _ c.print_comparison.ensures.prints
 
 pub returns-in-Verify-clause-prints : goal.returns-in-Verify-clause-prints
-returns-in-Verify-clause-prints g c = by_command c.print_verification.result _ _ c.print_verification.ensures.prints
+returns-in-Verify-clause-prints g c = by_command c.verify.result _ _ c.verify.ensures.prints
 
 pub returns-in-Check-clause-prints : goal.returns-in-Check-clause-prints
 returns-in-Check-clause-prints g c = by_command c.print_check.result _ _ c.print_check.ensures.prints
