@@ -77,7 +77,11 @@ endmodule
 
 # Four registers behind a decoder: two before it hold as much.
 DECODER = """
-module decoder(input clk, input [1:0] select, output reg [3:0] line);
+module decoder(
+    input clk,
+    input [1:0] select,
+    output reg [3:0] line
+);
     initial line = 4'b0001;
     always @(posedge clk) line <= 4'b0001 << select;
 endmodule
