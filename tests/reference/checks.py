@@ -74,7 +74,7 @@ def open_constraint(literals, m):
     return next((k for k, lit in enumerate(m.constraints) if at(literals, lit) != 1), None)
 
 
-def reset_doubt(c, d, m):
+def reset_obligation(c, d, m):
     """What the map doesn't give of the first states of d: free latches are those of c, in their order."""
     own = [2 * (c.first_latch() + k) for k in range(len(c.latches))]
     free = [lit for lit, (_, reset) in zip(own, c.latches) if reset is FREE]
@@ -95,7 +95,7 @@ def unlike(question, kind, one, other):
     return next((f'{question} {kind} {k}' for k, (a, b) in enumerate(zip(one, other)) if a != b), None)
 
 
-def step_doubt(c, d, m):
+def step_obligation(c, d, m):
     """What the map doesn't keep in a step."""
     shared = learnt(c, m)
     image = shared.copied(m, shared.latches(c))
@@ -132,5 +132,5 @@ def checked(c, d, m):
     """What is printed, and the status, of a map that is one."""
     if not are_fitting(c, d, m):
         return 'shapes differ\n', 1
-    doubt = reset_doubt(c, d, m) or step_doubt(c, d, m)
-    return (f'not shown: {doubt}\n', 5) if doubt else ('retiming\n', 0)
+    obligation = reset_obligation(c, d, m) or step_obligation(c, d, m)
+    return (f'not shown: {obligation}\n', 5) if obligation else ('retiming\n', 0)

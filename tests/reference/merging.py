@@ -1,4 +1,4 @@
-"""Merging latches: those that always agree, always say the opposite, or never change, by the coarsest partition that is kept. `held` has
+"""Merging latches: those that always agree, always say the opposite, or never change, by the coarsest inductive partition. `held` has
 the positions of the latches that are held, which take no part."""
 from reference.circuit import FREE, ordered
 from reference.cleaning import cleaned, replaced, with_gates
@@ -28,7 +28,7 @@ def parted(c, classes):
 
 
 def coarsest(c, held=frozenset()):
-    """The classes of the coarsest partition that is kept: each latch that may be merged has the number of its class."""
+    """The classes of the coarsest inductive partition: each latch that may be merged has the number of its class."""
     classes = {k: CONSTANT for k, (_, reset) in enumerate(c.latches) if reset is not FREE and k not in held}
     while True:
         next_classes = parted(c, classes)

@@ -20,10 +20,10 @@ use Rattle.cleaned_circuits.proofs.PickedLaws.{count-all}
 use Rattle.cleaned_circuits.proofs.TrimmedLaws.{trimmed-first_latch, trimmed-first_gate, trimmed-end, new-less, new-from, stays-reached}
 use Rattle.cleaned_circuits.proofs.PassLaws.{IsCircuit, pass-streams, cleans-streams, IsCircuit-pass}
 use Rattle.cleaned_circuits.proofs.UnchangedLaws.{count-full, map-fixed_all, pass-unchanged}
-use Rattle.tidy.specs.Tidy.{IsTidy}
-use Rattle.tidy.proofs.PassLaws.{tidy-pass}
+use Rattle.normalised_circuits.specs.Normalised.{IsNormalised}
+use Rattle.normalised_circuits.proofs.PassLaws.{normalised-pass}
 use Rattle.clean.specs.Settled.{AreOwnLatches}
-use Rattle.clean.proofs.SettledLaws.{settled-tidy}
+use Rattle.clean.proofs.SettledLaws.{settled-normalised}
 
 -- composed with all places, a list is itself
 pub composed-all : (n : ℕ) (more : List ℕ) → All (λ place. place < n) more → composed (range_with_len 0 n) more ≡ more
@@ -227,8 +227,8 @@ settled-end held c before d kept still passed own = elim (cases_lt (latches_and_
   | inl less ↦ (
       let valid : IsCircuit d = passed-valid held c before d kept still passed in
       let in_range : All (λ j. j < length d.aig.latches) still = passed-in_range held c before d kept still passed in
-      let tidy : IsTidy still d = settled-tidy passed.from_held passed.from d passed.first still passed.valid passed.in_range passed.pass own in
-      let same : IsPass still d d (all_free d.aig) still = tidy-pass still d valid in_range tidy in
+      let normalised : IsNormalised still d = settled-normalised passed.from_held passed.from d passed.first still passed.valid passed.in_range passed.pass own in
+      let same : IsPass still d d (all_free d.aig) still = normalised-pass still d valid in_range normalised in
       let next : Passed held c (latches_and_gates d.aig) d (composed kept (all_free d.aig)) still =
       passed-more held c before d kept still passed d (all_free d.aig) (composed kept (all_free d.aig)) still less same refl in
       let places : composed kept (all_free d.aig) ≡ kept = ap (λ (n : ℕ). composed kept (range_with_len 0 n)) (sym (kept-long held c before d kept still passed)) ∙ composed-range kept in

@@ -10,7 +10,7 @@ use Rattle.aig_graph.specs.Graph.{Graph, first_latch, is_free}
 use Rattle.variable_tables.specs.Marking.{has}
 use Rattle.variable_tables.specs.Tables.{table}
 use Rattle.variable_tables.proofs.TableLaws.{entry, table-same}
-use Rattle.cleaned_circuits.specs.Latches.{constant_of, same_reset, same_latch, is_stuck, is_like, first_where, latch_substitute, leaf_substitute}
+use Rattle.cleaned_circuits.specs.Latches.{constant_of, same_reset, same_latch, is_constant_latch, is_duplicate, first_where, latch_substitute, leaf_substitute}
 use Rattle.cleaned_circuits.specs.Merged.{substitute_or_own}
 use Rattle.cleaned_circuits.proofs.LatchLaws.{first_where-cases, first_where-least, same_reset-is}
 use Rattle.clean.specs.Substitutions.{own_literals}
@@ -41,7 +41,7 @@ first-none p n none = elim (first_where-cases p n) [
 
 module _ (g : Graph) (held : List ℕ) where
   abbrev alike : Latch → ℕ → Bool
-  alike latch i = is_like g held latch i (slice_get g.latches i)
+  alike latch i = is_duplicate g held latch i (slice_get g.latches i)
 
   literal-some : (latch : Latch) (n h : ℕ) → first_where (alike latch) n ≡ h → h < n → first_literal g held latch n ≡ Some (2 * (first_latch g + h))
   unfolding first_literal
@@ -83,8 +83,8 @@ module _ (g : Graph) (held : List ℕ) where
   pub firsts-start : AreFirsts g held 0 []
   firsts-start = record { each = λ latch known. sym (literal-none latch 0 (first-none (alike latch) 0 (λ v h. absurd (omega arith)))) }
 
-  alike-here : (latch other : Latch) (n : ℕ) → slice_get g.latches n ≡ Some other → alike latch n ≡ (not (is_stuck g held n other) && same_latch latch other)
-  alike-here latch other n there = ap (is_like g held latch n) there
+  alike-here : (latch other : Latch) (n : ℕ) → slice_get g.latches n ≡ Some other → alike latch n ≡ (not (is_constant_latch g held n other) && same_latch latch other)
+  alike-here latch other n there = ap (is_duplicate g held latch n) there
 
   -- a latch that is no first one
   skipped : (n : ℕ) (entries : List (Latch × ℕ)) → ((latch : Latch) → is_free latch ≡ false → alike latch n ≡ false) → AreFirsts g held n entries → AreFirsts g held (n + 1) entries
@@ -96,10 +96,10 @@ module _ (g : Graph) (held : List ℕ) where
         ∙ or_else-none (first_literal g held latch n));
   }
 
-  -- a stuck latch adds no entry
-  pub firsts-stuck : (n : ℕ) (own : Latch) (entries : List (Latch × ℕ)) → slice_get g.latches n ≡ Some own → is_stuck g held n own ≡ true → AreFirsts g held n entries → AreFirsts g held (n + 1) entries
-  firsts-stuck n own entries there stuck firsts = skipped n entries
-      (λ latch known. alike-here latch own n there ∙ ap (λ (b : Bool). not b && same_latch latch own) stuck) firsts
+  -- a constant latch adds no entry
+  pub firsts-constant_latch : (n : ℕ) (own : Latch) (entries : List (Latch × ℕ)) → slice_get g.latches n ≡ Some own → is_constant_latch g held n own ≡ true → AreFirsts g held n entries → AreFirsts g held (n + 1) entries
+  firsts-constant_latch n own entries there constant_latch firsts = skipped n entries
+      (λ latch known. alike-here latch own n there ∙ ap (λ (b : Bool). not b && same_latch latch own) constant_latch) firsts
 
   free-apart : (r s : Reset) (a b : ℕ) → is_free (record { next = a; reset = r }) ≡ false → is_free (record { next = b; reset = s }) ≡ true → same_reset r s ≡ false
   free-apart Zero Free a b known free = refl
@@ -114,8 +114,8 @@ module _ (g : Graph) (held : List ℕ) where
   pub firsts-free : (n : ℕ) (own : Latch) (entries : List (Latch × ℕ)) → slice_get g.latches n ≡ Some own → is_free own ≡ true → AreFirsts g held n entries → AreFirsts g held (n + 1) entries
   firsts-free n own entries there free firsts = skipped n entries (λ latch known.
       alike-here latch own n there
-      ∙ ap (λ (b : Bool). not (is_stuck g held n own) && (nat_eq latch.next own.next && b)) (free-apart latch.reset own.reset latch.next own.next known free)
-      ∙ ap (λ (b : Bool). not (is_stuck g held n own) && b) (and-false (nat_eq latch.next own.next)) ∙ and-false (not (is_stuck g held n own)))
+      ∙ ap (λ (b : Bool). not (is_constant_latch g held n own) && (nat_eq latch.next own.next && b)) (free-apart latch.reset own.reset latch.next own.next known free)
+      ∙ ap (λ (b : Bool). not (is_constant_latch g held n own) && b) (and-false (nat_eq latch.next own.next)) ∙ and-false (not (is_constant_latch g held n own)))
       firsts
 
   latch-is : (latch other : Latch) → same_latch latch other ≡ true → latch ≡ other
@@ -125,8 +125,8 @@ module _ (g : Graph) (held : List ℕ) where
       let with_reset : Reset → Latch = λ r. record { next = other.next; reset = r } in
       ap with_next (eqb-true latch.next other.next parts.0) ∙ ap with_reset (same_reset-is latch.reset other.reset parts.1)
 
-  -- a known latch that isn't stuck
-  module _ (n : ℕ) (own : Latch) (there : slice_get g.latches n ≡ Some own) (sound : is_stuck g held n own ≡ false) (entries : List (Latch × ℕ)) (firsts : AreFirsts g held n entries) where
+  -- a known latch that isn't constant
+  module _ (n : ℕ) (own : Latch) (there : slice_get g.latches n ≡ Some own) (sound : is_constant_latch g held n own ≡ false) (entries : List (Latch × ℕ)) (firsts : AreFirsts g held n entries) where
     alike-own : (latch : Latch) → alike latch n ≡ same_latch latch own
     alike-own latch = alike-here latch own n there ∙ ap (λ (b : Bool). not b && same_latch latch own) sound
 
@@ -155,7 +155,7 @@ module _ (g : Graph) (held : List ℕ) where
           ∙ ap (λ (o : Option ℕ). or_else o (cond (same_latch latch own) (Some (2 * (first_latch g + n))) None)) (firsts.each latch known) ∙ sym (more-own latch);
     }
 
-    -- a known latch that isn't stuck adds an entry where it is the first of its next literal and reset
+    -- a known latch that isn't constant adds an entry where it is the first of its next literal and reset
     pub firsts-more : (after : List (Latch × ℕ)) → after ≡ entries_after entries (2 * (first_latch g + n)) own (lookup (same_latch own) entries) → AreFirsts g held (n + 1) after
     firsts-more after e = go (lookup (same_latch own) entries) refl
       where
@@ -175,20 +175,20 @@ module _ (g : Graph) (held : List ℕ) where
           | inr less ↦ ap (substitute_or_own (2 * (first_latch g + n))) (literal-some own n (first_where (alike own) n) refl less.0)
         ] in
         ap (substitute_or_own (2 * (first_latch g + n))) (firsts.each own known) ∙ here
-        ∙ sym (cond-false (is_stuck g held n own) _ _ sound ∙ cond-false (is_free own || has held n) _ _ (ap (λ (b : Bool). b || has held n) known ∙ loose))
+        ∙ sym (cond-false (is_constant_latch g held n own) _ _ sound ∙ cond-false (is_free own || has held n) _ _ (ap (λ (b : Bool). b || has held n) known ∙ loose))
 
-  -- for a stuck latch stands the constant of its reset
-  pub substitute-stuck : (n : ℕ) (own : Latch) → is_stuck g held n own ≡ true → constant_of own.reset ≡ latch_substitute g held n (Some own)
-  substitute-stuck n own stuck = sym (cond-true (is_stuck g held n own) _ _ stuck)
+  -- for a constant latch stands the constant of its reset
+  pub substitute-constant_latch : (n : ℕ) (own : Latch) → is_constant_latch g held n own ≡ true → constant_of own.reset ≡ latch_substitute g held n (Some own)
+  substitute-constant_latch n own constant_latch = sym (cond-true (is_constant_latch g held n own) _ _ constant_latch)
 
-  -- a latch that is free or held, and isn't stuck, stands for itself
-  pub substitute-fixed : (n : ℕ) (own : Latch) → is_stuck g held n own ≡ false → (is_free own || has held n) ≡ true → 2 * (first_latch g + n) ≡ latch_substitute g held n (Some own)
-  substitute-fixed n own sound fixed = sym (cond-false (is_stuck g held n own) _ _ sound ∙ cond-true (is_free own || has held n) _ _ fixed)
+  -- a latch that is free or held, and isn't constant, stands for itself
+  pub substitute-fixed : (n : ℕ) (own : Latch) → is_constant_latch g held n own ≡ false → (is_free own || has held n) ≡ true → 2 * (first_latch g + n) ≡ latch_substitute g held n (Some own)
+  substitute-fixed n own sound fixed = sym (cond-false (is_constant_latch g held n own) _ _ sound ∙ cond-true (is_free own || has held n) _ _ fixed)
 
-  -- what is told of a latch says whether it is stuck
-  pub stuck-is : (n : ℕ) (latch : Latch) (own : ℕ) (is_held told : Bool) → own ≡ 2 * (first_latch g + n) → is_held ≡ has held n
-      → told ≡ (not (is_free latch) && not is_held && (nat_eq latch.next own || nat_eq latch.next (constant_of latch.reset))) → told ≡ is_stuck g held n latch
-  stuck-is n latch own is_held told at mark e =
+  -- the test of a latch says whether it is constant
+  pub constant_latch-is : (n : ℕ) (latch : Latch) (own : ℕ) (is_held told : Bool) → own ≡ 2 * (first_latch g + n) → is_held ≡ has held n
+      → told ≡ (not (is_free latch) && not is_held && (nat_eq latch.next own || nat_eq latch.next (constant_of latch.reset))) → told ≡ is_constant_latch g held n latch
+  constant_latch-is n latch own is_held told at mark e =
       e ∙ ap (λ (b : Bool). not (is_free latch) && not b && (nat_eq latch.next own || nat_eq latch.next (constant_of latch.reset))) mark
       ∙ ap (λ (m : ℕ). not (is_free latch) && not (has held n) && (nat_eq latch.next m || nat_eq latch.next (constant_of latch.reset))) at
 

@@ -1,4 +1,4 @@
--- What a pass leaves is tidy, where each latch stands for itself.
+-- What a pass leaves is normalised, where each latch stands for itself.
 use Rattle.std.proofs.Common.{ℕ, ◌+◌, ◌-◌, ◌*◌, ◌<◌, ◌≤◌, ◌≡◌, inl, inr, List, length, map, Bool, true, ◌&&◌, Some, slice_get, get_or, arith, ap, sym, ◌∙◌, subst}
 use Rattle.std.specs.List.{All}
 use Rattle.std.proofs.lemmas.Bool.{cases_lt, and_from, and_parts}
@@ -19,9 +19,9 @@ use Rattle.cleaned_circuits.proofs.MergedLaws.{from_gate, replaced-first_gate}
 use Rattle.cleaned_circuits.proofs.PassLaws.{IsCircuit, IsCircuit-merged}
 use Rattle.cleaned_circuits.proofs.TrimmedLaws.{GateFrom, LatchFrom, fan_ins-reached, gate_from, gate_in, latch_from, latch_in, new-from, new-less, new-rises, renumbered-variable, stays-low, stays-past, stays-reached, trimmed-first_gate, trimmed-first_latch}
 use Rattle.cleaned_circuits.proofs.UnchangedLaws.{reached-own}
-use Rattle.tidy.specs.Tidy.{IsPlain, IsTidy}
-use Rattle.tidy.proofs.CleanLaws.{latches-moving, latches-single}
-use Rattle.tidy.proofs.SpotLaws.{pair-one, plain-of, same-rank}
+use Rattle.normalised_circuits.specs.Normalised.{IsPlain, IsNormalised}
+use Rattle.normalised_circuits.proofs.CleanLaws.{latches-moving, latches-single}
+use Rattle.normalised_circuits.proofs.SpotLaws.{pair-one, plain-of, same-rank}
 use Rattle.clean.specs.Settled.{AreOwnLatches}
 use Rattle.clean.proofs.PlainLaws.{pairs-own, plain-own}
 
@@ -200,9 +200,9 @@ module _ (held : List ℕ) (c : Netlist) (valid : IsCircuit c) (in_range : All (
         ]
       ]
 
--- what a pass leaves is tidy, where each of its latches stands for itself
-pub settled-tidy : (held : List ℕ) (c d : Netlist) (kept still : List ℕ) → IsCircuit c → All (λ j. j < length c.aig.latches) held → IsPass held c d kept still → AreOwnLatches d.aig still → IsTidy still d
-settled-tidy held c d kept still valid in_range pass own = record {
+-- what a pass leaves is normalised, where each of its latches stands for itself
+pub settled-normalised : (held : List ℕ) (c d : Netlist) (kept still : List ℕ) → IsCircuit c → All (λ j. j < length c.aig.latches) held → IsPass held c d kept still → AreOwnLatches d.aig still → IsNormalised still d
+settled-normalised held c d kept still valid in_range pass own = record {
   reached = λ r holds v past less.
       let e = pass.circuit in
       let P : Netlist → Type 0 = λ x. HoldsReads x.aig x.props (map (new_position m.aig s) held) r in

@@ -27,7 +27,7 @@ pub fn constant_of(reset: Reset) -> Lit
 }
 
 /// Whether the latch is known, isn't held, and reads itself or the constant of its reset.
-fn is_stuck(latch: Latch, own: Lit, is_held: bool) -> bool
+fn is_constant_latch(latch: Latch, own: Lit, is_held: bool) -> bool
     ensures { result ≡ (not (is_free latch) && not is_held &&
         (latch.next == own || latch.next == constant_of latch.reset)) }
 {
@@ -62,13 +62,13 @@ pub(crate) fn substitute_for_latch(
 {
     let own = own_literal(aig, place);
     let is_held = held.has(place);
-    if is_stuck(latch, own, is_held) {
+    if is_constant_latch(latch, own, is_held) {
         return Ok(constant_of(latch.reset));
     }
     if latch.reset == Reset::Free {
         return Ok(own);
     }
-    let first = firsts.first_like(latch, own)?;
+    let first = firsts.first_duplicate(latch, own)?;
     if is_held { Ok(own) } else { Ok(first) }
 }
 

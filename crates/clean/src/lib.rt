@@ -1,4 +1,4 @@
-//! Structural cleaning of circuits: stuck and twin latches, gates that say nothing new, and what no property rests on. What a pass is made
+//! Structural cleaning of circuits: constant and duplicate latches, gates that say nothing new, and what no property rests on. What a pass is made
 //! of is lent to whatever merges latches by another rule.
 #![tactic(auto)]
 

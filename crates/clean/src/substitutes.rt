@@ -1,5 +1,5 @@
 //! What stands for each variable, in one pass over latches and then gates. One pass over the gates suffices, since a gate's
-//! fan-ins come before it: what stands for them is known when it is met. A gate may make a latch equal to another or stuck, so
+//! fan-ins come before it: what stands for them is known when it is met. A gate may make a latch equal to another or constant, so
 //! passes are repeated (`cleaning`).
 ghost use Rattle.std.specs.Prelude.{◌≡◌, IfOk, length};
 ghost use Rattle.cleaned_circuits.specs.Merged.{substitutes_of};
@@ -11,7 +11,7 @@ use crate::substitution::Substitution;
 use aig_graph::{Aig, NoMemory};
 use std::alloc::Global;
 
-/// What stands for each variable: for a stuck latch its constant, for a latch or a gate the first one like it, and for a
+/// What stands for each variable: for a constant latch its constant, for a latch or a gate the first one that it duplicates, and for a
 /// gate that says nothing new the literal that it comes down to.
 pub(crate) fn substitutes_of(
     alloc: Global,

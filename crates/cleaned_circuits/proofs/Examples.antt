@@ -70,7 +70,7 @@ pass_drops_free : kept_free (merged_of [] (with_outputs (record {
 unfolding leaf_substitute first_where places table count_below merge_gates substitutes_of replaced_graph mapped_props picked trimmed_graph trimmed_symbols kept_free
 pass_drops_free = refl
 
--- a latch that is negated at each step isn't stuck
+-- a latch that is negated at each step isn't constant
 toggle : Netlist
 toggle = with_outputs (record { inputs = 0; latches = record { next = 3; reset = Zero } ∷ []; gates = [] }) (2 ∷ [])
 
@@ -94,13 +94,13 @@ unfolding leaf_substitute first_where places table count_below merge_gates subst
 held_twin_stays = refl
 
 -- a latch that reads itself, and nothing reads it
-stuck : List ℕ → Netlist
-stuck outputs = with_outputs (record { inputs = 1; latches = record { next = 4; reset = Zero } ∷ []; gates = [] }) outputs
+constant_latch : List ℕ → Netlist
+constant_latch outputs = with_outputs (record { inputs = 1; latches = record { next = 4; reset = Zero } ∷ []; gates = [] }) outputs
 
-stuck_goes : trimmed_of (merged_of [] (stuck (4 ∷ []))) (has []) ≡ with_outputs (record { inputs = 1; latches = []; gates = [] }) (0 ∷ [])
-unfolding leaf_substitute first_where places table count_below merge_gates substitutes_of replaced_graph mapped_props picked trimmed_graph trimmed_symbols stuck
-stuck_goes = refl
+constant_latch_goes : trimmed_of (merged_of [] (constant_latch (4 ∷ []))) (has []) ≡ with_outputs (record { inputs = 1; latches = []; gates = [] }) (0 ∷ [])
+unfolding leaf_substitute first_where places table count_below merge_gates substitutes_of replaced_graph mapped_props picked trimmed_graph trimmed_symbols constant_latch
+constant_latch_goes = refl
 
-held_stuck_stays : trimmed_of (merged_of (0 ∷ []) (stuck (2 ∷ []))) (has (2 ∷ [])) ≡ stuck (2 ∷ [])
-unfolding leaf_substitute first_where places table count_below merge_gates substitutes_of replaced_graph mapped_props picked trimmed_graph trimmed_symbols stuck
-held_stuck_stays = refl
+held_constant_latch_stays : trimmed_of (merged_of (0 ∷ []) (constant_latch (2 ∷ []))) (has (2 ∷ [])) ≡ constant_latch (2 ∷ [])
+unfolding leaf_substitute first_where places table count_below merge_gates substitutes_of replaced_graph mapped_props picked trimmed_graph trimmed_symbols constant_latch
+held_constant_latch_stays = refl

@@ -13,7 +13,7 @@ use Rattle.aig_graph.specs.Laws.{ValueLaws}
 use Rattle.aig_graph.proofs.ValueLaws.{value_laws}
 use Rattle.variable_tables.proofs.PlacesLaws.{Ranks, rank_at, at_rank, count-lt}
 use Rattle.aig_graph.proofs.KindLaws.{element}
-use Rattle.cleaned_circuits.specs.Latches.{constant_of, is_stuck, same_reset, same_latch, is_like, first_where, first_like, latch_substitute, leaf_substitute}
+use Rattle.cleaned_circuits.specs.Latches.{constant_of, is_constant_latch, same_reset, same_latch, is_duplicate, first_where, first_duplicate, latch_substitute, leaf_substitute}
 
 -- the first number that passes, where there is one
 pub first_where-cases : (p : ℕ → Bool) (n : ℕ) → (first_where p n ≡ n) ⊎ ((first_where p n < n) × (p (first_where p n) ≡ true))
@@ -47,15 +47,15 @@ first_where-least p n v h = go (places p n) refl
           | inr fails ↦ fails
         ]
 
-pub record Stuck (g : Graph) (j : ℕ) (latch : Latch) : Type 0 where
+pub record ConstantLatch (g : Graph) (j : ℕ) (latch : Latch) : Type 0 where
   -- its reset is known
   pub known : is_free latch ≡ false
   -- it reads itself or the constant of its reset
   pub next : (latch.next ≡ 2 * (first_latch g + j)) ⊎ (latch.next ≡ constant_of latch.reset)
 
--- a latch that is stuck by the test is known, and reads itself or the constant of its reset
-pub stuck_where : (g : Graph) (held : List ℕ) (j : ℕ) (latch : Latch) → is_stuck g held j latch ≡ true → Stuck g j latch
-stuck_where g held j latch e =
+-- a latch that is constant by the test is known, and reads itself or the constant of its reset
+pub constant_latch_where : (g : Graph) (held : List ℕ) (j : ℕ) (latch : Latch) → is_constant_latch g held j latch ≡ true → ConstantLatch g j latch
+constant_latch_where g held j latch e =
     let parts = and_parts (not (is_free latch) && not (has held j)) (nat_eq latch.next (2 * (first_latch g + j)) || nat_eq latch.next (constant_of latch.reset)) e in
     let first = and_parts (not (is_free latch)) (not (has held j)) parts.0 in
     record {
@@ -78,61 +78,61 @@ same_reset-is One Free e = absurd (cc)
 same_reset-is Free Zero e = absurd (cc)
 same_reset-is Free One e = absurd (cc)
 
--- a latch like another
-pub record Like (g : Graph) (held : List ℕ) (latch : Latch) (i : ℕ) : Type 0 where
+-- a latch that another duplicates
+pub record Duplicate (g : Graph) (held : List ℕ) (latch : Latch) (i : ℕ) : Type 0 where
   -- the latch at place i
   pub other : Latch
   -- it stands there
   pub there : slice_get g.latches i ≡ Some other
-  -- it isn't stuck
-  pub free_to_stand : is_stuck g held i other ≡ false
+  -- it isn't constant
+  pub free_to_stand : is_constant_latch g held i other ≡ false
   -- it has the next literal of the latch
   pub next : other.next ≡ latch.next
   -- it has the reset of the latch
   pub reset : other.reset ≡ latch.reset
 
--- a latch at a place that is like another by the test isn't stuck, and has its next literal and reset
-pub like_where : (g : Graph) (held : List ℕ) (latch : Latch) (i : ℕ) → is_like g held latch i (slice_get g.latches i) ≡ true → Like g held latch i
-like_where g held latch i e = go (slice_get g.latches i) refl
+-- a latch at a place that another duplicates by the test isn't constant, and has its next literal and reset
+pub duplicate_where : (g : Graph) (held : List ℕ) (latch : Latch) (i : ℕ) → is_duplicate g held latch i (slice_get g.latches i) ≡ true → Duplicate g held latch i
+duplicate_where g held latch i e = go (slice_get g.latches i) refl
   where
-    go : (o : Option Latch) → slice_get g.latches i ≡ o → Like g held latch i
-    go None none = let clash : false ≡ true = ap (is_like g held latch i) (sym none) ∙ e in absurd (cc)
+    go : (o : Option Latch) → slice_get g.latches i ≡ o → Duplicate g held latch i
+    go None none = let clash : false ≡ true = ap (is_duplicate g held latch i) (sym none) ∙ e in absurd (cc)
     go (Some other) some =
-        let told : is_like g held latch i (Some other) ≡ true = ap (is_like g held latch i) (sym some) ∙ e in
-        let parts = and_parts (not (is_stuck g held i other)) (same_latch latch other) told in
+        let told : is_duplicate g held latch i (Some other) ≡ true = ap (is_duplicate g held latch i) (sym some) ∙ e in
+        let parts = and_parts (not (is_constant_latch g held i other)) (same_latch latch other) told in
         let same = and_parts (nat_eq latch.next other.next) (same_reset latch.reset other.reset) parts.1 in
         record {
           other = other;
           there = some;
-          free_to_stand = not-true (is_stuck g held i other) parts.0;
+          free_to_stand = not-true (is_constant_latch g held i other) parts.0;
           next = sym (eqb-true latch.next other.next same.0);
           reset = sym (same_reset-is latch.reset other.reset same.1);
         }
 
 -- what stands for a latch
 pub data StandsFor (g : Graph) (held : List ℕ) (j : ℕ) (latch : Latch) (substitute : ℕ) : Type 0 where
-  by_constant : is_stuck g held j latch ≡ true → substitute ≡ constant_of latch.reset → StandsFor g held j latch substitute
-  by_itself : is_stuck g held j latch ≡ false → substitute ≡ 2 * (first_latch g + j) → StandsFor g held j latch substitute
-  by_earlier : (i : ℕ) → i < j → i ≡ first_like g held j latch → Like g held latch i → is_free latch ≡ false → has held j ≡ false → substitute ≡ 2 * (first_latch g + i) → StandsFor g held j latch substitute
+  by_constant : is_constant_latch g held j latch ≡ true → substitute ≡ constant_of latch.reset → StandsFor g held j latch substitute
+  by_itself : is_constant_latch g held j latch ≡ false → substitute ≡ 2 * (first_latch g + j) → StandsFor g held j latch substitute
+  by_earlier : (i : ℕ) → i < j → i ≡ first_duplicate g held j latch → Duplicate g held latch i → is_free latch ≡ false → has held j ≡ false → substitute ≡ 2 * (first_latch g + i) → StandsFor g held j latch substitute
 
--- what stands for a latch is its constant, the latch itself, or an earlier one like it
+-- what stands for a latch is its constant, the latch itself, or an earlier one that it duplicates
 pub stands_for : (g : Graph) (held : List ℕ) (j : ℕ) (latch : Latch) → StandsFor g held j latch (latch_substitute g held j (Some latch))
 stands_for g held j latch =
     let own : ℕ = 2 * (first_latch g + j) in
-    let like : ℕ = 2 * (first_latch g + first_like g held j latch) in
-    let rest : ℕ = cond (is_free latch || has held j) own like in
-    elim (cases_Bool (is_stuck g held j latch)) [
-      | inl stuck ↦ by_constant stuck (cond-true (is_stuck g held j latch) (constant_of latch.reset) rest stuck)
+    let duplicate : ℕ = 2 * (first_latch g + first_duplicate g held j latch) in
+    let rest : ℕ = cond (is_free latch || has held j) own duplicate in
+    elim (cases_Bool (is_constant_latch g held j latch)) [
+      | inl constant_latch ↦ by_constant constant_latch (cond-true (is_constant_latch g held j latch) (constant_of latch.reset) rest constant_latch)
       | inr moving ↦ (
-          let here : latch_substitute g held j (Some latch) ≡ rest = cond-false (is_stuck g held j latch) (constant_of latch.reset) rest moving in
+          let here : latch_substitute g held j (Some latch) ≡ rest = cond-false (is_constant_latch g held j latch) (constant_of latch.reset) rest moving in
           elim (cases_Bool (is_free latch || has held j)) [
-            | inl alone ↦ by_itself moving (here ∙ cond-true (is_free latch || has held j) own like alone)
+            | inl alone ↦ by_itself moving (here ∙ cond-true (is_free latch || has held j) own duplicate alone)
             | inr apart ↦ (
-                let to : latch_substitute g held j (Some latch) ≡ like = here ∙ cond-false (is_free latch || has held j) own like apart in
+                let to : latch_substitute g held j (Some latch) ≡ duplicate = here ∙ cond-false (is_free latch || has held j) own duplicate apart in
                 let parts = or_parts (is_free latch) (has held j) apart in
-                elim (first_where-cases (λ i. is_like g held latch i (slice_get g.latches i)) j) [
+                elim (first_where-cases (λ i. is_duplicate g held latch i (slice_get g.latches i)) j) [
                   | inl last ↦ by_itself moving (to ∙ ap (λ (i : ℕ). 2 * (first_latch g + i)) last)
-                  | inr earlier ↦ by_earlier (first_like g held j latch) earlier.0 refl (like_where g held latch (first_like g held j latch) earlier.1) parts.0 parts.1 to
+                  | inr earlier ↦ by_earlier (first_duplicate g held j latch) earlier.0 refl (duplicate_where g held latch (first_duplicate g held j latch) earlier.1) parts.0 parts.1 to
                 ])
           ])
     ]
@@ -169,35 +169,35 @@ module _ (g : Graph) (valid : IsGraph g) (held : List ℕ) (x : Inputs) (f : Cho
   constant-same One t u = true-value t ∙ sym (true-value u)
   constant-same Free t u = laws.constant t ∙ sym (laws.constant u)
 
-  stuck-value : (j : ℕ) (latch : Latch) → slice_get g.latches j ≡ Some latch → Stuck g j latch → (t : ℕ) → vals t (constant_of latch.reset) ≡ vals t (2 * (first_latch g + j))
-  stuck-value j latch there stuck zero =
-      sym (laws.latch_at_start j latch there ∙ constant-value latch.reset latch.next (f (free_before g j)) 0 stuck.known)
-  stuck-value j latch there stuck (suc t) =
-      let before : vals t (constant_of latch.reset) ≡ vals t (2 * (first_latch g + j)) = stuck-value j latch there stuck t in
-      let next : vals t latch.next ≡ vals t (constant_of latch.reset) = elim stuck.next [
+  constant_latch-value : (j : ℕ) (latch : Latch) → slice_get g.latches j ≡ Some latch → ConstantLatch g j latch → (t : ℕ) → vals t (constant_of latch.reset) ≡ vals t (2 * (first_latch g + j))
+  constant_latch-value j latch there constant_latch zero =
+      sym (laws.latch_at_start j latch there ∙ constant-value latch.reset latch.next (f (free_before g j)) 0 constant_latch.known)
+  constant_latch-value j latch there constant_latch (suc t) =
+      let before : vals t (constant_of latch.reset) ≡ vals t (2 * (first_latch g + j)) = constant_latch-value j latch there constant_latch t in
+      let next : vals t latch.next ≡ vals t (constant_of latch.reset) = elim constant_latch.next [
         | inl own ↦ ap (vals t) own ∙ sym before
         | inr constant ↦ ap (vals t) constant
       ] in
       let later : vals (suc t) (2 * (first_latch g + j)) ≡ vals t latch.next = ap (λ (n : ℕ). vals n (2 * (first_latch g + j))) (sym (add-one t)) ∙ laws.latch_later t j latch there in
       constant-same latch.reset (suc t) t ∙ sym next ∙ sym later
 
-  like-value : (j i : ℕ) (latch : Latch) → slice_get g.latches j ≡ Some latch → is_free latch ≡ false → Like g held latch i → (t : ℕ) → vals t (2 * (first_latch g + i)) ≡ vals t (2 * (first_latch g + j))
-  like-value j i latch there known like zero =
-      laws.latch_at_start i like.other like.there
-      ∙ ap (λ (r : Reset). opening r (f (free_before g i))) like.reset
+  duplicate-value : (j i : ℕ) (latch : Latch) → slice_get g.latches j ≡ Some latch → is_free latch ≡ false → Duplicate g held latch i → (t : ℕ) → vals t (2 * (first_latch g + i)) ≡ vals t (2 * (first_latch g + j))
+  duplicate-value j i latch there known duplicate zero =
+      laws.latch_at_start i duplicate.other duplicate.there
+      ∙ ap (λ (r : Reset). opening r (f (free_before g i))) duplicate.reset
       ∙ known-opening latch.reset latch.next (f (free_before g i)) (f (free_before g j)) known
       ∙ sym (laws.latch_at_start j latch there)
-  like-value j i latch there known like (suc t) =
-      let here : vals (suc t) (2 * (first_latch g + i)) ≡ vals t like.other.next = ap (λ (n : ℕ). vals n (2 * (first_latch g + i))) (sym (add-one t)) ∙ laws.latch_later t i like.other like.there in
+  duplicate-value j i latch there known duplicate (suc t) =
+      let here : vals (suc t) (2 * (first_latch g + i)) ≡ vals t duplicate.other.next = ap (λ (n : ℕ). vals n (2 * (first_latch g + i))) (sym (add-one t)) ∙ laws.latch_later t i duplicate.other duplicate.there in
       let later : vals (suc t) (2 * (first_latch g + j)) ≡ vals t latch.next = ap (λ (n : ℕ). vals n (2 * (first_latch g + j))) (sym (add-one t)) ∙ laws.latch_later t j latch there in
-      here ∙ ap (vals t) like.next ∙ sym later
+      here ∙ ap (vals t) duplicate.next ∙ sym later
 
   -- what stands for a latch has its value at each step
   pub latch_substitute-value : (t j : ℕ) (latch : Latch) → slice_get g.latches j ≡ Some latch → vals t (latch_substitute g held j (Some latch)) ≡ vals t (2 * (first_latch g + j))
   latch_substitute-value t j latch there = elim (stands_for g held j latch) [
-    | by_constant stuck e ↦ ap (vals t) e ∙ stuck-value j latch there (stuck_where g held j latch stuck) t
+    | by_constant constant_latch e ↦ ap (vals t) e ∙ constant_latch-value j latch there (constant_latch_where g held j latch constant_latch) t
     | by_itself moving e ↦ ap (vals t) e
-    | by_earlier i less first like known apart e ↦ ap (vals t) e ∙ like-value j i latch there known like t
+    | by_earlier i less first duplicate known apart e ↦ ap (vals t) e ∙ duplicate-value j i latch there known duplicate t
   ]
 
   -- what stands for a variable before the gates has its value at each step
@@ -218,9 +218,9 @@ module _ (g : Graph) (valid : IsGraph g) (held : List ℕ) (x : Inputs) (f : Cho
 -- no latch is replaced by a later variable
 pub latch_substitute-below : (g : Graph) (held : List ℕ) (j : ℕ) (latch : Latch) → variable (latch_substitute g held j (Some latch)) ≤ first_latch g + j
 latch_substitute-below g held j latch = elim (stands_for g held j latch) [
-  | by_constant stuck e ↦ omega (arith, e, constant-even latch.reset)
+  | by_constant constant_latch e ↦ omega (arith, e, constant-even latch.reset)
   | by_itself moving e ↦ omega (arith, e)
-  | by_earlier i less first like known apart e ↦ omega (arith, e)
+  | by_earlier i less first duplicate known apart e ↦ omega (arith, e)
 ]
 
 -- what stands for a variable before the gates is of no later variable

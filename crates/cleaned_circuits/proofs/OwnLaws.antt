@@ -11,9 +11,9 @@ use Rattle.aig_graph.specs.Graph.{Graph, IsGraph, IsGateAt, variable, first_latc
 use Rattle.variable_tables.specs.Marking.{has}
 use Rattle.aig_graph.specs.Building.{gate_of}
 use Rattle.aig_graph.proofs.KindLaws.{element}
-use Rattle.cleaned_circuits.specs.Latches.{constant_of, is_stuck, is_like, first_like, latch_substitute, leaf_substitute}
+use Rattle.cleaned_circuits.specs.Latches.{constant_of, is_constant_latch, is_duplicate, first_duplicate, latch_substitute, leaf_substitute}
 use Rattle.cleaned_circuits.specs.Merged.{Merging, replaced, replaced_gate, same_fan_ins, known_substitute, with_substitute, merge_gate, merge_gates, merging_start, substitutes_of}
-use Rattle.cleaned_circuits.proofs.LatchLaws.{first_where-cases, first_where-least, Like, stands_for, by_constant, by_itself, by_earlier, constant-even, leaf_substitute-below}
+use Rattle.cleaned_circuits.proofs.LatchLaws.{first_where-cases, first_where-least, Duplicate, stands_for, by_constant, by_itself, by_earlier, constant-even, leaf_substitute-below}
 use Rattle.cleaned_circuits.proofs.SubstituteLaws.{lookup_push, gate_substitutes, with_false, with_true, with_equal, with_opposite, with_earlier, IsBelow, merge-all, below-merge_gate, pair-below, replaced-variable, GateIn, gates-in, start-below, start-length, start-entry, length-substitutes_of}
 
 module _ (g : Graph) (held : List ℕ) where
@@ -31,31 +31,31 @@ module _ (g : Graph) (held : List ℕ) where
       cond-false (nat_lt v (first_latch g)) (2 * v) (latch_substitute g held (v - first_latch g) (slice_get g.latches (v - first_latch g))) (le-ltb v (first_latch g) (omega arith))
       ∙ ap (λ (i : ℕ). latch_substitute g held i (slice_get g.latches i)) place ∙ ap (latch_substitute g held j) there
 
-  like-same : (a b : Latch) → a.next ≡ b.next → a.reset ≡ b.reset → (i : ℕ) (o : Option Latch) → is_like g held a i o ≡ is_like g held b i o
-  like-same a b next reset i o =
+  duplicate-same : (a b : Latch) → a.next ≡ b.next → a.reset ≡ b.reset → (i : ℕ) (o : Option Latch) → is_duplicate g held a i o ≡ is_duplicate g held b i o
+  duplicate-same a b next reset i o =
       let one : ℕ → Latch = λ n. record { next = n; reset = a.reset } in
       let two : Reset → Latch = λ r. record { next = b.next; reset = r } in
-      ap (λ (l : Latch). is_like g held l i o) (ap one next ∙ ap two reset)
+      ap (λ (l : Latch). is_duplicate g held l i o) (ap one next ∙ ap two reset)
 
   -- the latch that stands for others stands for itself
-  earlier-own : (j i : ℕ) (latch : Latch) → i ≡ first_like g held j latch → (like : Like g held latch i) → latch_substitute g held i (Some like.other) ≡ 2 * (first_latch g + i)
-  earlier-own j i latch first like =
-      let other : Latch = like.other in
+  earlier-own : (j i : ℕ) (latch : Latch) → i ≡ first_duplicate g held j latch → (duplicate : Duplicate g held latch i) → latch_substitute g held i (Some duplicate.other) ≡ 2 * (first_latch g + i)
+  earlier-own j i latch first duplicate =
+      let other : Latch = duplicate.other in
       elim (stands_for g held i other) [
-        | by_constant stuck e ↦ (let clash : false ≡ true = sym like.free_to_stand ∙ stuck in absurd (cc))
+        | by_constant constant_latch e ↦ (let clash : false ≡ true = sym duplicate.free_to_stand ∙ constant_latch in absurd (cc))
         | by_itself moving e ↦ e
         | by_earlier h less least before known apart e ↦ (
-            let found : is_like g held other h (slice_get g.latches h) ≡ true = found_like h other least less in
-            let same : is_like g held latch h (slice_get g.latches h) ≡ true = sym (like-same other latch like.next like.reset h (slice_get g.latches h)) ∙ found in
-            let none : is_like g held latch h (slice_get g.latches h) ≡ false = first_where-least (λ k. is_like g held latch k (slice_get g.latches k)) j h (omega (arith, first)) in
+            let found : is_duplicate g held other h (slice_get g.latches h) ≡ true = found_duplicate h other least less in
+            let same : is_duplicate g held latch h (slice_get g.latches h) ≡ true = sym (duplicate-same other latch duplicate.next duplicate.reset h (slice_get g.latches h)) ∙ found in
+            let none : is_duplicate g held latch h (slice_get g.latches h) ≡ false = first_where-least (λ k. is_duplicate g held latch k (slice_get g.latches k)) j h (omega (arith, first)) in
             let clash : false ≡ true = sym none ∙ same in
             absurd (cc))
       ]
     where
-      found_like : (h : ℕ) (other : Latch) → h ≡ first_like g held i other → h < i → is_like g held other h (slice_get g.latches h) ≡ true
-      found_like h other least less = elim (first_where-cases (λ k. is_like g held other k (slice_get g.latches k)) i) [
+      found_duplicate : (h : ℕ) (other : Latch) → h ≡ first_duplicate g held i other → h < i → is_duplicate g held other h (slice_get g.latches h) ≡ true
+      found_duplicate h other least less = elim (first_where-cases (λ k. is_duplicate g held other k (slice_get g.latches k)) i) [
         | inl last ↦ absurd (omega (arith, least, last))
-        | inr there ↦ ap (λ (k : ℕ). is_like g held other k (slice_get g.latches k)) least ∙ there.1
+        | inr there ↦ ap (λ (k : ℕ). is_duplicate g held other k (slice_get g.latches k)) least ∙ there.1
       ]
 
   -- a literal whose variable stands for itself, before the gates
@@ -64,13 +64,13 @@ module _ (g : Graph) (held : List ℕ) where
 
   latch-own : (j : ℕ) (latch : Latch) → slice_get g.latches j ≡ Some latch → LeafOwn (latch_substitute g held j (Some latch))
   latch-own j latch there = elim (stands_for g held j latch) [
-    | by_constant stuck e ↦ leaf-low (variable (latch_substitute g held j (Some latch))) (omega (arith, e, constant-even latch.reset))
+    | by_constant constant_latch e ↦ leaf-low (variable (latch_substitute g held j (Some latch))) (omega (arith, e, constant-even latch.reset))
     | by_itself moving e ↦ (
         let place : variable (latch_substitute g held j (Some latch)) ≡ first_latch g + j = omega (arith, e) in
         ap (leaf_substitute g held) place ∙ leaf-latch j latch there ∙ e ∙ ap (λ (v : ℕ). 2 * v) (sym place))
-    | by_earlier i less first like known apart e ↦ (
+    | by_earlier i less first duplicate known apart e ↦ (
         let place : variable (latch_substitute g held j (Some latch)) ≡ first_latch g + i = omega (arith, e) in
-        ap (leaf_substitute g held) place ∙ leaf-latch i like.other like.there ∙ earlier-own j i latch first like ∙ ap (λ (v : ℕ). 2 * v) (sym place))
+        ap (leaf_substitute g held) place ∙ leaf-latch i duplicate.other duplicate.there ∙ earlier-own j i latch first duplicate ∙ ap (λ (v : ℕ). 2 * v) (sym place))
   ]
 
   leaf-own : (v : ℕ) → v < first_gate g → LeafOwn (leaf_substitute g held v)
@@ -86,12 +86,12 @@ module _ (g : Graph) (held : List ℕ) where
   -- a held latch stands for itself
   pub held-own : (j : ℕ) (latch : Latch) → slice_get g.latches j ≡ Some latch → has held j ≡ true → leaf_substitute g held (first_latch g + j) ≡ 2 * (first_latch g + j)
   held-own j latch there holds = leaf-latch j latch there ∙ elim (stands_for g held j latch) [
-    | by_constant stuck e ↦ (let clash : false ≡ true = sym (held-moving j latch holds) ∙ stuck in absurd (cc))
+    | by_constant constant_latch e ↦ (let clash : false ≡ true = sym (held-moving j latch holds) ∙ constant_latch in absurd (cc))
     | by_itself moving e ↦ e
-    | by_earlier i less first like known apart e ↦ (let clash : false ≡ true = sym apart ∙ holds in absurd (cc))
+    | by_earlier i less first duplicate known apart e ↦ (let clash : false ≡ true = sym apart ∙ holds in absurd (cc))
   ]
     where
-      held-moving : (j : ℕ) (latch : Latch) → has held j ≡ true → is_stuck g held j latch ≡ false
+      held-moving : (j : ℕ) (latch : Latch) → has held j ≡ true → is_constant_latch g held j latch ≡ false
       held-moving j latch holds =
           let own : Bool = nat_eq latch.next (2 * (first_latch g + j)) || nat_eq latch.next (constant_of latch.reset) in
           and_left (not (is_free latch) && not (has held j)) own (and_right (not (is_free latch)) (not (has held j)) (ap not holds))

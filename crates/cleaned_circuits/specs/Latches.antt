@@ -15,8 +15,8 @@ constant_of One = 1
 constant_of Free = 0
 
 -- whether latch j is known, isn't held, and reads itself or the constant of its reset
-abbrev pub is_stuck : Graph → List ℕ → ℕ → Latch → Bool
-is_stuck g held j latch = not (is_free latch) && not (has held j) && (latch.next == 2 * (first_latch g + j) || latch.next == constant_of latch.reset)
+abbrev pub is_constant_latch : Graph → List ℕ → ℕ → Latch → Bool
+is_constant_latch g held j latch = not (is_free latch) && not (has held j) && (latch.next == 2 * (first_latch g + j) || latch.next == constant_of latch.reset)
 
 abbrev pub same_reset : Reset → Reset → Bool
 same_reset r s = elim r [
@@ -28,26 +28,26 @@ same_reset r s = elim r [
 abbrev pub same_latch : Latch → Latch → Bool
 same_latch latch other = latch.next == other.next && same_reset latch.reset other.reset
 
--- whether latch i isn't stuck, and has the next literal and the reset of another
-abbrev pub is_like : Graph → List ℕ → Latch → ℕ → Option Latch → Bool
-is_like g held latch i None = false
-is_like g held latch i (Some other) = not (is_stuck g held i other) && same_latch latch other
+-- whether latch i isn't constant, and has the next literal and the reset of another
+abbrev pub is_duplicate : Graph → List ℕ → Latch → ℕ → Option Latch → Bool
+is_duplicate g held latch i None = false
+is_duplicate g held latch i (Some other) = not (is_constant_latch g held i other) && same_latch latch other
 
 -- the first number below n that passes, else n
 unfoldable pub first_where : (ℕ → Bool) → ℕ → ℕ
 first_where p n = slice_index_or (places p n) 0 n
 
--- the first latch before j that is like latch j, else j
-abbrev pub first_like : Graph → List ℕ → ℕ → Latch → ℕ
-first_like g held j latch = first_where (λ i. is_like g held latch i (slice_get g.latches i)) j
+-- the first latch before j that latch j duplicates, else j
+abbrev pub first_duplicate : Graph → List ℕ → ℕ → Latch → ℕ
+first_duplicate g held j latch = first_where (λ i. is_duplicate g held latch i (slice_get g.latches i)) j
 
--- the literal that stands for latch j: its constant where it is stuck, its own where it is free or held, else that of the first latch like it
+-- the literal that stands for latch j: its constant where it is constant, its own where it is free or held, else that of the first latch that it duplicates
 abbrev pub latch_substitute : Graph → List ℕ → ℕ → Option Latch → ℕ
 latch_substitute g held j None = 2 * (first_latch g + j)
 latch_substitute g held j (Some latch) =
-    if is_stuck g held j latch
+    if is_constant_latch g held j latch
     then constant_of latch.reset
-    else (if is_free latch || has held j then 2 * (first_latch g + j) else 2 * (first_latch g + first_like g held j latch))
+    else (if is_free latch || has held j then 2 * (first_latch g + j) else 2 * (first_latch g + first_duplicate g held j latch))
 
 -- the literal that stands for a variable that is no gate
 unfoldable pub leaf_substitute : Graph → List ℕ → ℕ → ℕ

@@ -1,4 +1,4 @@
-//! What structural cleaning of a circuit is, and that it keeps the streams: stuck and twin latches, gates that say nothing
+//! What structural cleaning of a circuit is, and that it keeps the streams: constant and duplicate latches, gates that say nothing
 //! new, and what no property rests on.
 #![tactic(auto)]
 

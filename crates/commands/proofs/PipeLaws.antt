@@ -33,9 +33,9 @@ use Rattle.json_reports.specs.declared.times.Times.{Times}
 use Rattle.json_reports.specs.declared.counts.MapCounts.{MapCounts}
 use Rattle.json_reports.specs.declared.counts.ReadLevels.{ReadLevels}
 use Rattle.commands.specs.declared.answer.Answer.{Answer as Answered}
-use Rattle.commands.specs.Pipes.{AnswersPipe, IsAnswerTo, IsMapOf, IsPipe, IsToldOf, PrintsRetiming, WritesAnswer, WritesBeside, WritesCertificates, WritesMap, WritesPipe, WritesRetiming, blocks_text}
+use Rattle.commands.specs.Pipes.{AnswersPipe, IsAnswerTo, IsMapOf, IsPipe, IsReportOf, PrintsRetiming, WritesAnswer, WritesBeside, WritesCertificates, WritesMap, WritesPipe, WritesRetiming, blocks_text}
 use Rattle.command_endings.specs.Printing.{EndsAside, Prints, ending}
-use Rattle.commands.specs.RetimingTasks.{EndsPrintingFrames, HasFailed, IsRunFailureOf, PrintsAlike, SaysFrames, counts_of, levels_told}
+use Rattle.commands.specs.RetimingTasks.{EndsPrintingFrames, HasFailed, IsRunFailureOf, PrintsAlike, SaysFrames, counts_of, levels_reported}
 use Rattle.command_endings.proofs.PrintingLaws.{failing_after, prints_after}
 use Rattle.commands.proofs.FrameLaws.{frames_alike, says_alike}
 
@@ -58,7 +58,7 @@ stopped_mapped task options spelt before after MapTooLarge f is p = failing_afte
 
 -- an answer with its map is the answer of the run
 pub mapped_answer : (task : Retiming) (options : HeldOptions) (spelt : SpeltCircuit) (old new : Output) (mapped : Mapped) (answer : Answered) → answer.retimed ≡ mapped.retimed
-    → answer.levels ≡ levels_told task spelt.circuit → answer.map ≡ Some mapped.map → is_some task.map ≡ true → IsHeldMapped options spelt old new mapped → IsAnswerTo task options spelt old new answer
+    → answer.levels ≡ levels_reported task spelt.circuit → answer.map ≡ Some mapped.map → is_some task.map ≡ true → IsHeldMapped options spelt old new mapped → IsAnswerTo task options spelt old new answer
 mapped_answer task options spelt old new mapped answer retimed levels made asked is =
     let w = is.written in
     record {
@@ -109,15 +109,15 @@ answers_pipe FileGiven task input old new answer pipe all =
       levels_are = at.of.levels_are;
     })
 
--- what is written beside the answer changes nothing of what is told of it
-pub told_of : (FileGiven : List ℕ → List ℕ → Type 0) (task : Retiming) (input : Input) (old mid new : Output) (answer after : Answered) (r : Retimed) (levels : ReadLevels) (counts : Option MapCounts)
+-- what is written beside the answer changes nothing of what is reported of it
+pub report_of : (FileGiven : List ℕ → List ℕ → Type 0) (task : Retiming) (input : Input) (old mid new : Output) (answer after : Answered) (r : Retimed) (levels : ReadLevels) (counts : Option MapCounts)
     → levels ≡ after.levels → after.levels ≡ answer.levels → r ≡ after.retimed → PrintsAlike after.retimed answer.retimed
     → counts ≡ option_map (λ (m : SpeltMap). counts_of m.circuit) after.map → after.map ≡ answer.map
-    → WritesAnswer FileGiven task input old mid answer → WritesBeside FileGiven task answer mid new → IsToldOf FileGiven task input old new r levels counts
-told_of FileGiven task input old mid new answer after r levels counts told leveled same alike counted mapped circuit beside = record {
+    → WritesAnswer FileGiven task input old mid answer → WritesBeside FileGiven task answer mid new → IsReportOf FileGiven task input old new r levels counts
+report_of FileGiven task input old mid new answer after r levels counts reported leveled same alike counted mapped circuit beside = record {
   answer = answer;
   alike = subst (λ (x : Retimed). PrintsAlike x answer.retimed) (sym same) alike;
-  levels_are = told ∙ leveled;
+  levels_are = reported ∙ leveled;
   counts_are = subst (λ (m : Option SpeltMap). counts ≡ option_map (λ (x : SpeltMap). counts_of x.circuit) m) mapped counted;
   written = record { between = mid; circuit = circuit; beside = beside };
 }
@@ -144,12 +144,12 @@ if_ended : (result : Result Outcome Failure) (P : Result Outcome Failure → Typ
 if_ended (Ok ended) P p = p
 if_ended (Err failure) P p = tt
 
--- what is told of it is printed
-pub prints_retiming : (FileGiven : List ℕ → List ℕ → Type 0) (task : Retiming) (is_terminal : Bool) (input : Input) (old mid new shown told said : Output) (r : Retimed) (levels : ReadLevels) (times : Option Times) (mapped : Option MapCounts) (result : Result Outcome Failure)
-    → IsToldOf FileGiven task input old mid r levels mapped → (takes_stdout task ≡ true → EndsAside Done mid new result)
-    → (takes_stdout task ≡ true → SaysFrames task r levels times mapped shown told) → (takes_stdout task ≡ false → EndsPrintingFrames task.json task r levels times mapped mid new result)
-    → (is_terminal ≡ false → said ≡ told) → IfOk result (λ ended. PrintsRetiming FileGiven task is_terminal input old new said (Ok ended))
-prints_retiming FileGiven task is_terminal input old mid new shown told said r levels times mapped result of aside says frames still =
+-- what is reported of it is printed
+pub prints_retiming : (FileGiven : List ℕ → List ℕ → Type 0) (task : Retiming) (is_terminal : Bool) (input : Input) (old mid new shown reported said : Output) (r : Retimed) (levels : ReadLevels) (times : Option Times) (mapped : Option MapCounts) (result : Result Outcome Failure)
+    → IsReportOf FileGiven task input old mid r levels mapped → (takes_stdout task ≡ true → EndsAside Done mid new result)
+    → (takes_stdout task ≡ true → SaysFrames task r levels times mapped shown reported) → (takes_stdout task ≡ false → EndsPrintingFrames task.json task r levels times mapped mid new result)
+    → (is_terminal ≡ false → said ≡ reported) → IfOk result (λ ended. PrintsRetiming FileGiven task is_terminal input old new said (Ok ended))
+prints_retiming FileGiven task is_terminal input old mid new shown reported said r levels times mapped result of aside says frames still =
     let answer = of.answer in
     let counts = option_map (λ (m : SpeltMap). counts_of m.circuit) answer.map in
     if_ended result (λ (r : Result Outcome Failure). PrintsRetiming FileGiven task is_terminal input old new said r) (record {
@@ -163,9 +163,9 @@ prints_retiming FileGiven task is_terminal input old mid new shown told said r l
       quiet = λ taken. stays_quiet mid mid new result (aside taken);
       shown = shown;
       aside = λ taken quiet. subst (SaysFrames task answer.retimed answer.levels times counts shown) (sym (still quiet))
-          (subst (λ (m : Option MapCounts). SaysFrames task answer.retimed answer.levels times m shown told) of.counts_are
-          (subst (λ (l : ReadLevels). SaysFrames task answer.retimed l times mapped shown told) of.levels_are
-          (says_alike task r answer.retimed levels times mapped shown told of.alike (says taken))));
+          (subst (λ (m : Option MapCounts). SaysFrames task answer.retimed answer.levels times m shown reported) of.counts_are
+          (subst (λ (l : ReadLevels). SaysFrames task answer.retimed l times mapped shown reported) of.levels_are
+          (says_alike task r answer.retimed levels times mapped shown reported of.alike (says taken))));
     })
 
 -- what holds anyway holds where a result is there
@@ -175,7 +175,7 @@ if_done (Err e) P p = tt
 
 -- so a pipe has its answer
 pub writes_pipe : {T E : Type 0} (FileGiven : List ℕ → List ℕ → Type 0) (task : Retiming) (input : Input) (old mid new : Output) (r : Retimed) (levels : ReadLevels) (mapped : Option MapCounts) (result : Result Outcome Failure) (ended : Result T E)
-    → IsToldOf FileGiven task input old mid r levels mapped → (takes_stdout task ≡ true → EndsAside Done mid new result) → IfOk ended (λ x. IsPipe task → WritesPipe task input old new)
+    → IsReportOf FileGiven task input old mid r levels mapped → (takes_stdout task ≡ true → EndsAside Done mid new result) → IfOk ended (λ x. IsPipe task → WritesPipe task input old new)
 writes_pipe FileGiven task input old mid new r levels mapped result ended of aside =
     let answer = of.answer in
     let still : IsPipe task → new ≡ mid = λ pipe. stays_quiet mid mid new result (aside (pipe_takes_stdout task pipe)) in

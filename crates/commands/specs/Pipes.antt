@@ -1,4 +1,4 @@
--- What a retiming and a conversion write, and what is told of it.
+-- What a retiming and a conversion write, and what is reported of it.
 use Rattle.std.specs.Prelude.{ℕ, ◌≡◌, Bool, true, false, List, Option, Some, None, Result, is_some, option_map, unwrap_or}
 use Rattle.counted_io.specs.Input.{Input}
 use Rattle.counted_io.specs.Output.{Output, WritesAll}
@@ -25,7 +25,7 @@ use Rattle.json_reports.specs.declared.counts.ReadLevels.{ReadLevels}
 use Rattle.circuit_files.specs.WrittenFiles.{IsTargetGiven}
 use Rattle.circuit_files.specs.declared.outcome.Outcome.{Outcome}
 use Rattle.circuit_files.specs.declared.outcome.Failure.{Failure}
-use Rattle.commands.specs.RetimingTasks.{AreOptionsOf, EndsPrintingFrames, PrintsAlike, SaysFrames, counts_of, levels_told}
+use Rattle.commands.specs.RetimingTasks.{AreOptionsOf, EndsPrintingFrames, PrintsAlike, SaysFrames, counts_of, levels_reported}
 use Rattle.commands.specs.declared.answer.Answer.{Answer}
 
 -- a retiming from standard input to standard output, which gets the circuit alone
@@ -40,11 +40,11 @@ abbrev pub IsMapOf : HeldOptions → SpeltCircuit → Retimed → Option SpeltMa
 IsMapOf options spelt r None = Unit {0}
 IsMapOf options spelt r (Some m) = IsMapCircuit spelt.circuit (freed options r) r.kept_free m.circuit × (m.spelling ≡ unwrap_or options.options.spelling spelt.spelling)
 
--- of a circuit that was read, this is the answer by the options, which is read back; its levels are told, and its map is made, where that is asked for
+-- of a circuit that was read, this is the answer by the options, which is read back; its levels are reported, and its map is made, where that is asked for
 pub record IsAnswerOf (task : Retiming) (options : HeldOptions) (spelt : SpeltCircuit) (answer : Answer) : Type 0 where
   pub is : IsHeldAnswer options spelt answer.retimed
   pub reads_back : IsWithinLimits spelt.circuit → ReadsBack options spelt answer.retimed
-  pub levels_are : answer.levels ≡ levels_told task spelt.circuit
+  pub levels_are : answer.levels ≡ levels_reported task spelt.circuit
   pub map_is : IsMapOf options spelt answer.retimed answer.map
   pub has_map : is_some answer.map ≡ is_some task.map
 
@@ -93,8 +93,8 @@ pub record WritesRetiming (FileGiven : List ℕ → List ℕ → Type 0) (task :
   pub circuit : WritesAnswer FileGiven task input old between answer
   pub beside : WritesBeside FileGiven task answer between new
 
--- what is told of r is told of an answer whose parts were all written, and of its map
-pub record IsToldOf (FileGiven : List ℕ → List ℕ → Type 0) (task : Retiming) (input : Input) (old new : Output) (r : Retimed) (levels : ReadLevels) (mapped : Option MapCounts) : Type 0 where
+-- what is reported of r is reported of an answer whose parts were all written, and of its map
+pub record IsReportOf (FileGiven : List ℕ → List ℕ → Type 0) (task : Retiming) (input : Input) (old new : Output) (r : Retimed) (levels : ReadLevels) (mapped : Option MapCounts) : Type 0 where
   pub answer : Answer
   pub alike : PrintsAlike r answer.retimed
   pub levels_are : levels ≡ answer.levels
@@ -119,7 +119,7 @@ pub record AnswersPipe (task : Retiming) (input : Input) (old new : Output) (ret
   pub options : HeldOptions
   pub are_options : AreOptionsOf task options
   pub answered : IsHeldAnswered input old new options retimed
-  pub levels_are : levels ≡ levels_told task answered.spelt.circuit
+  pub levels_are : levels ≡ levels_reported task answered.spelt.circuit
 
 -- that is so of some retiming
 pub record WritesPipe (task : Retiming) (input : Input) (old new : Output) : Type 0 where

@@ -73,8 +73,8 @@ abbrev pub remaining_of : Retiming → Option ℕ → Retimed → Remaining
 remaining_of task bound r = remaining r.circuit (names_for task r.circuit) bound (nat_lt (length r.frames) task.frames)
 
 -- the levels of the circuit that is read, which an object tells, and the bound that its run has
-abbrev pub levels_told : Retiming → Netlist → ReadLevels
-levels_told task c = record { counted = if task.json then Some (levels c) else None; bound = bound_for task.bound c }
+abbrev pub levels_reported : Retiming → Netlist → ReadLevels
+levels_reported task c = record { counted = if task.json then Some (levels c) else None; bound = bound_for task.bound c }
 
 -- how many gates and constraints a map has
 abbrev pub counts_of : Netlist → MapCounts

@@ -9,7 +9,7 @@ ghost use Rattle.circuit_files.specs.WrittenFiles.{IsFileGiven, IsTargetGiven};
 ghost use Rattle.command_line.specs.StreamUses.{writes_stdout};
 ghost use Rattle.command_endings.specs.Printing.{Prints};
 ghost use Rattle.commands.specs.Pipes.{IsAnswerTo, WritesMap};
-ghost use Rattle.commands.specs.RetimingTasks.{AreOptionsOf, HasFailed, IsFailureOf, IsRunFailureOf, counts_of, levels_told};
+ghost use Rattle.commands.specs.RetimingTasks.{AreOptionsOf, HasFailed, IsFailureOf, IsRunFailureOf, counts_of, levels_reported};
 
 use aig_binary::{Spelling, SpeltCircuit};
 use aig_graph::{Circuit, NoMemory};
@@ -34,7 +34,7 @@ use stream_paths::Target;
 /// The most workers of a crew.
 const MOST_WORKERS: u32 = 64;
 
-/// A retiming whose circuit is written, without the marks by which it may still hold latches, what is told of the levels of the circuit
+/// A retiming whose circuit is written, without the marks by which it may still hold latches, what is reported of the levels of the circuit
 /// that was read, the spelling of that, and its map where one is asked for.
 #[derive(Drop)]
 pub(crate) struct Answer {
@@ -93,7 +93,7 @@ fn levels_counted(
     circuit: &Circuit,
     task: &Retiming<'_>,
 ) -> Result<Option<u32>, NoMemory>
-    ensures { IfOk result (λ counted. counted ≡ (levels_told task.now circuit.now).counted) }
+    ensures { IfOk result (λ counted. counted ≡ (levels_reported task.now circuit.now).counted) }
 {
     if task.json {
         Ok(Some(levels(alloc, circuit)?))
@@ -102,9 +102,9 @@ fn levels_counted(
     }
 }
 
-/// What is told of the levels of the circuit that was read.
+/// What is reported of the levels of the circuit that was read.
 fn levels_for(alloc: Global, circuit: &Circuit, task: &Retiming<'_>) -> Result<ReadLevels, NoMemory>
-    ensures { IfOk result (λ told. told ≡ levels_told task.now circuit.now) }
+    ensures { IfOk result (λ reported. reported ≡ levels_reported task.now circuit.now) }
 {
     let bound = task.bound.for_circuit(alloc, circuit)?;
     let counted = levels_counted(alloc, circuit, task)?;

@@ -8,7 +8,7 @@ ghost use Rattle.command_line.specs.StreamUses.{takes_stdout, writes_stdout};
 ghost use Rattle.circuit_files.specs.Outcomes.{outcome_of};
 ghost use Rattle.circuit_files.specs.WrittenFiles.{IsFileGiven, IsTargetGiven};
 ghost use Rattle.circuit_files.specs.declared.outcome.Outcome.TheVariants.{Done};
-ghost use Rattle.commands.specs.Pipes.{IsAnswerAt, IsPipe, IsToldOf, PrintsRetiming, WritesAnswer, WritesBeside, WritesCertificates, WritesPipe, blocks_text};
+ghost use Rattle.commands.specs.Pipes.{IsAnswerAt, IsPipe, IsReportOf, PrintsRetiming, WritesAnswer, WritesBeside, WritesCertificates, WritesPipe, blocks_text};
 ghost use Rattle.command_endings.specs.Printing.{EndsAside, Prints, ending};
 ghost use Rattle.commands.specs.RetimingTasks.{AreOptionsOf, EndsPrintingFrames, HasFailed, PrintsAlike, SaysFrames, counts_of, names_for, remaining_of};
 ghost use Rattle.command_line.specs.declared.task.Shown.TheVariants.{Nothing};
@@ -206,7 +206,7 @@ fn write_beside<'a, R: Files, O: CountedWrite>(
     certify(rt, alloc, task, &mut answer.retimed, out)
 }
 
-/// A retiming, what is told of the levels of the circuit that was read, its spelling, how long the parts of the run took, where that was
+/// A retiming, what is reported of the levels of the circuit that was read, its spelling, how long the parts of the run took, where that was
 /// measured, and what its map has, where one is written.
 #[derive(Drop)]
 struct Timed {
@@ -217,7 +217,7 @@ struct Timed {
     map: Option<MapCounts>,
 }
 
-/// What is told of an answer whose parts took so long.
+/// What is reported of an answer whose parts took so long.
 fn with_times(answer: Answer, times: Option<Times>) -> Timed
     ensures retimed { result.retimed ≡ answer.retimed }
     ensures levels { result.levels ≡ answer.levels }
@@ -251,7 +251,7 @@ fn certified<
     out: &mut O,
     err: &mut E,
 ) -> Result<Timed, Failure<'a>>
-    ensures told { IfOk result (λ timed. IsToldOf (IsFileGiven R R.Dir R.File.contents) task.now
+    ensures reported { IfOk result (λ timed. IsReportOf (IsFileGiven R R.Dir R.File.contents) task.now
         (I.input stdin.old) (O.output out.old) (O.output out.new) timed.retimed timed.levels
         timed.map) }
     ensures file { takes_stdout task.now ≡ false → O.output out.new ≡ O.output out.old }

@@ -303,16 +303,16 @@ fn certificates_of<'a, R: Files, I: CountedRead>(
 }
 
 /// Says that a file has no certificate, and so what was checked. A failed write changes nothing.
-fn tell_of_none<M: Write>(task: &Verification<'_>, told: &mut M) {
-    let _ = told.write_str(task.certificates.name());
-    let _ = told.write_str(": no certificate: ");
-    let _ = told.write_str(match task.retimed {
+fn tell_of_none<M: Write>(task: &Verification<'_>, message: &mut M) {
+    let _ = message.write_str(task.certificates.name());
+    let _ = message.write_str(": no certificate: ");
+    let _ = message.write_str(match task.retimed {
         Some(_) => "no frame was checked\n",
         None => "nothing was checked\n",
     });
 }
 
-/// Prints what the certificates that are read show. Where there is none, `told` gets a line that says so once that is done.
+/// Prints what the certificates that are read show. Where there is none, `message` gets a line that says so once that is done.
 fn print_file<'a, R: Files, I: CountedRead, O: CountedWrite, M: Write>(
     rt: &R,
     alloc: Global,
@@ -320,7 +320,7 @@ fn print_file<'a, R: Files, I: CountedRead, O: CountedWrite, M: Write>(
     task: &Verification<'a>,
     stdin: &mut I,
     out: &mut O,
-    told: &mut M,
+    message: &mut M,
 ) -> Result<Outcome, Failure<'a>>
     ensures audit { IfOk result (PrintsAuditFor task.now circuit.now (I.input stdin.old)
         (I.input stdin.new) (O.output out.old) (O.output out.new)) }
@@ -331,7 +331,7 @@ fn print_file<'a, R: Files, I: CountedRead, O: CountedWrite, M: Write>(
             let blocks = file.blocks.as_slice();
             let printed = print_beside(rt, alloc, circuit, blocks, task, stdin, out);
             if printed.is_ok() && file.blocks.is_empty() {
-                tell_of_none(task, told);
+                tell_of_none(task, message);
             }
             drop(file);
             printed
@@ -342,7 +342,7 @@ fn print_file<'a, R: Files, I: CountedRead, O: CountedWrite, M: Write>(
 
 /// Reads a circuit, then certificates, and then the circuit that they are to end in, where one is given. Prints whether each
 /// certificate is confirmed, and, where nothing speaks against one, whether they end in that circuit, byte for byte: as an object of
-/// JSON or in lines. Whether a name is that of no latch shows once all was read. Where there is no certificate, `told` gets a line that
+/// JSON or in lines. Whether a name is that of no latch shows once all was read. Where there is no certificate, `message` gets a line that
 /// says so; a failed write there changes nothing.
 pub fn print_verification<'a, R: Files, I: CountedRead, O: CountedWrite, M: Write>(
     rt: &R,
@@ -350,7 +350,7 @@ pub fn print_verification<'a, R: Files, I: CountedRead, O: CountedWrite, M: Writ
     task: &Verification<'a>,
     stdin: &mut I,
     out: &mut O,
-    told: &mut M,
+    message: &mut M,
 ) -> Result<Outcome, Failure<'a>>
     ensures audit { IfOk result (PrintsAuditOf task.now (I.input stdin.old) (I.input stdin.new)
         (O.output out.old) (O.output out.new)) }
@@ -358,7 +358,7 @@ pub fn print_verification<'a, R: Files, I: CountedRead, O: CountedWrite, M: Writ
 {
     match circuit_of(rt, alloc, task, stdin) {
         Ok(spelt) => {
-            let printed = print_file(rt, alloc, &spelt.circuit, task, stdin, out, told);
+            let printed = print_file(rt, alloc, &spelt.circuit, task, stdin, out, message);
             drop(spelt);
             printed
         }

@@ -1,22 +1,22 @@
 //! Checks of maps that were worked out by hand, right ones and wrong ones.
 use aag_text::read_aag;
 use aig_graph::Circuit;
-use map_checks::{Answer, CheckError, Doubt, check_map};
+use map_checks::{Answer, CheckError, Obligation, check_map};
 use std::alloc::Global;
 use std::test::*;
 
-/// What a check ends with: a retiming with so many free latches, a doubt, or an error.
+/// What a check ends with: a retiming with so many free latches, an open obligation, or an error.
 #[derive(Clone, Copy, PartialEq, Eq)]
 enum Outcome {
     Shown(usize),
-    Doubted(Doubt),
+    LeftOpen(Obligation),
     Refused(CheckError),
 }
 
 fn end_of(alloc: Global, first: &Circuit, second: &Circuit, map: &Circuit) -> Outcome {
     match check_map(alloc, first, second, map) {
         Ok(Answer::Retiming(kept)) => Outcome::Shown(kept.len()),
-        Ok(Answer::NotShown(doubt)) => Outcome::Doubted(doubt),
+        Ok(Answer::NotShown(obligation)) => Outcome::LeftOpen(obligation),
         Err(error) => Outcome::Refused(error),
     }
 }
@@ -85,19 +85,19 @@ const MOVED: [Case; 7] = [
     },
     Case {
         map: b"aag 3 2 0 1 1\n2\n4\n7\n6 5 3\n",
-        wanted: Outcome::Doubted(Doubt::Latch(0)),
+        wanted: Outcome::LeftOpen(Obligation::Latch(0)),
     },
     Case {
         map: b"aag 3 2 0 1 1\n2\n4\n7\n6 4 2\n",
-        wanted: Outcome::Doubted(Doubt::LatchAtReset(0)),
+        wanted: Outcome::LeftOpen(Obligation::LatchAtReset(0)),
     },
     Case {
         map: b"aag 3 2 0 1 1 0 1\n2\n4\n6\n3\n6 4 2\n",
-        wanted: Outcome::Doubted(Doubt::Constraint(0)),
+        wanted: Outcome::LeftOpen(Obligation::Constraint(0)),
     },
     Case {
         map: b"aag 3 2 0 1 1 0 1\n2\n4\n6\n2\n6 4 2\n",
-        wanted: Outcome::Doubted(Doubt::ConstraintAtReset(0)),
+        wanted: Outcome::LeftOpen(Obligation::ConstraintAtReset(0)),
     },
     Case {
         map: AFTER,
@@ -122,7 +122,7 @@ const OF_TWINS: [Case; 2] = [
     },
     Case {
         map: b"aag 2 2 0 1 0\n2\n4\n2\n",
-        wanted: Outcome::Doubted(Doubt::Output(1)),
+        wanted: Outcome::LeftOpen(Obligation::Output(1)),
     },
 ];
 
@@ -137,7 +137,7 @@ const OF_FREE: [Case; 2] = [
     },
     Case {
         map: b"aag 1 1 0 1 0\n2\n3\n",
-        wanted: Outcome::Doubted(Doubt::LatchAtReset(0)),
+        wanted: Outcome::LeftOpen(Obligation::LatchAtReset(0)),
     },
 ];
 

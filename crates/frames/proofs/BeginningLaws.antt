@@ -17,7 +17,7 @@ use Rattle.frames.specs.declared.run.ReadCircuit.{ReadCircuit}
 use Rattle.frames.specs.Beginning.{IsBegun, IsCleanedRun, IsMergedFrom, IsMergedReady, IsPlainReady, StartsFrom, read_before}
 use Rattle.frames.specs.Bounds.{bound_in}
 use Rattle.frames.specs.Following.{ComesOn, IsFollowed, IsReady, IsRetimedFollowed, IsRetimedFrom}
-use Rattle.frames.specs.Merging.{IsStart, told_of_read}
+use Rattle.frames.specs.Merging.{IsStart, reported_of_read}
 use Rattle.frames.specs.Named.{NoneMissingBy, names_in}
 use Rattle.frames.proofs.MergedLaws.{as-it-is, as-merged, merged-retimed, places-below}
 
@@ -42,14 +42,14 @@ merged-begun has_come options bound most c first mid m last r read asked none ri
     let P : List ℕ → Type 0 = λ places. has_come mid c m.circuit places in
     let come : P m.kept_free =
     subst P (composed-all (free_latches c.aig) m.kept_free streams.places.below) (comes c (all_free c.aig) (length-range_with_len 0 (free_latches c.aig)) there) in
-    let told : ReadCircuit = read_before m (length c.aig.latches) in
-    let is : IsStart options c m.circuit told =
+    let reported : ReadCircuit = read_before m (length c.aig.latches) in
+    let is : IsStart options c m.circuit reported =
     record { latches = refl; merges = merges; streams = streams; held = held; names = names-stay (names_in options) c m.circuit held none } in
-    let followed : IsFollowed has_come options bound c m.circuit told.kept_free 0 r last =
+    let followed : IsFollowed has_come options bound c m.circuit reported.kept_free 0 r last =
     record { underway = from.cleaned.underway; come = from.cleaned.comes c m.kept_free streams.places.each come } in
-    let ready : StartsFrom has_come options bound c (Some told) r last = record { asked = asked; start = m.circuit; is = is; followed = followed } in
+    let ready : StartsFrom has_come options bound c (Some reported) r last = record { asked = asked; start = m.circuit; is = is; followed = followed } in
     subst (λ (b : Option ℕ). IsBegun has_come options b c read r last) (sym same)
-    (record { names = none; bound_is = right; starts = subst (λ (x : Option ReadCircuit). StartsFrom has_come options bound c x r last) (sym from.told) ready })
+    (record { names = none; bound_is = right; starts = subst (λ (x : Option ReadCircuit). StartsFrom has_come options bound c x r last) (sym from.reported) ready })
 
 -- what was begun is ready for frames
 pub begun-ready : {F : Type 0} (has_come : F → Netlist → Netlist → List ℕ → Type 0) (options : Options) (bound : Option ℕ) (c : Netlist) (read : Option ReadCircuit) (r : Retimed) (f : F)
@@ -65,14 +65,14 @@ plain-retimed has_come options bound c r f unasked right is = record {
   come = subst (λ (places : List ℕ). has_come f c r.circuit places) (composed-all (free_latches c.aig) r.kept_free is.retimed.streams.places.below) is.come;
 }
 
--- so is what the merged circuit is retimed to, told of the circuit that was read
-pub merged-told : {F : Type 0} (has_come : F → Netlist → Netlist → List ℕ → Type 0) (options : Options) (bound : Option ℕ) (c start : Netlist) (read : ReadCircuit) (r whole : Retimed) (f last : F)
-    → options.merge ≡ true → bound ≡ bound_in options c → IsStart options c start read → IsRetimedFrom has_come options bound c start read.kept_free r f → whole ≡ told_of_read read r → last ≡ f
+-- so is what the merged circuit is retimed to, reported of the circuit that was read
+pub merged-reported : {F : Type 0} (has_come : F → Netlist → Netlist → List ℕ → Type 0) (options : Options) (bound : Option ℕ) (c start : Netlist) (read : ReadCircuit) (r whole : Retimed) (f last : F)
+    → options.merge ≡ true → bound ≡ bound_in options c → IsStart options c start read → IsRetimedFrom has_come options bound c start read.kept_free r f → whole ≡ reported_of_read read r → last ≡ f
     → IsRetimedFollowed has_come options c whole last
-merged-told has_come options bound c start read r whole f last asked right is from told same = record {
-  retimed = as-merged options bound c whole asked right (merged-retimed options bound c start read whole r is from.retimed told);
-  come = subst (λ (x : Retimed). has_come last c x.circuit x.kept_free) (sym told)
-      (subst (λ g. has_come g c (told_of_read read r).circuit (told_of_read read r).kept_free) (sym same) from.come);
+merged-reported has_come options bound c start read r whole f last asked right is from reported same = record {
+  retimed = as-merged options bound c whole asked right (merged-retimed options bound c start read whole r is from.retimed reported);
+  come = subst (λ (x : Retimed). has_come last c x.circuit x.kept_free) (sym reported)
+      (subst (λ g. has_come g c (reported_of_read read r).circuit (reported_of_read read r).kept_free) (sym same) from.come);
 }
 
 -- the frames of what was begun, taken to their end
@@ -93,10 +93,10 @@ merged-below has_come options bound c read found r end f last some ends begun =
     let ready = subst (λ (x : Option ReadCircuit). IsBegun has_come options bound c x r f) some begun in
     places-below options bound c ready.starts.start found end ready.starts.is (ends ready.starts.start found.kept_free ready.starts.followed).retimed
 
--- and what it came to is told of the circuit that was read
+-- and what it came to is reported of the circuit that was read
 pub merged-finished : {F : Type 0} (has_come : F → Netlist → Netlist → List ℕ → Type 0) (options : Options) (bound : Option ℕ) (c : Netlist) (read : Option ReadCircuit) (found : ReadCircuit) (r end whole : Retimed)
-    (f last final : F) → read ≡ Some found → Ends has_come options bound c r f end last → whole ≡ told_of_read found end → final ≡ last → IsBegun has_come options bound c read r f
+    (f last final : F) → read ≡ Some found → Ends has_come options bound c r f end last → whole ≡ reported_of_read found end → final ≡ last → IsBegun has_come options bound c read r f
     → IsRetimedFollowed has_come options c whole final
-merged-finished has_come options bound c read found r end whole f last final some ends told same begun =
+merged-finished has_come options bound c read found r end whole f last final some ends reported same begun =
     let ready = subst (λ (x : Option ReadCircuit). IsBegun has_come options bound c x r f) some begun in
-    merged-told has_come options bound c ready.starts.start found end whole last final ready.starts.asked ready.bound_is ready.starts.is (ends ready.starts.start found.kept_free ready.starts.followed) told same
+    merged-reported has_come options bound c ready.starts.start found end whole last final ready.starts.asked ready.bound_is ready.starts.is (ends ready.starts.start found.kept_free ready.starts.followed) reported same

@@ -21,7 +21,7 @@ use Rattle.frames.specs.declared.options.Options.{Options}
 use Rattle.frames.specs.Following.{ComesOn, ComesWhole, IsCleanedFollowed, IsFollowed, IsMovedFollowed}
 use Rattle.frames.specs.Found.{Moves}
 use Rattle.frames.specs.Named.{kept_by, names_in}
-use Rattle.frames.specs.Retiming.{IsTidyBy}
+use Rattle.frames.specs.Retiming.{IsNormalisedBy}
 use Rattle.frames.specs.Underway.{IsUnderway}
 use Rattle.variable_tables.specs.Tables.{table}
 use Rattle.variable_tables.proofs.TableLaws.{table-from}
@@ -52,15 +52,15 @@ cleaned-result has_come options c old new (Err e) valid cleans comes = tt
 
 -- who follows to a circuit that is its own cleaning is there
 pub own-followed : {F E : Type 0} (has_come : F → Netlist → Netlist → List ℕ → Type 0) (options : Options) (c : Netlist) (f : F) (r : Result Cleaned E) → IfOk r (λ d. d.circuit ≡ c)
-    → IfOk r (λ d. d.kept_free ≡ all_free c.aig) → IsCircuit c → IsTidyBy options c → IfOk r (IsCleanedFollowed has_come options c f f)
-own-followed has_come options c f (Ok d) circuit places valid tidy = record {
-  cleaned = own-cleaned {E = ℕ} options c (Ok d) circuit places valid tidy;
+    → IfOk r (λ d. d.kept_free ≡ all_free c.aig) → IsCircuit c → IsNormalisedBy options c → IfOk r (IsCleanedFollowed has_come options c f f)
+own-followed has_come options c f (Ok d) circuit places valid normalised = record {
+  cleaned = own-cleaned {E = ℕ} options c (Ok d) circuit places valid normalised;
   comes = λ b k each come.
       let P : Netlist → List ℕ → Type 0 = λ e js. has_come f b e (composed k js) in
       let own : P c (all_free c.aig) = subst (λ (js : List ℕ). has_come f b c js) (sym (composed-whole (free_latches c.aig) k each)) come in
       subst (λ (e : Netlist). P e d.kept_free) (sym circuit) (subst (P c) (sym places) own);
 }
-own-followed has_come options c f (Err e) circuit places valid tidy = tt
+own-followed has_come options c f (Err e) circuit places valid normalised = tt
 
 -- a moved circuit, cleaned, where the move and the cleaning were followed
 pub moved-followed : {F E : Type 0} (has_come : F → Netlist → Netlist → List ℕ → Type 0) (options : Options) (c after : Netlist) (set : List ℕ) (old mid new : F) (r : Result Cleaned E)

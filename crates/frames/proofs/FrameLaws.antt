@@ -29,12 +29,12 @@ use Rattle.retimed_circuits.specs.Names.{held_latches}
 use Rattle.retimed_circuits.specs.Frames.{AfterFrames, CleansIn, cleaned, frame, moved_in}
 use Rattle.retimed_circuits.proofs.HeldLaws.{cleaning-keeps, moving-keeps}
 use Rattle.retimed_circuits.proofs.RunLaws.{after-length}
-use Rattle.tidy.proofs.FrameLaws.{cleans-tidy, tidy-cleaned}
+use Rattle.normalised_circuits.proofs.FrameLaws.{cleans-normalised, normalised-cleaned}
 use Rattle.frames.specs.declared.frame.Frame.{Frame}
 use Rattle.frames.specs.declared.options.Options.{Options}
 use Rattle.frames.specs.Found.{IsAfterMove, Moves}
 use Rattle.frames.specs.Named.{kept_by, names_in}
-use Rattle.frames.specs.Retiming.{IsCleanedBy, IsMovedBy, IsRetimedAsIs, IsTidyBy, Keeps}
+use Rattle.frames.specs.Retiming.{IsCleanedBy, IsMovedBy, IsRetimedAsIs, IsNormalisedBy, Keeps}
 use Rattle.frames.specs.Underway.{IsUnderway, IsRun}
 use Rattle.frames.proofs.CertificateLaws.{certified}
 
@@ -64,7 +64,7 @@ streams-through c d e kept first second =
 cleaned-keeps : (options : Options) (c d : Netlist) (places : List ℕ) → IsCircuit c → CleansIn (names_in options) c d places → SameStreams c d places → Keeps options c d places
 cleaned-keeps options c d places valid cleans streams =
     let names = names_in options in
-    record { streams = streams; held = cleaning-keeps names c d places valid cleans; tidy = cleans-tidy names d (held_in names c) c places cleans refl valid }
+    record { streams = streams; held = cleaning-keeps names c d places valid cleans; normalised = cleans-normalised names d (held_in names c) c places cleans refl valid }
 
 -- a result of cleaning
 pub cleaned-by : {E : Type 0} (options : Options) (c : Netlist) (r : Result Cleaned E) → IsCircuit c → IfOk r (λ d. CleansIn (names_in options) c d.circuit d.kept_free)
@@ -72,16 +72,16 @@ pub cleaned-by : {E : Type 0} (options : Options) (c : Netlist) (r : Result Clea
 cleaned-by options c (Ok d) valid cleans streams = record { cleaned = cleans; keeps = cleaned-keeps options c d.circuit d.kept_free valid cleans streams }
 cleaned-by options c (Err e) valid cleans streams = tt
 
--- a tidy circuit is its own cleaning, and so is a result that is that circuit with all its free latches
+-- a normalised circuit is its own cleaning, and so is a result that is that circuit with all its free latches
 pub own-cleaned : {E : Type 0} (options : Options) (c : Netlist) (r : Result Cleaned E) → IfOk r (λ d. d.circuit ≡ c) → IfOk r (λ d. d.kept_free ≡ all_free c.aig) → IsCircuit c
-    → IsTidyBy options c → IfOk r (IsCleanedBy options c)
-own-cleaned options c (Ok d) circuit places valid tidy =
+    → IsNormalisedBy options c → IfOk r (IsCleanedBy options c)
+own-cleaned options c (Ok d) circuit places valid normalised =
     let names = names_in options in
     let P : Netlist → List ℕ → Type 0 = λ e js. CleansIn names c e js × Keeps options c e js in
-    let own : P c (all_free c.aig) = (tidy-cleaned names c valid tidy, record { streams = same_streams-reflexive c; held = refl; tidy = tidy }) in
+    let own : P c (all_free c.aig) = (normalised-cleaned names c valid normalised, record { streams = same_streams-reflexive c; held = refl; normalised = normalised }) in
     let both = subst (λ (e : Netlist). P e d.kept_free) (sym circuit) (subst (P c) (sym places) own) in
     record { cleaned = both.0; keeps = both.1 }
-own-cleaned options c (Err e) circuit places valid tidy = tt
+own-cleaned options c (Err e) circuit places valid normalised = tt
 
 -- a moved circuit, cleaned
 pub moved-by : {E : Type 0} (options : Options) (c after : Netlist) (set : List ℕ) (r : Result Cleaned E) → IsNetlist c → after ≡ moved_in (names_in options) c set
@@ -93,7 +93,7 @@ moved-by options c after set (Ok d) netlist same streams is =
       keeps = record {
         streams = streams-through c after d.circuit d.kept_free streams is.keeps.streams;
         held = is.keeps.held ∙ ap (held_latches names) same ∙ moving-keeps names c set netlist;
-        tidy = is.keeps.tidy;
+        normalised = is.keeps.normalised;
       };
     }
 moved-by options c after set (Err e) netlist same streams is = tt
@@ -117,7 +117,7 @@ one-more options bound c n r taken certs before moves = record {
   keeps = record {
     streams = same_streams-transitive c r.circuit taken.cleaned.circuit r.kept_free taken.cleaned.kept_free before.keeps.streams moves.keeps.streams;
     held = moves.keeps.held ∙ before.keeps.held;
-    tidy = moves.keeps.tidy;
+    normalised = moves.keeps.normalised;
   };
 }
 

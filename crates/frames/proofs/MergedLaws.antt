@@ -11,7 +11,7 @@ use Rattle.retimed_circuits.specs.Retiming.{IsRetimedWith, since_merged}
 use Rattle.frames.specs.declared.options.Options.{Options}
 use Rattle.frames.specs.declared.run.ReadCircuit.{ReadCircuit}
 use Rattle.frames.specs.Bounds.{bound_in}
-use Rattle.frames.specs.Merging.{IsStart, told_of_read}
+use Rattle.frames.specs.Merging.{IsStart, reported_of_read}
 use Rattle.frames.specs.Named.{names_in}
 use Rattle.frames.specs.Retiming.{IsRetimedAsIs, IsRetimedBy, IsRetimedMerged}
 
@@ -20,8 +20,8 @@ pub places-below : (options : Options) (bound : Option ℕ) (c start : Netlist) 
     → All (λ place. place < length read.kept_free) r.kept_free
 places-below options bound c start read r is retimed = λ k a h. omega (arith, retimed.streams.places.below k a h, is.streams.places.each)
 
--- it retimed, told of the circuit that was read
-pub merged-retimed : (options : Options) (bound : Option ℕ) (c start : Netlist) (read : ReadCircuit) (r s : Retimed) → IsStart options c start read → IsRetimedAsIs options bound start s → r ≡ told_of_read read s
+-- it retimed, reported of the circuit that was read
+pub merged-retimed : (options : Options) (bound : Option ℕ) (c start : Netlist) (read : ReadCircuit) (r s : Retimed) → IsStart options c start read → IsRetimedAsIs options bound start s → r ≡ reported_of_read read s
     → IsRetimedMerged options bound c r
 merged-retimed options bound c start read r s is retimed same =
     let kept = read.kept_free in

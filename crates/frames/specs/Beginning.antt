@@ -17,15 +17,15 @@ pub record IsCleanedRun {F : Type 0} (has_come : F → Netlist → Netlist → L
   pub underway : IsUnderway options bound d 0 r
   pub comes : ComesOn has_come old new d r.circuit r.kept_free
 
--- what is told of a circuit with so many latches that was merged so
+-- what is reported of a circuit with so many latches that was merged so
 abbrev pub read_before : MergedStart → ℕ → ReadCircuit
 read_before m latches = record { latches = latches; kept_free = m.kept_free; counts = m.counts }
 
--- a merged circuit cleaned, and it was followed; what is told of the circuit that was merged is beside it
+-- a merged circuit cleaned, and it was followed; what is reported of the circuit that was merged is beside it
 pub record IsMergedFrom {F : Type 0} (has_come : F → Netlist → Netlist → List ℕ → Type 0) (options : Options) (bound : Option ℕ) (m : MergedStart) (latches : ℕ) (old new : F) (r : Retimed)
     (read : Option ReadCircuit) : Type 0 where
   pub cleaned : IsCleanedRun has_come options bound m.circuit old new r
-  pub told : read ≡ Some (read_before m latches)
+  pub reported : read ≡ Some (read_before m latches)
 
 -- what c is cleaned and merged to, cleaned again, and the follower has come there from c
 pub record IsMergedReady {F : Type 0} (has_come : F → Netlist → Netlist → List ℕ → Type 0) (options : Options) (bound : Option ℕ) (c : Netlist) (read : ReadCircuit) (r : Retimed) (f : F) : Type 0 where
@@ -39,7 +39,7 @@ pub record IsPlainReady {F : Type 0} (has_come : F → Netlist → Netlist → L
   pub unasked : options.merge ≡ false
   pub followed : IsFollowed has_come options bound c c (all_free c.aig) 0 r f
 
--- what frames of c start from, with merging where the options ask for it, as what is told of c tells
+-- what frames of c start from, with merging where the options ask for it, as what is reported of c tells
 abbrev pub StartsFrom : {F : Type 0} → (F → Netlist → Netlist → List ℕ → Type 0) → Options → Option ℕ → Netlist → Option ReadCircuit → Retimed → F → Type 0
 StartsFrom has_come options bound c None r f = IsPlainReady has_come options bound c r f
 StartsFrom has_come options bound c (Some read) r f = IsMergedReady has_come options bound c read r f

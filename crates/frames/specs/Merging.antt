@@ -10,7 +10,7 @@ use Rattle.frames.specs.declared.run.ReadCircuit.{ReadCircuit}
 use Rattle.frames.specs.declared.options.Options.{Options}
 use Rattle.frames.specs.Named.{NoneMissingBy, names_in}
 
--- c cleaned and merged, and what is told of c
+-- c cleaned and merged, and what is reported of c
 pub record IsStart (options : Options) (c start : Netlist) (read : ReadCircuit) : Type 0 where
   pub latches : read.latches ≡ length c.aig.latches
   pub merges : MergesIn (names_in options) c start read.kept_free read.counts
@@ -18,6 +18,6 @@ pub record IsStart (options : Options) (c start : Netlist) (read : ReadCircuit) 
   pub held : held_latches (names_in options) start ≡ held_latches (names_in options) c
   pub names : NoneMissingBy options start
 
--- what is told of the circuit that was read, where this is what frames start from retimed
-abbrev pub told_of_read : ReadCircuit → Retimed → Retimed
-told_of_read read r = since_merged read.latches read.kept_free read.counts r
+-- what is reported of the circuit that was read, where this is what frames start from retimed
+abbrev pub reported_of_read : ReadCircuit → Retimed → Retimed
+reported_of_read read r = since_merged read.latches read.kept_free read.counts r

@@ -7,7 +7,7 @@ use Rattle.retimed_circuits.specs.declared.report.Retimed.{Retimed}
 use Rattle.retimed_circuits.specs.Frames.{CleansIn, IsHelpingSet, NoneHelps, moved_in}
 use Rattle.retimed_circuits.specs.Names.{held_latches}
 use Rattle.retimed_circuits.specs.Retiming.{IsMergedRetimed, IsRetimed, IsRetimedWith}
-use Rattle.tidy.specs.Tidy.{IsTidyIn}
+use Rattle.normalised_circuits.specs.Normalised.{IsNormalisedIn}
 use Rattle.frames.specs.declared.options.Options.{Options}
 use Rattle.frames.specs.Bounds.{bound_in}
 use Rattle.frames.specs.Named.{names_in}
@@ -32,15 +32,15 @@ abbrev pub IsHelpingSetBy : Options → Option ℕ → Netlist → List ℕ → 
 IsHelpingSetBy options bound c s = IsHelpingSet bound options.choice (names_in options) c s
 
 -- nothing is left to clean
-abbrev pub IsTidyBy : Options → Netlist → Type 0
-IsTidyBy options c = IsTidyIn (names_in options) c
+abbrev pub IsNormalisedBy : Options → Netlist → Type 0
+IsNormalisedBy options c = IsNormalisedIn (names_in options) c
 
 -- d has c's streams and the latches that the options hold in c, and nothing is left to clean in it; kept has the places of the
 -- free latches that stay
 pub record Keeps (options : Options) (c d : Netlist) (kept : List ℕ) : Type 0 where
   pub streams : SameStreams c d kept
   pub held : held_latches (names_in options) d ≡ held_latches (names_in options) c
-  pub tidy : IsTidyBy options d
+  pub normalised : IsNormalisedBy options d
 
 -- d is c cleaned, where the latches stay that the options hold
 pub record IsCleanedBy (options : Options) (c : Netlist) (d : Cleaned) : Type 0 where

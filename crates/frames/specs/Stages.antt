@@ -1,4 +1,4 @@
--- What a watcher is told of a run, in order.
+-- What a watcher is notified of in a run, in order.
 use Rattle.std.specs.Prelude.{ℕ, suc, zero, ◌-◌, List, [], ◌∷◌, ◌++◌, length}
 use Rattle.aig_graph.specs.Graph.{known_latches}
 use Rattle.retimed_circuits.specs.declared.report.FrameReport.{FrameReport}
@@ -7,36 +7,36 @@ use Rattle.frames.specs.declared.watcher.Stage.{Stage}
 use Rattle.frames.specs.declared.watcher.Stage.TheVariants as stages
 
 -- a stage that begins: of a look for a set how many frames were taken before, and how many known latches there are
-pub data Told : Type 0 where
-  Cleaning : Told
-  Looking : (taken latches : ℕ) → Told
-  Moving : Told
-  Writing : Told
+pub data Notification : Type 0 where
+  Cleaning : Notification
+  Looking : (taken latches : ℕ) → Notification
+  Moving : Notification
+  Writing : Notification
 
-abbrev pub told_of : Stage → Told
-told_of stages.Cleaning = Cleaning
-told_of (stages.Looking taken aig) = Looking taken (known_latches aig.now)
-told_of stages.Moving = Moving
-told_of stages.Writing = Writing
+abbrev pub notification_of : Stage → Notification
+notification_of stages.Cleaning = Cleaning
+notification_of (stages.Looking taken aig) = Looking taken (known_latches aig.now)
+notification_of stages.Moving = Moving
+notification_of stages.Writing = Writing
 
--- a watcher that had been told of whatever stages has been told of these after them
-abbrev pub Tells : {W : Type 0} → (W → List Told → Type 0) → W → W → List Told → Type 0
-Tells was_told old new stages = (before : List Told) → was_told old before → was_told new (before ++ stages)
+-- a watcher that had been notified of whatever stages has been notified of these after them
+abbrev pub Notifies : {W : Type 0} → (W → List Notification → Type 0) → W → W → List Notification → Type 0
+Notifies was_notified old new stages = (before : List Notification) → was_notified old before → was_notified new (before ++ stages)
 
 -- of each frame, the first of which is taken after so many: its set is looked for, and latches move over it
-unfoldable pub frame_stages : ℕ → List FrameReport → List Told
+unfoldable pub frame_stages : ℕ → List FrameReport → List Notification
 frame_stages taken [] = []
 frame_stages taken (report ∷ reports) = Looking taken report.before ∷ Moving ∷ frame_stages (suc taken) reports
 
 -- where the limit leaves so many frames, a set is looked for once more, and none helps
-abbrev pub last_look : ℕ → ℕ → ℕ → List Told
+abbrev pub last_look : ℕ → ℕ → ℕ → List Notification
 last_look zero taken latches = []
 last_look (suc left) taken latches = Looking taken latches ∷ []
 
 -- from the cleaned circuit on
-abbrev pub looks_of : ℕ → Retimed → List Told
+abbrev pub looks_of : ℕ → Retimed → List Notification
 looks_of limit r = frame_stages 0 r.frames ++ last_look (limit - length r.frames) (length r.frames) (known_latches r.circuit.aig)
 
 -- all stages of a run with this limit of frames, up to the retimed circuit
-abbrev pub stages_of : ℕ → Retimed → List Told
+abbrev pub stages_of : ℕ → Retimed → List Notification
 stages_of limit r = Cleaning ∷ looks_of limit r

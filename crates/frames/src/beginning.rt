@@ -16,7 +16,7 @@ use latch_merging::MergedStart;
 use retimed_circuits::Retimed;
 use std::alloc::Global;
 
-/// A cleaned circuit before any frame. Of the circuit that was read, so many latches are told.
+/// A cleaned circuit before any frame. Of the circuit that was read, so many latches are reported.
 fn begun(alloc: Global, start: Cleaned, read_latches: u32) -> Retimed
     ensures circuit { result.circuit ≡ start.circuit }
     ensures kept_free { result.kept_free ≡ start.kept_free }

@@ -7,7 +7,7 @@ ghost use Rattle.aig_graph.specs.Graph.{IsGraph};
 ghost use Rattle.aig_binary.specs.Spellings.{text_in};
 ghost use Rattle.frames.specs.Answering.{AfterReading, AreOfCircuit, BeforeWriting, IsAnswered, IsCutOff, IsMissingIn, IsStop, IsWritten, KeepsLevelsOf, RetimesBytes};
 ghost use Rattle.frames.specs.Bounds.{bound_in};
-ghost use Rattle.frames.specs.Stages.{Tells, Writing, stages_of};
+ghost use Rattle.frames.specs.Stages.{Notifies, Writing, stages_of};
 ghost use Rattle.level_laws.specs.Retiming.{KeepsLevels};
 ghost use Rattle.frames.specs.declared.errors.RetimeError.TheVariants.{NoSuchName};
 
@@ -67,7 +67,7 @@ pub fn retime_spelt<W: CountedWrite, G: PhaseGate, V: FrameWatcher>(
         spelt.circuit r.circuit) }
     ensures err { IfErr result (IsStop options.now spelt (W.output writer.old)
         (W.output writer.new)) }
-    ensures told { IfOk result (λ r. Tells V.was_told watcher.old watcher.new
+    ensures notified { IfOk result (λ r. Notifies V.was_notified watcher.old watcher.new
         (stages_of options.now.max_frames r ++ Writing ∷ [])) }
 {
     let SpeltCircuit { circuit, spelling } = spelt;
@@ -133,7 +133,7 @@ fn read_by<R: CountedRead, C: CircuitReader + Drop>(
     read_circuit(reader, &mut circuits)
 }
 
-/// [`retime_bytes`], seen by a watcher, which is told the stages that [`retime_watched`](crate::retime_watched) tells, and that the
+/// [`retime_bytes`], seen by a watcher, which is notified of the stages that [`retime_watched`](crate::retime_watched) notifies of, and that the
 /// circuit is written. Reading goes before its first stage. What `RetimesBytes` says is what the clauses of `retime_bytes` say.
 ///
 /// # Errors
@@ -150,7 +150,7 @@ pub fn retime_bytes_watched<R: CountedRead, W: CountedWrite, G: PhaseGate, V: Fr
 ) -> Result<Retimed, BytesError>
     ensures retimes { RetimesBytes options.now (R.input reader.old) (R.input reader.new)
         (W.output writer.old) (W.output writer.new) result }
-    ensures told { IfOk result (λ r. Tells V.was_told watcher.old watcher.new
+    ensures notified { IfOk result (λ r. Notifies V.was_notified watcher.old watcher.new
         (stages_of options.now.max_frames r ++ Writing ∷ [])) }
 {
     let spelt = read_by(reader, AnyReader::new(alloc))?;

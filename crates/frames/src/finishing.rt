@@ -1,10 +1,10 @@
-//! A run taken to its end; where latches were merged, what it came to is told of the circuit that was read.
+//! A run taken to its end; where latches were merged, what it came to is reported of the circuit that was read.
 ghost use Rattle.std.specs.Prelude.{ℕ, ◌≡◌, ◌<◌, length, All, IfOk};
 ghost use Rattle.aig_graph.specs.Circuits.{Netlist};
 ghost use Rattle.frames.specs.Beginning.{IsBegun};
 ghost use Rattle.frames.specs.Following.{IsRetimedFollowed};
-ghost use Rattle.frames.specs.Merging.{told_of_read};
-ghost use Rattle.frames.specs.Stages.{Tells, looks_of};
+ghost use Rattle.frames.specs.Merging.{reported_of_read};
+ghost use Rattle.frames.specs.Stages.{Notifies, looks_of};
 
 use crate::follower::RunFollower;
 use crate::options::Options;
@@ -18,10 +18,10 @@ use retimed_circuits::Retimed;
 use std::alloc::Global;
 use std::thread::Threads;
 
-/// The merged circuit retimed, told of the circuit that was read.
-fn told_of_read(alloc: Global, retimed: Retimed, read: ReadCircuit) -> Result<Retimed, NoMemory>
+/// The merged circuit retimed, reported of the circuit that was read.
+fn reported_of_read(alloc: Global, retimed: Retimed, read: ReadCircuit) -> Result<Retimed, NoMemory>
     requires { All (λ place. place < length read.kept_free) retimed.kept_free }
-    ensures { IfOk result (λ r. r ≡ told_of_read read retimed) }
+    ensures { IfOk result (λ r. r ≡ reported_of_read read retimed) }
 {
     let Retimed {
         circuit,
@@ -47,14 +47,14 @@ fn told_of_read(alloc: Global, retimed: Retimed, read: ReadCircuit) -> Result<Re
     }
 }
 
-/// A run from a merged circuit, told of the circuit that was read.
-fn told<F: RunFollower + Drop>(
+/// A run from a merged circuit, reported of the circuit that was read.
+fn run_of_read<F: RunFollower + Drop>(
     alloc: Global,
     run: Run<F>,
     read: ReadCircuit,
 ) -> Result<Run<F>, F::Stop>
     requires { All (λ place. place < length read.kept_free) run.retimed.kept_free }
-    ensures { IfOk result (λ end. (end.retimed ≡ told_of_read read run.retimed)
+    ensures { IfOk result (λ end. (end.retimed ≡ reported_of_read read run.retimed)
         × (end.follower ≡ run.follower)) }
 {
     let Run {
@@ -62,7 +62,7 @@ fn told<F: RunFollower + Drop>(
         follower,
         bound,
     } = run;
-    match told_of_read(alloc, retimed, read) {
+    match reported_of_read(alloc, retimed, read) {
         Ok(retimed) => Ok(Run {
             retimed,
             follower,
@@ -75,7 +75,7 @@ fn told<F: RunFollower + Drop>(
     }
 }
 
-/// Takes the frames of a run that was begun: the answer for every circuit that it was begun of. A watcher is told of each look for a set
+/// Takes the frames of a run that was begun: the answer for every circuit that it was begun of. A watcher is notified of each look for a set
 /// and each move over one.
 ///
 /// # Errors
@@ -95,13 +95,13 @@ pub fn finish<F: RunFollower + Drop, G: PhaseGate, V: FrameWatcher>(
         → IsBegun F.has_come options.now begun.run.bound c begun.read begun.run.retimed
         begun.run.follower
         → IsRetimedFollowed F.has_come options.now c end.retimed end.follower) }
-    ensures told { IfOk result (λ end. Tells V.was_told watcher.old watcher.new
+    ensures notified { IfOk result (λ end. Notifies V.was_notified watcher.old watcher.new
         (looks_of options.now.max_frames end.retimed)) }
 {
     let Begun { run, read } = begun;
     let end = run_to_end(rt, alloc, run, options, crew, watcher)?;
     match read {
         None => Ok(end),
-        Some(read) => told(alloc, end, read),
+        Some(read) => run_of_read(alloc, end, read),
     }
 }

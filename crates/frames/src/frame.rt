@@ -4,8 +4,8 @@ ghost use Rattle.frames.specs.Certified.{AddsFound};
 ghost use Rattle.frames.specs.Following.{HasComeTo, IsMovedFollowed, MovesFollowed};
 ghost use Rattle.frames.specs.Found.{IsAfterMove, IsPrepared, Saves};
 ghost use Rattle.frames.specs.Named.{NoneMissingBy, kept_by};
-ghost use Rattle.frames.specs.Retiming.{IsTidyBy, NoneHelpsBy};
-ghost use Rattle.frames.specs.Stages.{Moving, Tells};
+ghost use Rattle.frames.specs.Retiming.{IsNormalisedBy, NoneHelpsBy};
+ghost use Rattle.frames.specs.Stages.{Moving, Notifies};
 
 use crate::follower::RunFollower;
 use crate::helping::{PreparedMove, helping_set};
@@ -70,7 +70,7 @@ fn moved_over<F: RunFollower>(
     requires there { HasComeTo F.has_come follower.old circuit.now }
     requires keep { keep.now ≡ kept_by options.now circuit.now }
     requires names { NoneMissingBy options.now circuit.now }
-    requires tidy { IsTidyBy options.now circuit.now }
+    requires normalised { IsNormalisedBy options.now circuit.now }
     requires saves { Saves circuit.now keep.now set.now }
     requires prepared { IsPrepared circuit.now keep.now set.now prepared }
     ensures { IfOk result (IsMovedFollowed F.has_come options.now circuit.now set.now follower.old
@@ -100,7 +100,7 @@ fn carried(
 }
 
 /// The frame of the circuit that a run has come to, where one makes fewer latches: the set that is found, and what is left of it after its
-/// latches have moved over that and it is cleaned, which is followed. A watcher is told of the move. Where the records want certificates,
+/// latches have moved over that and it is cleaned, which is followed. A watcher is notified of the move. Where the records want certificates,
 /// they get one of the circuit. Of the run only the follower changes.
 pub(crate) fn next_frame<F: RunFollower, G: PhaseGate, V: FrameWatcher>(
     rt: &(impl Threads + Sync),
@@ -113,7 +113,7 @@ pub(crate) fn next_frame<F: RunFollower, G: PhaseGate, V: FrameWatcher>(
 ) -> Result<Option<Frame>, F::Stop>
     requires there { HasComeTo F.has_come run.old.follower run.old.retimed.circuit }
     requires names { NoneMissingBy options.now run.old.retimed.circuit }
-    requires tidy { IsTidyBy options.now run.old.retimed.circuit }
+    requires normalised { IsNormalisedBy options.now run.old.retimed.circuit }
     ensures same { OnOk result (run.new.retimed ≡ run.old.retimed) }
     ensures bound { OnOk result (run.new.bound ≡ run.old.bound) }
     ensures found { IfOk result (λ found. MatchOption found
@@ -123,9 +123,9 @@ pub(crate) fn next_frame<F: RunFollower, G: PhaseGate, V: FrameWatcher>(
         run.old.follower run.new.follower)) }
     ensures certificate { OnOk result
         (AddsFound options.now run.old.bound run.old.retimed.circuit records.old records.new) }
-    ensures told { IfOk result (λ found. MatchOption found
-        (Tells V.was_told watcher.old watcher.new [])
-        (λ _. Tells V.was_told watcher.old watcher.new (Moving ∷ []))) }
+    ensures notified { IfOk result (λ found. MatchOption found
+        (Notifies V.was_notified watcher.old watcher.new [])
+        (λ _. Notifies V.was_notified watcher.old watcher.new (Moving ∷ []))) }
 {
     run.retimed.circuit.known();
     let keep = keep_by_names(alloc, &run.retimed.circuit, options.keep.as_slice())?;

@@ -5,7 +5,7 @@ ghost use Rattle.aig_graph.specs.Graph.{known_latches};
 ghost use Rattle.aig_graph.specs.Laws.{composed};
 ghost use Rattle.frames.specs.Following.{EndsFollowed, IsFollowed, IsReady, IsRetimedFrom};
 ghost use Rattle.frames.specs.Found.{Moves};
-ghost use Rattle.frames.specs.Stages.{Looking, Tells, looks_of};
+ghost use Rattle.frames.specs.Stages.{Looking, Notifies, looks_of};
 ghost use Rattle.frames.specs.Underway.{IsUnderway};
 
 use crate::follower::RunFollower;
@@ -100,7 +100,7 @@ fn taken<F: RunFollower + Drop>(
 
 /// Tells a watcher that the set of the next frame is looked for.
 fn enter_looking<V: FrameWatcher>(retimed: &Retimed, watcher: &mut V)
-    ensures { Tells V.was_told watcher.old watcher.new
+    ensures { Notifies V.was_notified watcher.old watcher.new
         (Looking (length retimed.now.frames) (known_latches retimed.now.circuit.aig) ∷ []) }
 {
     watcher.enter(Stage::Looking {
@@ -128,7 +128,7 @@ fn all_frames<F: RunFollower + Drop, G: PhaseGate, V: FrameWatcher>(
         → IsFollowed F.has_come options.now start.bound c d kept 0 start.retimed start.follower
         → EndsFollowed F.has_come options.now start.bound c d kept records.new end.retimed
         end.follower) }
-    ensures told { IfOk result (λ end. Tells V.was_told watcher.old watcher.new
+    ensures notified { IfOk result (λ end. Notifies V.was_notified watcher.old watcher.new
         (looks_of options.now.max_frames end.retimed)) }
 {
     let mut run = start;
@@ -198,7 +198,7 @@ pub(crate) fn run_to_end<F: RunFollower + Drop, G: PhaseGate, V: FrameWatcher>(
     ensures retimed { IfOk result (λ end. (c d : Netlist) (kept : List ℕ)
         → IsFollowed F.has_come options.now start.bound c d kept 0 start.retimed start.follower
         → IsRetimedFrom F.has_come options.now start.bound c d kept end.retimed end.follower) }
-    ensures told { IfOk result (λ end. Tells V.was_told watcher.old watcher.new
+    ensures notified { IfOk result (λ end. Notifies V.was_notified watcher.old watcher.new
         (looks_of options.now.max_frames end.retimed)) }
 {
     let mut records = Records::new(alloc, options.certify);

@@ -5,7 +5,7 @@ use retimed_circuits::Retimed;
 /// A run under way: what it has come to, and what has followed it there.
 #[derive(Drop)]
 pub struct Run<F> {
-    /// The circuit that the run has come to, and what is told of it so far.
+    /// The circuit that the run has come to, and what is reported of it so far.
     pub retimed: Retimed,
     /// What has followed it.
     pub follower: F,
@@ -13,7 +13,7 @@ pub struct Run<F> {
     pub bound: Option<u32>,
 }
 
-/// What is told of the circuit that was read, beside what becomes of the one that it was merged to.
+/// What is reported of the circuit that was read, beside what becomes of the one that it was merged to.
 #[derive(Drop)]
 pub struct ReadCircuit {
     /// How many latches it has.
@@ -29,6 +29,6 @@ pub struct ReadCircuit {
 pub struct Begun<F> {
     /// The cleaned circuit.
     pub run: Run<F>,
-    /// Where latches were merged, what is told of the circuit that was read.
+    /// Where latches were merged, what is reported of the circuit that was read.
     pub read: Option<ReadCircuit>,
 }

@@ -5,7 +5,7 @@ ghost use Rattle.frames.specs.Beginning.{IsBegun};
 ghost use Rattle.frames.specs.Bounds.{bound_in};
 ghost use Rattle.frames.specs.Named.{IsFirstMissingBy, NoneMissingBy};
 ghost use Rattle.frames.specs.Retiming.{IsRetimedBy};
-ghost use Rattle.frames.specs.Stages.{Tells, looks_of, stages_of};
+ghost use Rattle.frames.specs.Stages.{Notifies, looks_of, stages_of};
 ghost use Rattle.level_laws.specs.Retiming.{KeepsLevels};
 ghost use Rattle.frames.specs.declared.errors.RetimeError.TheVariants.{NoSuchName};
 
@@ -52,7 +52,7 @@ fn finish_plain<G: PhaseGate, V: FrameWatcher>(
     ensures retimed { IfOk result (λ r. (c : Netlist)
         → IsBegun ⟦<NoFollower as RunFollower>⟧.has_come options.now
         begun.run.bound c begun.read begun.run.retimed begun.run.follower → IsRetimedBy options.now c r) }
-    ensures told { IfOk result (λ r. Tells V.was_told watcher.old watcher.new
+    ensures notified { IfOk result (λ r. Notifies V.was_notified watcher.old watcher.new
         (looks_of options.now.max_frames r)) }
 {
     let end = finish(rt, alloc, begun, options, crew, watcher)?;
@@ -90,7 +90,7 @@ pub fn retime<G: PhaseGate>(
     retime_watched(rt, alloc, circuit, options, crew, &mut NoWatcher)
 }
 
-/// [`retime`], seen by a watcher, which changes nothing of the answer. It is told of the cleaning, of each look for a set and each
+/// [`retime`], seen by a watcher, which changes nothing of the answer. It is notified of the cleaning, of each look for a set and each
 /// move over one, and of the last look, which finds that none helps, where the limit leaves a frame.
 ///
 /// # Errors
@@ -110,7 +110,7 @@ pub fn retime_watched<G: PhaseGate, V: FrameWatcher>(
     ensures none_missing { OnOk result (NoneMissingBy options.now circuit.now) }
     ensures missing { (place : ℕ) → IsErrOf result (NoSuchName place)
         → IsFirstMissingBy options.now circuit.now place }
-    ensures told { IfOk result (λ r. Tells V.was_told watcher.old watcher.new
+    ensures notified { IfOk result (λ r. Notifies V.was_notified watcher.old watcher.new
         (stages_of options.now.max_frames r)) }
 {
     // That it is a circuit is what its readers ensure.
@@ -140,7 +140,7 @@ pub(crate) fn retime_over<G: PhaseGate, V: FrameWatcher>(
     ensures none_missing { OnOk result (NoneMissingBy options.now circuit) }
     ensures missing { (place : ℕ) → IsErrOf result (NoSuchName place)
         → IsFirstMissingBy options.now circuit place }
-    ensures told { IfOk result (λ r. Tells V.was_told watcher.old watcher.new
+    ensures notified { IfOk result (λ r. Notifies V.was_notified watcher.old watcher.new
         (stages_of options.now.max_frames r)) }
 {
     // That it is a circuit is what its readers ensure.

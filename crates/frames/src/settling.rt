@@ -6,17 +6,17 @@ ghost use Rattle.aig_graph.specs.Graph.{IsGraph};
 ghost use Rattle.aig_graph.specs.Laws.{all_free};
 ghost use Rattle.frames.specs.Following.{HasComeTo, IsCleanedFollowed};
 ghost use Rattle.frames.specs.Named.{NoneMissingBy};
-ghost use Rattle.frames.specs.Retiming.{IsTidyBy};
-ghost use Rattle.tidy.specs.Tidy.{AreLowTidy};
+ghost use Rattle.frames.specs.Retiming.{IsNormalisedBy};
+ghost use Rattle.normalised_circuits.specs.Normalised.{AreLowNormalised};
 
 use crate::follower::RunFollower;
 use crate::options::Options;
 use aig_graph::{Circuit, NoMemory, keep_by_names};
 use clean::Cleaned;
+use normalised_circuits::{all_places, are_low_normalised};
 use std::alloc::Global;
-use tidy::{all_places, are_low_tidy};
 
-/// A circuit as what it is cleaned to, which it is if it is tidy. The gates that stay aren't listed, since they all do.
+/// A circuit as what it is cleaned to, which it is if it is normalised. The gates that stay aren't listed, since they all do.
 fn as_cleaned<E: From<NoMemory>>(alloc: Global, circuit: Circuit) -> Result<Cleaned, E>
     ensures circuit { IfOk result (λ d. d.circuit ≡ circuit) }
     ensures kept_free { IfOk result (λ d. d.kept_free ≡ all_free circuit.aig) }
@@ -69,18 +69,18 @@ fn cleaned_over<F: RunFollower>(
     cleaned
 }
 
-/// Whether the low copies are tidy, of a circuit whose last gates are so many copies.
+/// Whether the low copies are normalised, of a circuit whose last gates are so many copies.
 fn is_settled(alloc: Global, circuit: &Circuit, copies: usize) -> Result<bool, NoMemory>
     requires { copies ≤ length circuit.now.aig.gates }
-    ensures lows { IfOk result (λ yes. yes ≡ true → AreLowTidy circuit.now.aig
+    ensures lows { IfOk result (λ yes. yes ≡ true → AreLowNormalised circuit.now.aig
         (length circuit.now.aig.gates - copies)) }
     ensures graph { IsGraph circuit.now.aig }
     ensures netlist { IsNetlist circuit.now }
 {
-    are_low_tidy(alloc, circuit.aig(), copies)
+    are_low_normalised(alloc, circuit.aig(), copies)
 }
 
-/// A moved circuit, whose last gates are so many copies, cleaned, which is followed. It is its own cleaning where its low copies are tidy.
+/// A moved circuit, whose last gates are so many copies, cleaned, which is followed. It is its own cleaning where its low copies are normalised.
 pub(crate) fn settled<F: RunFollower>(
     alloc: Global,
     follower: &mut F,
@@ -91,8 +91,8 @@ pub(crate) fn settled<F: RunFollower>(
     requires there { HasComeTo F.has_come follower.old circuit }
     requires copies { copies ≤ length circuit.aig.gates }
     requires names { NoneMissingBy options.now circuit }
-    requires tidy { AreLowTidy circuit.aig (length circuit.aig.gates - copies)
-        → IsTidyBy options.now circuit }
+    requires normalised { AreLowNormalised circuit.aig (length circuit.aig.gates - copies)
+        → IsNormalisedBy options.now circuit }
     ensures { IfOk result (IsCleanedFollowed F.has_come options.now circuit follower.old
         follower.new) }
 {

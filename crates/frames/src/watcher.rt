@@ -1,7 +1,7 @@
-//! What a run of frames calls as each of its stages begins, for callers that show how far it is, or measure it. What a watcher was told so
-//! far is a relation that each watcher chooses: a run says by it which stages it told, in which order.
+//! What a run of frames calls as each of its stages begins, for callers that show how far it is, or measure it. What a watcher was notified of so
+//! far is a relation that each watcher chooses: a run says by it of which stages it notified, in which order.
 ghost use Rattle.std.specs.Prelude.{List, ⊤, [], ◌∷◌};
-ghost use Rattle.frames.specs.Stages.{Tells, Told, told_of};
+ghost use Rattle.frames.specs.Stages.{Notifies, Notification, notification_of};
 
 use aig_graph::Aig;
 
@@ -26,11 +26,11 @@ pub enum Stage<'a> {
 /// Sees a run under way. `enter` is called as each stage begins, in order, on the thread of the call. A stage ends where the next one
 /// begins, and the last one with the call. The answer doesn't depend on what `enter` does.
 pub trait FrameWatcher {
-    /// The watcher has been told of these stages.
-    ghost was_told: { Self → List Told → Type 0 };
+    /// The watcher has been notified of these stages.
+    ghost was_notified: { Self → List Notification → Type 0 };
 
     fn enter(&mut self, stage: Stage<'_>)
-        ensures { Tells was_told self.old self.new (told_of stage.entry ∷ []) };
+        ensures { Notifies was_notified self.old self.new (notification_of stage.entry ∷ []) };
 }
 
 /// A watcher that sees nothing.
@@ -38,7 +38,7 @@ pub trait FrameWatcher {
 pub struct NoWatcher;
 
 impl FrameWatcher for NoWatcher {
-    ghost was_told = { λ _ _. ⊤ };
+    ghost was_notified = { λ _ _. ⊤ };
 
     fn enter(&mut self, _stage: Stage<'_>) {}
 }

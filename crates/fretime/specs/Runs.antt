@@ -18,7 +18,7 @@ use Rattle.map_commands.specs.Products.{PrintsAsked}
 use Rattle.map_commands.specs.Lifted.{PrintsLift}
 use Rattle.backward_commands.specs.Moving.{PrintsMoves}
 use Rattle.commands.specs.Drawings.{PrintsPicture}
-use Rattle.simulation_commands.specs.Fates.{PrintsFate}
+use Rattle.simulation_commands.specs.Verdicts.{PrintsVerdict}
 use Rattle.commands.specs.Pipes.{Converts, IsPipe, PrintsRetiming, WritesPipe}
 use Rattle.command_endings.specs.Printing.{Prints}
 use Rattle.simulation_commands.specs.Simulating.{PrintsTrace}
@@ -52,7 +52,7 @@ Does FileGiven (Miter asking) is_terminal before after old new said ended = Prin
 Does FileGiven (Product asking) is_terminal before after old new said ended = PrintsAsked FileGiven asking.certificate asking before after old new ended
 Does FileGiven (Lift lifting) is_terminal before after old new said ended = PrintsLift FileGiven lifting before after old new ended
 Does FileGiven (Dot drawing) is_terminal before after old new said ended = PrintsPicture FileGiven drawing before after old new ended
-Does FileGiven (Witness carrying) is_terminal before after old new said ended = PrintsFate carrying before after old new ended
+Does FileGiven (Witness carrying) is_terminal before after old new said ended = PrintsVerdict carrying before after old new ended
 Does FileGiven (Explain name) is_terminal before after old new said ended = Explains name.now old new ended
 
 -- that two circuits can't be compared, in a line or as an object

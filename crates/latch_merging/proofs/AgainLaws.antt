@@ -8,12 +8,12 @@ use Rattle.cleaned_circuits.specs.Merged.{Merging, merging_from, replaced, repla
 use Rattle.cleaned_circuits.proofs.SubstituteLaws.{after-within}
 use Rattle.cleaned_circuits.proofs.MergedLaws.{IsGraph-replaced, SubstitutesWithin, from_latch, length-replaced_latches, replaced-first_latch, replaced-latch}
 use Rattle.merged_latches.specs.Counts.{merged_latches}
-use Rattle.merged_latches.specs.Partitions.{IsCoarsest, IsFiner, IsKept, IsMerged}
-use Rattle.merged_latches.specs.Readings.{read, from_reset, ReadsAs, as_itself, as_constant, as_first, IsReading, leaves, substitutes_by, told}
+use Rattle.merged_latches.specs.Partitions.{IsCoarsest, IsFiner, IsInductive, IsMerged}
+use Rattle.merged_latches.specs.Readings.{read, from_reset, ReadsAs, as_itself, as_constant, as_first, IsReading, leaves, substitutes_by, signature}
 use Rattle.merged_latches.proofs.CoarserLaws.{coarser-substitutes}
 use Rattle.merged_latches.proofs.FinerLaws.{coarsest-one}
 use Rattle.merged_latches.proofs.ReadingLaws.{are-leaves}
-use Rattle.latch_merging.specs.Rounds.{first_round, next_round, told_of}
+use Rattle.latch_merging.specs.Rounds.{first_round, next_round, signature_of}
 use Rattle.latch_merging.proofs.CoarsestLaws.{IsRound, first-coarser, first-reading, round-finer, round-last, round-reading}
 use Rattle.latch_merging.proofs.SameRunLaws.{run-same}
 use Rattle.latch_merging.proofs.SameRoundLaws.{first_round-same, round-same}
@@ -56,41 +56,41 @@ module _ (g : Graph) (held reads : List ℕ) (valid : IsGraph g) (coarsest : IsC
           (omega (arith, (are-leaves g held other reading).long))
           (λ i gate there. let place : first_gate g + i ≡ length (leaves g other) + i = omega (arith, (are-leaves g held other reading).long) in subst (λ (n : ℕ). IsGateAt n gate) place (valid.gates i gate there)))
 
-      told-same : (j : ℕ) (latch : Latch) → slice_get g.latches j ≡ Some latch
-          → told (substitutes_by (replaced_graph (substitutes_by g reads) g) other) (replaced_latch (substitutes_by g reads) latch) ≡ told (substitutes_by g other) latch
-      told-same j latch there =
-          ap (λ (xs : List ℕ). told xs (replaced_latch (substitutes_by g reads) latch)) substitutes-same
+      signature-same : (j : ℕ) (latch : Latch) → slice_get g.latches j ≡ Some latch
+          → signature (substitutes_by (replaced_graph (substitutes_by g reads) g) other) (replaced_latch (substitutes_by g reads) latch) ≡ signature (substitutes_by g other) latch
+      signature-same j latch there =
+          ap (λ (xs : List ℕ). signature xs (replaced_latch (substitutes_by g reads) latch)) substitutes-same
           ∙ ap (from_reset latch.reset) (literal-same latch.next (valid.latches j latch there))
 
       -- the next round of the merged circuit is the next round of the circuit, from any coarser reading
       pub next-same : next_round (replaced_graph (substitutes_by g reads) g) held other ≡ next_round g held other
-      next-same = round-same g held (substitutes_by g reads) other told-same
+      next-same = round-same g held (substitutes_by g reads) other signature-same
 
   -- it is finer than itself
   own-finer : IsFiner g reads reads
   own-finer = coarsest.coarser reads coarsest.kept
 
-  -- it is kept
-  still-kept : IsKept (replaced_graph (substitutes_by g reads) g) held reads
+  -- it is inductive
+  still-kept : IsInductive (replaced_graph (substitutes_by g reads) g) held reads
   still-kept = record {
     reading = reading-same reads coarsest.kept.reading;
     constants = λ j latch there zero_is. (
         let from = from_latch (substitutes_by g reads) g j latch there in
-        ap (told (substitutes_by (replaced_graph (substitutes_by g reads) g) reads)) from.2
-        ∙ told-same reads coarsest.kept.reading own-finer j from.0 from.1 ∙ coarsest.kept.constants j from.0 from.1 zero_is);
+        ap (signature (substitutes_by (replaced_graph (substitutes_by g reads) g) reads)) from.2
+        ∙ signature-same reads coarsest.kept.reading own-finer j from.0 from.1 ∙ coarsest.kept.constants j from.0 from.1 zero_is);
     alike = λ j i latch first there there_i as_i. (
         let from = from_latch (substitutes_by g reads) g j latch there in
         let from_i = from_latch (substitutes_by g reads) g i first there_i in
         let place : variable (read reads j) ≡ first_latch g + i = as_i ∙ ap (λ (n : ℕ). n + i) (replaced-first_latch (substitutes_by g reads) g) in
-        ap (told (substitutes_by (replaced_graph (substitutes_by g reads) g) reads)) from.2
-        ∙ told-same reads coarsest.kept.reading own-finer j from.0 from.1 ∙ coarsest.kept.alike j i from.0 from_i.0 from.1 from_i.1 place
-        ∙ sym (told-same reads coarsest.kept.reading own-finer i from_i.0 from_i.1)
-        ∙ sym (ap (told (substitutes_by (replaced_graph (substitutes_by g reads) g) reads)) from_i.2));
+        ap (signature (substitutes_by (replaced_graph (substitutes_by g reads) g) reads)) from.2
+        ∙ signature-same reads coarsest.kept.reading own-finer j from.0 from.1 ∙ coarsest.kept.alike j i from.0 from_i.0 from.1 from_i.1 place
+        ∙ sym (signature-same reads coarsest.kept.reading own-finer i from_i.0 from_i.1)
+        ∙ sym (ap (signature (substitutes_by (replaced_graph (substitutes_by g reads) g) reads)) from_i.2));
   }
 
-  -- each kept reading of the merged circuit is finer than the end of the rounds
-  module _ (other : List ℕ) (kept : IsKept (replaced_graph (substitutes_by g reads) g) held other) where
-    to-the-end : (n : ℕ) (now : List ℕ) → IsReading g held now → ((q : List ℕ) → IsKept g held q → IsFiner g q now) → IsFiner (replaced_graph (substitutes_by g reads) g) other now
+  -- each inductive reading of the merged circuit is finer than the end of the rounds
+  module _ (other : List ℕ) (kept : IsInductive (replaced_graph (substitutes_by g reads) g) held other) where
+    to-the-end : (n : ℕ) (now : List ℕ) → IsReading g held now → ((q : List ℕ) → IsInductive g held q → IsFiner g q now) → IsFiner (replaced_graph (substitutes_by g reads) g) other now
         → merged_latches g now < n → IsFiner (replaced_graph (substitutes_by g reads) g) other reads
     to-the-end zero now reading coarser finer few = absurd (omega arith)
     to-the-end (suc n) now reading coarser finer few =
@@ -101,25 +101,25 @@ module _ (g : Graph) (held reads : List ℕ) (valid : IsGraph g) (coarsest : IsC
               let finer_next : P next =
               subst P (next-same now reading (coarser reads coarsest.kept))
               (round-finer (replaced_graph (substitutes_by g reads) g) held now (reading-same now reading) whole other kept finer) in
-              to-the-end n next (round-reading g held (told_of g now)) (λ q is. round-finer g held now reading valid q is (coarser q is)) finer_next (omega (arith, less, few)))
+              to-the-end n next (round-reading g held (signature_of g now)) (λ q is. round-finer g held now reading valid q is (coarser q is)) finer_next (omega (arith, less, few)))
           | inr more ↦ (
               let round : IsRound g held now next = record { reading = reading; next_is = refl; coarser = coarser } in
               let last : IsCoarsest g held now = round-last g held now next round more in
               subst P (coarsest-one g held now reads last coarsest) finer)
         ]
 
-    -- each kept reading of the merged circuit is finer than the coarsest one of the circuit
+    -- each inductive reading of the merged circuit is finer than the coarsest one of the circuit
     pub ends-finer : IsFiner (replaced_graph (substitutes_by g reads) g) other reads
     ends-finer =
         let P : List ℕ → Type 0 = λ xs. IsFiner (replaced_graph (substitutes_by g reads) g) other xs in
         to-the-end (suc (merged_latches g (first_round g held))) (first_round g held) (first-reading g held) (λ q is. first-coarser g held q is.reading)
         (subst P (first_round-same g held (substitutes_by g reads)) (first-coarser (replaced_graph (substitutes_by g reads) g) held other kept.reading)) (omega arith)
 
-  -- the coarsest kept reading of a circuit is the coarsest one of what merging by it makes of the circuit
+  -- the coarsest inductive reading of a circuit is the coarsest one of what merging by it makes of the circuit
   pub still-coarsest : IsCoarsest (replaced_graph (substitutes_by g reads) g) held reads
   still-coarsest = record { kept = still-kept; coarser = λ other kept. ends-finer other kept }
 
--- what a circuit is merged to has the coarsest kept reading that the circuit had
+-- what a circuit is merged to has the coarsest inductive reading that the circuit had
 pub merges-no_more : (held : List ℕ) (c d : Netlist) → IsGraph c.aig → (merged : IsMerged held c d) → IsCoarsest d.aig held merged.reads
 merges-no_more held c d valid merged =
     let P : Netlist → Type 0 = λ e. IsCoarsest e.aig held merged.reads in

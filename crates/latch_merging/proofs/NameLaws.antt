@@ -1,5 +1,5 @@
--- Names by which gates agree with their fan-ins' names: what merging by a kept reading makes of a literal has the literal's name, where that
--- holds of what latches read as. So latches that a kept reading holds together are told one name, and no turn parts them.
+-- Names by which gates agree with their fan-ins' names: what merging by an inductive reading makes of a literal has the literal's name, where that
+-- holds of what latches read as. So latches that an inductive reading holds together have one signature, and no turn parts them.
 use Rattle.std.proofs.Common.{ℕ, ◌+◌, ◌-◌, ◌*◌, ◌<◌, ◌≤◌, ◌≡◌, inl, inr, suc, List, [], ◌∷◌, length, Bool, true, false, not, ◌&&◌, nat_eq, cond, Option, Some, None, slice_get, get_or, refl, arith, ap, sym, ◌∙◌, subst}
 use Rattle.std.specs.Map.{lookup}
 use Rattle.std.proofs.lemmas.Bool.{cases_Bool, cases_lt, cases_eq, cond-true, cond-false, eq-eqb}
@@ -16,13 +16,13 @@ use Rattle.cleaned_circuits.specs.Latches.{constant_of}
 use Rattle.cleaned_circuits.specs.Merged.{Merging, replaced, replaced_gate, same_fan_ins, known_substitute, substitute_or_own, kept_after, with_substitute, merge_gate, merge_gates, merging_from, substitutes_after}
 use Rattle.cleaned_circuits.proofs.LatchLaws.{constant-even}
 use Rattle.cleaned_circuits.proofs.SubstituteLaws.{lookup_push, same_fan_ins-is, gate_substitutes, with_false, with_true, with_equal, with_opposite, with_earlier, replaced-variable, AreLeaves, length-substitutes_after, length-merge_gate}
-use Rattle.merged_latches.specs.Readings.{own_literal, read, may_merge, from_reset, ReadsAs, as_itself, as_constant, as_first, leaves, substitutes_by, told}
-use Rattle.merged_latches.specs.Partitions.{IsKept}
+use Rattle.merged_latches.specs.Readings.{own_literal, read, may_merge, from_reset, ReadsAs, as_itself, as_constant, as_first, leaves, substitutes_by, signature}
+use Rattle.merged_latches.specs.Partitions.{IsInductive}
 use Rattle.merged_latches.proofs.ReadingLaws.{are-leaves, leaf-low, leaf-latch, from_reset-twice, from_reset-zero, replaced-latch_literal}
 use Rattle.merged_latches.proofs.RunLaws.{comes-zero, comes-one, comes-equal, comes-opposite, gate_of-either, replaced-signed}
-use Rattle.latch_merging.specs.declared.told.Told.{Told}
-use Rattle.latch_merging.specs.Names.{is_marked, AreToldAlike, AreAlike, AreLeaving, regrouped, key_of}
-use Rattle.latch_merging.proofs.CoarsestLaws.{told_is}
+use Rattle.latch_merging.specs.declared.signature.Signature.{Signature}
+use Rattle.latch_merging.specs.Names.{is_marked, HaveOneSignature, AreAlike, AreLeaving, regrouped, key_of}
+use Rattle.latch_merging.proofs.CoarsestLaws.{signature_is}
 
 -- a run over the gates, of which what stands for a variable has the variable's name
 record Follows (p : Merging) (names : List ℕ) (pairs : List (Gate × ℕ)) : Type 0 where
@@ -151,9 +151,9 @@ follows-all (gate ∷ gates) p names pairs runs at agrees =
     plus : (i : ℕ) → i + 1 ≡ suc i
     plus i = omega arith
 
-module _ (g : Graph) (held names tolds : List ℕ) (pairs : List (Gate × ℕ)) (valid : IsGraph g)
+module _ (g : Graph) (held names signatures : List ℕ) (pairs : List (Gate × ℕ)) (valid : IsGraph g)
     (agrees : (i : ℕ) (gate : Gate) → slice_get g.gates i ≡ Some gate → known_substitute pairs (replaced_gate (leaves g names) gate) ≡ Some (read names (length g.latches + i)))
-    (other : List ℕ) (kept : IsKept g held other) (alike : AreToldAlike g other (key_of names tolds)) where
+    (other : List ℕ) (kept : IsInductive g held other) (alike : HaveOneSignature g other (key_of names signatures)) where
   abbrev table_of : List ℕ
   table_of = leaves g names
 
@@ -182,10 +182,10 @@ module _ (g : Graph) (held names tolds : List ℕ) (pairs : List (Gate × ℕ)) 
       by : ReadsAs g held other j latch (read other j) → replaced (leaves g names) (read other j) ≡ read names j
       by (as_itself e) = ap (replaced (leaves g names)) e ∙ own-name j
       by (as_constant may e) =
-          let class : from_reset latch.reset (read names j) ≡ 0 = ap (λ (key : Told). key.class) (alike.zero j latch there e) in
+          let class : from_reset latch.reset (read names j) ≡ 0 = ap (λ (key : Signature). key.class) (alike.zero j latch there e) in
           ap (replaced (leaves g names)) e ∙ constant-name latch.reset ∙ sym (name-class j latch 0 class ∙ from_reset-zero latch.reset)
       by (as_first i first less first_there may may_first own e) =
-          let class : from_reset latch.reset (read names j) ≡ from_reset first.reset (read names i) = ap (λ (key : Told). key.class) (alike.same j i latch first there first_there e) in
+          let class : from_reset latch.reset (read names j) ≡ from_reset first.reset (read names i) = ap (λ (key : Signature). key.class) (alike.same j i latch first there first_there e) in
           ap (replaced (leaves g names)) e ∙ first-name latch.reset first.reset i ∙ sym (name-class j latch (from_reset first.reset (read names i)) class)
 
   -- so does what stands for a literal
@@ -218,39 +218,39 @@ module _ (g : Graph) (held names tolds : List ℕ) (pairs : List (Gate × ℕ)) 
       agrees i gate e ∙ ap (λ (n : ℕ). Some n) (sym (leaf-latch g held names (length g.latches + i)) ∙ ap (λ (n : ℕ). get_or (leaves g names) n 0) place))) in
       follows-literal (merge_gates g.gates (merging_from (leaves g other))) (leaves g names) pairs all lit (omega (arith, h, length-substitutes_after g (leaves g other) begun))
 
-  -- what a latch is told by the names, is the name of what it is told
-  told-name : (j : ℕ) (latch : Latch) → slice_get g.latches j ≡ Some latch → told (leaves g names) latch ≡ replaced (leaves g names) (told (substitutes_by g other) latch)
-  told-name j latch there =
+  -- the signature of a latch by the names is the name of its signature
+  signature-name : (j : ℕ) (latch : Latch) → slice_get g.latches j ≡ Some latch → signature (leaves g names) latch ≡ replaced (leaves g names) (signature (substitutes_by g other) latch)
+  signature-name j latch there =
       ap (from_reset latch.reset) (sym (substitute-name latch.next (valid.latches j latch there)))
       ∙ sym (replaced-signed (leaves g names) (constant_of latch.reset) (replaced (substitutes_by g other) latch.next))
 
-  -- so latches that are held together are told one name
-  pub told-zero : (j : ℕ) (latch : Latch) → slice_get g.latches j ≡ Some latch → read other j ≡ constant_of latch.reset → told (leaves g names) latch ≡ 0
-  told-zero j latch there e =
-      let zero_told : told (substitutes_by g other) latch ≡ 0 = kept.constants j latch there (omega (arith, e, constant-even latch.reset)) in
+  -- so latches that are held together have one signature
+  pub signature-zero : (j : ℕ) (latch : Latch) → slice_get g.latches j ≡ Some latch → read other j ≡ constant_of latch.reset → signature (leaves g names) latch ≡ 0
+  signature-zero j latch there e =
+      let zero_signature : signature (substitutes_by g other) latch ≡ 0 = kept.constants j latch there (omega (arith, e, constant-even latch.reset)) in
       let low : replaced (leaves g names) 0 ≡ 0 = ap (signed_as 0) (leaf-low g held names 0 (omega arith)) in
-      told-name j latch there ∙ ap (replaced (leaves g names)) zero_told ∙ low
+      signature-name j latch there ∙ ap (replaced (leaves g names)) zero_signature ∙ low
 
   -- the same of two latches
-  pub told-same : (j i : ℕ) (latch first : Latch) → slice_get g.latches j ≡ Some latch → slice_get g.latches i ≡ Some first
-      → read other j ≡ from_reset latch.reset (from_reset first.reset (own_literal g i)) → told (leaves g names) latch ≡ told (leaves g names) first
-  told-same j i latch first there first_there e =
-      told-name j latch there ∙ ap (replaced (leaves g names)) (kept.alike j i latch first there first_there (omega (arith, e))) ∙ sym (told-name i first first_there)
+  pub signature-same : (j i : ℕ) (latch first : Latch) → slice_get g.latches j ≡ Some latch → slice_get g.latches i ≡ Some first
+      → read other j ≡ from_reset latch.reset (from_reset first.reset (own_literal g i)) → signature (leaves g names) latch ≡ signature (leaves g names) first
+  signature-same j i latch first there first_there e =
+      signature-name j latch there ∙ ap (replaced (leaves g names)) (kept.alike j i latch first there first_there (omega (arith, e))) ∙ sym (signature-name i first first_there)
 
 -- the class of a latch after its group has a name
-regrouped-class : (leaving : List Bool) (names tolds : List ℕ) (group : Told → ℕ) (j : ℕ) (latch : Latch)
-    → from_reset latch.reset (regrouped leaving names tolds group j latch) ≡ cond (is_marked leaving j) (group (key_of names tolds j latch)) (from_reset latch.reset (read names j))
-regrouped-class leaving names tolds group j latch = elim (cases_Bool (is_marked leaving j)) [
+regrouped-class : (leaving : List Bool) (names signatures : List ℕ) (group : Signature → ℕ) (j : ℕ) (latch : Latch)
+    → from_reset latch.reset (regrouped leaving names signatures group j latch) ≡ cond (is_marked leaving j) (group (key_of names signatures j latch)) (from_reset latch.reset (read names j))
+regrouped-class leaving names signatures group j latch = elim (cases_Bool (is_marked leaving j)) [
   | inl marked ↦
-      ap (from_reset latch.reset) (cond-true (is_marked leaving j) (from_reset latch.reset (group (key_of names tolds j latch))) (read names j) marked)
-      ∙ from_reset-twice latch.reset (group (key_of names tolds j latch)) ∙ sym (cond-true (is_marked leaving j) _ _ marked)
+      ap (from_reset latch.reset) (cond-true (is_marked leaving j) (from_reset latch.reset (group (key_of names signatures j latch))) (read names j) marked)
+      ∙ from_reset-twice latch.reset (group (key_of names signatures j latch)) ∙ sym (cond-true (is_marked leaving j) _ _ marked)
   | inr unmarked ↦
-      ap (from_reset latch.reset) (cond-false (is_marked leaving j) (from_reset latch.reset (group (key_of names tolds j latch))) (read names j) unmarked)
+      ap (from_reset latch.reset) (cond-false (is_marked leaving j) (from_reset latch.reset (group (key_of names signatures j latch))) (read names j) unmarked)
       ∙ sym (cond-false (is_marked leaving j) _ _ unmarked)
 ]
 
 -- a latch that is held together with another one may be merged where that may
-may-same : (g : Graph) (held other : List ℕ) (kept : IsKept g held other) (j i : ℕ) (latch first : Latch) → slice_get g.latches j ≡ Some latch → slice_get g.latches i ≡ Some first
+may-same : (g : Graph) (held other : List ℕ) (kept : IsInductive g held other) (j i : ℕ) (latch first : Latch) → slice_get g.latches j ≡ Some latch → slice_get g.latches i ≡ Some first
     → read other j ≡ from_reset latch.reset (from_reset first.reset (own_literal g i)) → may_merge held j latch ≡ may_merge held i first
 may-same g held other kept j i latch first there first_there e = by (kept.reading.each j latch there)
   where
@@ -266,41 +266,41 @@ may-same g held other kept j i latch first there first_there e = by (kept.readin
         let same : k ≡ i = omega (arith, e, is) in
         may ∙ sym (sym (ap (λ (n : ℕ). may_merge held n one) same ∙ ap (may_merge held i) (same_latch k one at same)) ∙ may_one)
 
-module _ (g : Graph) (held names tolds tolds_new : List ℕ) (pairs : List (Gate × ℕ)) (leaving : List Bool) (valid : IsGraph g)
+module _ (g : Graph) (held names signatures signatures_new : List ℕ) (pairs : List (Gate × ℕ)) (leaving : List Bool) (valid : IsGraph g)
     (agrees : (i : ℕ) (gate : Gate) → slice_get g.gates i ≡ Some gate → known_substitute pairs (replaced_gate (leaves g names) gate) ≡ Some (read names (length g.latches + i)))
-    (left : AreLeaving g held names tolds tolds_new leaving) (group : Told → ℕ) (names_new : List ℕ)
-    (each : (j : ℕ) (latch : Latch) → slice_get g.latches j ≡ Some latch → read names_new j ≡ regrouped leaving names tolds_new group j latch) where
-  -- after a turn latches that a kept reading holds together are still of one class, and told the same
-  pub turn-alike : AreAlike g held (key_of names tolds) → AreAlike g held (key_of names_new tolds_new)
+    (left : AreLeaving g held names signatures signatures_new leaving) (group : Signature → ℕ) (names_new : List ℕ)
+    (each : (j : ℕ) (latch : Latch) → slice_get g.latches j ≡ Some latch → read names_new j ≡ regrouped leaving names signatures_new group j latch) where
+  -- after a turn latches that an inductive reading holds together are still of one class and signature
+  pub turn-alike : AreAlike g held (key_of names signatures) → AreAlike g held (key_of names_new signatures_new)
   turn-alike alike other kept =
-      let before : AreToldAlike g other (key_of names tolds) = alike other kept in
+      let before : HaveOneSignature g other (key_of names signatures) = alike other kept in
       record {
         zero = λ j latch there e. (
-            let class : from_reset latch.reset (read names j) ≡ 0 = ap (λ (key : Told). key.class) (before.zero j latch there e) in
-            let was : read tolds j ≡ 0 = ap (λ (key : Told). key.literal) (before.zero j latch there e) in
-            let now : told (leaves g names) latch ≡ 0 = told-zero g held names tolds pairs valid agrees other kept before j latch there e in
-            let stays : is_marked leaving j ≡ false = left.marked j latch there ∙ unmoved (may_merge held j latch) (read tolds j) (told (leaves g names) latch) (was ∙ sym now) in
-            told_is (from_reset latch.reset (read names_new j)) (read tolds_new j) 0 0
-            (ap (from_reset latch.reset) (each j latch there ∙ cond-false (is_marked leaving j) _ _ stays) ∙ class) (left.told j latch there ∙ now));
+            let class : from_reset latch.reset (read names j) ≡ 0 = ap (λ (key : Signature). key.class) (before.zero j latch there e) in
+            let was : read signatures j ≡ 0 = ap (λ (key : Signature). key.literal) (before.zero j latch there e) in
+            let now : signature (leaves g names) latch ≡ 0 = signature-zero g held names signatures pairs valid agrees other kept before j latch there e in
+            let stays : is_marked leaving j ≡ false = left.marked j latch there ∙ unmoved (may_merge held j latch) (read signatures j) (signature (leaves g names) latch) (was ∙ sym now) in
+            signature_is (from_reset latch.reset (read names_new j)) (read signatures_new j) 0 0
+            (ap (from_reset latch.reset) (each j latch there ∙ cond-false (is_marked leaving j) _ _ stays) ∙ class) (left.signature j latch there ∙ now));
         same = λ j i latch first there first_there e. (
-            let key : key_of names tolds j latch ≡ key_of names tolds i first = before.same j i latch first there first_there e in
-            let class : from_reset latch.reset (read names j) ≡ from_reset first.reset (read names i) = ap (λ (k : Told). k.class) key in
-            let was : read tolds j ≡ read tolds i = ap (λ (k : Told). k.literal) key in
-            let now : told (leaves g names) latch ≡ told (leaves g names) first = told-same g held names tolds pairs valid agrees other kept before j i latch first there first_there e in
-            let literal : read tolds_new j ≡ read tolds_new i = left.told j latch there ∙ now ∙ sym (left.told i first first_there) in
+            let key : key_of names signatures j latch ≡ key_of names signatures i first = before.same j i latch first there first_there e in
+            let class : from_reset latch.reset (read names j) ≡ from_reset first.reset (read names i) = ap (λ (k : Signature). k.class) key in
+            let was : read signatures j ≡ read signatures i = ap (λ (k : Signature). k.literal) key in
+            let now : signature (leaves g names) latch ≡ signature (leaves g names) first = signature-same g held names signatures pairs valid agrees other kept before j i latch first there first_there e in
+            let literal : read signatures_new j ≡ read signatures_new i = left.signature j latch there ∙ now ∙ sym (left.signature i first first_there) in
             let marks : is_marked leaving j ≡ is_marked leaving i =
             left.marked j latch there
-            ∙ ap (λ (b : Bool). b && not (nat_eq (read tolds j) (told (leaves g names) latch))) (may-same g held other kept j i latch first there first_there e)
-            ∙ ap (λ (n : ℕ). may_merge held i first && not (nat_eq n (told (leaves g names) latch))) was
-            ∙ ap (λ (n : ℕ). may_merge held i first && not (nat_eq (read tolds i) n)) now ∙ sym (left.marked i first first_there) in
-            let new_key : key_of names tolds_new j latch ≡ key_of names tolds_new i first =
-            told_is (from_reset latch.reset (read names j)) (read tolds_new j) (from_reset first.reset (read names i)) (read tolds_new i) class literal in
-            told_is (from_reset latch.reset (read names_new j)) (read tolds_new j) (from_reset first.reset (read names_new i)) (read tolds_new i)
-            (ap (from_reset latch.reset) (each j latch there) ∙ regrouped-class leaving names tolds_new group j latch
-            ∙ ap (λ (b : Bool). cond b (group (key_of names tolds_new j latch)) (from_reset latch.reset (read names j))) marks
-            ∙ ap (λ (k : Told). cond (is_marked leaving i) (group k) (from_reset latch.reset (read names j))) new_key
-            ∙ ap (λ (n : ℕ). cond (is_marked leaving i) (group (key_of names tolds_new i first)) n) class
-            ∙ sym (ap (from_reset first.reset) (each i first first_there) ∙ regrouped-class leaving names tolds_new group i first)) literal);
+            ∙ ap (λ (b : Bool). b && not (nat_eq (read signatures j) (signature (leaves g names) latch))) (may-same g held other kept j i latch first there first_there e)
+            ∙ ap (λ (n : ℕ). may_merge held i first && not (nat_eq n (signature (leaves g names) latch))) was
+            ∙ ap (λ (n : ℕ). may_merge held i first && not (nat_eq (read signatures i) n)) now ∙ sym (left.marked i first first_there) in
+            let new_key : key_of names signatures_new j latch ≡ key_of names signatures_new i first =
+            signature_is (from_reset latch.reset (read names j)) (read signatures_new j) (from_reset first.reset (read names i)) (read signatures_new i) class literal in
+            signature_is (from_reset latch.reset (read names_new j)) (read signatures_new j) (from_reset first.reset (read names_new i)) (read signatures_new i)
+            (ap (from_reset latch.reset) (each j latch there) ∙ regrouped-class leaving names signatures_new group j latch
+            ∙ ap (λ (b : Bool). cond b (group (key_of names signatures_new j latch)) (from_reset latch.reset (read names j))) marks
+            ∙ ap (λ (k : Signature). cond (is_marked leaving i) (group k) (from_reset latch.reset (read names j))) new_key
+            ∙ ap (λ (n : ℕ). cond (is_marked leaving i) (group (key_of names signatures_new i first)) n) class
+            ∙ sym (ap (from_reset first.reset) (each i first first_there) ∙ regrouped-class leaving names signatures_new group i first)) literal);
       }
     where
       unmoved : (b : Bool) (m n : ℕ) → m ≡ n → (b && not (nat_eq m n)) ≡ false

@@ -1,4 +1,4 @@
--- One round: the first of a class that is told a literal, latch after latch, and what latches read as after it.
+-- One round: the first of each class and signature, latch after latch, and what latches read as after it.
 use Rattle.std.proofs.Common.{zero-add, ℕ, ◌+◌, ◌<◌, ◌≤◌, ◌≡◌, inl, inr, suc, zero, List, [], ◌∷◌, ◌++◌, length, Bool, true, false, ◌&&◌, cond, nat_eq, Option, Some, None, slice_get, refl, arith, ap, sym, ◌∙◌, subst, add-one}
 use Rattle.std.specs.Map.{lookup}
 use Rattle.std.proofs.lemmas.Bool.{cases_Bool, cases_eq, and_parts, and_from, and_left, eq-eqb, eqb-true, cond-true, cond-false}
@@ -10,26 +10,26 @@ use Rattle.cleaned_circuits.specs.Latches.{constant_of}
 use Rattle.cleaned_circuits.specs.Merged.{substitute_or_own}
 use Rattle.merged_latches.specs.Readings.{own_literal, read, may_merge, from_reset}
 use Rattle.merged_latches.proofs.ReadingLaws.{from_reset-twice, from_reset-zero}
-use Rattle.latch_merging.specs.declared.told.Told.{Told}
-use Rattle.latch_merging.specs.Rounds.{is_told, constant_told, is_told_at, started, or_else, first_told, read_first, next_read, round_by, AreFirstTold, told_after, read_told, entries_told}
+use Rattle.latch_merging.specs.declared.signature.Signature.{Signature}
+use Rattle.latch_merging.specs.Rounds.{has_signature, constant_signature, has_signature_at, started, or_else, first_of_signature, read_first, next_read, round_by, AreFirstOfSignature, entries_after, read_by_signature, entries_by_signature}
 
 or_else-none : (o : Option ℕ) → or_else o None ≡ o
 or_else-none None = refl
 or_else-none (Some n) = refl
 
 -- equal classes and equal literals are one key
-pub is_told-is : (key other : Told) → is_told key other ≡ true → key ≡ other
-is_told-is key other e =
+pub has_signature-is : (key other : Signature) → has_signature key other ≡ true → key ≡ other
+has_signature-is key other e =
     let parts = and_parts (nat_eq key.class other.class) (nat_eq key.literal other.literal) e in
-    let one : ℕ → Told = λ n. record { class = n; literal = key.literal } in
-    let two : ℕ → Told = λ n. record { class = other.class; literal = n } in
+    let one : ℕ → Signature = λ n. record { class = n; literal = key.literal } in
+    let two : ℕ → Signature = λ n. record { class = other.class; literal = n } in
     ap one (eqb-true key.class other.class parts.0) ∙ ap two (eqb-true key.literal other.literal parts.1)
 
 -- a key is its own
-pub is_told-self : (key : Told) → is_told key key ≡ true
-is_told-self key = and_from (nat_eq key.class key.class) (nat_eq key.literal key.literal) (eq-eqb key.class key.class refl) (eq-eqb key.literal key.literal refl)
+pub has_signature-self : (key : Signature) → has_signature key key ≡ true
+has_signature-self key = and_from (nat_eq key.class key.class) (nat_eq key.literal key.literal) (eq-eqb key.class key.class refl) (eq-eqb key.literal key.literal refl)
 
-lookup-push : (test : Told → Bool) (entries : List (Told × ℕ)) (key : Told) (value : ℕ)
+lookup-push : (test : Signature → Bool) (entries : List (Signature × ℕ)) (key : Signature) (value : ℕ)
     → lookup test (entries ++ (key, value) ∷ []) ≡ or_else (lookup test entries) (cond (test key) (Some value) None)
 lookup-push test [] key value = refl
 lookup-push test ((k, v) ∷ entries) key value = elim (cases_Bool (test k)) [
@@ -41,23 +41,23 @@ lookup-push test ((k, v) ∷ entries) key value = elim (cases_Bool (test k)) [
       ∙ sym (ap (λ (o : Option ℕ). or_else o (cond (test key) (Some value) None)) (cond-false (test k) (Some v) (lookup test entries) other))
 ]
 
-module _ (g : Graph) (held : List ℕ) (keys : ℕ → Latch → Told) where
-  abbrev first : Told → ℕ → Option ℕ
-  first key n = first_told g held keys key n
+module _ (g : Graph) (held : List ℕ) (keys : ℕ → Latch → Signature) where
+  abbrev first : Signature → ℕ → Option ℕ
+  first key n = first_of_signature g held keys key n
 
-  abbrev here : Told → ℕ → Option ℕ
-  here key n = cond (is_told_at held keys key n (slice_get g.latches n)) (Some (started g n (slice_get g.latches n))) None
+  abbrev here : Signature → ℕ → Option ℕ
+  here key n = cond (has_signature_at held keys key n (slice_get g.latches n)) (Some (started g n (slice_get g.latches n))) None
 
-  first-zero : (key : Told) → first key 0 ≡ cond (is_told key constant_told) (Some 0) None
-  unfolding first_told
+  first-zero : (key : Signature) → first key 0 ≡ cond (has_signature key constant_signature) (Some 0) None
+  unfolding first_of_signature
   first-zero key = refl
 
-  first-suc : (key : Told) (n : ℕ) → first key (suc n) ≡ or_else (first key n) (here key n)
-  unfolding first_told
+  first-suc : (key : Signature) (n : ℕ) → first key (suc n) ≡ or_else (first key n) (here key n)
+  unfolding first_of_signature
   first-suc key n = refl
 
   -- what is first stays so
-  first-stays : (key : Told) (l n m : ℕ) → first key n ≡ Some l → n ≤ m → first key m ≡ Some l
+  first-stays : (key : Signature) (l n m : ℕ) → first key n ≡ Some l → n ≤ m → first key m ≡ Some l
   first-stays key l n zero e h = let same : n ≡ 0 = omega arith in ap (first key) (sym same) ∙ e
   first-stays key l n (suc m) e h = elim (cases_eq n (suc m)) [
     | inl same ↦ ap (first key) (sym same) ∙ e
@@ -65,26 +65,26 @@ module _ (g : Graph) (held : List ℕ) (keys : ℕ → Latch → Told) where
   ]
 
   -- the constant, or a latch before n
-  pub data FirstIs (key : Told) (n l : ℕ) : Type 0 where
-    constant_is : key ≡ constant_told → l ≡ 0 → FirstIs key n l
+  pub data FirstIs (key : Signature) (n l : ℕ) : Type 0 where
+    constant_is : key ≡ constant_signature → l ≡ 0 → FirstIs key n l
     latch_is : (i : ℕ) (latch : Latch) → i < n → slice_get g.latches i ≡ Some latch → may_merge held i latch ≡ true → key ≡ keys i latch
         → l ≡ from_reset latch.reset (own_literal g i) → FirstIs key n l
 
-  first-is : (key : Told) (n l : ℕ) → first key n ≡ Some l → FirstIs key n l
-  first-is key zero l e = elim (cases_Bool (is_told key constant_told)) [
-    | inl same ↦ constant_is (is_told-is key constant_told same)
-        (same_Some l 0 (sym e ∙ first-zero key ∙ cond-true (is_told key constant_told) (Some 0) None same))
-    | inr other ↦ absurd (none-some l (sym (cond-false (is_told key constant_told) (Some 0) None other) ∙ sym (first-zero key) ∙ e))
+  first-is : (key : Signature) (n l : ℕ) → first key n ≡ Some l → FirstIs key n l
+  first-is key zero l e = elim (cases_Bool (has_signature key constant_signature)) [
+    | inl same ↦ constant_is (has_signature-is key constant_signature same)
+        (same_Some l 0 (sym e ∙ first-zero key ∙ cond-true (has_signature key constant_signature) (Some 0) None same))
+    | inr other ↦ absurd (none-some l (sym (cond-false (has_signature key constant_signature) (Some 0) None other) ∙ sym (first-zero key) ∙ e))
   ]
   first-is key (suc n) l e = go (λ m found. first-is key n m found) (first key n) refl
     where
       at : (o : Option Latch) → slice_get g.latches n ≡ o
-          → cond (is_told_at held keys key n o) (Some (started g n o)) None ≡ Some l → FirstIs key (suc n) l
+          → cond (has_signature_at held keys key n o) (Some (started g n o)) None ≡ Some l → FirstIs key (suc n) l
       at None there found = absurd (none-some l found)
-      at (Some latch) there found = elim (cases_Bool (may_merge held n latch && is_told key (keys n latch))) [
+      at (Some latch) there found = elim (cases_Bool (may_merge held n latch && has_signature key (keys n latch))) [
         | inl passes ↦ (
-            let parts = and_parts (may_merge held n latch) (is_told key (keys n latch)) passes in
-            latch_is n latch (omega arith) there parts.0 (is_told-is key (keys n latch) parts.1)
+            let parts = and_parts (may_merge held n latch) (has_signature key (keys n latch)) passes in
+            latch_is n latch (omega arith) there parts.0 (has_signature-is key (keys n latch) parts.1)
             (same_Some l (from_reset latch.reset (own_literal g n)) (sym found ∙ cond-true _ (Some (from_reset latch.reset (own_literal g n))) None passes)))
         | inr fails ↦ absurd (none-some l (sym (cond-false _ (Some (from_reset latch.reset (own_literal g n))) None fails) ∙ found))
       ]
@@ -103,11 +103,11 @@ module _ (g : Graph) (held : List ℕ) (keys : ℕ → Latch → Told) where
   first-at : (j : ℕ) (latch : Latch) → slice_get g.latches j ≡ Some latch → may_merge held j latch ≡ true
       → first (keys j latch) (suc j) ≡ Some (substitute_or_own (from_reset latch.reset (own_literal g j)) (first (keys j latch) j))
   first-at j latch there may =
-      let key : Told = keys j latch in
+      let key : Signature = keys j latch in
       let own : ℕ = from_reset latch.reset (own_literal g j) in
-      let passes : (may_merge held j latch && is_told key key) ≡ true = and_from (may_merge held j latch) (is_told key key) may (is_told-self key) in
+      let passes : (may_merge held j latch && has_signature key key) ≡ true = and_from (may_merge held j latch) (has_signature key key) may (has_signature-self key) in
       let at_j : here key j ≡ Some own =
-      ap (λ (o : Option Latch). cond (is_told_at held keys key j o) (Some (started g j o)) None) there ∙ cond-true (may_merge held j latch && is_told key key) (Some own) None passes in
+      ap (λ (o : Option Latch). cond (has_signature_at held keys key j o) (Some (started g j o)) None) there ∙ cond-true (may_merge held j latch && has_signature key key) (Some own) None passes in
       first-suc key j ∙ ap (or_else (first key j)) at_j ∙ found own (first key j)
     where
       found : (own : ℕ) (o : Option ℕ) → or_else o (Some own) ≡ Some (substitute_or_own own o)
@@ -129,13 +129,13 @@ module _ (g : Graph) (held : List ℕ) (keys : ℕ → Latch → Told) where
   pub round-alone : (j : ℕ) (latch : Latch) → slice_get g.latches j ≡ Some latch → may_merge held j latch ≡ false → read (round_by g held keys) j ≡ own_literal g j
   round-alone j latch there fails = round-at j latch there ∙ cond-false (may_merge held j latch) _ _ fails
 
-  -- a latch that may be merged, by the first of its class that is told what it is
+  -- a latch that may be merged, by the first of its class and signature
   pub record Led (j : ℕ) (latch : Latch) : Type 0 where
     -- the literal of the leader
     pub leader : ℕ
     -- after the round the latch reads as the leader, negated where the latch's reset is 1
     pub reads_as : read (round_by g held keys) j ≡ from_reset latch.reset leader
-    -- the leader is the first of the constant and the latches up to this one that is of the latch's class and told the same
+    -- the leader is the first of the constant and the latches up to this one that is of the latch's class and signature
     pub first_one : first (keys j latch) (suc j) ≡ Some leader
 
   -- each latch that may be merged has a leader
@@ -146,27 +146,27 @@ module _ (g : Graph) (held : List ℕ) (keys : ℕ → Latch → Told) where
     first_one = first-at j latch there may;
   }
 
-  -- two of one class that are told the same have one leader
+  -- two of one class and signature have one leader
   pub leader-same : (j i : ℕ) (latch other : Latch) (a : Led j latch) (b : Led i other) → keys j latch ≡ keys i other → a.leader ≡ b.leader
   leader-same j i latch other a b same =
-      let key : Told = keys j latch in
+      let key : Signature = keys j latch in
       let one : first key (suc (j + i)) ≡ Some a.leader = first-stays key a.leader (suc j) (suc (j + i)) a.first_one (omega arith) in
       let two : first key (suc (j + i)) ≡ Some b.leader =
-      first-stays key b.leader (suc i) (suc (j + i)) (ap (λ (k : Told). first k (suc i)) same ∙ b.first_one) (omega arith) in
+      first-stays key b.leader (suc i) (suc (j + i)) (ap (λ (k : Signature). first k (suc i)) same ∙ b.first_one) (omega arith) in
       same_Some a.leader b.leader (sym one ∙ two)
 
-  -- who is told 0 in the constant's class has the constant as its leader
-  pub leader-constant : (j : ℕ) (latch : Latch) (a : Led j latch) → keys j latch ≡ constant_told → a.leader ≡ 0
+  -- who is of the constant's class and has the signature 0 has the constant as its leader
+  pub leader-constant : (j : ℕ) (latch : Latch) (a : Led j latch) → keys j latch ≡ constant_signature → a.leader ≡ 0
   leader-constant j latch a same =
-      let key : Told = keys j latch in
+      let key : Signature = keys j latch in
       let begins : first key 0 ≡ Some 0 =
-      first-zero key ∙ cond-true (is_told key constant_told) (Some 0) None (ap (λ (k : Told). is_told k constant_told) same ∙ is_told-self constant_told) in
+      first-zero key ∙ cond-true (has_signature key constant_signature) (Some 0) None (ap (λ (k : Signature). has_signature k constant_signature) same ∙ has_signature-self constant_signature) in
       same_Some a.leader 0 (sym a.first_one ∙ first-stays key 0 0 (suc j) begins (omega arith))
 
   -- what a latch reads as after a round
   pub data After (j : ℕ) (latch : Latch) : Type 0 where
     alone : may_merge held j latch ≡ false → read (round_by g held keys) j ≡ own_literal g j → After j latch
-    by_constant : may_merge held j latch ≡ true → keys j latch ≡ constant_told → read (round_by g held keys) j ≡ constant_of latch.reset → After j latch
+    by_constant : may_merge held j latch ≡ true → keys j latch ≡ constant_signature → read (round_by g held keys) j ≡ constant_of latch.reset → After j latch
     by_first : (i : ℕ) (other : Latch) → i ≤ j → slice_get g.latches i ≡ Some other → may_merge held j latch ≡ true → may_merge held i other ≡ true
         → keys j latch ≡ keys i other → read (round_by g held keys) j ≡ from_reset latch.reset (from_reset other.reset (own_literal g i))
         → read (round_by g held keys) i ≡ own_literal g i → After j latch
@@ -188,59 +188,59 @@ module _ (g : Graph) (held : List ℕ) (keys : ℕ → Latch → Told) where
   ]
 
   -- one more latch
-  pub firsts-start : AreFirstTold g held keys 0 ((constant_told, 0) ∷ [])
+  pub firsts-start : AreFirstOfSignature g held keys 0 ((constant_signature, 0) ∷ [])
   firsts-start = record { each = λ key. sym (first-zero key) }
 
-  firsts-skip : (n : ℕ) (entries : List (Told × ℕ)) → AreFirstTold g held keys n entries → ((key : Told) → or_else (first key n) (here key n) ≡ first key n) → AreFirstTold g held keys (n + 1) entries
+  firsts-skip : (n : ℕ) (entries : List (Signature × ℕ)) → AreFirstOfSignature g held keys n entries → ((key : Signature) → or_else (first key n) (here key n) ≡ first key n) → AreFirstOfSignature g held keys (n + 1) entries
   firsts-skip n entries firsts skip = record { each = λ key. firsts.each key ∙ sym (ap (first key) (add-one n) ∙ first-suc key n ∙ skip key) }
 
-  module _ (n : ℕ) (latch : Latch) (there : slice_get g.latches n ≡ Some latch) (entries : List (Told × ℕ)) (firsts : AreFirstTold g held keys n entries) where
+  module _ (n : ℕ) (latch : Latch) (there : slice_get g.latches n ≡ Some latch) (entries : List (Signature × ℕ)) (firsts : AreFirstOfSignature g held keys n entries) where
     abbrev own : ℕ
     own = from_reset latch.reset (own_literal g n)
 
-    abbrev key_n : Told
+    abbrev key_n : Signature
     key_n = keys n latch
 
-    here-is : (key : Told) → here key n ≡ cond (may_merge held n latch && is_told key key_n) (Some own) None
-    here-is key = ap (λ (o : Option Latch). cond (is_told_at held keys key n o) (Some (started g n o)) None) there
+    here-is : (key : Signature) → here key n ≡ cond (may_merge held n latch && has_signature key key_n) (Some own) None
+    here-is key = ap (λ (o : Option Latch). cond (has_signature_at held keys key n o) (Some (started g n o)) None) there
 
-    none-here : (key : Told) → (may_merge held n latch && is_told key key_n) ≡ false → or_else (first key n) (here key n) ≡ first key n
-    none-here key fails = ap (or_else (first key n)) (here-is key ∙ cond-false (may_merge held n latch && is_told key key_n) (Some own) None fails) ∙ or_else-none (first key n)
+    none-here : (key : Signature) → (may_merge held n latch && has_signature key key_n) ≡ false → or_else (first key n) (here key n) ≡ first key n
+    none-here key fails = ap (or_else (first key n)) (here-is key ∙ cond-false (may_merge held n latch && has_signature key key_n) (Some own) None fails) ∙ or_else-none (first key n)
 
-    found-more : (l : ℕ) → lookup (is_told key_n) entries ≡ Some l → AreFirstTold g held keys (n + 1) entries
-    found-more l found = firsts-skip n entries firsts (λ key. elim (cases_Bool (may_merge held n latch && is_told key key_n)) [
+    found-more : (l : ℕ) → lookup (has_signature key_n) entries ≡ Some l → AreFirstOfSignature g held keys (n + 1) entries
+    found-more l found = firsts-skip n entries firsts (λ key. elim (cases_Bool (may_merge held n latch && has_signature key key_n)) [
       | inr fails ↦ none-here key fails
       | inl passes ↦ (
-          let same : key ≡ key_n = is_told-is key key_n (and_parts (may_merge held n latch) (is_told key key_n) passes).1 in
-          let some : first key n ≡ Some l = ap (λ (k : Told). first k n) same ∙ sym (firsts.each key_n) ∙ found in
+          let same : key ≡ key_n = has_signature-is key key_n (and_parts (may_merge held n latch) (has_signature key key_n) passes).1 in
+          let some : first key n ≡ Some l = ap (λ (k : Signature). first k n) same ∙ sym (firsts.each key_n) ∙ found in
           ap (λ (o : Option ℕ). or_else o (here key n)) some ∙ sym some)
     ])
 
-    fresh-more : may_merge held n latch ≡ true → AreFirstTold g held keys (n + 1) (entries ++ (key_n, own) ∷ [])
+    fresh-more : may_merge held n latch ≡ true → AreFirstOfSignature g held keys (n + 1) (entries ++ (key_n, own) ∷ [])
     fresh-more may = record {
       each = λ key.
-          lookup-push (is_told key) entries key_n own ∙ ap (λ (o : Option ℕ). or_else o (cond (is_told key key_n) (Some own) None)) (firsts.each key)
-          ∙ ap (λ (b : Bool). or_else (first key n) (cond (b && is_told key key_n) (Some own) None)) (sym may)
+          lookup-push (has_signature key) entries key_n own ∙ ap (λ (o : Option ℕ). or_else o (cond (has_signature key key_n) (Some own) None)) (firsts.each key)
+          ∙ ap (λ (b : Bool). or_else (first key n) (cond (b && has_signature key key_n) (Some own) None)) (sym may)
           ∙ ap (or_else (first key n)) (sym (here-is key)) ∙ sym (ap (first key) (add-one n) ∙ first-suc key n);
     }
 
-    merged-more : may_merge held n latch ≡ true → AreFirstTold g held keys (n + 1) (told_after entries own key_n (lookup (is_told key_n) entries))
-    merged-more may = go (lookup (is_told key_n) entries) refl
+    merged-more : may_merge held n latch ≡ true → AreFirstOfSignature g held keys (n + 1) (entries_after entries own key_n (lookup (has_signature key_n) entries))
+    merged-more may = go (lookup (has_signature key_n) entries) refl
       where
-        go : (o : Option ℕ) → lookup (is_told key_n) entries ≡ o → AreFirstTold g held keys (n + 1) (told_after entries own key_n o)
+        go : (o : Option ℕ) → lookup (has_signature key_n) entries ≡ o → AreFirstOfSignature g held keys (n + 1) (entries_after entries own key_n o)
         go None none = fresh-more may
         go (Some l) some = found-more l some
 
     -- the entries after one more latch
-    pub firsts-more : (new : List (Told × ℕ)) → new ≡ entries_told g held entries key_n n latch → AreFirstTold g held keys (n + 1) new
+    pub firsts-more : (new : List (Signature × ℕ)) → new ≡ entries_by_signature g held entries key_n n latch → AreFirstOfSignature g held keys (n + 1) new
     firsts-more new is =
-        let P : List (Told × ℕ) → Type 0 = λ xs. AreFirstTold g held keys (n + 1) xs in
+        let P : List (Signature × ℕ) → Type 0 = λ xs. AreFirstOfSignature g held keys (n + 1) xs in
         subst P (sym is) (elim (cases_Bool (may_merge held n latch)) [
           | inl may ↦ subst P (sym (cond-true (may_merge held n latch) _ entries may)) (merged-more may)
-          | inr fails ↦ subst P (sym (cond-false (may_merge held n latch) (told_after entries own key_n (lookup (is_told key_n) entries)) entries fails))
-              (firsts-skip n entries firsts (λ key. none-here key (and_left (may_merge held n latch) (is_told key key_n) fails)))
+          | inr fails ↦ subst P (sym (cond-false (may_merge held n latch) (entries_after entries own key_n (lookup (has_signature key_n) entries)) entries fails))
+              (firsts-skip n entries firsts (λ key. none-here key (and_left (may_merge held n latch) (has_signature key key_n) fails)))
         ])
 
     -- and what it reads as
-    pub read-more : read_told g held entries key_n n latch ≡ next_read g held keys n (slice_get g.latches n)
+    pub read-more : read_by_signature g held entries key_n n latch ≡ next_read g held keys n (slice_get g.latches n)
     read-more = ap (read_first g held n latch) (firsts.each key_n) ∙ sym (ap (next_read g held keys n) there)

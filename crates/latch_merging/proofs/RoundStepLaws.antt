@@ -7,11 +7,11 @@ use Rattle.aig_graph.specs.Graph.{Graph, first_latch, variables_end}
 use Rattle.variable_tables.specs.Tables.{table}
 use Rattle.cleaned_circuits.specs.Merged.{merging_from, substitutes_after}
 use Rattle.cleaned_circuits.proofs.SubstituteLaws.{length-merge_gates}
-use Rattle.merged_latches.specs.Readings.{from_reset, leaves, own_literal, read, substitutes_by, told}
+use Rattle.merged_latches.specs.Readings.{from_reset, leaves, own_literal, read, substitutes_by, signature}
 use Rattle.merged_latches.proofs.ReadingLaws.{length-leaves}
-use Rattle.latch_merging.specs.declared.told.Told.{Told}
+use Rattle.latch_merging.specs.declared.signature.Signature.{Signature}
 use Rattle.merged_latches.specs.Counts.{is_merged}
-use Rattle.latch_merging.specs.Rounds.{first_read, first_round, next_read, round_by, told_of}
+use Rattle.latch_merging.specs.Rounds.{first_read, first_round, next_read, round_by, signature_of}
 use Rattle.clean.specs.Substitutions.{from_first, own_literals}
 use Rattle.variable_tables.proofs.TableLaws.{entry, table-end}
 
@@ -44,25 +44,25 @@ unfolding first_round
 first-end g held k xs h l filled = table-end 0 k (length g.latches) (λ j. first_read g held j (slice_get g.latches j)) xs h l filled
 
 -- the same after a round
-pub next-more : (g : Graph) (held : List ℕ) (keys : ℕ → Latch → Told) (k : ℕ) (old new : List ℕ) (lit : ℕ) → old ≡ table 0 k (λ j. next_read g held keys j (slice_get g.latches j))
+pub next-more : (g : Graph) (held : List ℕ) (keys : ℕ → Latch → Signature) (k : ℕ) (old new : List ℕ) (lit : ℕ) → old ≡ table 0 k (λ j. next_read g held keys j (slice_get g.latches j))
     → lit ≡ next_read g held keys k (slice_get g.latches k) → new ≡ old ++ lit ∷ [] → new ≡ table 0 (k + 1) (λ j. next_read g held keys j (slice_get g.latches j))
 next-more g held keys k old new lit before is pushed =
     entry 0 k (λ j. next_read g held keys j (slice_get g.latches j)) old new lit before pushed
     (is ∙ ap (λ (j : ℕ). next_read g held keys j (slice_get g.latches j)) (sym (zero-add k)))
 
 -- at the end of the loop
-pub next-end : (g : Graph) (held : List ℕ) (keys : ℕ → Latch → Told) (k : ℕ) (xs : List ℕ) → k ≤ length g.latches → length g.latches ≤ k
+pub next-end : (g : Graph) (held : List ℕ) (keys : ℕ → Latch → Signature) (k : ℕ) (xs : List ℕ) → k ≤ length g.latches → length g.latches ≤ k
     → xs ≡ table 0 k (λ j. next_read g held keys j (slice_get g.latches j)) → xs ≡ round_by g held keys
 unfolding round_by
 next-end g held keys k xs h l filled = table-end 0 k (length g.latches) (λ j. next_read g held keys j (slice_get g.latches j)) xs h l filled
 
--- what a latch is told, by its parts
-pub told-is : (g : Graph) (reads substitutes : List ℕ) (k : ℕ) (latch : Latch) (lit : ℕ) (key : Told) → substitutes ≡ substitutes_by g reads → lit ≡ read reads k
-    → key.class ≡ from_reset latch.reset lit → key.literal ≡ told substitutes latch → key ≡ told_of g reads k latch
-told-is g reads substitutes k latch lit key by at class literal =
-    let one : ℕ → Told = λ n. record { class = n; literal = key.literal } in
-    let two : ℕ → Told = λ n. record { class = from_reset latch.reset (read reads k); literal = n } in
-    ap one (class ∙ ap (from_reset latch.reset) at) ∙ ap two (literal ∙ ap (λ (xs : List ℕ). told xs latch) by)
+-- the class and the signature of a latch, by their parts
+pub signature-is : (g : Graph) (reads substitutes : List ℕ) (k : ℕ) (latch : Latch) (lit : ℕ) (key : Signature) → substitutes ≡ substitutes_by g reads → lit ≡ read reads k
+    → key.class ≡ from_reset latch.reset lit → key.literal ≡ signature substitutes latch → key ≡ signature_of g reads k latch
+signature-is g reads substitutes k latch lit key by at class literal =
+    let one : ℕ → Signature = λ n. record { class = n; literal = key.literal } in
+    let two : ℕ → Signature = λ n. record { class = from_reset latch.reset (read reads k); literal = n } in
+    ap one (class ∙ ap (from_reset latch.reset) at) ∙ ap two (literal ∙ ap (λ (xs : List ℕ). signature xs latch) by)
 
 -- what the loop reads
 pub item-read : (reads : List ℕ) (k lit : ℕ) → k < length reads → lit ≡ get_or reads k lit → lit ≡ read reads k
@@ -70,5 +70,5 @@ item-read reads k lit h e = e ∙ get_or_default reads k lit 0 h
 
 -- whether a latch reads as another
 pub merged-is : (g : Graph) (reads : List ℕ) (k lit own : ℕ) (ne : Bool) → k < length reads → lit ≡ get_or reads k lit → own ≡ own_literal g k → ne ≡ not (nat_eq lit own) → ne ≡ is_merged g reads k
-merged-is g reads k lit own ne h e is told_ne =
-    told_ne ∙ ap (λ (n : ℕ). not (nat_eq n own)) (item-read reads k lit h e) ∙ ap (λ (n : ℕ). not (nat_eq (read reads k) n)) is
+merged-is g reads k lit own ne h e is signature_ne =
+    signature_ne ∙ ap (λ (n : ℕ). not (nat_eq n own)) (item-read reads k lit h e) ∙ ap (λ (n : ℕ). not (nat_eq (read reads k) n)) is

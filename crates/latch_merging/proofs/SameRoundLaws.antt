@@ -1,4 +1,4 @@
--- A round over latches that read something else is the round, where they are told the same.
+-- A round over latches that read something else is the round, where they have the same signatures.
 use Rattle.std.proofs.Common.{ℕ, ◌≡◌, suc, zero, List, [], ◌∷◌, length, map, ◌&&◌, cond, Option, Some, None, slice_get, refl, ap, sym, ◌∙◌}
 use Rattle.aig_graph.specs.declared.graph.Latch.{Latch}
 use Rattle.aig_graph.specs.Graph.{Graph}
@@ -6,8 +6,8 @@ use Rattle.variable_tables.specs.Tables.{table}
 use Rattle.variable_tables.proofs.TableLaws.{table-same}
 use Rattle.cleaned_circuits.specs.Merged.{replaced_graph, replaced_latch}
 use Rattle.cleaned_circuits.proofs.MergedLaws.{length-replaced_latches, replaced-latch}
-use Rattle.merged_latches.specs.Readings.{from_reset, may_merge, own_literal, read, substitutes_by, told}
-use Rattle.latch_merging.specs.Rounds.{first_read, first_round, first_told, is_told, is_told_at, next_read, next_round, or_else, read_first, round_by, started, told_of}
+use Rattle.merged_latches.specs.Readings.{from_reset, may_merge, own_literal, read, substitutes_by, signature}
+use Rattle.latch_merging.specs.Rounds.{first_read, first_round, first_of_signature, has_signature, has_signature_at, next_read, next_round, or_else, read_first, round_by, started, signature_of}
 
 -- what is past a list is past its map
 map-none : {A B : Type 0} (f : A → B) (xs : List A) (k : ℕ) → slice_get xs k ≡ None → slice_get (map f xs) k ≡ None
@@ -21,63 +21,63 @@ module _ (g : Graph) (held substitutes : List ℕ) where
   latch-none j e = map-none (replaced_latch substitutes) g.latches j e
 
   module _ (other : List ℕ) (same : (j : ℕ) (latch : Latch) → slice_get g.latches j ≡ Some latch
-      → told (substitutes_by (replaced_graph substitutes g) other) (replaced_latch substitutes latch) ≡ told (substitutes_by g other) latch) where
+      → signature (substitutes_by (replaced_graph substitutes g) other) (replaced_latch substitutes latch) ≡ signature (substitutes_by g other) latch) where
     here-same : (a b n : ℕ)
-        → cond (is_told_at held (told_of (replaced_graph substitutes g) other) (record { class = a; literal = b }) n (slice_get (replaced_graph substitutes g).latches n))
+        → cond (has_signature_at held (signature_of (replaced_graph substitutes g) other) (record { class = a; literal = b }) n (slice_get (replaced_graph substitutes g).latches n))
         (Some (started (replaced_graph substitutes g) n (slice_get (replaced_graph substitutes g).latches n))) None
-        ≡ cond (is_told_at held (told_of g other) (record { class = a; literal = b }) n (slice_get g.latches n)) (Some (started g n (slice_get g.latches n))) None
+        ≡ cond (has_signature_at held (signature_of g other) (record { class = a; literal = b }) n (slice_get g.latches n)) (Some (started g n (slice_get g.latches n))) None
     unfolding replaced_graph
     here-same a b n = go (slice_get g.latches n) refl
       where
         go : (o : Option Latch) → slice_get g.latches n ≡ o
-            → cond (is_told_at held (told_of (replaced_graph substitutes g) other) (record { class = a; literal = b }) n (slice_get (replaced_graph substitutes g).latches n))
+            → cond (has_signature_at held (signature_of (replaced_graph substitutes g) other) (record { class = a; literal = b }) n (slice_get (replaced_graph substitutes g).latches n))
             (Some (started (replaced_graph substitutes g) n (slice_get (replaced_graph substitutes g).latches n))) None
-            ≡ cond (is_told_at held (told_of g other) (record { class = a; literal = b }) n (slice_get g.latches n)) (Some (started g n (slice_get g.latches n))) None
+            ≡ cond (has_signature_at held (signature_of g other) (record { class = a; literal = b }) n (slice_get g.latches n)) (Some (started g n (slice_get g.latches n))) None
         go None e =
-            ap (λ (x : Option Latch). cond (is_told_at held (told_of (replaced_graph substitutes g) other) (record { class = a; literal = b }) n x) (Some (started (replaced_graph substitutes g) n x)) None) (latch-none n e)
-            ∙ sym (ap (λ (x : Option Latch). cond (is_told_at held (told_of g other) (record { class = a; literal = b }) n x) (Some (started g n x)) None) e)
+            ap (λ (x : Option Latch). cond (has_signature_at held (signature_of (replaced_graph substitutes g) other) (record { class = a; literal = b }) n x) (Some (started (replaced_graph substitutes g) n x)) None) (latch-none n e)
+            ∙ sym (ap (λ (x : Option Latch). cond (has_signature_at held (signature_of g other) (record { class = a; literal = b }) n x) (Some (started g n x)) None) e)
         go (Some latch) e =
-            ap (λ (x : Option Latch). cond (is_told_at held (told_of (replaced_graph substitutes g) other) (record { class = a; literal = b }) n x) (Some (started (replaced_graph substitutes g) n x)) None)
+            ap (λ (x : Option Latch). cond (has_signature_at held (signature_of (replaced_graph substitutes g) other) (record { class = a; literal = b }) n x) (Some (started (replaced_graph substitutes g) n x)) None)
             (replaced-latch substitutes g n latch e)
-            ∙ ap (λ (l : ℕ). cond (may_merge held n latch && is_told (record { class = a; literal = b }) (record { class = from_reset latch.reset (read other n); literal = l }))
+            ∙ ap (λ (l : ℕ). cond (may_merge held n latch && has_signature (record { class = a; literal = b }) (record { class = from_reset latch.reset (read other n); literal = l }))
             (Some (from_reset latch.reset (own_literal g n))) None) (same n latch e)
-            ∙ sym (ap (λ (x : Option Latch). cond (is_told_at held (told_of g other) (record { class = a; literal = b }) n x) (Some (started g n x)) None) e)
+            ∙ sym (ap (λ (x : Option Latch). cond (has_signature_at held (signature_of g other) (record { class = a; literal = b }) n x) (Some (started g n x)) None) e)
 
-    first-same : (a b n : ℕ) → first_told (replaced_graph substitutes g) held (told_of (replaced_graph substitutes g) other) (record { class = a; literal = b }) n
-        ≡ first_told g held (told_of g other) (record { class = a; literal = b }) n
-    unfolding first_told
+    first-same : (a b n : ℕ) → first_of_signature (replaced_graph substitutes g) held (signature_of (replaced_graph substitutes g) other) (record { class = a; literal = b }) n
+        ≡ first_of_signature g held (signature_of g other) (record { class = a; literal = b }) n
+    unfolding first_of_signature
     first-same a b zero = refl
     first-same a b (suc n) =
         ap (λ (o : Option ℕ). or_else o
-        (cond (is_told_at held (told_of (replaced_graph substitutes g) other) (record { class = a; literal = b }) n (slice_get (replaced_graph substitutes g).latches n))
+        (cond (has_signature_at held (signature_of (replaced_graph substitutes g) other) (record { class = a; literal = b }) n (slice_get (replaced_graph substitutes g).latches n))
         (Some (started (replaced_graph substitutes g) n (slice_get (replaced_graph substitutes g).latches n))) None)) (first-same a b n)
-        ∙ ap (or_else (first_told g held (told_of g other) (record { class = a; literal = b }) n)) (here-same a b n)
+        ∙ ap (or_else (first_of_signature g held (signature_of g other) (record { class = a; literal = b }) n)) (here-same a b n)
 
-    read-same : (j : ℕ) → next_read (replaced_graph substitutes g) held (told_of (replaced_graph substitutes g) other) j (slice_get (replaced_graph substitutes g).latches j)
-        ≡ next_read g held (told_of g other) j (slice_get g.latches j)
+    read-same : (j : ℕ) → next_read (replaced_graph substitutes g) held (signature_of (replaced_graph substitutes g) other) j (slice_get (replaced_graph substitutes g).latches j)
+        ≡ next_read g held (signature_of g other) j (slice_get g.latches j)
     unfolding replaced_graph
     read-same j = go (slice_get g.latches j) refl
       where
         go : (o : Option Latch) → slice_get g.latches j ≡ o
-            → next_read (replaced_graph substitutes g) held (told_of (replaced_graph substitutes g) other) j (slice_get (replaced_graph substitutes g).latches j)
-            ≡ next_read g held (told_of g other) j (slice_get g.latches j)
-        go None e = ap (next_read (replaced_graph substitutes g) held (told_of (replaced_graph substitutes g) other) j) (latch-none j e) ∙ sym (ap (next_read g held (told_of g other) j) e)
+            → next_read (replaced_graph substitutes g) held (signature_of (replaced_graph substitutes g) other) j (slice_get (replaced_graph substitutes g).latches j)
+            ≡ next_read g held (signature_of g other) j (slice_get g.latches j)
+        go None e = ap (next_read (replaced_graph substitutes g) held (signature_of (replaced_graph substitutes g) other) j) (latch-none j e) ∙ sym (ap (next_read g held (signature_of g other) j) e)
         go (Some latch) e =
             let class : ℕ = from_reset latch.reset (read other j) in
-            ap (next_read (replaced_graph substitutes g) held (told_of (replaced_graph substitutes g) other) j) (replaced-latch substitutes g j latch e)
+            ap (next_read (replaced_graph substitutes g) held (signature_of (replaced_graph substitutes g) other) j) (replaced-latch substitutes g j latch e)
             ∙ ap (read_first g held j latch)
-            (first-same class (told (substitutes_by (replaced_graph substitutes g) other) (replaced_latch substitutes latch)) j
-            ∙ ap (λ (l : ℕ). first_told g held (told_of g other) (record { class = class; literal = l }) j) (same j latch e))
-            ∙ sym (ap (next_read g held (told_of g other) j) e)
+            (first-same class (signature (substitutes_by (replaced_graph substitutes g) other) (replaced_latch substitutes latch)) j
+            ∙ ap (λ (l : ℕ). first_of_signature g held (signature_of g other) (record { class = class; literal = l }) j) (same j latch e))
+            ∙ sym (ap (next_read g held (signature_of g other) j) e)
 
-    -- a round is the same of a circuit and of its replaced one, where all latches are told the same in both
+    -- a round is the same of a circuit and of its replaced one, where all latches have the same signatures in both
     pub round-same : next_round (replaced_graph substitutes g) held other ≡ next_round g held other
     unfolding round_by
     round-same =
-        ap (λ (n : ℕ). table 0 n (λ j. next_read (replaced_graph substitutes g) held (told_of (replaced_graph substitutes g) other) j (slice_get (replaced_graph substitutes g).latches j)))
+        ap (λ (n : ℕ). table 0 n (λ j. next_read (replaced_graph substitutes g) held (signature_of (replaced_graph substitutes g) other) j (slice_get (replaced_graph substitutes g).latches j)))
         (length-replaced_latches substitutes g)
-        ∙ table-same 0 (length g.latches) (λ j. next_read (replaced_graph substitutes g) held (told_of (replaced_graph substitutes g) other) j (slice_get (replaced_graph substitutes g).latches j))
-        (λ j. next_read g held (told_of g other) j (slice_get g.latches j)) 0 (λ j from below. read-same j)
+        ∙ table-same 0 (length g.latches) (λ j. next_read (replaced_graph substitutes g) held (signature_of (replaced_graph substitutes g) other) j (slice_get (replaced_graph substitutes g).latches j))
+        (λ j. next_read g held (signature_of g other) j (slice_get g.latches j)) 0 (λ j from below. read-same j)
 
   begin-same : (j : ℕ) → first_read (replaced_graph substitutes g) held j (slice_get (replaced_graph substitutes g).latches j) ≡ first_read g held j (slice_get g.latches j)
   unfolding replaced_graph

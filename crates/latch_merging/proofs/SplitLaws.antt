@@ -1,4 +1,4 @@
--- Steps of splitting: a variable gets another name, a gate is named, latches are told names and leave what they were told.
+-- Steps of splitting: a variable gets another name, a gate is named, latches get new signatures and leave those that they had.
 use Rattle.std.proofs.Common.{ℕ, ◌+◌, ◌-◌, ◌<◌, ◌≤◌, ◌≡◌, ◌⊎◌, inl, inr, List, [], ◌++◌, length, length-append, replicate, Bool, true, false, not, ◌&&◌, nat_eq, Some, slice_get, get_or, set, refl, arith, ap, sym, ◌∙◌}
 use Rattle.std.proofs.lemmas.Bool.{cases_Bool, cases_lt, cases_eq, cond-true, cond-false, eq-eqb}
 use Rattle.std.proofs.lemmas.Option.{same_Some, slice_get_within}
@@ -9,13 +9,13 @@ use Rattle.aig_graph.specs.Graph.{Graph, IsGraph, IsGateAt, variable, first_latc
 use Rattle.aig_graph.specs.Value.{signed_as}
 use Rattle.aig_graph.specs.Building.{gate_of}
 use Rattle.cleaned_circuits.specs.Merged.{replaced, replaced_gate, known_substitute}
-use Rattle.merged_latches.specs.Readings.{read, may_merge, from_reset, leaves, told}
-use Rattle.merged_latches.specs.Partitions.{IsKept}
+use Rattle.merged_latches.specs.Readings.{read, may_merge, from_reset, leaves, signature}
+use Rattle.merged_latches.specs.Partitions.{IsInductive}
 use Rattle.merged_latches.proofs.ReadingLaws.{leaf-low, leaf-latch, from_reset-constant, from_reset-twice}
-use Rattle.latch_merging.specs.declared.told.Told.{Told}
+use Rattle.latch_merging.specs.declared.signature.Signature.{Signature}
 use Rattle.latch_merging.specs.Rounds.{round_by}
-use Rattle.latch_merging.specs.Names.{is_marked, IsTaken, IsLeft, AreMarkedReaders, IsRenamed, IsNamed, AreNamed, AreTold, AreCarried, IsGateNamed, AreGatesNamed, is_leaving, AreLeaving, key_of, class_of, AreToldAlike, AreAlike, regrouped, AreRegrouped, IsUnmarked, AreAtRest, IsRough}
-use Rattle.latch_merging.proofs.CoarsestLaws.{told_is, leaves-constant, leaves-first, alike-finer, round-reading}
+use Rattle.latch_merging.specs.Names.{is_marked, IsTaken, IsLeft, AreMarkedReaders, IsRenamed, IsNamed, AreNamed, AreSignatures, AreCarried, IsGateNamed, AreGatesNamed, is_leaving, AreLeaving, key_of, class_of, HaveOneSignature, AreAlike, regrouped, AreRegrouped, IsUnmarked, AreAtRest, IsRough}
+use Rattle.latch_merging.proofs.CoarsestLaws.{signature_is, leaves-constant, leaves-first, alike-finer, round-reading}
 use Rattle.latch_merging.proofs.NameLaws.{turn-alike}
 
 -- the name of a literal of a latch or gate
@@ -89,7 +89,7 @@ module _ (g : Graph) (k name : ℕ) (names names_new : List ℕ) (latches latche
     long_names = ap (λ (xs : List ℕ). length xs) renamed.set ∙ length-set names k name;
     long_latches = renamed.long_latches;
     long_gates = renamed.long_gates;
-    told = λ tolds agree j latch there. elim (agree j latch there) [
+    signature = λ signatures agree j latch there. elim (agree j latch there) [
       | inl marked ↦ inl (renamed.latches_stay j marked)
       | inr same ↦ elim (renamed.latch j latch there) [ inl marked ↦ inl marked | inr stays ↦ inr (same ∙ sym stays) ]
     ];
@@ -155,7 +155,7 @@ gate-named g valid i name gate names names_new pairs pairs_new latches latches_n
 -- before any gate of a run
 pub gates-none : (g : Graph) (names : List ℕ) (pairs : List (Gate × ℕ)) (latches gates : List Bool) → AreGatesNamed g names names pairs pairs latches latches gates gates
 gates-none g names pairs latches gates = record {
-  carried = record { long_names = refl; long_latches = refl; long_gates = refl; told = λ tolds agree. agree };
+  carried = record { long_names = refl; long_latches = refl; long_gates = refl; signature = λ signatures agree. agree };
   latch = λ j h. refl;
   named = λ agree. agree;
 }
@@ -169,7 +169,7 @@ gates-more g i names names_now names_new pairs pairs_now pairs_new latches latch
     long_names = step.carried.long_names ∙ before.carried.long_names;
     long_latches = step.carried.long_latches ∙ before.carried.long_latches;
     long_gates = step.carried.long_gates ∙ ap (λ (xs : List Bool). length xs) taken.2 ∙ length-set gates_now i false ∙ before.carried.long_gates;
-    told = λ tolds agree. step.carried.told tolds (before.carried.told tolds agree);
+    signature = λ signatures agree. step.carried.signature signatures (before.carried.signature signatures agree);
   };
   latch = λ j h. step.latch j h ∙ before.latch j h;
   named = λ agree. step.named (λ n gate apart there. elim (before.named agree n gate there) [
@@ -178,43 +178,43 @@ gates-more g i names names_now names_new pairs pairs_now pairs_new latches latch
   ]);
 }
 
--- latches that are still to be told, and those that are
-pub record AreTelling (g : Graph) (held names old new : List ℕ) (latches leaving : List Bool) : Type 0 where
-  -- what latches are told now has an entry for each latch
+-- latches whose signatures are still to be found, and those that have theirs
+pub record AreUpdating (g : Graph) (held names old new : List ℕ) (latches leaving : List Bool) : Type 0 where
+  -- the signatures of now have an entry for each latch
   pub long : length new ≡ length g.latches
-  -- each latch has an entry among the marks of those that are still to be told
+  -- each latch has an entry among the marks of those whose signatures are still to be found
   pub long_latches : length latches ≡ length g.latches
-  -- each latch has an entry among the marks of those that leave what they were told
+  -- each latch has an entry among the marks of those that leave their signatures
   pub long_leaving : length leaving ≡ length g.latches
-  -- each latch either waits, told as before and not marked as leaving, or is told anew, and marked so exactly if the latch leaves
+  -- each latch either waits, has its signature as before and isn't marked as leaving, or has its new signature, and is marked so exactly if it leaves
   pub each : (j : ℕ) (latch : Latch) → slice_get g.latches j ≡ Some latch
       → ((is_marked latches j ≡ true) × (read new j ≡ read old j) × (is_marked leaving j ≡ false))
-      ⊎ ((read new j ≡ told (leaves g names) latch) × (is_marked leaving j ≡ is_leaving g held names old j latch))
+      ⊎ ((read new j ≡ signature (leaves g names) latch) × (is_marked leaving j ≡ is_leaving g held names old j latch))
 
--- a latch that was told its name before doesn't leave
-stays-told : (b : Bool) (m n : ℕ) → m ≡ n → (b && not (nat_eq m n)) ≡ false
-stays-told true m n e = ap not (eq-eqb m n e)
-stays-told false m n e = refl
+-- a latch that had this signature before doesn't leave
+stays-signature : (b : Bool) (m n : ℕ) → m ≡ n → (b && not (nat_eq m n)) ≡ false
+stays-signature true m n e = ap not (eq-eqb m n e)
+stays-signature false m n e = refl
 
 module _ (g : Graph) (held names old : List ℕ) where
   -- before the first
-  pub telling-start : (latches leaving : List Bool) → length old ≡ length g.latches → length latches ≡ length g.latches → length leaving ≡ length g.latches → AreTold g names old latches → IsUnmarked leaving → AreTelling g held names old old latches leaving
-  telling-start latches leaving long long_latches long_leaving agree none = record {
+  pub updating-start : (latches leaving : List Bool) → length old ≡ length g.latches → length latches ≡ length g.latches → length leaving ≡ length g.latches → AreSignatures g names old latches → IsUnmarked leaving → AreUpdating g held names old old latches leaving
+  updating-start latches leaving long long_latches long_leaving agree none = record {
     long = long;
     long_latches = long_latches;
     long_leaving = long_leaving;
     each = λ j latch there. elim (agree j latch there) [
       | inl marked ↦ inl (marked, refl, none j)
-      | inr same ↦ inr (same, none j ∙ sym (stays-told (may_merge held j latch) (read old j) (told (leaves g names) latch) same))
+      | inr same ↦ inr (same, none j ∙ sym (stays-signature (may_merge held j latch) (read old j) (signature (leaves g names) latch) same))
     ];
   }
 
   -- one more
-  pub telling-more : (new told_new : List ℕ) (latches latches_new leaving leaving_new : List Bool) (k name : ℕ) (latch : Latch) (leaves_it : Bool) → slice_get g.latches k ≡ Some latch
-      → AreTelling g held names old new latches leaving → IsTaken latches latches_new (Some k) → name ≡ told (leaves g names) latch → told_new ≡ set new k name
-      → leaves_it ≡ (may_merge held k latch && not (nat_eq (read new k) name)) → IsLeft leaving leaving_new k leaves_it → AreTelling g held names old told_new latches_new leaving_new
-  telling-more new told_new latches latches_new leaving leaving_new k name latch leaves_it there before taken is told_is_set leaves_is left = record {
-    long = ap (λ (xs : List ℕ). length xs) told_is_set ∙ length-set new k name ∙ before.long;
+  pub updating-more : (new signature_new : List ℕ) (latches latches_new leaving leaving_new : List Bool) (k name : ℕ) (latch : Latch) (leaves_it : Bool) → slice_get g.latches k ≡ Some latch
+      → AreUpdating g held names old new latches leaving → IsTaken latches latches_new (Some k) → name ≡ signature (leaves g names) latch → signature_new ≡ set new k name
+      → leaves_it ≡ (may_merge held k latch && not (nat_eq (read new k) name)) → IsLeft leaving leaving_new k leaves_it → AreUpdating g held names old signature_new latches_new leaving_new
+  updating-more new signature_new latches latches_new leaving leaving_new k name latch leaves_it there before taken is signature_is_set leaves_is left = record {
+    long = ap (λ (xs : List ℕ). length xs) signature_is_set ∙ length-set new k name ∙ before.long;
     long_latches = ap (λ (xs : List Bool). length xs) taken.2 ∙ length-set latches k false ∙ before.long_latches;
     long_leaving = left.long ∙ before.long_leaving;
     each = λ j other at. elim (cases_eq j k) [
@@ -222,11 +222,11 @@ module _ (g : Graph) (held names old : List ℕ) where
       | inr apart ↦ elim (before.each j other at) [
         | inl waits ↦ inl (
           ap (λ (xs : List Bool). is_marked xs j) taken.2 ∙ get_or-set_other latches k j false false apart ∙ waits.0,
-          ap (λ (xs : List ℕ). read xs j) told_is_set ∙ get_or-set_other new k j name 0 apart ∙ waits.1,
+          ap (λ (xs : List ℕ). read xs j) signature_is_set ∙ get_or-set_other new k j name 0 apart ∙ waits.1,
           left.others j apart ∙ waits.2,
         )
         | inr done ↦ inr (
-          ap (λ (xs : List ℕ). read xs j) told_is_set ∙ get_or-set_other new k j name 0 apart ∙ done.0,
+          ap (λ (xs : List ℕ). read xs j) signature_is_set ∙ get_or-set_other new k j name 0 apart ∙ done.0,
           left.others j apart ∙ done.1,
         )
       ]
@@ -236,8 +236,8 @@ module _ (g : Graph) (held names old : List ℕ) where
       less : k < length g.latches
       less = slice_get_within g.latches k latch there
 
-      is_now : read told_new k ≡ told (leaves g names) latch
-      is_now = ap (λ (xs : List ℕ). read xs k) told_is_set ∙ get_or-set_same new k name 0 (omega (arith, less, before.long)) ∙ is
+      is_now : read signature_new k ≡ signature (leaves g names) latch
+      is_now = ap (λ (xs : List ℕ). read xs k) signature_is_set ∙ get_or-set_same new k name 0 (omega (arith, less, before.long)) ∙ is
 
       from_here : (b : Bool) → leaves_it ≡ b → is_marked leaving k ≡ false → is_marked leaving_new k ≡ b
       from_here true e none = left.here e (omega (arith, less, before.long_leaving))
@@ -249,33 +249,33 @@ module _ (g : Graph) (held names old : List ℕ) where
             from_here leaves_it refl waits.2 ∙ leaves_is
             ∙ ap (λ (n : ℕ). may_merge held k latch && not (nat_eq n name)) waits.1 ∙ ap (λ (n : ℕ). may_merge held k latch && not (nat_eq (read old k) n)) is
         | inr done ↦ (
-            let no : leaves_it ≡ false = leaves_is ∙ stays-told (may_merge held k latch) (read new k) name (done.0 ∙ sym is) in
+            let no : leaves_it ≡ false = leaves_is ∙ stays-signature (may_merge held k latch) (read new k) name (done.0 ∙ sym is) in
             ap (λ (xs : List Bool). is_marked xs k) (left.stays no) ∙ done.1)
       ]
 
-      here : (j : ℕ) (other : Latch) → slice_get g.latches j ≡ Some other → j ≡ k → (read told_new j ≡ told (leaves g names) other) × (is_marked leaving_new j ≡ is_leaving g held names old j other)
+      here : (j : ℕ) (other : Latch) → slice_get g.latches j ≡ Some other → j ≡ k → (read signature_new j ≡ signature (leaves g names) other) × (is_marked leaving_new j ≡ is_leaving g held names old j other)
       here j other at same =
           let one : other ≡ latch = same_Some other latch (sym at ∙ ap (λ (m : ℕ). slice_get g.latches m) same ∙ there) in (
-            ap (read told_new) same ∙ is_now ∙ sym (ap (told (leaves g names)) one),
+            ap (read signature_new) same ∙ is_now ∙ sym (ap (signature (leaves g names)) one),
             ap (is_marked leaving_new) same ∙ marks ∙ sym (ap (λ (m : ℕ). is_leaving g held names old m other) same ∙ ap (is_leaving g held names old k) one),
           )
 
   -- at the end
-  pub telling-end : (new : List ℕ) (latches leaving : List Bool) → AreTelling g held names old new latches leaving → IsUnmarked latches → AreLeaving g held names old new leaving
-  telling-end new latches leaving telling none = record {
-    told = λ j latch there. elim (telling.each j latch there) [
+  pub updating-end : (new : List ℕ) (latches leaving : List Bool) → AreUpdating g held names old new latches leaving → IsUnmarked latches → AreLeaving g held names old new leaving
+  updating-end new latches leaving updating none = record {
+    signature = λ j latch there. elim (updating.each j latch there) [
       | inl waits ↦ absurd (let clash : true ≡ false = sym waits.0 ∙ none j in (cc))
       | inr done ↦ done.0
     ];
-    marked = λ j latch there. elim (telling.each j latch there) [
+    marked = λ j latch there. elim (updating.each j latch there) [
       | inl waits ↦ absurd (let clash : true ≡ false = sym waits.0 ∙ none j in (cc))
       | inr done ↦ done.1
     ];
   }
 
 -- latches that are still to get the names of their groups, and those that have them
-pub record AreRenaming (g : Graph) (tolds : List ℕ) (group : Told → ℕ) (names names_new : List ℕ) (leaving leaving_new latches latches_new gates gates_new : List Bool) : Type 0 where
-  -- names and marks are as many as before, and what unmarked latches were told still agrees with the names
+pub record AreRenaming (g : Graph) (signatures : List ℕ) (group : Signature → ℕ) (names names_new : List ℕ) (leaving leaving_new latches latches_new gates gates_new : List Bool) : Type 0 where
+  -- names and marks are as many as before, and the signatures of unmarked latches still agree with the names
   pub carried : AreCarried g names names_new latches latches_new gates gates_new
   -- if unmarked gates had the names of their fan-ins' names before, the gates that are unmarked now have theirs too
   pub named : (pairs : List (Gate × ℕ)) → AreNamed g names pairs gates → AreNamed g names_new pairs gates_new
@@ -284,33 +284,33 @@ pub record AreRenaming (g : Graph) (tolds : List ℕ) (group : Told → ℕ) (na
   -- each latch either waits, marked and named as before, or is unmarked, with its group's name if it was marked, else its old name
   pub each : (j : ℕ) (latch : Latch) → slice_get g.latches j ≡ Some latch
       → ((is_marked leaving_new j ≡ true) × (is_marked leaving j ≡ true) × (read names_new j ≡ read names j))
-      ⊎ ((is_marked leaving_new j ≡ false) × (read names_new j ≡ regrouped leaving names tolds group j latch))
+      ⊎ ((is_marked leaving_new j ≡ false) × (read names_new j ≡ regrouped leaving names signatures group j latch))
 
-module _ (g : Graph) (tolds : List ℕ) (group : Told → ℕ) (names : List ℕ) (leaving latches gates : List Bool) where
+module _ (g : Graph) (signatures : List ℕ) (group : Signature → ℕ) (names : List ℕ) (leaving latches gates : List Bool) where
   -- before the first
-  pub renaming-start : AreRenaming g tolds group names names leaving leaving latches latches gates gates
+  pub renaming-start : AreRenaming g signatures group names names leaving leaving latches latches gates gates
   renaming-start = record {
-    carried = record { long_names = refl; long_latches = refl; long_gates = refl; told = λ ts agree. agree };
+    carried = record { long_names = refl; long_latches = refl; long_gates = refl; signature = λ ts agree. agree };
     named = λ pairs agree. agree;
     long_leaving = refl;
     each = λ j latch there. elim (cases_Bool (is_marked leaving j)) [
       | inl marked ↦ inl (marked, marked, refl)
-      | inr unmarked ↦ inr (unmarked, sym (cond-false (is_marked leaving j) (from_reset latch.reset (group (key_of names tolds j latch))) (read names j) unmarked))
+      | inr unmarked ↦ inr (unmarked, sym (cond-false (is_marked leaving j) (from_reset latch.reset (group (key_of names signatures j latch))) (read names j) unmarked))
     ];
   }
 
   -- one more
   pub renaming-more : (k name : ℕ) (latch : Latch) (names_now names_new : List ℕ) (leaving_now leaving_new latches_now latches_new gates_now gates_new : List Bool) → slice_get g.latches k ≡ Some latch
       → length names ≡ length g.latches + length g.gates
-      → AreRenaming g tolds group names names_now leaving leaving_now latches latches_now gates gates_now → IsTaken leaving_now leaving_new (Some k)
-      → name ≡ from_reset latch.reset (group (key_of names_now tolds k latch)) → IsRenamed g k name names_now names_new latches_now latches_new gates_now gates_new
-      → AreRenaming g tolds group names names_new leaving leaving_new latches latches_new gates gates_new
+      → AreRenaming g signatures group names names_now leaving leaving_now latches latches_now gates gates_now → IsTaken leaving_now leaving_new (Some k)
+      → name ≡ from_reset latch.reset (group (key_of names_now signatures k latch)) → IsRenamed g k name names_now names_new latches_now latches_new gates_now gates_new
+      → AreRenaming g signatures group names names_new leaving leaving_new latches latches_new gates gates_new
   renaming-more k name latch names_now names_new leaving_now leaving_new latches_now latches_new gates_now gates_new there long before taken is renamed = record {
     carried = record {
       long_names = step.long_names ∙ before.carried.long_names;
       long_latches = step.long_latches ∙ before.carried.long_latches;
       long_gates = step.long_gates ∙ before.carried.long_gates;
-      told = λ ts agree. step.told ts (before.carried.told ts agree);
+      signature = λ ts agree. step.signature ts (before.carried.signature ts agree);
     };
     named = λ pairs agree. renamed-gates g k name names_now names_new latches_now latches_new gates_now gates_new renamed less pairs (before.named pairs agree);
     long_leaving = ap (λ (xs : List Bool). length xs) taken.2 ∙ length-set leaving_now k false ∙ before.long_leaving;
@@ -335,36 +335,36 @@ module _ (g : Graph) (tolds : List ℕ) (group : Told → ℕ) (names : List ℕ
       mark_here : is_marked leaving_new k ≡ false
       mark_here = ap (λ (xs : List Bool). is_marked xs k) taken.2 ∙ get_or-set_same leaving_now k false false taken.0
 
-      name_here : read names_new k ≡ regrouped leaving names tolds group k latch
+      name_here : read names_new k ≡ regrouped leaving names signatures group k latch
       name_here = elim (before.each k latch there) [
         | inl waits ↦
             renamed-here g k name names_now names_new latches_now latches_new gates_now gates_new renamed (omega (arith, less, long, before.carried.long_names)) ∙ is
-            ∙ ap (λ (n : ℕ). from_reset latch.reset (group (record { class = from_reset latch.reset n; literal = read tolds k }))) waits.2
-            ∙ sym (cond-true (is_marked leaving k) (from_reset latch.reset (group (key_of names tolds k latch))) (read names k) waits.1)
+            ∙ ap (λ (n : ℕ). from_reset latch.reset (group (record { class = from_reset latch.reset n; literal = read signatures k }))) waits.2
+            ∙ sym (cond-true (is_marked leaving k) (from_reset latch.reset (group (key_of names signatures k latch))) (read names k) waits.1)
         | inr done ↦ absurd (let clash : true ≡ false = sym taken.1 ∙ done.0 in (cc))
       ]
 
-      here : (j : ℕ) (other : Latch) → slice_get g.latches j ≡ Some other → j ≡ k → (is_marked leaving_new j ≡ false) × (read names_new j ≡ regrouped leaving names tolds group j other)
+      here : (j : ℕ) (other : Latch) → slice_get g.latches j ≡ Some other → j ≡ k → (is_marked leaving_new j ≡ false) × (read names_new j ≡ regrouped leaving names signatures group j other)
       here j other at same =
           let one : other ≡ latch = same_Some other latch (sym at ∙ ap (λ (m : ℕ). slice_get g.latches m) same ∙ there) in (
             ap (is_marked leaving_new) same ∙ mark_here,
-            ap (read names_new) same ∙ name_here ∙ sym (ap (λ (m : ℕ). regrouped leaving names tolds group m other) same ∙ ap (regrouped leaving names tolds group k) one),
+            ap (read names_new) same ∙ name_here ∙ sym (ap (λ (m : ℕ). regrouped leaving names signatures group m other) same ∙ ap (regrouped leaving names signatures group k) one),
           )
 
   -- at the end
-  pub renaming-end : (names_new : List ℕ) (leaving_new latches_new gates_new : List Bool) → AreRenaming g tolds group names names_new leaving leaving_new latches latches_new gates gates_new → IsUnmarked leaving_new
-      → AreRegrouped g leaving names tolds group names_new
+  pub renaming-end : (names_new : List ℕ) (leaving_new latches_new gates_new : List Bool) → AreRenaming g signatures group names names_new leaving leaving_new latches latches_new gates gates_new → IsUnmarked leaving_new
+      → AreRegrouped g leaving names signatures group names_new
   renaming-end names_new leaving_new latches_new gates_new renaming none j latch there = elim (renaming.each j latch there) [
     | inl waits ↦ absurd (let clash : true ≡ false = sym waits.0 ∙ none j in (cc))
     | inr done ↦ done.1
   ]
 
 -- the same names of latches make the same classes
-alike-same : (g : Graph) (held names names_new tolds : List ℕ) → ((j : ℕ) → j < length g.latches → read names_new j ≡ read names j) → AreAlike g held (key_of names tolds) → AreAlike g held (key_of names_new tolds)
-alike-same g held names names_new tolds same alike other kept =
-    let before : AreToldAlike g other (key_of names tolds) = alike other kept in
-    let key : (j : ℕ) (latch : Latch) → slice_get g.latches j ≡ Some latch → key_of names_new tolds j latch ≡ key_of names tolds j latch =
-    λ j latch there. told_is (from_reset latch.reset (read names_new j)) (read tolds j) (from_reset latch.reset (read names j)) (read tolds j)
+alike-same : (g : Graph) (held names names_new signatures : List ℕ) → ((j : ℕ) → j < length g.latches → read names_new j ≡ read names j) → AreAlike g held (key_of names signatures) → AreAlike g held (key_of names_new signatures)
+alike-same g held names names_new signatures same alike other kept =
+    let before : HaveOneSignature g other (key_of names signatures) = alike other kept in
+    let key : (j : ℕ) (latch : Latch) → slice_get g.latches j ≡ Some latch → key_of names_new signatures j latch ≡ key_of names signatures j latch =
+    λ j latch there. signature_is (from_reset latch.reset (read names_new j)) (read signatures j) (from_reset latch.reset (read names j)) (read signatures j)
     (ap (from_reset latch.reset) (same j (slice_get_within g.latches j latch there))) refl in
     record {
       zero = λ j latch there e. key j latch there ∙ before.zero j latch there e;
@@ -372,41 +372,41 @@ alike-same g held names names_new tolds same alike other kept =
     }
 
 -- after the gates are named
-pub rest-named : (g : Graph) (held names names_new tolds : List ℕ) (pairs pairs_new : List (Gate × ℕ)) (latches latches_new gates gates_new leaving : List Bool)
-    → AreAtRest g held names tolds pairs latches gates leaving → AreGatesNamed g names names_new pairs pairs_new latches latches_new gates gates_new → AreAtRest g held names_new tolds pairs_new latches_new gates_new leaving
-rest-named g held names names_new tolds pairs pairs_new latches latches_new gates gates_new leaving rest step = record {
+pub rest-named : (g : Graph) (held names names_new signatures : List ℕ) (pairs pairs_new : List (Gate × ℕ)) (latches latches_new gates gates_new leaving : List Bool)
+    → AreAtRest g held names signatures pairs latches gates leaving → AreGatesNamed g names names_new pairs pairs_new latches latches_new gates gates_new → AreAtRest g held names_new signatures pairs_new latches_new gates_new leaving
+rest-named g held names names_new signatures pairs pairs_new latches latches_new gates gates_new leaving rest step = record {
   long = record {
     long_names = step.carried.long_names ∙ rest.long.long_names;
-    long_tolds = rest.long.long_tolds;
+    long_signatures = rest.long.long_signatures;
     long_latches = step.carried.long_latches ∙ rest.long.long_latches;
     long_gates = step.carried.long_gates ∙ rest.long.long_gates;
     long_leaving = rest.long.long_leaving;
   };
   named = step.named rest.named;
-  told = step.carried.told tolds rest.told;
+  signature = step.carried.signature signatures rest.signature;
   none = rest.none;
-  alike = alike-same g held names names_new tolds step.latch rest.alike;
+  alike = alike-same g held names names_new signatures step.latch rest.alike;
 }
 
--- after latches are told their names and those that leave have their groups'
-pub rest-renamed : (g : Graph) (valid : IsGraph g) (held names names_new tolds tolds_new : List ℕ) (pairs : List (Gate × ℕ)) (group : Told → ℕ) (latches latches_now latches_new gates gates_new leaving leaving_now leaving_new : List Bool)
-    → AreAtRest g held names tolds pairs latches gates leaving → IsUnmarked gates → AreLeaving g held names tolds tolds_new leaving_now
-    → length tolds_new ≡ length tolds → length latches_now ≡ length latches → length leaving_now ≡ length leaving
+-- after latches have their new signatures and those that leave have their groups' names
+pub rest-renamed : (g : Graph) (valid : IsGraph g) (held names names_new signatures signatures_new : List ℕ) (pairs : List (Gate × ℕ)) (group : Signature → ℕ) (latches latches_now latches_new gates gates_new leaving leaving_now leaving_new : List Bool)
+    → AreAtRest g held names signatures pairs latches gates leaving → IsUnmarked gates → AreLeaving g held names signatures signatures_new leaving_now
+    → length signatures_new ≡ length signatures → length latches_now ≡ length latches → length leaving_now ≡ length leaving
     → AreCarried g names names_new latches_now latches_new gates gates_new → ((pairs : List (Gate × ℕ)) → AreNamed g names pairs gates → AreNamed g names_new pairs gates_new)
-    → AreRegrouped g leaving_now names tolds_new group names_new → IsUnmarked leaving_new → length leaving_new ≡ length leaving_now
-    → AreAtRest g held names_new tolds_new pairs latches_new gates_new leaving_new
-rest-renamed g valid held names names_new tolds tolds_new pairs group latches latches_now latches_new gates gates_new leaving leaving_now leaving_new rest settled left long_tolds long_latches long_leaving carried named groups none long_new = record {
+    → AreRegrouped g leaving_now names signatures_new group names_new → IsUnmarked leaving_new → length leaving_new ≡ length leaving_now
+    → AreAtRest g held names_new signatures_new pairs latches_new gates_new leaving_new
+rest-renamed g valid held names names_new signatures signatures_new pairs group latches latches_now latches_new gates gates_new leaving leaving_now leaving_new rest settled left long_signatures long_latches long_leaving carried named groups none long_new = record {
   long = record {
     long_names = carried.long_names ∙ rest.long.long_names;
-    long_tolds = long_tolds ∙ rest.long.long_tolds;
+    long_signatures = long_signatures ∙ rest.long.long_signatures;
     long_latches = carried.long_latches ∙ long_latches ∙ rest.long.long_latches;
     long_gates = carried.long_gates ∙ rest.long.long_gates;
     long_leaving = long_new ∙ long_leaving ∙ rest.long.long_leaving;
   };
   named = named pairs rest.named;
-  told = carried.told tolds_new (λ j latch there. inr (left.told j latch there));
+  signature = carried.signature signatures_new (λ j latch there. inr (left.signature j latch there));
   none = none;
-  alike = turn-alike g held names tolds tolds_new pairs leaving_now valid
+  alike = turn-alike g held names signatures signatures_new pairs leaving_now valid
       (λ i gate there. elim (rest.named i gate there) [
         | inl marked ↦ absurd (let clash : true ≡ false = sym marked ∙ settled i in (cc))
         | inr agrees ↦ agrees
@@ -414,29 +414,29 @@ rest-renamed g valid held names names_new tolds tolds_new pairs group latches la
 }
 
 -- before any turn
-pub rest-start : (g : Graph) (held reads names tolds : List ℕ) (latches gates leaving : List Bool) → IsRough g held reads → names ≡ reads ++ replicate (length g.gates) 0 → tolds ≡ replicate (length g.latches) 0
-    → latches ≡ replicate (length g.latches) true → gates ≡ replicate (length g.gates) true → leaving ≡ replicate (length g.latches) false → AreAtRest g held names tolds [] latches gates leaving
-rest-start g held reads names tolds latches gates leaving rough names_is tolds_is latches_is gates_is leaving_is = record {
+pub rest-start : (g : Graph) (held reads names signatures : List ℕ) (latches gates leaving : List Bool) → IsRough g held reads → names ≡ reads ++ replicate (length g.gates) 0 → signatures ≡ replicate (length g.latches) 0
+    → latches ≡ replicate (length g.latches) true → gates ≡ replicate (length g.gates) true → leaving ≡ replicate (length g.latches) false → AreAtRest g held names signatures [] latches gates leaving
+rest-start g held reads names signatures latches gates leaving rough names_is signatures_is latches_is gates_is leaving_is = record {
   long = record {
     long_names = ap (λ (xs : List ℕ). length xs) names_is ∙ omega (arith, length-append reads (replicate (length g.gates) 0), rough.reading.long, length-replicate {A = ℕ} (length g.gates) 0);
-    long_tolds = ap (λ (xs : List ℕ). length xs) tolds_is ∙ length-replicate {A = ℕ} (length g.latches) 0;
+    long_signatures = ap (λ (xs : List ℕ). length xs) signatures_is ∙ length-replicate {A = ℕ} (length g.latches) 0;
     long_latches = ap (λ (xs : List Bool). length xs) latches_is ∙ length-replicate (length g.latches) true;
     long_gates = ap (λ (xs : List Bool). length xs) gates_is ∙ length-replicate (length g.gates) true;
     long_leaving = ap (λ (xs : List Bool). length xs) leaving_is ∙ length-replicate (length g.latches) false;
   };
   named = λ i gate there. inl (ap (λ (xs : List Bool). is_marked xs i) gates_is ∙ get_or-replicate (length g.gates) i true false (slice_get_within g.gates i gate there));
-  told = λ j latch there. inl (ap (λ (xs : List Bool). is_marked xs j) latches_is ∙ get_or-replicate (length g.latches) j true false (slice_get_within g.latches j latch there));
+  signature = λ j latch there. inl (ap (λ (xs : List Bool). is_marked xs j) latches_is ∙ get_or-replicate (length g.latches) j true false (slice_get_within g.latches j latch there));
   none = λ k. ap (λ (xs : List Bool). is_marked xs k) leaving_is ∙ none-replicate k;
   alike = λ other kept. record {
     zero = λ j latch there e.
-        told_is (from_reset latch.reset (read names j)) (read tolds j) 0 0
+        signature_is (from_reset latch.reset (read names j)) (read signatures j) 0 0
         (ap (from_reset latch.reset) (name-at j latch there ∙ as-other other kept j latch there ∙ ap (replaced (leaves g reads)) e ∙ leaves-constant g held reads latch.reset) ∙ from_reset-constant latch.reset)
-        (told-zero j latch there);
+        (signature-zero j latch there);
     same = λ j i latch first there first_there e.
-        told_is (from_reset latch.reset (read names j)) (read tolds j) (from_reset first.reset (read names i)) (read tolds i)
+        signature_is (from_reset latch.reset (read names j)) (read signatures j) (from_reset first.reset (read names i)) (read signatures i)
         (ap (from_reset latch.reset) (name-at j latch there ∙ as-other other kept j latch there ∙ ap (replaced (leaves g reads)) e ∙ leaves-first g held reads latch.reset first.reset i)
         ∙ from_reset-twice latch.reset (from_reset first.reset (read reads i)) ∙ ap (from_reset first.reset) (sym (name-at i first first_there)))
-        (told-zero j latch there ∙ sym (told-zero i first first_there));
+        (signature-zero j latch there ∙ sym (signature-zero i first first_there));
   };
 }
   where
@@ -446,26 +446,26 @@ rest-start g held reads names tolds latches gates leaving rough names_is tolds_i
       | inr past ↦ get_or_past (replicate (length g.latches) false) k false (omega (arith, past, length-replicate (length g.latches) false))
     ]
 
-    told-zero : (j : ℕ) (latch : Latch) → slice_get g.latches j ≡ Some latch → read tolds j ≡ 0
-    told-zero j latch there = ap (λ (xs : List ℕ). read xs j) tolds_is ∙ get_or-replicate {A = ℕ} (length g.latches) j 0 0 (slice_get_within g.latches j latch there)
+    signature-zero : (j : ℕ) (latch : Latch) → slice_get g.latches j ≡ Some latch → read signatures j ≡ 0
+    signature-zero j latch there = ap (λ (xs : List ℕ). read xs j) signatures_is ∙ get_or-replicate {A = ℕ} (length g.latches) j 0 0 (slice_get_within g.latches j latch there)
 
     name-at : (j : ℕ) (latch : Latch) → slice_get g.latches j ≡ Some latch → read names j ≡ read reads j
     name-at j latch there =
         ap (λ (xs : List ℕ). read xs j) names_is
         ∙ get_or_append_left reads (replicate (length g.gates) 0) 0 j (omega (arith, slice_get_within g.latches j latch there, rough.reading.long))
 
-    as-other : (other : List ℕ) → IsKept g held other → (j : ℕ) (latch : Latch) → slice_get g.latches j ≡ Some latch → read reads j ≡ replaced (leaves g reads) (read other j)
+    as-other : (other : List ℕ) → IsInductive g held other → (j : ℕ) (latch : Latch) → slice_get g.latches j ≡ Some latch → read reads j ≡ replaced (leaves g reads) (read other j)
     as-other other kept j latch there = sym (rough.coarser other kept j (slice_get_within g.latches j latch there))
 
--- the reading of the names' classes is as coarse as each kept one
-pub rough-names : (g : Graph) (held names tolds : List ℕ) → AreAlike g held (key_of names tolds) → IsRough g held (round_by g held (class_of names))
-rough-names g held names tolds alike = record {
+-- the reading of the names' classes is as coarse as each inductive one
+pub rough-names : (g : Graph) (held names signatures : List ℕ) → AreAlike g held (key_of names signatures) → IsRough g held (round_by g held (class_of names))
+rough-names g held names signatures alike = record {
   reading = round-reading g held (class_of names);
   coarser = λ other kept. (
-      let each : AreToldAlike g other (key_of names tolds) = alike other kept in
+      let each : HaveOneSignature g other (key_of names signatures) = alike other kept in
       alike-finer g held other (class_of names) kept.reading (record {
-        zero = λ j latch there e. told_is (from_reset latch.reset (read names j)) 0 0 0 (ap (λ (key : Told). key.class) (each.zero j latch there e)) refl;
+        zero = λ j latch there e. signature_is (from_reset latch.reset (read names j)) 0 0 0 (ap (λ (key : Signature). key.class) (each.zero j latch there e)) refl;
         same = λ j i latch first there first_there e.
-            told_is (from_reset latch.reset (read names j)) 0 (from_reset first.reset (read names i)) 0 (ap (λ (key : Told). key.class) (each.same j i latch first there first_there e)) refl;
+            signature_is (from_reset latch.reset (read names j)) 0 (from_reset first.reset (read names i)) 0 (ap (λ (key : Signature). key.class) (each.same j i latch first there first_there e)) refl;
       }));
 }

@@ -6,10 +6,10 @@ use Rattle.aig_graph.specs.declared.graph.Latch.{Latch}
 use Rattle.aig_graph.specs.Graph.{Graph, variable, first_latch}
 use Rattle.cleaned_circuits.specs.Latches.{constant_of}
 use Rattle.cleaned_circuits.specs.Merged.{known_substitute, replaced_gate}
-use Rattle.merged_latches.specs.Readings.{from_reset, leaves, may_merge, own_literal, read, told, IsReading}
-use Rattle.merged_latches.specs.Partitions.{IsKept, IsFiner}
-use Rattle.latch_merging.specs.declared.told.Told.{Told}
-use Rattle.latch_merging.specs.Rounds.{constant_told, is_told}
+use Rattle.merged_latches.specs.Readings.{from_reset, leaves, may_merge, own_literal, read, signature, IsReading}
+use Rattle.merged_latches.specs.Partitions.{IsInductive, IsFiner}
+use Rattle.latch_merging.specs.declared.signature.Signature.{Signature}
+use Rattle.latch_merging.specs.Rounds.{constant_signature, has_signature}
 
 -- whether a place is marked
 abbrev pub is_marked : List Bool → ℕ → Bool
@@ -88,7 +88,7 @@ pub record IsRenamed (g : Graph) (k name : ℕ) (names names_new : List ℕ) (la
   pub latches_stay : (j : ℕ) → is_marked latches j ≡ true → is_marked latches_new j ≡ true
   pub gates_stay : (i : ℕ) → is_marked gates i ≡ true → is_marked gates_new i ≡ true
   pub latch : (j : ℕ) (latch : Latch) → slice_get g.latches j ≡ Some latch
-      → (is_marked latches_new j ≡ true) ⊎ (told (leaves g names_new) latch ≡ told (leaves g names) latch)
+      → (is_marked latches_new j ≡ true) ⊎ (signature (leaves g names_new) latch ≡ signature (leaves g names) latch)
   pub gate : (i : ℕ) (gate : Gate) → slice_get g.gates i ≡ Some gate
       → (is_marked gates_new i ≡ true) ⊎ (replaced_gate (leaves g names_new) gate ≡ replaced_gate (leaves g names) gate)
 
@@ -103,16 +103,16 @@ AreNamed g names pairs marks =
     (i : ℕ) (gate : Gate) → slice_get g.gates i ≡ Some gate
     → (is_marked marks i ≡ true) ⊎ (known_substitute pairs (replaced_gate (leaves g names) gate) ≡ Some (read names (length g.latches + i)))
 
--- a latch that isn't marked was told the name of its next literal, negated where its reset is 1
-abbrev pub AreTold : Graph → List ℕ → List ℕ → List Bool → Type 0
-AreTold g names tolds marks = (j : ℕ) (latch : Latch) → slice_get g.latches j ≡ Some latch → (is_marked marks j ≡ true) ⊎ (read tolds j ≡ told (leaves g names) latch)
+-- the signature of a latch that isn't marked is the name of its next literal, negated where its reset is 1
+abbrev pub AreSignatures : Graph → List ℕ → List ℕ → List Bool → Type 0
+AreSignatures g names signatures marks = (j : ℕ) (latch : Latch) → slice_get g.latches j ≡ Some latch → (is_marked marks j ≡ true) ⊎ (read signatures j ≡ signature (leaves g names) latch)
 
 -- as many names and marks as before, and what isn't marked of the latches still agrees
 pub record AreCarried (g : Graph) (names names_new : List ℕ) (latches latches_new gates gates_new : List Bool) : Type 0 where
   pub long_names : length names_new ≡ length names
   pub long_latches : length latches_new ≡ length latches
   pub long_gates : length gates_new ≡ length gates
-  pub told : (tolds : List ℕ) → AreTold g names tolds latches → AreTold g names_new tolds latches_new
+  pub signature : (signatures : List ℕ) → AreSignatures g names signatures latches → AreSignatures g names_new signatures latches_new
 
 -- a gate that is neither marked nor the one at a place has the name of its fan-ins' names
 abbrev pub AreNamedBut : Graph → ℕ → List ℕ → List (Gate × ℕ) → List Bool → Type 0
@@ -132,84 +132,84 @@ pub record AreGatesNamed (g : Graph) (names names_new : List ℕ) (pairs pairs_n
   pub latch : (j : ℕ) → j < length g.latches → read names_new j ≡ read names j
   pub named : AreNamed g names pairs gates → AreNamed g names_new pairs_new gates_new
 
--- whether latch j leaves what it was told
+-- whether latch j leaves its signature
 abbrev pub is_leaving : Graph → List ℕ → List ℕ → List ℕ → ℕ → Latch → Bool
-is_leaving g held names tolds j latch = may_merge held j latch && not (read tolds j == told (leaves g names) latch)
+is_leaving g held names signatures j latch = may_merge held j latch && not (read signatures j == signature (leaves g names) latch)
 
--- a latch that leaves what it was told is marked
+-- a latch that leaves its signature is marked
 pub record IsLeft (old new : List Bool) (place : ℕ) (leaves : Bool) : Type 0 where
   pub long : length new ≡ length old
   pub here : leaves ≡ true → place < length old → is_marked new place ≡ true
   pub stays : leaves ≡ false → new ≡ old
   pub others : (k : ℕ) → (k ≡ place → ⊥) → is_marked new k ≡ is_marked old k
 
--- each latch is told the name of its next literal, and those that may be merged and leave what they were told are marked
+-- the signature of each latch is the name of its next literal, and those that may be merged and leave their signatures are marked
 pub record AreLeaving (g : Graph) (held names old new : List ℕ) (leaving : List Bool) : Type 0 where
-  pub told : (j : ℕ) (latch : Latch) → slice_get g.latches j ≡ Some latch → read new j ≡ told (leaves g names) latch
+  pub signature : (j : ℕ) (latch : Latch) → slice_get g.latches j ≡ Some latch → read new j ≡ signature (leaves g names) latch
   pub marked : (j : ℕ) (latch : Latch) → slice_get g.latches j ≡ Some latch → is_marked leaving j ≡ is_leaving g held names old j latch
 
--- the class of latch j by its name, negated where its reset is 1, and what it is told by the names
-abbrev pub told_by : Graph → List ℕ → ℕ → Latch → Told
-told_by g names j latch = record { class = from_reset latch.reset (read names j); literal = told (leaves g names) latch }
+-- the class of latch j by its name, negated where its reset is 1, and its signature by the names
+abbrev pub signature_by : Graph → List ℕ → ℕ → Latch → Signature
+signature_by g names j latch = record { class = from_reset latch.reset (read names j); literal = signature (leaves g names) latch }
 
--- the class of latch j by its name, negated where its reset is 1, and what it was told
-abbrev pub key_of : List ℕ → List ℕ → ℕ → Latch → Told
-key_of names tolds j latch = record { class = from_reset latch.reset (read names j); literal = read tolds j }
+-- the class of latch j by its name, negated where its reset is 1, and the signature that it had
+abbrev pub key_of : List ℕ → List ℕ → ℕ → Latch → Signature
+key_of names signatures j latch = record { class = from_reset latch.reset (read names j); literal = read signatures j }
 
--- latches that a reading holds together are of one class, and told the same
-pub record AreToldAlike (g : Graph) (other : List ℕ) (keys : ℕ → Latch → Told) : Type 0 where
-  pub zero : (j : ℕ) (latch : Latch) → slice_get g.latches j ≡ Some latch → read other j ≡ constant_of latch.reset → keys j latch ≡ constant_told
+-- latches that a reading holds together are of one class and signature
+pub record HaveOneSignature (g : Graph) (other : List ℕ) (keys : ℕ → Latch → Signature) : Type 0 where
+  pub zero : (j : ℕ) (latch : Latch) → slice_get g.latches j ≡ Some latch → read other j ≡ constant_of latch.reset → keys j latch ≡ constant_signature
   pub same : (j i : ℕ) (latch first : Latch) → slice_get g.latches j ≡ Some latch → slice_get g.latches i ≡ Some first
       → read other j ≡ from_reset latch.reset (from_reset first.reset (own_literal g i)) → keys j latch ≡ keys i first
 
--- so are those of each kept reading
-abbrev pub AreAlike : Graph → List ℕ → (ℕ → Latch → Told) → Type 0
-AreAlike g held keys = (other : List ℕ) → IsKept g held other → AreToldAlike g other keys
+-- so are those of each inductive reading
+abbrev pub AreAlike : Graph → List ℕ → (ℕ → Latch → Signature) → Type 0
+AreAlike g held keys = (other : List ℕ) → IsInductive g held other → HaveOneSignature g other keys
 
--- the name of a group, by what its latches are told
+-- the name of a group, by its latches' signature
 abbrev pub place_or : Option ℕ → ℕ
 place_or None = 0
 place_or (Some place) = place
 
-abbrev pub group_name : List (Told × ℕ) → List ℕ → Told → ℕ
-group_name places names key = slice_index_or names (place_or (lookup (is_told key) places)) 0
+abbrev pub group_name : List (Signature × ℕ) → List ℕ → Signature → ℕ
+group_name places names key = slice_index_or names (place_or (lookup (has_signature key) places)) 0
 
--- the name of the group of a latch of this class that is told this
-abbrev pub renamed_latch : List (Told × ℕ) → List ℕ → ℕ → ℕ → Latch → ℕ
-renamed_latch places names class told latch = from_reset latch.reset (group_name places names (record { class = from_reset latch.reset class; literal = told }))
+-- the name of the group of a latch of this class and signature
+abbrev pub renamed_latch : List (Signature × ℕ) → List ℕ → ℕ → ℕ → Latch → ℕ
+renamed_latch places names class signature latch = from_reset latch.reset (group_name places names (record { class = from_reset latch.reset class; literal = signature }))
 
 -- what latch j is named where the groups have these names: as before where it isn't marked
-abbrev pub regrouped : List Bool → List ℕ → List ℕ → (Told → ℕ) → ℕ → Latch → ℕ
-regrouped leaving names tolds group j latch = if is_marked leaving j then from_reset latch.reset (group (key_of names tolds j latch)) else read names j
+abbrev pub regrouped : List Bool → List ℕ → List ℕ → (Signature → ℕ) → ℕ → Latch → ℕ
+regrouped leaving names signatures group j latch = if is_marked leaving j then from_reset latch.reset (group (key_of names signatures j latch)) else read names j
 
-abbrev pub AreRegrouped : Graph → List Bool → List ℕ → List ℕ → (Told → ℕ) → List ℕ → Type 0
-AreRegrouped g leaving names tolds group renamed = (j : ℕ) (latch : Latch) → slice_get g.latches j ≡ Some latch → read renamed j ≡ regrouped leaving names tolds group j latch
+abbrev pub AreRegrouped : Graph → List Bool → List ℕ → List ℕ → (Signature → ℕ) → List ℕ → Type 0
+AreRegrouped g leaving names signatures group renamed = (j : ℕ) (latch : Latch) → slice_get g.latches j ≡ Some latch → read renamed j ≡ regrouped leaving names signatures group j latch
 
 -- no place is marked
 abbrev pub IsUnmarked : List Bool → Type 0
 IsUnmarked marks = (k : ℕ) → is_marked marks k ≡ false
 
 -- as long as there are latches and gates
-pub record AreLong (g : Graph) (names tolds : List ℕ) (latches gates leaving : List Bool) : Type 0 where
+pub record AreLong (g : Graph) (names signatures : List ℕ) (latches gates leaving : List Bool) : Type 0 where
   pub long_names : length names ≡ length g.latches + length g.gates
-  pub long_tolds : length tolds ≡ length g.latches
+  pub long_signatures : length signatures ≡ length g.latches
   pub long_latches : length latches ≡ length g.latches
   pub long_gates : length gates ≡ length g.gates
   pub long_leaving : length leaving ≡ length g.latches
 
 -- names by which a turn may begin: what isn't marked agrees with the names of what it reads
-pub record AreAtRest (g : Graph) (held names tolds : List ℕ) (pairs : List (Gate × ℕ)) (latches gates leaving : List Bool) : Type 0 where
-  pub long : AreLong g names tolds latches gates leaving
+pub record AreAtRest (g : Graph) (held names signatures : List ℕ) (pairs : List (Gate × ℕ)) (latches gates leaving : List Bool) : Type 0 where
+  pub long : AreLong g names signatures latches gates leaving
   pub named : AreNamed g names pairs gates
-  pub told : AreTold g names tolds latches
+  pub signature : AreSignatures g names signatures latches
   pub none : IsUnmarked leaving
-  pub alike : AreAlike g held (key_of names tolds)
+  pub alike : AreAlike g held (key_of names signatures)
 
 -- the classes of latches by their names alone
-abbrev pub class_of : List ℕ → ℕ → Latch → Told
+abbrev pub class_of : List ℕ → ℕ → Latch → Signature
 class_of names j latch = record { class = from_reset latch.reset (read names j); literal = 0 }
 
--- a reading that is as coarse as each kept one
+-- a reading that is as coarse as each inductive one
 pub record IsRough (g : Graph) (held reads : List ℕ) : Type 0 where
   pub reading : IsReading g held reads
-  pub coarser : (other : List ℕ) → IsKept g held other → IsFiner g other reads
+  pub coarser : (other : List ℕ) → IsInductive g held other → IsFiner g other reads

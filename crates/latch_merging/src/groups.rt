@@ -1,27 +1,27 @@
-//! Latches that are told another name than before, in groups of one class that are told one name; and the names that the groups get. A
+//! Latches with another signature than before, in groups of one class and signature; and the names that the groups get. A
 //! group that is all of its class, or the largest of those that are, keeps the name of its class, so that few latches are renamed. That
 //! is for speed alone: whatever names the groups get, two latches of one group have one.
 ghost use Rattle.std.specs.Prelude.{◌≡◌};
 ghost use Rattle.std.specs.Map.{lookup};
-ghost use Rattle.latch_merging.specs.Rounds.{is_told};
+ghost use Rattle.latch_merging.specs.Rounds.{has_signature};
 ghost use Rattle.latch_merging.specs.Names.{group_name};
 
-use crate::told::Told;
+use crate::signature::Signature;
 use aig_graph::{Aig, Lit, MAX_VARIABLES, NoMemory};
 use indexmap::IndexMap;
 use std::alloc::Global;
 
-/// Latches of a class that are told the same.
+/// Latches of one class and signature.
 #[derive(Clone, Copy)]
 struct Group {
     class: Lit,
     latches: u32,
 }
 
-/// The groups of a turn, by class and by what is told, each with its name once it has one.
+/// The groups of a turn, by class and signature, each with its name once it has one.
 #[derive(Drop)]
 pub(crate) struct Groups {
-    places: IndexMap<Told, usize>,
+    places: IndexMap<Signature, usize>,
     groups: Vec<Group>,
     names: Vec<Lit>,
 }
@@ -35,41 +35,41 @@ impl Groups {
         }
     }
 
-    fn begin(&mut self, told: Told) -> Result<(), NoMemory> {
+    fn begin(&mut self, signature: Signature) -> Result<(), NoMemory> {
         let place = self.groups.len();
         let group = Group {
-            class: told.class,
+            class: signature.class,
             latches: 1,
         };
         self.groups.push(group)?;
-        self.places.insert(told, place)?;
+        self.places.insert(signature, place)?;
         Ok(())
     }
 
-    fn find(&self, told: &Told) -> Option<usize>
-        ensures { result ≡ lookup (is_told told.now) self.now.places.entries }
+    fn find(&self, signature: &Signature) -> Option<usize>
+        ensures { result ≡ lookup (has_signature signature.now) self.now.places.entries }
     {
-        self.places.get(told).copied()
+        self.places.get(signature).copied()
     }
 
     /// One more latch.
-    pub(crate) fn add(&mut self, told: Told) -> Result<(), NoMemory> {
-        match self.find(&told) {
+    pub(crate) fn add(&mut self, signature: Signature) -> Result<(), NoMemory> {
+        match self.find(&signature) {
             Some(place) => {
                 if let Some(group) = self.groups.get_mut(place) {
                     group.latches = group.latches.saturating_add(1);
                 }
                 Ok(())
             }
-            None => self.begin(told),
+            None => self.begin(signature),
         }
     }
 
     /// The name of a group.
-    pub(crate) fn name(&self, told: &Told) -> Lit
-        ensures { result ≡ group_name self.now.places.entries self.now.names.items told.now }
+    pub(crate) fn name(&self, signature: &Signature) -> Lit
+        ensures { result ≡ group_name self.now.places.entries self.now.names.items signature.now }
     {
-        let place = self.find(told).unwrap_or(0);
+        let place = self.find(signature).unwrap_or(0);
         self.names.get(place).copied().unwrap_or(Lit::FALSE)
     }
 }

@@ -1,4 +1,4 @@
-//! Latches that always agree, merged: those that a kept partition holds together read as the first of their class.
+//! Latches that always agree, merged: those that an inductive partition holds together read as the first of their class.
 //!
 //! Merging once is enough: of a circuit whose latches were merged it finds nothing more. So frames start from a circuit that was
 //! cleaned and merged once, where that is asked for.
@@ -12,9 +12,9 @@ mod pairs;
 mod readers;
 mod reading;
 mod rounds;
+mod signature;
 mod splitting;
 mod start;
-mod told;
 
 pub use merging::{MergedCircuit, merge_latches};
 pub use merging_twice::merging_again_law;

@@ -1,4 +1,4 @@
-//! Latches that always agree, merged. A round over the whole circuit parts each class by what its latches are told, from the class that has
+//! Latches that always agree, merged. A round over the whole circuit parts each class by its latches' signatures, from the class that has
 //! all of them on. Where rounds part fewer and fewer latches they are done after a few. Else, as in a delay line or a counter, of which each
 //! round parts a latch, splitting goes on from what they made, by what changed; a round after it shows that no class is parted any more, and
 //! where names ran out, rounds go on until none is. A round parts a class exactly where one latch more reads as itself, so the number of those
@@ -176,7 +176,7 @@ fn rounds_before(alloc: Global, aig: &Aig, held: &Held<'_>) -> Result<Round, NoM
     Ok(round)
 }
 
-/// What latches read as by the coarsest kept reading.
+/// What latches read as by the coarsest inductive reading.
 pub(crate) fn coarsest_reading(
     alloc: Global,
     aig: &Aig,
@@ -204,7 +204,7 @@ pub struct MergedCircuit {
 }
 
 /// A circuit in which latches that always agree are one: by the coarsest partition of the constant and the latches of known reset that
-/// aren't held, in which those of a class are told the same by their next literals. Each reads as the first of its class, negated where
+/// aren't held, in which those of a class have the same signature, by their next literals. Each reads as the first of its class, negated where
 /// their resets differ, or as the constant. All latches, gates and names stay, and what nothing reads any more goes in cleaning.
 ///
 /// A round is linear in the latches and gates, but for two hash tables. Where rounds don't end soon, classes are parted by what changed since they

@@ -1,14 +1,14 @@
-//! One round of merging latches: each class of a reading is parted by what its latches are told, where all latches read so. Whatever is
-//! kept and finer than the reading stays finer than what the round makes of it.
+//! One round of merging latches: each class of a reading is parted by its latches' signatures, where all latches read so. Whatever is
+//! inductive and finer than the reading stays finer than what the round makes of it.
 ghost use Rattle.std.specs.Prelude.{◌≡◌, ◌<◌, ◌∷◌, [], slice_get, length, Some, OnOk, IfOk};
 ghost use Rattle.std.specs.Map.{lookup};
 ghost use Rattle.aig_graph.specs.Graph.{variable};
 ghost use Rattle.cleaned_circuits.specs.Merged.{substitute_or_own};
-ghost use Rattle.merged_latches.specs.Readings.{from_reset, may_merge, substitutes_by, told};
+ghost use Rattle.merged_latches.specs.Readings.{from_reset, may_merge, substitutes_by, signature};
 ghost use Rattle.merged_latches.specs.Counts.{constant_latches, counts_of, is_constant, merged_latches};
-ghost use Rattle.latch_merging.specs.Rounds.{constant_told, entries_told, first_read, first_round, is_told, next_round, read_told, told_after};
+ghost use Rattle.latch_merging.specs.Rounds.{constant_signature, entries_by_signature, first_read, first_round, has_signature, next_round, read_by_signature, entries_after};
 
-use crate::told::{FirstTold, Told};
+use crate::signature::{FirstOfSignature, Signature};
 use aig_graph::{Aig, Latch, Lit, NoMemory, Reset};
 use clean::{Held, Substitution, constant_of, merge_gates, own_literal};
 use merged_latches::MergeCounts;
@@ -65,75 +65,80 @@ pub(crate) fn first_round(alloc: Global, aig: &Aig, held: &Held<'_>) -> Result<V
     Ok(reads)
 }
 
-/// The class of a latch that reads as a literal, and what it is told.
-fn told_of(substitutes: &Substitution, reads: Lit, latch: &Latch) -> Told
+/// The class of a latch that reads as a literal, and its signature.
+fn signature_of(substitutes: &Substitution, reads: Lit, latch: &Latch) -> Signature
     requires { variable latch.now.next < length substitutes.now }
     ensures class { result.class ≡ from_reset latch.now.reset reads }
-    ensures literal { result.literal ≡ told substitutes.now latch.now }
+    ensures literal { result.literal ≡ signature substitutes.now latch.now }
 {
     let start = constant_of(latch.reset);
-    Told {
+    Signature {
         class: reads.signed_as(start),
         literal: substitutes.literal(latch.next).signed_as(start),
     }
 }
 
 /// What a latch that may be merged reads as after a round.
-fn merged_read(firsts: &mut FirstTold, told: Told, own: Lit, reset: Reset) -> Result<Lit, NoMemory>
+fn merged_read(
+    firsts: &mut FirstOfSignature,
+    signature: Signature,
+    own: Lit,
+    reset: Reset,
+) -> Result<Lit, NoMemory>
     ensures literal { IfOk result (λ lit. lit ≡ from_reset reset
-        (substitute_or_own (from_reset reset own) (lookup (is_told told) firsts.old))) }
-    ensures entries { OnOk result (firsts.new ≡ told_after firsts.old (from_reset reset own) told
-        (lookup (is_told told) firsts.old)) }
+        (substitute_or_own (from_reset reset own) (lookup (has_signature signature) firsts.old))) }
+    ensures entries { OnOk result (firsts.new ≡ entries_after firsts.old (from_reset reset own) signature
+        (lookup (has_signature signature) firsts.old)) }
 {
     let start = constant_of(reset);
-    let first = firsts.first(told, own.signed_as(start))?;
+    let first = firsts.first(signature, own.signed_as(start))?;
     Ok(first.signed_as(start))
 }
 
-/// What the latch at a place reads as after a round, where it is told so and the first ones before it are these.
+/// What the latch at a place reads as after a round, where it has this signature and the first ones before it are these.
 pub(crate) fn next_read(
-    firsts: &mut FirstTold,
+    firsts: &mut FirstOfSignature,
     aig: &Aig,
     held: &Held<'_>,
-    told: Told,
+    signature: Signature,
     place: usize,
     latch: &Latch,
 ) -> Result<Lit, NoMemory>
     requires there { slice_get aig.now.latches place ≡ Some latch.now }
     requires held { length held.now.marks.items ≡ length aig.now.latches }
     ensures literal { IfOk result (λ lit. lit ≡
-        read_told aig.now held.now.positions.now firsts.old told place latch.now) }
+        read_by_signature aig.now held.now.positions.now firsts.old signature place latch.now) }
     ensures entries { OnOk result (firsts.new ≡
-        entries_told aig.now held.now.positions.now firsts.old told place latch.now) }
+        entries_by_signature aig.now held.now.positions.now firsts.old signature place latch.now) }
 {
     let own = own_literal(aig, place);
     if may_merge(held, place, latch) {
-        merged_read(firsts, told, own, latch.reset)
+        merged_read(firsts, signature, own, latch.reset)
     } else {
         Ok(own)
     }
 }
 
-/// The reading after a round, where these stand for the variables, and nothing but the constant was told yet.
+/// The reading after a round, where these stand for the variables, and nothing but the constant has a signature yet.
 fn next_reads(
     alloc: Global,
     aig: &Aig,
     held: &Held<'_>,
     reads: &[Lit],
     substitutes: &Substitution,
-    firsts: &mut FirstTold,
+    firsts: &mut FirstOfSignature,
 ) -> Result<Vec<Lit>, NoMemory>
     requires held { length held.now.marks.items ≡ length aig.now.latches }
     requires reads { length reads.now ≡ length aig.now.latches }
     requires substitutes { substitutes.now ≡ substitutes_by aig.now reads.now }
-    requires firsts { firsts.old ≡ (constant_told, 0) ∷ [] }
+    requires firsts { firsts.old ≡ (constant_signature, 0) ∷ [] }
     ensures { IfOk result (λ next. next.items
         ≡ next_round aig.now held.now.positions.now reads.now) }
 {
     let mut next = Vec::with_capacity(alloc, reads.len())?;
     for (place, latch) in aig.latches().iter().enumerate() {
-        let told = told_of(substitutes, reads[place], latch);
-        let lit = next_read(firsts, aig, held, told, place, latch)?;
+        let signature = signature_of(substitutes, reads[place], latch);
+        let lit = next_read(firsts, aig, held, signature, place, latch)?;
         next.push(lit)?;
     }
     Ok(next)
@@ -153,7 +158,7 @@ fn next_by(
     ensures { IfOk result (λ next. next.items
         ≡ next_round aig.now held.now.positions.now reads.now) }
 {
-    let mut firsts = FirstTold::new(alloc)?;
+    let mut firsts = FirstOfSignature::new(alloc)?;
     let next = next_reads(alloc, aig, held, reads, substitutes, &mut firsts);
     drop(firsts);
     next

@@ -1,5 +1,5 @@
-//! A reading that is as coarse as each kept one, by names: latches of one class have one name. They begin with those of such a reading. In a turn
-//! latches are told the name of their next literal, those of a class that leave what they were told get another name, group by group,
+//! A reading that is as coarse as each inductive one, by names: latches of one class have one name. They begin with those of such a reading. In a turn
+//! the signature of a latch is the name of its next literal, those of a class that leave their signature get another name, group by group,
 //! and then gates get the name of their fan-ins' pair. What reads a variable that got another name is marked, and what is marked alone
 //! is looked at, so a turn costs what it changes: a delay line no more than it is long.
 ghost use Rattle.std.specs.Prelude.{ℕ, List, true, ◌≡◌, ◌<◌, ◌+◌, ◌++◌, IfOk, IfSome, OnOk, length, replicate, slice_get, Some};
@@ -8,14 +8,14 @@ ghost use Rattle.aig_graph.specs.Graph.{variable, first_latch, variables_end};
 ghost use Rattle.cleaned_circuits.specs.Merged.{replaced, replaced_gate};
 ghost use Rattle.merged_latches.specs.Readings.{from_reset, leaves};
 ghost use Rattle.latch_merging.specs.Rounds.{round_by};
-ghost use Rattle.latch_merging.specs.Names.{AreAtRest, AreLeaving, AreNamed, AreReaders, AreRegrouped, AreTold, IsRenamed, IsRough, IsUnmarked, class_of, group_name, renamed_latch, told_by, AreCarried, AreGatesNamed, IsGateNamed, IsLeft};
+ghost use Rattle.latch_merging.specs.Names.{AreAtRest, AreLeaving, AreNamed, AreReaders, AreRegrouped, AreSignatures, IsRenamed, IsRough, IsUnmarked, class_of, group_name, renamed_latch, signature_by, AreCarried, AreGatesNamed, IsGateNamed, IsLeft};
 
 use crate::groups::{Classes, Groups};
 use crate::marks::Marks;
 use crate::pairs::PairNames;
 use crate::readers::{Marked, Readers};
 use crate::rounds::{may_merge, next_read};
-use crate::told::{FirstTold, Told};
+use crate::signature::{FirstOfSignature, Signature};
 use aig_graph::{Aig, Gate, Latch, Lit, NoMemory};
 use clean::{Held, constant_of};
 use std::alloc::Global;
@@ -123,57 +123,57 @@ fn name_gates(
     Ok(false)
 }
 
-/// The class of a latch, and what it is told.
-fn told_now(aig: &Aig, names: &[Lit], place: usize, latch: &Latch) -> Told
+/// The class of a latch, and its signature.
+fn signature_now(aig: &Aig, names: &[Lit], place: usize, latch: &Latch) -> Signature
     requires there { slice_get aig.now.latches place ≡ Some latch.now }
     requires long { length names.now ≡ length aig.now.latches + length aig.now.gates }
-    ensures { result ≡ told_by aig.now names.now place latch.now }
+    ensures { result ≡ signature_by aig.now names.now place latch.now }
 {
     aig.known();
     let start = constant_of(latch.reset);
-    Told {
+    Signature {
         class: names[place].signed_as(start),
         literal: named(aig, names, latch.next).signed_as(start),
     }
 }
 
-/// Marks and groups a latch, if it leaves what it was told.
+/// Marks and groups a latch, if it leaves its signature.
 fn leave(
     leaving: &mut Marks,
     groups: &mut Groups,
     place: usize,
-    told: Told,
+    signature: Signature,
     leaves: bool,
 ) -> Result<(), NoMemory>
     ensures { OnOk result (IsLeft leaving.old leaving.new place leaves) }
 {
     if leaves {
         leaving.add(place);
-        groups.add(told)?;
+        groups.add(signature)?;
     }
     Ok(())
 }
 
-/// Tells the marked latches what they are told by the names, and marks and groups those that may be merged and leave what they were told.
-fn tell_latches(
+/// Gives the marked latches their signatures by the names, and marks and groups those that may be merged and leave their signatures.
+fn update_signatures(
     aig: &Aig,
     held: &Held<'_>,
     names: &[Lit],
-    tolds: &mut Vec<Lit>,
+    signatures: &mut Vec<Lit>,
     latches: &mut Marks,
     leaving: &mut Marks,
     groups: &mut Groups,
 ) -> Result<bool, NoMemory>
     requires held { length held.now.marks.items ≡ length aig.now.latches }
     requires names { length names.now ≡ length aig.now.latches + length aig.now.gates }
-    requires tolds { length tolds.old.items ≡ length aig.now.latches }
+    requires signatures { length signatures.old.items ≡ length aig.now.latches }
     requires latches { length latches.old ≡ length aig.now.latches }
     requires leaving { length leaving.old ≡ length aig.now.latches }
-    requires told { AreTold aig.now names.now tolds.old.items latches.old }
+    requires signature { AreSignatures aig.now names.now signatures.old.items latches.old }
     requires none { IsUnmarked leaving.old }
     ensures left { IfOk result (λ went. went ≡ true → AreLeaving aig.now held.now.positions.now
-        names.now tolds.old.items tolds.new.items leaving.new) }
-    ensures tolds { length tolds.new.items ≡ length tolds.old.items }
+        names.now signatures.old.items signatures.new.items leaving.new) }
+    ensures signatures { length signatures.new.items ≡ length signatures.old.items }
     ensures latches { length latches.new ≡ length latches.old }
     ensures leaving { OnOk result (length leaving.new ≡ length leaving.old) }
 {
@@ -182,23 +182,23 @@ fn tell_latches(
             return Ok(true);
         };
         let latch = &aig.latches()[place];
-        let told = told_now(aig, names, place, latch);
-        let leaves = may_merge(held, place, latch) & (tolds[place] != told.literal);
-        tolds[place] = told.literal;
-        leave(leaving, groups, place, told, leaves)?;
+        let signature = signature_now(aig, names, place, latch);
+        let leaves = may_merge(held, place, latch) & (signatures[place] != signature.literal);
+        signatures[place] = signature.literal;
+        leave(leaving, groups, place, signature, leaves)?;
     }
     Ok(false)
 }
 
 /// The name of a latch's group.
-fn name_by_group(groups: &Groups, class: Lit, told: Lit, latch: &Latch) -> Lit
-    ensures { result ≡ renamed_latch groups.now.places.entries groups.now.names.items class told
+fn name_by_group(groups: &Groups, class: Lit, signature: Lit, latch: &Latch) -> Lit
+    ensures { result ≡ renamed_latch groups.now.places.entries groups.now.names.items class signature
         latch.now }
 {
     let start = constant_of(latch.reset);
-    let key = Told {
+    let key = Signature {
         class: class.signed_as(start),
-        literal: told,
+        literal: signature,
     };
     groups.name(&key).signed_as(start)
 }
@@ -209,13 +209,13 @@ fn rename_latches(
     readers: &Readers,
     marked: &mut Marked,
     names: &mut Vec<Lit>,
-    tolds: &[Lit],
+    signatures: &[Lit],
     leaving: &mut Marks,
     groups: &Groups,
 ) -> bool
     requires readers { AreReaders aig.now readers.now.heads.items readers.now.links.items }
     requires names { length names.old.items ≡ length aig.now.latches + length aig.now.gates }
-    requires tolds { length tolds.now ≡ length aig.now.latches }
+    requires signatures { length signatures.now ≡ length aig.now.latches }
     requires latches { length marked.old.latches ≡ length aig.now.latches }
     requires gates { length marked.old.gates ≡ length aig.now.gates }
     requires leaving { length leaving.old ≡ length aig.now.latches }
@@ -223,7 +223,7 @@ fn rename_latches(
         marked.new.latches marked.old.gates marked.new.gates }
     ensures named { (pairs : List (Pair × ℕ)) → AreNamed aig.now names.old.items pairs
         marked.old.gates → AreNamed aig.now names.new.items pairs marked.new.gates }
-    ensures regrouped { result ≡ true → AreRegrouped aig.now leaving.old names.old.items tolds.now
+    ensures regrouped { result ≡ true → AreRegrouped aig.now leaving.old names.old.items signatures.now
         (group_name groups.now.places.entries groups.now.names.items) names.new.items }
     ensures none { result ≡ true → IsUnmarked leaving.new }
     ensures leaving { length leaving.new ≡ length leaving.old }
@@ -233,7 +233,7 @@ fn rename_latches(
             return true;
         };
         let latch = &aig.latches()[place];
-        let name = name_by_group(groups, names[place], tolds[place], latch);
+        let name = name_by_group(groups, names[place], signatures[place], latch);
         rename(aig, readers, marked, names, place, name);
     }
     false
@@ -246,8 +246,8 @@ struct Splitting {
     marked: Marked,
     /// By variable from the first latch on.
     names: Vec<Lit>,
-    /// By latch what it was told.
-    tolds: Vec<Lit>,
+    /// The signature of each latch.
+    signatures: Vec<Lit>,
     pairs: PairNames,
     /// Marks for one turn.
     leaving: Marks,
@@ -259,13 +259,13 @@ impl Splitting {
         ensures readers { IfOk result (λ s. AreReaders aig.now s.readers.heads.items
             s.readers.links.items) }
         ensures rest { IfOk result (λ s. (held : List ℕ) → IsRough aig.now held reads.now
-            → AreAtRest aig.now held s.names.items s.tolds.items s.pairs s.marked.latches
+            → AreAtRest aig.now held s.names.items s.signatures.items s.pairs s.marked.latches
             s.marked.gates s.leaving) }
     {
         let latches = aig.latches().len();
         let readers = Readers::of(alloc, aig)?;
         let names = first_names(alloc, aig, reads)?;
-        let tolds = vec![in alloc; Lit::FALSE; latches]?;
+        let signatures = vec![in alloc; Lit::FALSE; latches]?;
         let marked = Marked {
             latches: Marks::all(alloc, true, latches)?,
             gates: Marks::all(alloc, true, aig.gates().len())?,
@@ -276,7 +276,7 @@ impl Splitting {
             readers,
             marked,
             names,
-            tolds,
+            signatures,
             pairs,
             leaving,
         })
@@ -291,7 +291,7 @@ impl Splitting {
         requires latches { length self.old.marked.latches ≡ length aig.now.latches }
         requires gates { length self.old.marked.gates ≡ length aig.now.gates }
         ensures readers { self.new.readers ≡ self.old.readers }
-        ensures tolds { self.new.tolds.items ≡ self.old.tolds.items }
+        ensures signatures { self.new.signatures.items ≡ self.old.signatures.items }
         ensures leaving { self.new.leaving ≡ self.old.leaving }
         ensures named { IfOk result (λ went. went ≡ true → AreGatesNamed aig.now
             self.old.names.items self.new.names.items self.old.pairs self.new.pairs
@@ -320,23 +320,23 @@ impl Splitting {
         requires readers { AreReaders aig.now self.old.readers.heads.items
             self.old.readers.links.items }
         requires rest { AreAtRest aig.now held.now.positions.now self.old.names.items
-            self.old.tolds.items self.old.pairs self.old.marked.latches self.old.marked.gates
+            self.old.signatures.items self.old.pairs self.old.marked.latches self.old.marked.gates
             self.old.leaving }
         requires settled { IsUnmarked self.old.marked.gates }
         ensures readers { AreReaders aig.now self.new.readers.heads.items
             self.new.readers.links.items }
         ensures rest { IfOk result (λ went. went ≡ true → AreAtRest aig.now held.now.positions.now
-            self.new.names.items self.new.tolds.items self.new.pairs self.new.marked.latches
+            self.new.names.items self.new.signatures.items self.new.pairs self.new.marked.latches
             self.new.marked.gates self.new.leaving) }
         ensures settled { IfOk result (λ went. went ≡ true → IsUnmarked self.new.marked.gates) }
     {
         aig.known();
         let mut groups = Groups::none(alloc);
-        let told = tell_latches(
+        let updated = update_signatures(
             aig,
             held,
             self.names.as_slice(),
-            &mut self.tolds,
+            &mut self.signatures,
             &mut self.marked.latches,
             &mut self.leaving,
             &mut groups,
@@ -347,13 +347,13 @@ impl Splitting {
             &self.readers,
             &mut self.marked,
             &mut self.names,
-            self.tolds.as_slice(),
+            self.signatures.as_slice(),
             &mut self.leaving,
             &groups,
         );
         drop(groups);
         let named = self.name_gates(aig)?;
-        Ok(told & renamed & named)
+        Ok(updated & renamed & named)
     }
 
     /// Turns until nothing is marked.
@@ -368,10 +368,10 @@ impl Splitting {
         requires readers { AreReaders aig.now self.old.readers.heads.items
             self.old.readers.links.items }
         requires rest { AreAtRest aig.now held.now.positions.now self.old.names.items
-            self.old.tolds.items self.old.pairs self.old.marked.latches self.old.marked.gates
+            self.old.signatures.items self.old.pairs self.old.marked.latches self.old.marked.gates
             self.old.leaving }
         ensures { IfOk result (λ went. went ≡ true → AreAtRest aig.now held.now.positions.now
-            self.new.names.items self.new.tolds.items self.new.pairs self.new.marked.latches
+            self.new.names.items self.new.signatures.items self.new.pairs self.new.marked.latches
             self.new.marked.gates self.new.leaving) }
     {
         let mut goes_on = self.name_gates(aig)?;
@@ -399,7 +399,7 @@ impl Splitting {
         requires readers { AreReaders aig.now self.old.readers.heads.items
             self.old.readers.links.items }
         requires rest { AreAtRest aig.now held.now.positions.now self.old.names.items
-            self.old.tolds.items self.old.pairs self.old.marked.latches self.old.marked.gates
+            self.old.signatures.items self.old.pairs self.old.marked.latches self.old.marked.gates
             self.old.leaving }
         ensures { IfOk result (λ finer. IfSome finer (λ reads. IsRough aig.now
             held.now.positions.now reads.items)) }
@@ -426,11 +426,11 @@ fn first_names(alloc: Global, aig: &Aig, reads: &[Lit]) -> Result<Vec<Lit>, NoMe
 }
 
 /// The class of a latch by its name.
-fn class_by(name: Lit, latch: &Latch) -> Told
+fn class_by(name: Lit, latch: &Latch) -> Signature
     ensures class { result.class ≡ from_reset latch.now.reset name }
     ensures literal { result.literal ≡ 0 }
 {
-    Told {
+    Signature {
         class: name.signed_as(constant_of(latch.reset)),
         literal: Lit::FALSE,
     }
@@ -448,7 +448,7 @@ fn reading_by_names(
     ensures { IfOk result (λ reads. reads.items
         ≡ round_by aig.now held.now.positions.now (class_of names.now)) }
 {
-    let mut firsts = FirstTold::new(alloc)?;
+    let mut firsts = FirstOfSignature::new(alloc)?;
     let mut reads = Vec::with_capacity(alloc, aig.latches().len())?;
     for (place, latch) in aig.latches().iter().enumerate() {
         let class = class_by(names[place], latch);
@@ -477,7 +477,7 @@ fn finer_reading(
     finer
 }
 
-/// What splitting makes of a reading that is as coarse as each kept one: another one that is, and that is kept too, but where names run out.
+/// What splitting makes of a reading that is as coarse as each inductive one: another one that is, and that is inductive too, but where names run out.
 pub(crate) fn split_reading(
     alloc: Global,
     aig: &Aig,

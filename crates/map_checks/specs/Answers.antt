@@ -8,7 +8,7 @@ use Rattle.state_maps.specs.States.{Digits, SameReads, State, after_step, openin
 use Rattle.map_checks.specs.declared.answer.Answer.{Answer}
 use Rattle.map_checks.specs.declared.answer.Answer.TheVariants.{NotShown, Retiming}
 use Rattle.map_checks.specs.declared.checking.Opening.{Opening}
-use Rattle.map_checks.specs.declared.checking.Opening.TheVariants.{Doubted, Kept}
+use Rattle.map_checks.specs.declared.checking.Opening.TheVariants.{LeftOpen, Kept}
 use Rattle.map_checks.specs.declared.errors.CheckError.{CheckError}
 use Rattle.map_checks.specs.declared.errors.CheckError.TheVariants.{NoMemory, TooLarge}
 use Rattle.map_checks.specs.declared.errors.SharingError.{SharingError}
@@ -39,7 +39,7 @@ pub record Begins (c d m : Netlist) (kept : List ℕ) : Type 0 where
 
 abbrev pub IsBegun : Netlist → Netlist → Netlist → Opening → Type 0
 IsBegun c d m (Kept kept) = Begins c d m kept
-IsBegun c d m (Doubted doubt) = Unit {0}
+IsBegun c d m (LeftOpen obligation) = Unit {0}
 
 -- a step of c is one of d, where the constraints hold, which they go on to do
 pub record KeepsStates (c d m : Netlist) : Type 0 where
@@ -50,4 +50,4 @@ pub record KeepsStates (c d m : Netlist) : Type 0 where
 -- the map is one of the states of c to those of d, and so their properties have the same values at each step
 abbrev pub IsAnswer : Netlist → Netlist → Netlist → Answer → Type 0
 IsAnswer c d m (Retiming kept) = IsMapCircuit c d kept m × SameStreams c d kept
-IsAnswer c d m (NotShown doubt) = Unit {0}
+IsAnswer c d m (NotShown obligation) = Unit {0}

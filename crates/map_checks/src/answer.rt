@@ -8,12 +8,12 @@ pub enum Answer {
     /// latches of the first.
     Retiming(Sequence<u32>),
     /// The first that sharing gates doesn't show. The circuit may be a retiming all the same.
-    NotShown(Doubt),
+    NotShown(Obligation),
 }
 
 /// What sharing gates doesn't show; each is counted from 0 among those of its kind.
 #[derive(Clone, Copy, PartialEq, Eq, Debug)]
-pub enum Doubt {
+pub enum Obligation {
     /// At step 0 this constraint of the map is 1.
     ConstraintAtReset(usize),
     /// At step 0 this output of the map is what this latch of the second circuit holds; where the latch is free, it is a free latch of

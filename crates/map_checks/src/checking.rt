@@ -7,8 +7,8 @@ ghost use Rattle.map_checks.specs.Shared.{Grows};
 ghost use Rattle.map_checks.specs.Images.{AreLong, AreSettled, AreSides};
 ghost use Rattle.map_checks.specs.Answers.{AreFitting, IsAnswer, IsBegun, IsMap, KeepsStates};
 
-use crate::answer::{Answer, Doubt};
-use crate::comparing::{first_open, first_unlike, property_doubt};
+use crate::answer::{Answer, Obligation};
+use crate::comparing::{first_open, first_unlike, property_obligation};
 use crate::copied::Copied;
 use crate::equalities::Equalities;
 use crate::errors::{CheckError, SharingError};
@@ -60,40 +60,40 @@ fn sides_of(
 }
 
 /// The first that isn't one literal in the copies.
-fn doubt_of_sides(
+fn obligation_of_sides(
     alloc: Global,
     first: &Circuit,
     second: &Circuit,
     map: &Circuit,
     sides: &Sides,
-) -> Result<Option<Doubt>, NoMemory>
+) -> Result<Option<Obligation>, NoMemory>
     requires fitting { AreFitting first.now second.now map.now }
     requires long { AreLong first.now second.now map.now sides.now.before sides.now.later
         sides.now.after }
-    ensures { IfOk result (λ doubt. IfNone doubt (AreSettled first.now second.now map.now
+    ensures { IfOk result (λ obligation. IfNone obligation (AreSettled first.now second.now map.now
         sides.now.before sides.now.later sides.now.after)) }
 {
     if let Some(place) = first_open(&sides.later, map.props().constraints.as_slice()) {
-        return Ok(Some(Doubt::Constraint(place)));
+        return Ok(Some(Obligation::Constraint(place)));
     }
     let nexts = nexts(alloc, second.aig())?;
     let outputs = map.props().outputs.as_slice();
     if let Some(place) = first_unlike(&sides.later, outputs, &sides.after, nexts.as_slice()) {
-        return Ok(Some(Doubt::Latch(place)));
+        return Ok(Some(Obligation::Latch(place)));
     }
-    Ok(property_doubt(&sides.before, first.props(), &sides.after, second.props()))
+    Ok(property_obligation(&sides.before, first.props(), &sides.after, second.props()))
 }
 
 /// The first that isn't shown of a step.
-fn doubt_of_step(
+fn obligation_of_step(
     alloc: Global,
     first: &Circuit,
     second: &Circuit,
     map: &Circuit,
-) -> Result<Option<Doubt>, SharingError>
+) -> Result<Option<Obligation>, SharingError>
     requires fitting { AreFitting first.now second.now map.now }
     requires latches { map.now.aig.latches ≡ [] }
-    ensures { IfOk result (λ doubt. IfNone doubt (KeepsStates first.now second.now map.now)) }
+    ensures { IfOk result (λ obligation. IfNone obligation (KeepsStates first.now second.now map.now)) }
 {
     first.known();
     second.known();
@@ -102,15 +102,15 @@ fn doubt_of_step(
     let mut equal = Equalities::none(alloc, first.aig().first_latch());
     let sides = sides_of(alloc, &mut shared, &mut equal, first, second, map)?;
     shared.known();
-    let doubt = doubt_of_sides(alloc, first, second, map, &sides)?;
-    Ok(doubt)
+    let obligation = obligation_of_sides(alloc, first, second, map, &sides)?;
+    Ok(obligation)
 }
 
 /// What a look at step 0 finds.
 #[derive(Drop)]
 pub(crate) enum Opening {
     Kept(KeptPlaces),
-    Doubted(Doubt),
+    LeftOpen(Obligation),
 }
 
 /// Whether the map gives the first states of the second circuit.
@@ -127,7 +127,7 @@ fn opening_of(
     map.known();
     let image = reset_image(alloc, first.aig(), map)?;
     if let Some(place) = first_open(&image, map.props().constraints.as_slice()) {
-        return Ok(Opening::Doubted(Doubt::ConstraintAtReset(place)));
+        return Ok(Opening::LeftOpen(Obligation::ConstraintAtReset(place)));
     }
     let outputs = map.props().outputs.as_slice();
     match start_of(alloc, first.aig(), second.aig(), &image, outputs)? {
@@ -135,7 +135,7 @@ fn opening_of(
             kept.known();
             Ok(Opening::Kept(kept))
         }
-        Start::Differs(place) => Ok(Opening::Doubted(Doubt::LatchAtReset(place))),
+        Start::Differs(place) => Ok(Opening::LeftOpen(Obligation::LatchAtReset(place))),
     }
 }
 
@@ -153,11 +153,11 @@ fn checked(
     map.known();
     let kept = match opening_of(alloc, first, second, map)? {
         Opening::Kept(kept) => kept,
-        Opening::Doubted(doubt) => return Ok(Answer::NotShown(doubt)),
+        Opening::LeftOpen(obligation) => return Ok(Answer::NotShown(obligation)),
     };
-    match doubt_of_step(alloc, first, second, map)? {
+    match obligation_of_step(alloc, first, second, map)? {
         None => Ok(Answer::Retiming(Sequence::from_vec(kept.into_vec()))),
-        Some(doubt) => Ok(Answer::NotShown(doubt)),
+        Some(obligation) => Ok(Answer::NotShown(obligation)),
     }
 }
 

@@ -5,7 +5,7 @@ ghost use Rattle.map_checks.specs.Copies.{copied_end, copy_of};
 ghost use Rattle.aig_graph.specs.Mapped.{OfProps};
 ghost use Rattle.map_checks.specs.Images.{AreAsMany, AreSame};
 
-use crate::answer::Doubt;
+use crate::answer::Obligation;
 use crate::copied::Copied;
 use aig_graph::{Lit, Props, Sequence};
 
@@ -59,12 +59,12 @@ fn first_unlike_list(
 }
 
 /// The first property that isn't one literal in both circuits.
-pub(crate) fn property_doubt(
+pub(crate) fn property_obligation(
     before: &Copied,
     first: &Props,
     after: &Copied,
     second: &Props,
-) -> Option<Doubt>
+) -> Option<Obligation>
     requires first { OfProps (λ lit. variable lit < copied_end before.now) first.now }
     requires second { OfProps (λ lit. variable lit < copied_end after.now) second.now }
     requires shape { AreAsMany first.now second.now }
@@ -72,10 +72,10 @@ pub(crate) fn property_doubt(
 {
     let (a, b) = (second, first);
     if let Some(place) = first_unlike(after, a.outputs.as_slice(), before, b.outputs.as_slice()) {
-        return Some(Doubt::Output(place));
+        return Some(Obligation::Output(place));
     }
     if let Some(place) = first_unlike(after, a.bad.as_slice(), before, b.bad.as_slice()) {
-        return Some(Doubt::Bad(place));
+        return Some(Obligation::Bad(place));
     }
     if let Some(place) = first_unlike(
         after,
@@ -83,7 +83,7 @@ pub(crate) fn property_doubt(
         before,
         b.constraints.as_slice(),
     ) {
-        return Some(Doubt::Invariant(place));
+        return Some(Obligation::Invariant(place));
     }
     if let Some(place) = first_unlike_list(
         after,
@@ -91,10 +91,10 @@ pub(crate) fn property_doubt(
         before,
         b.justice.as_slice(),
     ) {
-        return Some(Doubt::Justice(place));
+        return Some(Obligation::Justice(place));
     }
     if let Some(place) = first_unlike(after, a.fairness.as_slice(), before, b.fairness.as_slice()) {
-        return Some(Doubt::Fairness(place));
+        return Some(Obligation::Fairness(place));
     }
     None
 }

@@ -17,7 +17,7 @@ mod shared;
 mod sides;
 mod starting;
 
-pub use answer::{Answer, Doubt};
+pub use answer::{Answer, Obligation};
 pub use checking::check_map;
 pub use errors::CheckError;
 pub use shapes::{are_fitting, is_map};

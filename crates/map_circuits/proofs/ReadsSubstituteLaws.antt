@@ -8,7 +8,7 @@ use Rattle.aig_graph.specs.Graph.{Graph, IsGraph, first_latch}
 use Rattle.aig_graph.specs.Value.{value_within}
 use Rattle.aig_graph.proofs.KindLaws.{element}
 use Rattle.cleaned_circuits.proofs.LatchLaws.{constant-even}
-use Rattle.merged_latches.specs.Partitions.{IsKept}
+use Rattle.merged_latches.specs.Partitions.{IsInductive}
 use Rattle.merged_latches.specs.Readings.{IsReading, ReadsAs, as_constant, as_first, as_itself, read}
 use Rattle.state_maps.specs.States.{State}
 use Rattle.map_circuits.specs.Constraining.{IsSubstitute, SubstitutesBelow, substitute_function}
@@ -57,8 +57,8 @@ module _ (d : Graph) (held reads functions : List ℕ) (reading : IsReading d he
         let latch = element d.latches j below in
         value-of-function j (omega (arith, below, many)) ∙ sym (holds (λ i. false) j latch.0 latch.1) ∙ sym (substitute-here j below)
 
-    -- where each function has the value of what its latch reads as by a kept reading, latches hold what they read as
-    pub reads-hold : IsKept d held reads → SubstitutesBelow g first functions reads (length reads) s → ReadsHold d reads (state_of g functions s)
+    -- where each function has the value of what its latch reads as by an inductive reading, latches hold what they read as
+    pub reads-hold : IsInductive d held reads → SubstitutesBelow g first functions reads (length reads) s → ReadsHold d reads (state_of g functions s)
     reads-hold kept below x j latch at =
         let less : j < length d.latches = slice_get_within d.latches j latch at in
         steady d held reads valid kept (state_of g functions s) x j latch at

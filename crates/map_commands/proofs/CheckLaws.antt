@@ -11,7 +11,7 @@ use Rattle.map_commands.specs.declared.check.Verdict.TheVariants.{Retiming, NotS
 
 verdict_may_be_printed : (verdict : Verdict) (old new : Output) → WritesAll old new (verdict_text verdict) → Prints (outcome_of_verdict verdict) old new
 verdict_may_be_printed Retiming old new written = tt
-verdict_may_be_printed (NotShown doubt) old new written = tt
+verdict_may_be_printed (NotShown obligation) old new written = tt
 verdict_may_be_printed ShapesDiffer old new written = inl written
 
 -- a run that prints a verdict, or fails at that, gives standard output what a run that ends so may

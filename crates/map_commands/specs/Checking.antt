@@ -14,7 +14,7 @@ use Rattle.circuit_files.specs.declared.outcome.Outcome.{Outcome}
 use Rattle.circuit_files.specs.declared.outcome.Outcome.TheVariants as ends
 use Rattle.command_endings.specs.Printing.{EndsWith}
 use Rattle.command_endings.specs.Sources.{IsCircuitAt}
-use Rattle.map_commands.specs.Doubts.{doubt_text, retiming_text}
+use Rattle.map_commands.specs.Obligations.{obligation_text, retiming_text}
 use Rattle.map_commands.specs.declared.check.Verdict.{Verdict}
 use Rattle.map_commands.specs.declared.check.Verdict.TheVariants.{Retiming, NotShown, ShapesDiffer}
 
@@ -28,18 +28,18 @@ pub record IsRetimingBy (c d m : Netlist) : Type 0 where
 -- what is found of two circuits and a map
 abbrev pub IsVerdict : Netlist → Netlist → Netlist → Verdict → Type 0
 IsVerdict c d m Retiming = IsRetimingBy c d m
-IsVerdict c d m (NotShown doubt) = IsMap m × AreFitting c d m
+IsVerdict c d m (NotShown obligation) = IsMap m × AreFitting c d m
 IsVerdict c d m ShapesDiffer = IsMap m × (AreFitting c d m → ⊥)
 
 -- what is printed of it, and how the run ends
 abbrev pub verdict_text : Verdict → List ℕ
 verdict_text Retiming = retiming_text
-verdict_text (NotShown doubt) = doubt_text doubt
+verdict_text (NotShown obligation) = obligation_text obligation
 verdict_text ShapesDiffer = shapes_text
 
 abbrev pub outcome_of_verdict : Verdict → Outcome
 outcome_of_verdict Retiming = ends.Done
-outcome_of_verdict (NotShown doubt) = ends.Unconfirmed
+outcome_of_verdict (NotShown obligation) = ends.Unconfirmed
 outcome_of_verdict ShapesDiffer = ends.ShapesDiffer
 
 -- what is found of two circuits and the map that is read

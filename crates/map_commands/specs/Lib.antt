@@ -1,4 +1,4 @@
-pub mod Doubts
+pub mod Obligations
 pub mod Checking
 pub mod Reading
 pub mod Making

@@ -5,14 +5,14 @@ ghost use Rattle.circuit_files.specs.declared.outcome.Failure.TheVariants.{NotAM
 ghost use Rattle.command_endings.specs.Printing.{EndsPrinting, Prints, ending};
 ghost use Rattle.map_commands.specs.Checking.{IsVerdict, IsVerdictOf, IsVerdictUnder, IsVerdictWith, PrintsCheck, outcome_of_verdict, verdict_text};
 
-use crate::doubts::{print_doubt, print_retiming};
+use crate::obligations::{print_obligation, print_retiming};
 use aig_graph::Circuit;
 use circuit_files::{Failure, Outcome, circuit_at};
 use command_endings::ended;
 use command_line::Checking;
 use counted_io::{CountedRead, CountedWrite};
 use file_words::ReadError;
-use map_checks::{Answer, CheckError, Doubt, check_map};
+use map_checks::{Answer, CheckError, Obligation, check_map};
 use reports::print_shapes_differ;
 use std::alloc::Global;
 use std::rt::Files;
@@ -24,7 +24,7 @@ enum Verdict {
     /// The second circuit is a retiming of the first, by the map.
     Retiming,
     /// This isn't shown.
-    NotShown(Doubt),
+    NotShown(Obligation),
     /// The circuits and the map don't fit together.
     ShapesDiffer,
 }
@@ -42,7 +42,7 @@ fn verdict_on<'a>(
 {
     match check_map(alloc, first, second, map) {
         Ok(Answer::Retiming(_)) => Ok(Verdict::Retiming),
-        Ok(Answer::NotShown(doubt)) => Ok(Verdict::NotShown(doubt)),
+        Ok(Answer::NotShown(obligation)) => Ok(Verdict::NotShown(obligation)),
         Err(CheckError::ShapesDiffer) => Ok(Verdict::ShapesDiffer),
         Err(CheckError::NotAMap) => Err(Failure::NotAMap(name)),
         Err(CheckError::TooLarge) => Err(Failure::Refused(name, ReadError::TooLarge(0))),
@@ -121,7 +121,10 @@ fn print_verdict<'a, O: CountedWrite>(verdict: Verdict, out: &mut O) -> Result<O
 {
     match verdict {
         Verdict::Retiming => ended(print_retiming(out), Outcome::Done),
-        Verdict::NotShown(doubt) => ended(print_doubt(doubt, out), Outcome::Unconfirmed),
+        Verdict::NotShown(obligation) => ended(
+            print_obligation(obligation, out),
+            Outcome::Unconfirmed,
+        ),
         Verdict::ShapesDiffer => ended(print_shapes_differ(out), Outcome::ShapesDiffer),
     }
 }

@@ -3,11 +3,11 @@
 #![tactic(auto)]
 
 mod check;
-mod doubts;
 mod given;
 mod lift;
 mod made;
 mod mitering;
+mod obligations;
 mod products;
 
 pub use check::print_check;

@@ -13,8 +13,8 @@ use Rattle.frames.specs.Answering.{IsWritten}
 use Rattle.frames.specs.Bounds.{bound_in}
 use Rattle.frames.specs.Codes.{of_keep_error}
 use Rattle.frames.specs.Named.{IsFirstMissingBy, NoneMissingBy, names_in}
-use Rattle.frames.specs.Stages.{Tells, Told, Writing, looks_of, stages_of}
-use Rattle.frames.proofs.StageLaws.{tells-then}
+use Rattle.frames.specs.Stages.{Notifies, Notification, Writing, looks_of, stages_of}
+use Rattle.frames.proofs.StageLaws.{notifies-then}
 use Rattle.std.specs.Option.{unwrap_or}
 use Rattle.file_words.specs.declared.spelling.Spelling.{Spelling}
 use Rattle.aig_binary.specs.Spellings.{text_in}
@@ -43,11 +43,11 @@ unnamed options c (keeping.NoSuchName place) missing = missing place refl
 pub is-made : (options : Options) (c : Netlist) (m : Made) → NoneMissingBy options c → IsRetimedMapped options c m → IsMade options c m
 is-made options c m none is = record { names = none; retimed = is.retimed; map = is.map }
 
--- of the same retiming the same is told
-pub same-told : {W E : Type 0} (was_told : W → List Told → Type 0) (limit : ℕ) (a b : W) (r : Retimed) (result : Result Made E) → Tells was_told a b (looks_of limit r)
-    → IfOk result (λ made. made.retimed ≡ r) → IfOk result (λ made. Tells was_told a b (looks_of limit made.retimed))
-same-told was_told limit a b r (Ok made) told same = subst (λ (x : Retimed). Tells was_told a b (looks_of limit x)) (sym same) told
-same-told was_told limit a b r (Err e) told same = tt
+-- of the same retiming the same is notified
+pub same-notified : {W E : Type 0} (was_notified : W → List Notification → Type 0) (limit : ℕ) (a b : W) (r : Retimed) (result : Result Made E) → Notifies was_notified a b (looks_of limit r)
+    → IfOk result (λ made. made.retimed ≡ r) → IfOk result (λ made. Notifies was_notified a b (looks_of limit made.retimed))
+same-notified was_notified limit a b r (Ok made) notified same = subst (λ (x : Retimed). Notifies was_notified a b (looks_of limit x)) (sym same) notified
+same-notified was_notified limit a b r (Err e) notified same = tt
 
 -- nothing is written then
 pub makes-nothing : (options : Options) (spelt : SpeltCircuit) (out : Output) (e : AnswerError) → IsMakingError options spelt.circuit e → IsMappingStop options spelt out out e
@@ -90,8 +90,8 @@ cut_off-answer options spelt made spelling old new (Bytes (Write e)) same is par
   writes = subst (λ (s : Spelling). WritesPart old new (text_in s made.retimed.circuit)) same part;
 }
 
--- the stages that are told of a retiming are those of the answer that it is written as
-pub told-answer : {W : Type 0} (was_told : W → List Told → Type 0) (limit : ℕ) (a b c : W) (made : Made) (m : Mapped) → m.retimed ≡ made.retimed
-    → Tells was_told a b (stages_of limit made.retimed) → Tells was_told b c (Writing ∷ []) → Tells was_told a c (stages_of limit m.retimed ++ Writing ∷ [])
-told-answer was_told limit a b c made m same stages writing =
-    subst (λ (r : Retimed). Tells was_told a c (stages_of limit r ++ Writing ∷ [])) (sym same) (tells-then was_told a b c (stages_of limit made.retimed) (Writing ∷ []) stages writing)
+-- the stages that are notified of a retiming are those of the answer that it is written as
+pub notified-answer : {W : Type 0} (was_notified : W → List Notification → Type 0) (limit : ℕ) (a b c : W) (made : Made) (m : Mapped) → m.retimed ≡ made.retimed
+    → Notifies was_notified a b (stages_of limit made.retimed) → Notifies was_notified b c (Writing ∷ []) → Notifies was_notified a c (stages_of limit m.retimed ++ Writing ∷ [])
+notified-answer was_notified limit a b c made m same stages writing =
+    subst (λ (r : Retimed). Notifies was_notified a c (stages_of limit r ++ Writing ∷ [])) (sym same) (notifies-then was_notified a b c (stages_of limit made.retimed) (Writing ∷ []) stages writing)

@@ -5,7 +5,7 @@ ghost use Rattle.aig_graph.specs.Circuits.{IsNetlist};
 ghost use Rattle.aig_graph.specs.Graph.{IsGraph};
 ghost use Rattle.aig_binary.specs.Spellings.{text_in};
 ghost use Rattle.counted_io.specs.Output.{Writes};
-ghost use Rattle.frames.specs.Stages.{Tells, Writing, stages_of};
+ghost use Rattle.frames.specs.Stages.{Notifies, Writing, stages_of};
 ghost use Rattle.mapped_answers.specs.Mapping.{IsMadeCutOff, IsMadeWritten, IsMappedOf, IsMappingStop};
 
 use crate::errors::AnswerError;
@@ -83,7 +83,7 @@ pub fn retime_spelt_mapped<W: CountedWrite, G: PhaseGate, V: FrameWatcher>(
         (W.output writer.new)) }
     ensures err { IfErr result (IsMappingStop options.now spelt (W.output writer.old)
         (W.output writer.new)) }
-    ensures told { IfOk result (λ mapped. Tells V.was_told watcher.old watcher.new
+    ensures notified { IfOk result (λ mapped. Notifies V.was_notified watcher.old watcher.new
         (stages_of options.now.max_frames mapped.retimed ++ Writing ∷ [])) }
 {
     let SpeltCircuit {

@@ -3,7 +3,7 @@ ghost use Rattle.std.specs.Prelude.{◌≡◌, IfErr, IfOk};
 ghost use Rattle.frames.specs.Codes.{of_keep_error};
 ghost use Rattle.frames.specs.Following.{IsRetimedFollowed};
 ghost use Rattle.frames.specs.Named.{NoneMissingBy, kept_by};
-ghost use Rattle.frames.specs.Stages.{Tells, looks_of, stages_of};
+ghost use Rattle.frames.specs.Stages.{Notifies, looks_of, stages_of};
 ghost use Rattle.frames.specs.declared.errors.BytesError.TheVariants.{Retime};
 ghost use Rattle.mapped_answers.specs.Mapping.{IsMade, IsMakingError, IsMapError, IsRetimedMapped};
 ghost use Rattle.mapped_answers.specs.declared.errors.AnswerError.TheVariants.{Bytes};
@@ -67,7 +67,7 @@ fn made_kept<G: PhaseGate, V: FrameWatcher>(
     requires keep { keep.now ≡ kept_by options.now circuit.now }
     requires names { NoneMissingBy options.now circuit.now }
     ensures made { IfOk result (IsRetimedMapped options.now circuit.now) }
-    ensures told { IfOk result (λ made. Tells V.was_told watcher.old watcher.new
+    ensures notified { IfOk result (λ made. Notifies V.was_notified watcher.old watcher.new
         (looks_of options.now.max_frames made.retimed)) }
 {
     let map = GrowingMap {
@@ -92,7 +92,7 @@ fn made_mapped<G: PhaseGate, V: FrameWatcher>(
     requires names { NoneMissingBy options.now circuit.now }
     ensures ok { IfOk result (IsMade options.now circuit.now) }
     ensures err { IfErr result IsMapError }
-    ensures told { IfOk result (λ made. Tells V.was_told watcher.old watcher.new
+    ensures notified { IfOk result (λ made. Notifies V.was_notified watcher.old watcher.new
         (looks_of options.now.max_frames made.retimed)) }
 {
     match made_kept(rt, alloc, circuit, keep, options, crew, watcher) {
@@ -119,7 +119,7 @@ fn made_of<G: PhaseGate, V: FrameWatcher>(
 ) -> Result<Made, AnswerError>
     ensures ok { IfOk result (IsMade options.now circuit.now) }
     ensures err { IfErr result (IsMakingError options.now circuit.now) }
-    ensures told { IfOk result (λ made. Tells V.was_told watcher.old watcher.new
+    ensures notified { IfOk result (λ made. Notifies V.was_notified watcher.old watcher.new
         (stages_of options.now.max_frames made.retimed)) }
 {
     watcher.enter(Stage::Cleaning);
@@ -140,7 +140,7 @@ pub fn made_over<G: PhaseGate, V: FrameWatcher>(
 ) -> Result<Made, AnswerError>
     ensures ok { IfOk result (IsMade options.now circuit) }
     ensures err { IfErr result (IsMakingError options.now circuit) }
-    ensures told { IfOk result (λ made. Tells V.was_told watcher.old watcher.new
+    ensures notified { IfOk result (λ made. Notifies V.was_notified watcher.old watcher.new
         (stages_of options.now.max_frames made.retimed)) }
 {
     let made = made_of(rt, alloc, &circuit, options, crew, watcher);

@@ -4,11 +4,11 @@ use Rattle.aig_graph.specs.declared.graph.Reset.TheVariants.{Zero, One}
 use Rattle.aig_graph.specs.Graph.{Graph}
 use Rattle.variable_tables.specs.Tables.{table}
 use Rattle.cleaned_circuits.specs.Merged.{merge_gates, substitutes_after, replaced_graph}
-use Rattle.merged_latches.specs.Readings.{leaves, substitutes_by, told}
+use Rattle.merged_latches.specs.Readings.{leaves, substitutes_by, signature}
 
--- what each latch is told by a reading
-abbrev all_told : Graph → List ℕ → List ℕ
-all_told g reads = map (told (substitutes_by g reads)) g.latches
+-- the signature of each latch by a reading
+abbrev all_signatures : Graph → List ℕ → List ℕ
+all_signatures g reads = map (signature (substitutes_by g reads)) g.latches
 
 -- the graph, where latches read so
 abbrev merged_by : Graph → List ℕ → Graph
@@ -22,10 +22,10 @@ once = record {
   gates = record { rhs0 = 4; rhs1 = 2 } ∷ record { rhs0 = 6; rhs1 = 2 } ∷ [];
 }
 
--- the second reads as the first, and is told what that one is
-once-told : all_told once (4 ∷ 4 ∷ []) ≡ 9 ∷ 9 ∷ []
+-- the second reads as the first, and has its signature
+once-signature : all_signatures once (4 ∷ 4 ∷ []) ≡ 9 ∷ 9 ∷ []
 unfolding once leaves table merge_gates substitutes_after
-once-told = refl
+once-signature = refl
 
 once-merged : merged_by once (4 ∷ 4 ∷ [])
     ≡ record {
@@ -44,37 +44,37 @@ complements = record {
   gates = record { rhs0 = 4; rhs1 = 2 } ∷ record { rhs0 = 7; rhs1 = 2 } ∷ [];
 }
 
-complements-told : all_told complements (4 ∷ 5 ∷ []) ≡ 9 ∷ 9 ∷ []
+complements-signature : all_signatures complements (4 ∷ 5 ∷ []) ≡ 9 ∷ 9 ∷ []
 unfolding complements leaves table merge_gates substitutes_after
-complements-told = refl
+complements-signature = refl
 
--- stuck behind a gate
+-- constant behind a gate
 behind : Graph
 behind = record { inputs = 1; latches = record { next = 6; reset = Zero } ∷ []; gates = record { rhs0 = 4; rhs1 = 2 } ∷ [] }
 
-behind-told : all_told behind (0 ∷ []) ≡ 0 ∷ []
+behind-signature : all_signatures behind (0 ∷ []) ≡ 0 ∷ []
 unfolding behind leaves table merge_gates substitutes_after
-behind-told = refl
+behind-signature = refl
 
--- stuck by each other
+-- constant by each other
 each_other : Graph
 each_other = record { inputs = 0; latches = record { next = 4; reset = Zero } ∷ record { next = 2; reset = Zero } ∷ []; gates = [] }
 
-each_other-told : all_told each_other (0 ∷ 0 ∷ []) ≡ 0 ∷ 0 ∷ []
+each_other-signature : all_signatures each_other (0 ∷ 0 ∷ []) ≡ 0 ∷ 0 ∷ []
 unfolding each_other leaves table merge_gates substitutes_after
-each_other-told = refl
+each_other-signature = refl
 
--- two that take turns: each is the other's complement, and isn't stuck
+-- two that take turns: each is the other's complement, and isn't constant
 turns : Graph
 turns = record { inputs = 0; latches = record { next = 4; reset = Zero } ∷ record { next = 2; reset = One } ∷ []; gates = [] }
 
-turns-constant : all_told turns (0 ∷ 1 ∷ []) ≡ 1 ∷ 1 ∷ []
+turns-constant : all_signatures turns (0 ∷ 1 ∷ []) ≡ 1 ∷ 1 ∷ []
 unfolding turns leaves table merge_gates substitutes_after
 turns-constant = refl
 
-turns-told : all_told turns (2 ∷ 3 ∷ []) ≡ 3 ∷ 3 ∷ []
+turns-signature : all_signatures turns (2 ∷ 3 ∷ []) ≡ 3 ∷ 3 ∷ []
 unfolding turns leaves table merge_gates substitutes_after
-turns-told = refl
+turns-signature = refl
 
 turns-merged : merged_by turns (2 ∷ 3 ∷ []) ≡ record { inputs = 0; latches = record { next = 3; reset = Zero } ∷ record { next = 2; reset = One } ∷ []; gates = [] }
 unfolding turns leaves table merge_gates substitutes_after replaced_graph
@@ -88,6 +88,6 @@ one_enable = record {
   gates = record { rhs0 = 4; rhs1 = 2 } ∷ record { rhs0 = 6; rhs1 = 3 } ∷ record { rhs0 = 13; rhs1 = 11 } ∷ record { rhs0 = 8; rhs1 = 3 } ∷ record { rhs0 = 17; rhs1 = 11 } ∷ [];
 }
 
-one_enable-told : all_told one_enable (6 ∷ 6 ∷ []) ≡ 14 ∷ 14 ∷ []
+one_enable-signature : all_signatures one_enable (6 ∷ 6 ∷ []) ≡ 14 ∷ 14 ∷ []
 unfolding one_enable leaves table merge_gates substitutes_after
-one_enable-told = refl
+one_enable-signature = refl

@@ -10,11 +10,11 @@ use Rattle.cleaned_circuits.specs.Merged.{replaced, replaced_graph, replaced_cir
 use Rattle.cleaned_circuits.proofs.SubstituteLaws.{after-within}
 use Rattle.cleaned_circuits.proofs.MergedLaws.{SubstitutesWithin, SubstitutesRight, IsGraph-replaced, IsNetlist-replaced, replaced-properties, replaced-inputs, length-replaced_latches, replaced-free_before}
 use Rattle.merged_latches.specs.Readings.{leaves, substitutes_by}
-use Rattle.merged_latches.specs.Partitions.{IsKept, IsMerged}
+use Rattle.merged_latches.specs.Partitions.{IsInductive, IsMerged}
 use Rattle.merged_latches.proofs.ReadingLaws.{are-leaves}
 use Rattle.merged_latches.proofs.ValueLaws.{substitutes_by-value}
 
-module _ (held reads : List ℕ) (c : Netlist) (valid : IsGraph c.aig) (kept : IsKept c.aig held reads) where
+module _ (held reads : List ℕ) (c : Netlist) (valid : IsGraph c.aig) (kept : IsInductive c.aig held reads) where
   abbrev substitutes : List ℕ
   substitutes = substitutes_by c.aig reads
 

@@ -16,8 +16,8 @@ use Rattle.cleaned_circuits.specs.Latches.{constant_of}
 use Rattle.cleaned_circuits.specs.Merged.{replaced}
 use Rattle.cleaned_circuits.proofs.LatchLaws.{constant-even}
 use Rattle.cleaned_circuits.proofs.SubstituteLaws.{replaced_after-value}
-use Rattle.merged_latches.specs.Readings.{own_literal, read, may_merge, from_reset, ReadsAs, as_itself, as_constant, as_first, leaves, substitutes_by, told}
-use Rattle.merged_latches.specs.Partitions.{IsKept}
+use Rattle.merged_latches.specs.Readings.{own_literal, read, may_merge, from_reset, ReadsAs, as_itself, as_constant, as_first, leaves, substitutes_by, signature}
+use Rattle.merged_latches.specs.Partitions.{IsInductive}
 use Rattle.merged_latches.proofs.ReadingLaws.{leaf-low, leaf-latch, are-leaves}
 
 -- a value negated where the reset is 1
@@ -39,7 +39,7 @@ opening-known Free next b known = absurd (cc)
 pub may-known : (held : List ℕ) (j : ℕ) (latch : Latch) → may_merge held j latch ≡ true → is_free latch ≡ false
 may-known held j latch may = not-true (is_free latch) (and_parts (not (is_free latch)) (not (has held j)) may).0
 
-module _ (g : Graph) (held reads : List ℕ) (valid : IsGraph g) (kept : IsKept g held reads) (x : Inputs) (f : Choice) where
+module _ (g : Graph) (held reads : List ℕ) (valid : IsGraph g) (kept : IsInductive g held reads) (x : Inputs) (f : Choice) where
   laws : ValueLaws g x f
   laws = value_laws g valid x f
 
@@ -68,8 +68,8 @@ module _ (g : Graph) (held reads : List ℕ) (valid : IsGraph g) (kept : IsKept 
         ∙ agree (v - first_latch g) there.0 there.1 ∙ ap (λ (w : ℕ). vals t (2 * w)) place)
   ]
 
-  told-value : (t : ℕ) → Agree t → (j : ℕ) (latch : Latch) → slice_get g.latches j ≡ Some latch → vals t (told (substitutes_by g reads) latch) ≡ flipped latch.reset (vals t latch.next)
-  told-value t agree j latch there =
+  signature-value : (t : ℕ) → Agree t → (j : ℕ) (latch : Latch) → slice_get g.latches j ≡ Some latch → vals t (signature (substitutes_by g reads) latch) ≡ flipped latch.reset (vals t latch.next)
+  signature-value t agree j latch there =
       from_reset-value t latch.reset (replaced (substitutes_by g reads) latch.next)
       ∙ ap (flipped latch.reset) (replaced_after-value g (leaves g reads) (are-leaves g held reads kept.reading) valid x f t (leaf-value t agree) latch.next (valid.latches j latch there))
 
@@ -97,14 +97,14 @@ module _ (g : Graph) (held reads : List ℕ) (valid : IsGraph g) (kept : IsKept 
   at-later : (t : ℕ) → Agree t → (j : ℕ) (latch : Latch) (lit : ℕ) → slice_get g.latches j ≡ Some latch → read reads j ≡ lit → ReadsAs g held reads j latch lit → vals (suc t) lit ≡ vals (suc t) (own_literal g j)
   at-later t agree j latch lit there is (as_itself e) = ap (vals (suc t)) e
   at-later t agree j latch lit there is (as_constant may e) =
-      let zero_told : told (substitutes_by g reads) latch ≡ 0 = kept.constants j latch there (omega (arith, is, e, constant-even latch.reset)) in
-      let stays : flipped latch.reset (vals t latch.next) ≡ false = sym (told-value t agree j latch there) ∙ ap (vals t) zero_told ∙ laws.constant t in
+      let zero_signature : signature (substitutes_by g reads) latch ≡ 0 = kept.constants j latch there (omega (arith, is, e, constant-even latch.reset)) in
+      let stays : flipped latch.reset (vals t latch.next) ≡ false = sym (signature-value t agree j latch there) ∙ ap (vals t) zero_signature ∙ laws.constant t in
       ap (vals (suc t)) e ∙ constant-value (suc t) latch.reset ∙ ap (flipped latch.reset) (sym stays)
       ∙ flipped-twice latch.reset (vals t latch.next) ∙ sym (later t j latch there)
   at-later t agree j latch lit there is (as_first i first less first_there may may_first own e) =
-      let same : told (substitutes_by g reads) latch ≡ told (substitutes_by g reads) first = kept.alike j i latch first there first_there (omega (arith, is, e)) in
+      let same : signature (substitutes_by g reads) latch ≡ signature (substitutes_by g reads) first = kept.alike j i latch first there first_there (omega (arith, is, e)) in
       let both : flipped first.reset (vals t first.next) ≡ flipped latch.reset (vals t latch.next) =
-      sym (told-value t agree i first first_there) ∙ ap (vals t) (sym same) ∙ told-value t agree j latch there in
+      sym (signature-value t agree i first first_there) ∙ ap (vals t) (sym same) ∙ signature-value t agree j latch there in
       first-value (suc t) j i latch first lit e
       ∙ ap (λ (b : Bool). flipped latch.reset (flipped first.reset b)) (later t i first first_there)
       ∙ ap (flipped latch.reset) both ∙ flipped-twice latch.reset (vals t latch.next) ∙ sym (later t j latch there)

@@ -26,7 +26,7 @@ constant_latches reads = count_by is_constant reads
 abbrev pub counts_of : Graph → List ℕ → MergeCounts
 counts_of g reads = record { merged = merged_latches g reads; constant = constant_latches reads }
 
--- the counts of the coarsest kept reading
+-- the counts of the coarsest inductive reading
 pub record AreCounts (g : Graph) (held : List ℕ) (counts : MergeCounts) : Type 0 where
   pub reads : List ℕ
   pub coarsest : IsCoarsest g held reads

@@ -6,20 +6,20 @@ use Rattle.aig_graph.specs.Laws.{all_free}
 use Rattle.aig_graph.specs.Streams.{SameStreams}
 use Rattle.aig_graph.specs.Value.{Inputs, Choice, value}
 use Rattle.merged_latches.specs.Readings.{own_literal, read}
-use Rattle.merged_latches.specs.Partitions.{IsKept, IsCoarsest, IsMerged}
+use Rattle.merged_latches.specs.Partitions.{IsInductive, IsCoarsest, IsMerged}
 use Rattle.merged_latches.specs.Counts.{AreCounts}
 use Rattle.merged_latches.specs.declared.counts.MergeCounts.{MergeCounts}
 
--- where latches read by a kept reading, each has at each step the value of what it reads as
+-- where latches read by an inductive reading, each has at each step the value of what it reads as
 abbrev pub HasItsValue : Graph → List ℕ → List ℕ → Type 0
 HasItsValue g held reads =
-    IsGraph g → IsKept g held reads → (x : Inputs) (f : Choice) (t j : ℕ) → j < length g.latches → value g x f t (read reads j) ≡ value g x f t (own_literal g j)
+    IsGraph g → IsInductive g held reads → (x : Inputs) (f : Choice) (t j : ℕ) → j < length g.latches → value g x f t (read reads j) ≡ value g x f t (own_literal g j)
 
 -- a merged circuit has the streams of the circuit, each free latch in its place
 abbrev pub KeepsStreams : List ℕ → Netlist → Netlist → Type 0
 KeepsStreams held c d = IsGraph c.aig → IsNetlist c → IsMerged held c d → SameStreams c d (all_free c.aig)
 
--- two coarsest kept readings are one
+-- two coarsest inductive readings are one
 abbrev pub IsOneReading : Graph → List ℕ → List ℕ → List ℕ → Type 0
 IsOneReading g held reads other = IsCoarsest g held reads → IsCoarsest g held other → reads ≡ other
 

@@ -4,25 +4,25 @@ use Rattle.aig_graph.specs.declared.graph.Latch.{Latch}
 use Rattle.aig_graph.specs.Graph.{Graph, variable, first_latch}
 use Rattle.aig_graph.specs.Circuits.{Netlist}
 use Rattle.cleaned_circuits.specs.Merged.{replaced, replaced_circuit}
-use Rattle.merged_latches.specs.Readings.{IsReading, leaves, read, substitutes_by, told}
+use Rattle.merged_latches.specs.Readings.{IsReading, leaves, read, substitutes_by, signature}
 
--- a reading in which who reads as a constant is told 0, and who reads as a latch is told what that one is told
-pub record IsKept (g : Graph) (held reads : List ℕ) : Type 0 where
+-- a reading in which who reads as a constant has the signature 0, and who reads as a latch has its signature
+pub record IsInductive (g : Graph) (held reads : List ℕ) : Type 0 where
   pub reading : IsReading g held reads
-  pub constants : (j : ℕ) (latch : Latch) → slice_get g.latches j ≡ Some latch → variable (read reads j) ≡ 0 → told (substitutes_by g reads) latch ≡ 0
+  pub constants : (j : ℕ) (latch : Latch) → slice_get g.latches j ≡ Some latch → variable (read reads j) ≡ 0 → signature (substitutes_by g reads) latch ≡ 0
   pub alike : (j i : ℕ) (latch first : Latch) → slice_get g.latches j ≡ Some latch → slice_get g.latches i ≡ Some first
-      → variable (read reads j) ≡ first_latch g + i → told (substitutes_by g reads) latch ≡ told (substitutes_by g reads) first
+      → variable (read reads j) ≡ first_latch g + i → signature (substitutes_by g reads) latch ≡ signature (substitutes_by g reads) first
 
 -- those of one class by the first reading are of one class by the second: what a latch reads as by the first reads, by the second, as the latch does
 abbrev pub IsFiner : Graph → List ℕ → List ℕ → Type 0
 IsFiner g reads coarser = (j : ℕ) → j < length g.latches → replaced (leaves g coarser) (read reads j) ≡ read coarser j
 
--- a kept reading than which each is finer
+-- an inductive reading than which each is finer
 pub record IsCoarsest (g : Graph) (held reads : List ℕ) : Type 0 where
-  pub kept : IsKept g held reads
-  pub coarser : (other : List ℕ) → IsKept g held other → IsFiner g other reads
+  pub kept : IsInductive g held reads
+  pub coarser : (other : List ℕ) → IsInductive g held other → IsFiner g other reads
 
--- d is c, each literal of it reading what stands for what it read, where latches read by the coarsest kept reading
+-- d is c, each literal of it reading what stands for what it read, where latches read by the coarsest inductive reading
 pub record IsMerged (held : List ℕ) (c d : Netlist) : Type 0 where
   pub reads : List ℕ
   pub coarsest : IsCoarsest c.aig held reads

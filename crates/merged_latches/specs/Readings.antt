@@ -47,6 +47,6 @@ leaves g reads = table 0 (first_latch g) (λ v. 2 * v) ++ reads
 abbrev pub substitutes_by : Graph → List ℕ → List ℕ
 substitutes_by g reads = substitutes_after g (leaves g reads)
 
--- what a latch is told: what stands for its next literal, negated where its reset is 1
-abbrev pub told : List ℕ → Latch → ℕ
-told substitutes latch = from_reset latch.reset (replaced substitutes latch.next)
+-- the signature of a latch: what stands for its next literal, negated where its reset is 1
+abbrev pub signature : List ℕ → Latch → ℕ
+signature substitutes latch = from_reset latch.reset (replaced substitutes latch.next)

@@ -157,7 +157,7 @@ impl<'a, R: Clock, E: CountedWrite> Progress<'a, R, E> {
 
 /// What it was told isn't kept, so no clause speaks of it.
 impl<R: Clock, E: CountedWrite> FrameWatcher for Progress<'_, R, E> {
-    ghost was_told = { λ _ _. ⊤ };
+    ghost was_notified = { λ _ _. ⊤ };
 
     fn enter(&mut self, stage: Stage<'_>) {
         if let Some(watch) = &mut self.watch {

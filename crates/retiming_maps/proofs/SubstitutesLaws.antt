@@ -34,9 +34,9 @@ module _ (d : Graph) (held functions : List ℕ) (many : length functions ≡ le
   is-substitute j latch there =
       let below : j < length d.latches = slice_get_within d.latches j latch there in
       elim (stands_for d held j latch) [
-        | by_constant stuck e ↦ inl (omega (arith, e, constant-even latch.reset))
+        | by_constant constant_latch e ↦ inl (omega (arith, e, constant-even latch.reset))
         | by_itself moving e ↦ inr (omega (arith, e), omega (arith, e, below, many))
-        | by_earlier i less at like known apart e ↦ inr (omega (arith, e), omega (arith, e, less, below, many))
+        | by_earlier i less at duplicate known apart e ↦ inr (omega (arith, e), omega (arith, e, less, below, many))
       ]
 
   -- what stands for a latch in a pass is the constant, or a latch that has a function

@@ -2,4 +2,4 @@ mod FindingLaws
 mod WaveLaws
 mod WordLaws
 mod RoomLaws
-pub mod FateLaws
+pub mod VerdictLaws

@@ -5,4 +5,4 @@ pub mod Simulating
 pub mod Stimulating
 pub mod Random
 pub mod Room
-pub mod Fates
+pub mod Verdicts

@@ -3,8 +3,8 @@ ghost use Rattle.std.specs.Prelude.{◌≡◌, IfOk};
 ghost use Rattle.aig_graph.specs.Graph as graphs;
 ghost use Rattle.witnesses.specs.Texts.{whole_text};
 ghost use Rattle.circuit_files.specs.declared.outcome.Outcome.TheVariants.{Done};
-ghost use Rattle.simulation_commands.specs.Fates.{AreKept, AreLeft, AreLeftFor, AreLeftMerged, AreMergeOptions, IsCaseOf, IsFate, IsJudged, PrintsFate, fate_text, if_many, outcome_of_fate};
-ghost use Rattle.simulation_commands.specs.Fates as wanted;
+ghost use Rattle.simulation_commands.specs.Verdicts.{AreKept, AreLeft, AreLeftFor, AreLeftMerged, AreMergeOptions, IsCaseOf, IsVerdict, IsJudged, PrintsVerdict, verdict_text, if_many, outcome_of_verdict};
+ghost use Rattle.simulation_commands.specs.Verdicts as wanted;
 ghost use Rattle.command_endings.specs.Sources.{IsCircuitAt};
 ghost use Rattle.aig_binary.specs.declared.reading.SpeltCircuit.{SpeltCircuit};
 ghost use Rattle.command_endings.specs.Printing.{EndsPrinting, Prints, ending};
@@ -16,13 +16,13 @@ use command_endings::ended;
 use command_line::Carrying;
 use counted_io::{CountedRead, CountedWrite};
 use frames::{Options, Retimed, retime};
+use normalised_circuits::all_places;
 use pulse::{Crew, OpenGate};
 use reports::print_shapes_differ;
 use std::alloc::Global;
 use std::rt::Files;
 use std::thread::Threads;
 use stream_paths::Source;
-use tidy::all_places;
 use witnesses::{Confirmed, Objection, Widths, Witness, confirm, print_objection, print_witness};
 
 /// A circuit, the one that it was retimed to, and a witness for that one.
@@ -33,9 +33,9 @@ struct Case {
     witness: Witness,
 }
 
-/// What becomes of a witness.
+/// The verdict on a witness.
 #[derive(Drop)]
-enum Fate {
+enum Verdict {
     Confirmed(Confirmed),
     Objected(Objection),
     /// The circuits aren't those of a retiming.
@@ -173,19 +173,19 @@ fn have_same_widths(circuit: &Circuit, retimed: &Circuit) -> bool
         && retimed.props().constraints.len() == constraints
 }
 
-/// What becomes of a witness, where these free latches were kept.
+/// The verdict on a witness, where these free latches were kept.
 fn judged_with(
     alloc: Global,
     circuit: &Circuit,
     retimed: &Circuit,
     kept: &[u32],
     witness: Witness,
-) -> Result<Fate, NoMemory>
+) -> Result<Verdict, NoMemory>
     ensures { IfOk result (IsJudged circuit.now retimed.now kept.now witness) }
 {
     match confirm(alloc, circuit, retimed, kept, witness) {
-        Ok(Ok(confirmed)) => Ok(Fate::Confirmed(confirmed)),
-        Ok(Err(objection)) => Ok(Fate::Objected(objection)),
+        Ok(Ok(confirmed)) => Ok(Verdict::Confirmed(confirmed)),
+        Ok(Err(objection)) => Ok(Verdict::Objected(objection)),
         Err(error) => Err(error),
     }
 }
@@ -197,42 +197,42 @@ fn judged<'a, R: Threads + Sync>(
     retimed: &Circuit,
     merge: bool,
     witness: Witness,
-) -> Result<Fate, Failure<'a>>
-    ensures { IfOk result (IsFate merge circuit.now retimed.now witness) }
+) -> Result<Verdict, Failure<'a>>
+    ensures { IfOk result (IsVerdict merge circuit.now retimed.now witness) }
 {
     if !have_same_widths(circuit, retimed) {
-        return Ok(Fate::ShapesDiffer);
+        return Ok(Verdict::ShapesDiffer);
     }
     let Ok(places) = kept_places(rt, alloc, circuit, retimed, merge) else {
         return Err(Failure::Memory);
     };
     let Some(kept) = places else {
-        return Ok(Fate::ShapesDiffer);
+        return Ok(Verdict::ShapesDiffer);
     };
     match judged_with(alloc, circuit, retimed, kept.as_slice(), witness) {
-        Ok(fate) => Ok(fate),
+        Ok(verdict) => Ok(verdict),
         Err(_) => Err(Failure::Memory),
     }
 }
 
 /// What becomes of the witness of a case.
-fn fate_of<'a, R: Threads + Sync>(
+fn verdict_of<'a, R: Threads + Sync>(
     rt: &R,
     alloc: Global,
     given: Case,
     merge: bool,
-) -> Result<Fate, Failure<'a>>
-    ensures { IfOk result (IsFate merge given.circuit given.retimed given.witness) }
+) -> Result<Verdict, Failure<'a>>
+    ensures { IfOk result (IsVerdict merge given.circuit given.retimed given.witness) }
 {
     let Case {
         circuit,
         retimed,
         witness,
     } = given;
-    let fate = judged(rt, alloc, &circuit, &retimed, merge, witness);
+    let verdict = judged(rt, alloc, &circuit, &retimed, merge, witness);
     drop(circuit);
     drop(retimed);
-    fate
+    verdict
 }
 
 /// The circuit that is read.
@@ -292,14 +292,20 @@ fn print_confirmed<'a, O: CountedWrite>(
     ended(printed, Outcome::Done)
 }
 
-fn print_fate<'a, O: CountedWrite>(fate: &Fate, out: &mut O) -> Result<Outcome, Failure<'a>>
-    ensures { EndsPrinting (outcome_of_fate fate.now) (fate_text fate.now) (O.output out.old)
+fn print_verdict<'a, O: CountedWrite>(
+    verdict: &Verdict,
+    out: &mut O,
+) -> Result<Outcome, Failure<'a>>
+    ensures { EndsPrinting (outcome_of_verdict verdict.now) (verdict_text verdict.now) (O.output out.old)
         (O.output out.new) result }
 {
-    match fate {
-        Fate::Confirmed(confirmed) => print_confirmed(confirmed, out),
-        Fate::Objected(objection) => ended(print_objection(*objection, out), Outcome::Unconfirmed),
-        Fate::ShapesDiffer => ended(print_shapes_differ(out), Outcome::ShapesDiffer),
+    match verdict {
+        Verdict::Confirmed(confirmed) => print_confirmed(confirmed, out),
+        Verdict::Objected(objection) => ended(
+            print_objection(*objection, out),
+            Outcome::Unconfirmed,
+        ),
+        Verdict::ShapesDiffer => ended(print_shapes_differ(out), Outcome::ShapesDiffer),
     }
 }
 
@@ -311,13 +317,13 @@ pub fn print_witness_back<'a, R: Files + Threads + Sync, I: CountedRead, O: Coun
     stdin: &mut I,
     out: &mut O,
 ) -> Result<Outcome, Failure<'a>>
-    ensures fate { IfOk result (PrintsFate task.now (I.input stdin.old) (I.input stdin.new)
+    ensures verdict { IfOk result (PrintsVerdict task.now (I.input stdin.old) (I.input stdin.new)
         (O.output out.old) (O.output out.new)) }
     ensures prints { Prints (ending result) (O.output out.old) (O.output out.new) }
 {
     let given = case_for(rt, alloc, task, stdin)?;
-    let fate = fate_of(rt, alloc, given, task.merge)?;
-    let printed = print_fate(&fate, out);
-    drop(fate);
+    let verdict = verdict_of(rt, alloc, given, task.merge)?;
+    let printed = print_verdict(&verdict, out);
+    drop(verdict);
     printed
 }

@@ -84,9 +84,9 @@ module _ (g : Graph) (held : List ℕ) (s : State) where
       let one = within_laws g valid x s in
       let two = within_laws g valid (λ i. false) s in
       elim (stands_for g held j latch) [
-        | by_constant stuck e ↦ ap (value_within g x s) e ∙ constant-within g x (λ i. false) s s valid latch.reset ∙ sym (ap (value_within g (λ i. false) s) e)
+        | by_constant constant_latch e ↦ ap (value_within g x s) e ∙ constant-within g x (λ i. false) s s valid latch.reset ∙ sym (ap (value_within g (λ i. false) s) e)
         | by_itself moving e ↦ ap (value_within g x s) e ∙ one.latch j latch there ∙ sym (two.latch j latch there) ∙ sym (ap (value_within g (λ i. false) s) e)
-        | by_earlier i less first like known apart e ↦ ap (value_within g x s) e ∙ one.latch i like.other like.there ∙ sym (two.latch i like.other like.there) ∙ sym (ap (value_within g (λ i. false) s) e)
+        | by_earlier i less first duplicate known apart e ↦ ap (value_within g x s) e ∙ one.latch i duplicate.other duplicate.there ∙ sym (two.latch i duplicate.other duplicate.there) ∙ sym (ap (value_within g (λ i. false) s) e)
       ]
 
   -- where the test of all latches passes, what stands for each latch is what the latch holds

@@ -17,7 +17,7 @@ use Rattle.cleaned_circuits.specs.Latches.{constant_of, latch_substitute, leaf_s
 use Rattle.cleaned_circuits.specs.Merged.{Merging, replaced, replaced_gate, replaced_latch, replaced_graph, substitutes_of, merged_of, merge_gate, merge_gates, merging_start}
 use Rattle.cleaned_circuits.specs.Reached.{stays, HoldsReads}
 use Rattle.cleaned_circuits.specs.Trimmed.{new_variable, renumbered, renumbered_latch, renumbered_gate, trimmed_graph, trimmed_of, kept_free}
-use Rattle.cleaned_circuits.proofs.LatchLaws.{Stuck, by_constant, by_itself, by_earlier, stands_for, stuck_where, latch_substitute-value}
+use Rattle.cleaned_circuits.proofs.LatchLaws.{ConstantLatch, by_constant, by_itself, by_earlier, stands_for, constant_latch_where, latch_substitute-value}
 use Rattle.cleaned_circuits.proofs.SubstituteLaws.{IsRight, right-merge_gate, replaced-value, replaced-within, merge-all, gates-in, GateIn, start-entry, start-length, length-substitutes_of}
 use Rattle.cleaned_circuits.proofs.MergedLaws.{IsGraph-merged, IsNetlist-merged, replaced-inputs, replaced-first_latch, replaced-first_gate, replaced-latch, replaced-gate, replaced-free_before}
 use Rattle.cleaned_circuits.proofs.TrimmedLaws.{LatchFrom, latch_from, latch_in, gate_in, new-low, new-rises, stays-past, stays-reached, trimmed-inputs, trimmed-first_latch, trimmed-first_gate, next-reached, fan_ins-reached, IsGraph-trimmed}
@@ -54,8 +54,8 @@ module _ (g : Graph) (held : List ℕ) (valid : IsGraph g) where
       let then : WithinLaws g y (after_step g x s) (value_within g y (after_step g x s)) = within_laws g valid y (after_step g x s) in
       let goes : after_step g x s j ≡ value_within g x s latch.next = ap (next_value (value_within g x s)) there in
       elim (stands_for g held j latch) [
-        | by_constant stuck e ↦ (
-            let why : Stuck g j latch = stuck_where g held j latch stuck in
+        | by_constant constant_latch e ↦ (
+            let why : ConstantLatch g j latch = constant_latch_where g held j latch constant_latch in
             let substitute : value_within g x s (constant_of latch.reset) ≡ s j = ap (value_within g x s) (sym e) ∙ holds x j latch there in
             let next : value_within g x s latch.next ≡ value_within g x s (constant_of latch.reset) = elim why.next [
               | inl own ↦ ap (value_within g x s) own ∙ now.latch j latch there ∙ sym substitute
@@ -63,9 +63,9 @@ module _ (g : Graph) (held : List ℕ) (valid : IsGraph g) where
             ] in
             ap (value_within g y (after_step g x s)) e ∙ constant-within g y x (after_step g x s) s valid latch.reset ∙ sym next ∙ sym goes)
         | by_itself moving e ↦ ap (value_within g y (after_step g x s)) e ∙ then.latch j latch there
-        | by_earlier i less first like known apart e ↦
-            ap (value_within g y (after_step g x s)) e ∙ then.latch i like.other like.there
-            ∙ ap (next_value (value_within g x s)) like.there ∙ ap (value_within g x s) like.next ∙ sym goes
+        | by_earlier i less first duplicate known apart e ↦
+            ap (value_within g y (after_step g x s)) e ∙ then.latch i duplicate.other duplicate.there
+            ∙ ap (next_value (value_within g x s)) duplicate.there ∙ ap (value_within g x s) duplicate.next ∙ sym goes
       ]
 
 -- the merged circuit, in one state

@@ -15,8 +15,8 @@ use Rattle.cleaned_circuits.specs.Latches.{constant_of}
 use Rattle.cleaned_circuits.specs.Merged.{Merging, replaced, merge_gate, merge_gates, merging_from, substitutes_after}
 use Rattle.cleaned_circuits.proofs.LatchLaws.{constant-even}
 use Rattle.cleaned_circuits.proofs.SubstituteLaws.{GateOf, IsRight, gates-of, length-substitutes_after, merge-all, replaced-value, right-merge_gate}
-use Rattle.merged_latches.specs.Readings.{own_literal, read, from_reset, ReadsAs, as_itself, as_constant, as_first, leaves, substitutes_by, told}
-use Rattle.merged_latches.specs.Partitions.{IsKept}
+use Rattle.merged_latches.specs.Readings.{own_literal, read, from_reset, ReadsAs, as_itself, as_constant, as_first, leaves, substitutes_by, signature}
+use Rattle.merged_latches.specs.Partitions.{IsInductive}
 use Rattle.merged_latches.proofs.ReadingLaws.{are-leaves, leaf-low, leaf-latch}
 use Rattle.merged_latches.proofs.ValueLaws.{may-known}
 use Rattle.state_maps.specs.States.{Digits, State, after_step, opening_state}
@@ -62,7 +62,7 @@ module _ (g : Graph) (valid : IsGraph g) (x : Digits) (s : State) where
       ap vals e ∙ from_reset-value latch.reset (from_reset first.reset (own_literal g i))
       ∙ ap (flipped latch.reset) (from_reset-value first.reset (own_literal g i) ∙ ap (flipped first.reset) (laws.latch i first there))
 
-module _ (g : Graph) (held reads : List ℕ) (valid : IsGraph g) (kept : IsKept g held reads) where
+module _ (g : Graph) (held reads : List ℕ) (valid : IsGraph g) (kept : IsInductive g held reads) where
   -- where each latch holds what it reads as, what merging makes of a literal has its value
   module _ (x : Digits) (s : State) (holds : ReadsHold g reads s) where
     leaf-value : (v : ℕ) → v < first_gate g → vals g valid x s (get_or (leaves g reads) v 0) ≡ vals g valid x s (2 * v)
@@ -99,8 +99,8 @@ module _ (g : Graph) (held reads : List ℕ) (valid : IsGraph g) (kept : IsKept 
         replaced-value (vals g valid x s) (laws g valid x s).negation (laws g valid x s).constant (substitutes_by g reads) lit
         (right-after.each (variable lit) (omega (arith, length-substitutes_after g (leaves g reads) (are-leaves g held reads kept.reading))))
 
-    told-value : (j : ℕ) (latch : Latch) → slice_get g.latches j ≡ Some latch → vals g valid x s (told (substitutes_by g reads) latch) ≡ flipped latch.reset (vals g valid x s latch.next)
-    told-value j latch there =
+    signature-value : (j : ℕ) (latch : Latch) → slice_get g.latches j ≡ Some latch → vals g valid x s (signature (substitutes_by g reads) latch) ≡ flipped latch.reset (vals g valid x s latch.next)
+    signature-value j latch there =
         from_reset-value g valid x s latch.reset (replaced (substitutes_by g reads) latch.next)
         ∙ ap (flipped latch.reset) (substitutes-value latch.next (valid.latches j latch there))
 
@@ -114,15 +114,15 @@ module _ (g : Graph) (held reads : List ℕ) (valid : IsGraph g) (kept : IsKept 
         by : (lit : ℕ) → read reads j ≡ lit → ReadsAs g held reads j latch lit → value_within g y (after_step g x s) lit ≡ after_step g x s j
         by lit is (as_itself e) = ap (vals g valid y (after_step g x s)) e ∙ (laws g valid y (after_step g x s)).latch j latch there
         by lit is (as_constant may e) =
-            let zero_told : told (substitutes_by g reads) latch ≡ 0 = kept.constants j latch there (omega (arith, is, e, constant-even latch.reset)) in
+            let zero_signature : signature (substitutes_by g reads) latch ≡ 0 = kept.constants j latch there (omega (arith, is, e, constant-even latch.reset)) in
             let stays : flipped latch.reset (vals g valid x s latch.next) ≡ false =
-            sym (told-value j latch there) ∙ ap (vals g valid x s) zero_told ∙ (laws g valid x s).constant in
+            sym (signature-value j latch there) ∙ ap (vals g valid x s) zero_signature ∙ (laws g valid x s).constant in
             ap (vals g valid y (after_step g x s)) e ∙ constant-value g valid y (after_step g x s) latch.reset ∙ ap (flipped latch.reset) (sym stays)
             ∙ flipped-twice latch.reset (vals g valid x s latch.next) ∙ sym (later j latch there)
         by lit is (as_first i first less first_there may may_first own e) =
-            let same : told (substitutes_by g reads) latch ≡ told (substitutes_by g reads) first = kept.alike j i latch first there first_there (omega (arith, is, e)) in
+            let same : signature (substitutes_by g reads) latch ≡ signature (substitutes_by g reads) first = kept.alike j i latch first there first_there (omega (arith, is, e)) in
             let both : flipped first.reset (vals g valid x s first.next) ≡ flipped latch.reset (vals g valid x s latch.next) =
-            sym (told-value i first first_there) ∙ ap (vals g valid x s) (sym same) ∙ told-value j latch there in
+            sym (signature-value i first first_there) ∙ ap (vals g valid x s) (sym same) ∙ signature-value j latch there in
             first-value g valid y (after_step g x s) i latch first lit first_there e
             ∙ ap (λ (b : Bool). flipped latch.reset (flipped first.reset b)) (later i first first_there)
             ∙ ap (flipped latch.reset) both ∙ flipped-twice latch.reset (vals g valid x s latch.next) ∙ sym (later j latch there)

@@ -1,17 +1,17 @@
-use Rattle.commands.proofs.PipeLaws.{fails_beside, kept, told_of}
+use Rattle.commands.proofs.PipeLaws.{fails_beside, kept, report_of}
 use Rattle.commands.proofs.retiming.certified.Goals as goal
 
 pub returns-clause-file : goal.returns-clause-file
 returns-clause-file g c =
     kept c.args.task.now (g.O.CountedWrite.output c.args.out.now) (g.O.CountedWrite.output c.retimed-ended.new.out) (g.O.CountedWrite.output c.write_beside.new.out) c.retimed-ended.ensures.file c.write_beside.ensures.file
 
-pub returns-in-Ok-clause-told : goal.returns-in-Ok-clause-told
-returns-in-Ok-clause-told g c =
+pub returns-in-Ok-clause-reported : goal.returns-in-Ok-clause-reported
+returns-in-Ok-clause-reported g c =
     let beside = c.in-Ok.ensures in
-    let told = c.with_times in
-    told_of _ c.args.task.now (g.I.CountedRead.input c.args.stdin.now) (g.O.CountedWrite.output c.args.out.now) (g.O.CountedWrite.output c.retimed-ended.new.out)
-    (g.O.CountedWrite.output c.write_beside.new.out) c.in_ok-answer.answer c.write_beside.new.answer told.result.retimed told.result.levels told.result.map
-    told.ensures.levels beside.levels told.ensures.retimed beside.frames told.ensures.map beside.map c.in_ok-answer.ensures.answer beside.written
+    let reported = c.with_times in
+    report_of _ c.args.task.now (g.I.CountedRead.input c.args.stdin.now) (g.O.CountedWrite.output c.args.out.now) (g.O.CountedWrite.output c.retimed-ended.new.out)
+    (g.O.CountedWrite.output c.write_beside.new.out) c.in_ok-answer.answer c.write_beside.new.answer reported.result.retimed reported.result.levels reported.result.map
+    reported.ensures.levels beside.levels reported.ensures.retimed beside.frames reported.ensures.map beside.map c.in_ok-answer.ensures.answer beside.written
 
 pub returns-clause-prints : goal.returns-clause-prints
 returns-clause-prints g c =

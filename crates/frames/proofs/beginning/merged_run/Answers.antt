@@ -8,4 +8,4 @@ pub cleaned_by_names-requires-clause-names : goal.cleaned_by_names-requires-clau
 cleaned_by_names-requires-clause-names g c = c.requires.names
 
 pub returns : goal.returns
-returns g c = (record { cleaned = c.in_ok-run.ensures.0; told = refl }, c.in_ok-run.ensures.1)
+returns g c = (record { cleaned = c.in_ok-run.ensures.0; reported = refl }, c.in_ok-run.ensures.1)

@@ -43,8 +43,8 @@ returns-clause-retimes g c =
     (IfErr-weaker answer.result (IsStop options spelt before after) (IsBytesError options old new before after)
     (λ e stop. stops-answering options old new before after spelt e c.in_ok-spelt.ensures.read read stop) answer.ensures.err)
 
-pub returns-clause-told : goal.returns-clause-told
-returns-clause-told g c = c.retime_spelt.ensures.told
+pub returns-clause-notified : goal.returns-clause-notified
+returns-clause-notified g c = c.retime_spelt.ensures.notified
 
-pub returns-in_err-spelt-clause-told : goal.returns-in_err-spelt-clause-told
-returns-in_err-spelt-clause-told g c = IfOk-from_err c.from_residual.result _ c.from_residual.ensures.0
+pub returns-in_err-spelt-clause-notified : goal.returns-in_err-spelt-clause-notified
+returns-in_err-spelt-clause-notified g c = IfOk-from_err c.from_residual.result _ c.from_residual.ensures.0

@@ -9,7 +9,7 @@ use Rattle.frames.specs.Bounds.{bound_in}
 use Rattle.frames.specs.Named.{names_in}
 use Rattle.frames.specs.Stages.{Writing, stages_of}
 use Rattle.std.proofs.lemmas.Result.{IfOk-from_err}
-use Rattle.frames.proofs.StageLaws.{tells-then}
+use Rattle.frames.proofs.StageLaws.{notifies-then}
 use Rattle.frames.proofs.StopLaws.{at-error, stops-retiming}
 use Rattle.frames.proofs.bytes.retime_spelt.Goals as goal
 
@@ -58,10 +58,10 @@ returns-in-Err-clause-err g c =
       writes = c.in-Err.ensures.err;
     }
 
-pub returns-in_err-retimed-clause-told : goal.returns-in_err-retimed-clause-told
-returns-in_err-retimed-clause-told g c = IfOk-from_err c.from_residual.result _ c.from_residual.ensures.0
+pub returns-in_err-retimed-clause-notified : goal.returns-in_err-retimed-clause-notified
+returns-in_err-retimed-clause-notified g c = IfOk-from_err c.from_residual.result _ c.from_residual.ensures.0
 
-pub returns-in-Ok-clause-told : goal.returns-in-Ok-clause-told
-returns-in-Ok-clause-told g c =
+pub returns-in-Ok-clause-notified : goal.returns-in-Ok-clause-notified
+returns-in-Ok-clause-notified g c =
     let r = c.in_ok-retimed.retimed in
-    tells-then g.V.FrameWatcher.was_told c.args.watcher.now c.retime_over.new.watcher c.enter.new.self (stages_of c.args.options.now.max_frames r) (Writing ∷ []) c.in_ok-retimed.ensures.told c.enter.ensures
+    notifies-then g.V.FrameWatcher.was_notified c.args.watcher.now c.retime_over.new.watcher c.enter.new.self (stages_of c.args.options.now.max_frames r) (Writing ∷ []) c.in_ok-retimed.ensures.notified c.enter.ensures

@@ -10,8 +10,8 @@ run_to_end-requires-after_bounds g c κs within =
     let begun = c.args.begun in
     (c.requires.0, begun-ready g.F.RunFollower.has_come c.args.options.now begun.run.bound c.requires.0 begun.read begun.run.retimed begun.run.follower c.requires.1)
 
-pub told-requires : goal.told-requires
-told-requires g c =
+pub run_of_read-requires : goal.run_of_read-requires
+run_of_read-requires g c =
     let begun = c.args.begun in
     let end = c.in_ok-end.end in
     merged-below g.F.RunFollower.has_come c.args.options.now begun.run.bound c.requires.0 begun.read c.in-Some.read begun.run.retimed end.retimed begun.run.follower end.follower c.in-Some.is
@@ -27,13 +27,13 @@ pub returns-in-Some-clause-retimed : goal.returns-in-Some-clause-retimed
 returns-in-Some-clause-retimed g c =
     let begun = c.args.begun in
     let end = c.in_ok-end.end in
-    IfOk-weaker c.told.result _ _
+    IfOk-weaker c.run_of_read.result _ _
     (λ whole same. λ d. merged-finished g.F.RunFollower.has_come c.args.options.now begun.run.bound d begun.read c.in-Some.read begun.run.retimed end.retimed whole.retimed begun.run.follower end.follower whole.follower
-    c.in-Some.is (c.in_ok-end.ensures.retimed d) same.0 same.1) c.told.ensures
+    c.in-Some.is (c.in_ok-end.ensures.retimed d) same.0 same.1) c.run_of_read.ensures
 
-pub returns-in-Some-clause-told : goal.returns-in-Some-clause-told
-returns-in-Some-clause-told g c =
+pub returns-in-Some-clause-notified : goal.returns-in-Some-clause-notified
+returns-in-Some-clause-notified g c =
     let r = c.in_ok-end.end.retimed in
-    IfOk-weaker c.told.result _ _
-    (λ whole same. same-looks g.V.FrameWatcher.was_told c.args.watcher.now c.run_to_end.new.watcher c.args.options.now.max_frames r whole.retimed
-    (ap (λ (x : Retimed). x.frames) same.0) (ap (λ (x : Retimed). x.circuit) same.0) c.in_ok-end.ensures.told) c.told.ensures
+    IfOk-weaker c.run_of_read.result _ _
+    (λ whole same. same-looks g.V.FrameWatcher.was_notified c.args.watcher.now c.run_to_end.new.watcher c.args.options.now.max_frames r whole.retimed
+    (ap (λ (x : Retimed). x.frames) same.0) (ap (λ (x : Retimed). x.circuit) same.0) c.in_ok-end.ensures.notified) c.run_of_read.ensures

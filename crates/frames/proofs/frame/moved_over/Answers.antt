@@ -9,11 +9,11 @@ use Rattle.rebuild.specs.Moved.{moved_of}
 use Rattle.retimed_circuits.specs.Frames.{move_in, moved_in}
 use Rattle.retimed_circuits.proofs.HeldLaws.{moving-keeps}
 use Rattle.retimed_circuits.proofs.NameLaws.{names-stay}
-use Rattle.tidy.specs.Tidy.{AreLowTidy}
-use Rattle.tidy.proofs.FrameLaws.{copies-within, tidy-moved}
+use Rattle.normalised_circuits.specs.Normalised.{AreLowNormalised}
+use Rattle.normalised_circuits.proofs.FrameLaws.{copies-within, normalised-moved}
 use Rattle.frames.specs.Following.{ComesWhole}
 use Rattle.frames.specs.Named.{NoneMissingBy, names_in}
-use Rattle.frames.specs.Retiming.{IsTidyBy}
+use Rattle.frames.specs.Retiming.{IsNormalisedBy}
 use Rattle.frames.proofs.FollowingLaws.{moved-followed}
 use Rattle.frames.proofs.frame.moved_over.Goals as goal
 
@@ -32,8 +32,8 @@ settled-requires-clause-copies g c =
     let same : c.in_ok-after.after ≡ moved_of m = c.in_ok-after.ensures.value ∙ ap (λ (held : List ℕ). moved_of (move_of c.args.circuit.now held c.args.set.now)) c.requires.keep in
     omega (arith, copies-within m, ap (λ (xs : List ℕ). length xs) c.vars-copies.ensures.value, ap (λ (d : Netlist). length d.aig.gates) same)
 
-pub settled-requires-clause-tidy : goal.settled-requires-clause-tidy
-settled-requires-clause-tidy g c =
+pub settled-requires-clause-normalised : goal.settled-requires-clause-normalised
+settled-requires-clause-normalised g c =
     let options = c.args.options.now in
     let names = names_in options in
     let before = c.args.circuit.now in
@@ -43,9 +43,9 @@ settled-requires-clause-tidy g c =
     let long : length c.vars-copies.result.now ≡ length set = ap (λ (xs : List ℕ). length xs) c.vars-copies.ensures.value in
     let first : ℕ = length (moved_of m).aig.gates - length c.vars-copies.result.now in
     let ends : first + length set ≡ length (moved_of m).aig.gates = omega (arith, copies-within m, long) in
-    let P : Netlist → Type 0 = λ d. AreLowTidy d.aig (length d.aig.gates - length c.vars-copies.result.now) → IsTidyBy options d in
-    subst P (sym same) (λ lows. tidy-moved names before set first (record { graph = c.known.ensures.graph; netlist = c.known.ensures.netlist })
-    c.requires.tidy (subst (λ (held : List ℕ). IsClosedSet before.aig held set) c.requires.keep c.requires.saves.closed) ends lows)
+    let P : Netlist → Type 0 = λ d. AreLowNormalised d.aig (length d.aig.gates - length c.vars-copies.result.now) → IsNormalisedBy options d in
+    subst P (sym same) (λ lows. normalised-moved names before set first (record { graph = c.known.ensures.graph; netlist = c.known.ensures.netlist })
+    c.requires.normalised (subst (λ (held : List ℕ). IsClosedSet before.aig held set) c.requires.keep c.requires.saves.closed) ends lows)
 
 pub see_move-requires-clause-room : goal.see_move-requires-clause-room
 see_move-requires-clause-room g c =

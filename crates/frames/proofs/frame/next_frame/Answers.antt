@@ -6,7 +6,7 @@ use Rattle.frames.specs.declared.helping.Helping.{Helping}
 use Rattle.frames.specs.Found.{Helps, IsPrepared, Saves}
 use Rattle.frames.specs.Retiming.{NoneHelpsBy}
 use Rattle.frames.proofs.LookLaws.{helps-saves}
-use Rattle.frames.proofs.StageLaws.{tells-nothing}
+use Rattle.frames.proofs.StageLaws.{notifies-nothing}
 use Rattle.frames.proofs.frame.next_frame.Goals as goal
 
 pub keep_by_names-requires : goal.keep_by_names-requires
@@ -21,8 +21,8 @@ moved_over-requires-clause-keep g c = c.in_ok-keep.ensures ∙ ap (λ names. hel
 pub moved_over-requires-clause-names : goal.moved_over-requires-clause-names
 moved_over-requires-clause-names g c = c.requires.names
 
-pub moved_over-requires-clause-tidy : goal.moved_over-requires-clause-tidy
-moved_over-requires-clause-tidy g c = c.requires.tidy
+pub moved_over-requires-clause-normalised : goal.moved_over-requires-clause-normalised
+moved_over-requires-clause-normalised g c = c.requires.normalised
 
 pub moved_over-requires-clause-there : goal.moved_over-requires-clause-there
 moved_over-requires-clause-there g c = c.requires.there
@@ -66,8 +66,8 @@ returns-in_err-keep-clause-found g c = IfOk-from_err c.from_residual.result _ c.
 pub returns-in_err-keep-clause-certificate : goal.returns-in_err-keep-clause-certificate
 returns-in_err-keep-clause-certificate g c = IfOk-from_err c.from_residual.result _ c.from_residual.ensures.0
 
-pub returns-in_err-keep-clause-told : goal.returns-in_err-keep-clause-told
-returns-in_err-keep-clause-told g c = IfOk-from_err c.from_residual.result _ c.from_residual.ensures.0
+pub returns-in_err-keep-clause-notified : goal.returns-in_err-keep-clause-notified
+returns-in_err-keep-clause-notified g c = IfOk-from_err c.from_residual.result _ c.from_residual.ensures.0
 
 pub returns-in_err-found-clause-found : goal.returns-in_err-found-clause-found
 returns-in_err-found-clause-found g c = IfOk-from_err c.from_residual-in_err-found.result _ c.from_residual-in_err-found.ensures.0
@@ -75,8 +75,8 @@ returns-in_err-found-clause-found g c = IfOk-from_err c.from_residual-in_err-fou
 pub returns-in_err-found-clause-certificate : goal.returns-in_err-found-clause-certificate
 returns-in_err-found-clause-certificate g c = IfOk-from_err c.from_residual-in_err-found.result _ c.from_residual-in_err-found.ensures.0
 
-pub returns-in_err-found-clause-told : goal.returns-in_err-found-clause-told
-returns-in_err-found-clause-told g c = IfOk-from_err c.from_residual-in_err-found.result _ c.from_residual-in_err-found.ensures.0
+pub returns-in_err-found-clause-notified : goal.returns-in_err-found-clause-notified
+returns-in_err-found-clause-notified g c = IfOk-from_err c.from_residual-in_err-found.result _ c.from_residual-in_err-found.ensures.0
 
 pub returns-in_err-cleaned-in-Some-clause-found : goal.returns-in_err-cleaned-in-Some-clause-found
 returns-in_err-cleaned-in-Some-clause-found g c = IfOk-from_err c.from_residual-in_err-cleaned-in-Some.result _ c.from_residual-in_err-cleaned-in-Some.ensures.0
@@ -84,8 +84,8 @@ returns-in_err-cleaned-in-Some-clause-found g c = IfOk-from_err c.from_residual-
 pub returns-in_err-cleaned-in-Some-clause-certificate : goal.returns-in_err-cleaned-in-Some-clause-certificate
 returns-in_err-cleaned-in-Some-clause-certificate g c = IfOk-from_err c.from_residual-in_err-cleaned-in-Some.result _ c.from_residual-in_err-cleaned-in-Some.ensures.0
 
-pub returns-in_err-cleaned-in-Some-clause-told : goal.returns-in_err-cleaned-in-Some-clause-told
-returns-in_err-cleaned-in-Some-clause-told g c = IfOk-from_err c.from_residual-in_err-cleaned-in-Some.result _ c.from_residual-in_err-cleaned-in-Some.ensures.0
+pub returns-in_err-cleaned-in-Some-clause-notified : goal.returns-in_err-cleaned-in-Some-clause-notified
+returns-in_err-cleaned-in-Some-clause-notified g c = IfOk-from_err c.from_residual-in_err-cleaned-in-Some.result _ c.from_residual-in_err-cleaned-in-Some.ensures.0
 
 pub returns-clause-certificate : goal.returns-clause-certificate
 returns-clause-certificate g c = c.in_ok-found.ensures.adds
@@ -105,11 +105,11 @@ moved_over-requires-clause-prepared g c =
     let kept = c.in_ok-keep.ensures ∙ ap (λ names. held_in (names_of names) before) c.as_slice.ensures.value in
     subst (λ (held : List ℕ). IsPrepared before held c.in-Some.found.set c.in-Some.found.prepared) (sym kept) helps.prepared
 
-pub returns-clause-told : goal.returns-clause-told
-returns-clause-told g c = tells-nothing g.V.FrameWatcher.was_told c.args.watcher.now
+pub returns-clause-notified : goal.returns-clause-notified
+returns-clause-notified g c = notifies-nothing g.V.FrameWatcher.was_notified c.args.watcher.now
 
-pub returns-in-Some-clause-told : goal.returns-in-Some-clause-told
-returns-in-Some-clause-told g c = c.enter.ensures
+pub returns-in-Some-clause-notified : goal.returns-in-Some-clause-notified
+returns-in-Some-clause-notified g c = c.enter.ensures
 
 pub returns-in_err-keep-clause-same : goal.returns-in_err-keep-clause-same
 returns-in_err-keep-clause-same g c = IfOk-from_err c.from_residual.result _ c.from_residual.ensures.0

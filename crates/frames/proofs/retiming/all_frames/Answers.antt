@@ -11,12 +11,12 @@ use Rattle.frames.specs.Certified.{AddsFound, AreCollected}
 use Rattle.frames.specs.Found.{Moves}
 use Rattle.frames.specs.Named.{names_in}
 use Rattle.frames.specs.Retiming.{NoneHelpsBy}
-use Rattle.frames.specs.Stages.{Moving, Tells, looks_of}
+use Rattle.frames.specs.Stages.{Moving, Notifies, looks_of}
 use Rattle.frames.specs.Underway.{IsRun, IsUnderway}
 use Rattle.frames.specs.Following.{IsFollowed, MovesFollowed}
 use Rattle.frames.proofs.CertificateLaws.{none-collected, one-collected}
 use Rattle.frames.proofs.FollowingLaws.{many-kept}
-use Rattle.frames.proofs.StageLaws.{many-taken, none-taken, tells-end, tells-frame, tells-limit, tells-start}
+use Rattle.frames.proofs.StageLaws.{many-taken, none-taken, notifies-end, notifies-frame, notifies-limit, notifies-start}
 use Rattle.std.proofs.lemmas.Result.{IfOk-from_err}
 use Rattle.frames.proofs.retiming.all_frames.Goals as goal
 
@@ -25,12 +25,12 @@ loop-init g c =
     let begun = c.requires.begun.1 in
     let start = c.args.start in (
       λ read d kept followed. (followed, none-collected c.args.options.now start.bound d c.args.records.now c.requires.wanted c.requires.none_yet),
-      tells-start g.V.FrameWatcher.was_told c.args.watcher.now start.retimed.frames (none-taken c.args.options.now start.bound begun.start start.retimed begun.followed.underway),
+      notifies-start g.V.FrameWatcher.was_notified c.args.watcher.now start.retimed.frames (none-taken c.args.options.now start.bound begun.start start.retimed begun.followed.underway),
       refl,
     )
 
-pub next_frame-requires-clause-tidy : goal.next_frame-requires-clause-tidy
-next_frame-requires-clause-tidy g c κs within = let begun = c.requires.begun.1 in (c.loop.invariant.0 c.requires.begun.0 begun.start begun.kept begun.followed).0.underway.keeps.tidy
+pub next_frame-requires-clause-normalised : goal.next_frame-requires-clause-normalised
+next_frame-requires-clause-normalised g c κs within = let begun = c.requires.begun.1 in (c.loop.invariant.0 c.requires.begun.0 begun.start begun.kept begun.followed).0.underway.keeps.normalised
 
 pub next_frame-requires-clause-there : goal.next_frame-requires-clause-there
 next_frame-requires-clause-there g c κs within = let begun = c.requires.begun.1 in (c.requires.begun.0, composed begun.kept c.loop.run.retimed.kept_free, (c.loop.invariant.0 c.requires.begun.0 begun.start begun.kept begun.followed).0.come)
@@ -98,15 +98,15 @@ loop-preserved g c =
     let run = c.in_ok-run-in-Ok-Some.run' in
     let Q : ℕ → Netlist → Type 0 = λ n d. AreCollected options c.args.start.bound d n c.next_frame.new.records in
     let next : suc c.loop.counter ≡ c.loop.counter + 1 = omega arith in
-    let was_told = g.V.FrameWatcher.was_told in
+    let was_notified = g.V.FrameWatcher.was_notified in
     let looking = c.enter_looking.new.watcher in
     let moving = c.next_frame.new.watcher in
     let frame = c.in-Ok-Some.frame in
     let same : after.retimed ≡ before.retimed = c.in-Ok-Some.ensures.same in
     let W : Option Frame → Type 0 = λ found. MatchOption found (NoneHelpsBy options before.bound before.retimed.circuit × (after.follower ≡ before.follower)) (MovesFollowed has_come options before.bound before.retimed.circuit before.follower after.follower) in
-    let T : Option Frame → Type 0 = λ found. MatchOption found (Tells was_told looking moving []) (λ _. Tells was_told looking moving (Moving ∷ [])) in
+    let T : Option Frame → Type 0 = λ found. MatchOption found (Notifies was_notified looking moving []) (λ _. Notifies was_notified looking moving (Moving ∷ [])) in
     let followed : MovesFollowed has_come options before.bound before.retimed.circuit before.follower after.follower frame = subst W c.in-Ok-Some.field-0-is c.in-Ok-Some.ensures.found in
-    let told : Tells was_told looking moving (Moving ∷ []) = subst T c.in-Ok-Some.field-0-is c.in-Ok-Some.ensures.told in
+    let notified : Notifies was_notified looking moving (Moving ∷ []) = subst T c.in-Ok-Some.field-0-is c.in-Ok-Some.ensures.notified in
     let start = c.args.start in
     let new_bound : after.bound ≡ start.bound = c.in-Ok-Some.ensures.bound ∙ c.loop.invariant.2 in
     let adds : AddsFound options start.bound before.retimed.circuit c.loop.records c.next_frame.new.records =
@@ -126,8 +126,8 @@ loop-preserved g c =
                 (one-collected options start.bound d c.loop.counter c.loop.records c.next_frame.new.records before.retimed.circuit before.retimed.kept_free before.retimed.frames so_far.1
                 so_far.0.underway.frames adds),
           ),
-      tells-frame was_told c.args.watcher.now c.loop.watcher looking moving before.retimed.frames run.retimed.frames frame.report (known_latches before.retimed.circuit.aig) taken
-          (ap (λ (r : FrameReport). r.before) followed.moves.moves.reported) c.loop.invariant.1 c.enter_looking.ensures told,
+      notifies-frame was_notified c.args.watcher.now c.loop.watcher looking moving before.retimed.frames run.retimed.frames frame.report (known_latches before.retimed.circuit.aig) taken
+          (ap (λ (r : FrameReport). r.before) followed.moves.moves.reported) c.loop.invariant.1 c.enter_looking.ensures notified,
       c.in_ok-run-in-Ok-Some.ensures.bound ∙ new_bound,
     )
 
@@ -152,28 +152,28 @@ returns-clause-run g c = λ read d kept start.
 pub returns-in_err-run-in-Ok-Some-clause-run : goal.returns-in_err-run-in-Ok-Some-clause-run
 returns-in_err-run-in-Ok-Some-clause-run g c = IfOk-from_err c.from_residual.result _ c.from_residual.ensures.0
 
-pub returns-in_err-run-in-Ok-Some-clause-told : goal.returns-in_err-run-in-Ok-Some-clause-told
-returns-in_err-run-in-Ok-Some-clause-told g c = IfOk-from_err c.from_residual.result _ c.from_residual.ensures.0
+pub returns-in_err-run-in-Ok-Some-clause-notified : goal.returns-in_err-run-in-Ok-Some-clause-notified
+returns-in_err-run-in-Ok-Some-clause-notified g c = IfOk-from_err c.from_residual.result _ c.from_residual.ensures.0
 
 -- the last look found none
-pub returns-in-Ok-None-clause-told : goal.returns-in-Ok-None-clause-told
-returns-in-Ok-None-clause-told g c =
+pub returns-in-Ok-None-clause-notified : goal.returns-in-Ok-None-clause-notified
+returns-in-Ok-None-clause-notified g c =
     let options = c.args.options.now in
     let begun = c.requires.begun.1 in
     let before = c.loop.run.retimed in
-    let was_told = g.V.FrameWatcher.was_told in
+    let was_notified = g.V.FrameWatcher.was_notified in
     let looking = c.enter_looking.new.watcher in
     let after = c.next_frame.new.watcher in
     let many : length before.frames ≡ c.loop.counter = many-taken options c.args.start.bound begun.start c.loop.counter before (c.loop.invariant.0 c.requires.begun.0 begun.start begun.kept begun.followed).0.underway in
-    let T : Option Frame → Type 0 = λ found. MatchOption found (Tells was_told looking after []) (λ _. Tells was_told looking after (Moving ∷ [])) in
-    let told : Tells was_told looking after [] = subst T c.in-Ok-None.field-0-is c.in-Ok-None.ensures.told in
-    subst (λ (r : Retimed). Tells was_told c.args.watcher.now after (looks_of options.max_frames r)) (sym c.in-Ok-None.ensures.same)
-    (tells-end was_told c.args.watcher.now c.loop.watcher looking after options.max_frames before (omega (arith, many, c.loop-test.true)) c.loop.invariant.1 c.enter_looking.ensures told)
+    let T : Option Frame → Type 0 = λ found. MatchOption found (Notifies was_notified looking after []) (λ _. Notifies was_notified looking after (Moving ∷ [])) in
+    let notified : Notifies was_notified looking after [] = subst T c.in-Ok-None.field-0-is c.in-Ok-None.ensures.notified in
+    subst (λ (r : Retimed). Notifies was_notified c.args.watcher.now after (looks_of options.max_frames r)) (sym c.in-Ok-None.ensures.same)
+    (notifies-end was_notified c.args.watcher.now c.loop.watcher looking after options.max_frames before (omega (arith, many, c.loop-test.true)) c.loop.invariant.1 c.enter_looking.ensures notified)
 
-pub returns-clause-told : goal.returns-clause-told
-returns-clause-told g c =
+pub returns-clause-notified : goal.returns-clause-notified
+returns-clause-notified g c =
     let options = c.args.options.now in
     let begun = c.requires.begun.1 in
     let last = c.loop.run.retimed in
     let many : length last.frames ≡ c.loop.counter = many-taken options c.args.start.bound begun.start c.loop.counter last (c.loop.invariant.0 c.requires.begun.0 begun.start begun.kept begun.followed).0.underway in
-    tells-limit g.V.FrameWatcher.was_told c.args.watcher.now c.loop.watcher options.max_frames last (omega (arith, many, c.loop-test.false, c.loop.auto.counter-end)) c.loop.invariant.1
+    notifies-limit g.V.FrameWatcher.was_notified c.args.watcher.now c.loop.watcher options.max_frames last (omega (arith, many, c.loop-test.false, c.loop.auto.counter-end)) c.loop.invariant.1

@@ -1,14 +1,14 @@
 use Rattle.std.proofs.Common.{ℕ, List, ◌≡◌}
 use Rattle.aig_graph.specs.Circuits.{Netlist}
 use Rattle.frames.specs.Certified.{AreCollected}
-use Rattle.frames.specs.Stages.{Tells, frame_stages}
+use Rattle.frames.specs.Stages.{Notifies, frame_stages}
 use Rattle.frames.specs.Following.{IsFollowed}
 use Rattle.frames.proofs.retiming.all_frames.Given as goal
 
--- whatever circuit d the first one is the cleaning of, and c was read; the watcher has been told of each frame, and the bound stays
+-- whatever circuit d the first one is the cleaning of, and c was read; the watcher has been notified of each frame, and the bound stays
 abbrev pub invariant-loop : goal.invariant-loop
 invariant-loop g l =
     ((c d : Netlist) (kept : List ℕ) → IsFollowed g.F.RunFollower.has_come l.options l.fn.start.bound c d kept 0 l.fn.start.retimed l.fn.start.follower
     → IsFollowed g.F.RunFollower.has_come l.options l.fn.start.bound c d kept l.counter l.run.retimed l.run.follower × AreCollected l.options l.fn.start.bound d l.counter l.records)
-    × Tells g.V.FrameWatcher.was_told l.fn.watcher l.watcher (frame_stages 0 l.run.retimed.frames)
+    × Notifies g.V.FrameWatcher.was_notified l.fn.watcher l.watcher (frame_stages 0 l.run.retimed.frames)
     × (l.run.bound ≡ l.fn.start.bound)

@@ -37,7 +37,7 @@ returns-in-Ok-clause-retimed g c = λ read d kept start.
     subst (λ (x : Retimed). IsRetimedFrom has_come options c.args.start.bound read d kept x c.certified.result.follower) (sym same)
     (subst (λ f. IsRetimedFrom has_come options c.args.start.bound read d kept s f) (sym whole.follower) is)
 
-pub returns-in-Ok-clause-told : goal.returns-in-Ok-clause-told
-returns-in-Ok-clause-told g c =
+pub returns-in-Ok-clause-notified : goal.returns-in-Ok-clause-notified
+returns-in-Ok-clause-notified g c =
     let whole = c.certified.ensures in
-    same-looks g.V.FrameWatcher.was_told c.args.watcher.now c.all_frames.new.watcher c.args.options.now.max_frames c.in-Ok.run'.retimed c.certified.result.retimed whole.frames whole.circuit c.in-Ok.ensures.told
+    same-looks g.V.FrameWatcher.was_notified c.args.watcher.now c.all_frames.new.watcher c.args.options.now.max_frames c.in-Ok.run'.retimed c.certified.result.retimed whole.frames whole.circuit c.in-Ok.ensures.notified

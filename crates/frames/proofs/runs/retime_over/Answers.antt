@@ -3,7 +3,7 @@ use Rattle.level_laws.proofs.RetimingLevelLaws.{retiming-levels}
 use Rattle.frames.specs.Bounds.{bound_in}
 use Rattle.frames.specs.Named.{names_in}
 use Rattle.frames.specs.Stages.{Cleaning, looks_of}
-use Rattle.frames.proofs.StageLaws.{tells-then}
+use Rattle.frames.proofs.StageLaws.{notifies-then}
 use Rattle.frames.proofs.runs.retime_over.Goals as goal
 
 pub finish_plain-requires-after_bounds : goal.finish_plain-requires-after_bounds
@@ -15,10 +15,10 @@ returns-clause-retimed g c = c.in_ok-retimed.ensures.retimed c.args.circuit c.in
 pub returns-clause-none_missing : goal.returns-clause-none_missing
 returns-clause-none_missing g c = c.in_ok-begun.ensures.begun.names
 
-pub returns-clause-told : goal.returns-clause-told
-returns-clause-told g c =
-    tells-then g.V.FrameWatcher.was_told c.args.watcher.now c.enter.new.self c.finish_plain.new.watcher (Cleaning ∷ []) (looks_of c.args.options.now.max_frames c.in_ok-retimed.retimed)
-    c.enter.ensures c.in_ok-retimed.ensures.told
+pub returns-clause-notified : goal.returns-clause-notified
+returns-clause-notified g c =
+    notifies-then g.V.FrameWatcher.was_notified c.args.watcher.now c.enter.new.self c.finish_plain.new.watcher (Cleaning ∷ []) (looks_of c.args.options.now.max_frames c.in_ok-retimed.retimed)
+    c.enter.ensures c.in_ok-retimed.ensures.notified
 
 pub returns-clause-levels : goal.returns-clause-levels
 returns-clause-levels g c =

@@ -2,21 +2,21 @@ use Rattle.std.proofs.Common.{◌≡◌, ◌∙◌, ◌<◌, ap, sym, arith, len
 use Rattle.aig_graph.specs.declared.graph.Latch.{Latch}
 use Rattle.aig_graph.specs.Graph.{Graph, variable, variables_end}
 use Rattle.variable_tables.proofs.TableLaws.{table-none}
-use Rattle.latch_merging.specs.declared.told.Told.{Told}
-use Rattle.latch_merging.specs.Rounds.{entries_told, read_told, told_of}
+use Rattle.latch_merging.specs.declared.signature.Signature.{Signature}
+use Rattle.latch_merging.specs.Rounds.{entries_by_signature, read_by_signature, signature_of}
 use Rattle.clean.proofs.MappingLaws.{latch-there}
 use Rattle.latch_merging.proofs.RoundLaws.{firsts-start, firsts-more, read-more}
-use Rattle.latch_merging.proofs.RoundStepLaws.{substitutes_by-long, next-more, next-end, told-is, item-read}
+use Rattle.latch_merging.proofs.RoundStepLaws.{substitutes_by-long, next-more, next-end, signature-is, item-read}
 use Rattle.latch_merging.proofs.rounds.next_reads.Goals as goal
 
 pub loop-place-init : goal.loop-place-init
 loop-place-init c = record {
   next = c.in_ok-next.ensures.items ∙ sym (table-none 0 _);
-  firsts = rw c.requires.firsts (firsts-start c.args.aig.now c.args.held.now.positions.now (told_of c.args.aig.now c.args.reads.now));
+  firsts = rw c.requires.firsts (firsts-start c.args.aig.now c.args.held.now.positions.now (signature_of c.args.aig.now c.args.reads.now));
 }
 
-pub told_of-told-requires : goal.told_of-told-requires
-told_of-told-requires c =
+pub signature_of-signature-requires : goal.signature_of-signature-requires
+signature_of-signature-requires c =
     let g : Graph = c.args.aig.now in
     let there = latch-there g c.latches-latch-items.result.now c.loop-place.place c.latch-item.result c.latches-latch-items.ensures.value c.loop-place-test.true c.latch-item.is in
     let within : variable c.latch-item.result.next < variables_end g = c.latches-latch-items.ensures.graph.latches c.loop-place.place c.latch-item.result there in
@@ -36,19 +36,19 @@ loop-place-preserved c =
     let there = latch-there g c.latches-latch-items.result.now k latch c.latches-latch-items.ensures.value c.loop-place-test.true c.latch-item.is in
     let within : k < length reads =
     omega (arith, c.loop-place-test.true, c.requires.reads, ap (λ (xs : List Latch). length xs) c.latches-latch-items.ensures.value) in
-    let key : c.told_of-told.result ≡ told_of g reads k latch =
-    told-is g reads c.args.substitutes.now k latch c.index-reads-place.result c.told_of-told.result c.requires.substitutes
-    (item-read reads k c.index-reads-place.result within c.index-reads-place.is) c.told_of-told.ensures.class c.told_of-told.ensures.literal in
+    let key : c.signature_of-signature.result ≡ signature_of g reads k latch =
+    signature-is g reads c.args.substitutes.now k latch c.index-reads-place.result c.signature_of-signature.result c.requires.substitutes
+    (item-read reads k c.index-reads-place.result within c.index-reads-place.is) c.signature_of-signature.ensures.class c.signature_of-signature.ensures.literal in
     record {
-      next = next-more g held (told_of g reads) k c.loop-place.next.items c.push.new.self.items c.in_ok-lit.lit c.loop-place.invariant.next
-          (c.in_ok-lit.ensures.literal ∙ ap (λ (x : Told). read_told g held c.loop-place.firsts x k latch) key
-          ∙ read-more g held (told_of g reads) k latch there c.loop-place.firsts c.loop-place.invariant.firsts) c.in_ok-push.ensures.items;
-      firsts = firsts-more g held (told_of g reads) k latch there c.loop-place.firsts c.loop-place.invariant.firsts c.next_read.new.firsts
-          (c.in_ok-lit.ensures.entries ∙ ap (λ (x : Told). entries_told g held c.loop-place.firsts x k latch) key);
+      next = next-more g held (signature_of g reads) k c.loop-place.next.items c.push.new.self.items c.in_ok-lit.lit c.loop-place.invariant.next
+          (c.in_ok-lit.ensures.literal ∙ ap (λ (x : Signature). read_by_signature g held c.loop-place.firsts x k latch) key
+          ∙ read-more g held (signature_of g reads) k latch there c.loop-place.firsts c.loop-place.invariant.firsts) c.in_ok-push.ensures.items;
+      firsts = firsts-more g held (signature_of g reads) k latch there c.loop-place.firsts c.loop-place.invariant.firsts c.next_read.new.firsts
+          (c.in_ok-lit.ensures.entries ∙ ap (λ (x : Signature). entries_by_signature g held c.loop-place.firsts x k latch) key);
     }
 
 pub returns : goal.returns
 returns c =
     let long = ap (λ (xs : List Latch). length xs) c.latches-latch-items.ensures.value in
-    next-end c.args.aig.now c.args.held.now.positions.now (told_of c.args.aig.now c.args.reads.now) c.loop-place.place c.loop-place.next.items (omega (arith, c.loop-place.auto.place-end, long))
+    next-end c.args.aig.now c.args.held.now.positions.now (signature_of c.args.aig.now c.args.reads.now) c.loop-place.place c.loop-place.next.items (omega (arith, c.loop-place.auto.place-end, long))
     (omega (arith, c.loop-place-test.false, long)) c.loop-place.invariant.next

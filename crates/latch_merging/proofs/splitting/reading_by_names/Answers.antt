@@ -3,11 +3,11 @@ use Rattle.aig_graph.specs.declared.graph.Latch.{Latch}
 use Rattle.aig_graph.specs.Graph.{Graph}
 use Rattle.variable_tables.proofs.TableLaws.{table-none}
 use Rattle.merged_latches.specs.Readings.{from_reset, read}
-use Rattle.latch_merging.specs.declared.told.Told.{Told}
+use Rattle.latch_merging.specs.declared.signature.Signature.{Signature}
 use Rattle.latch_merging.specs.Names.{class_of}
-use Rattle.latch_merging.specs.Rounds.{entries_told, read_told}
+use Rattle.latch_merging.specs.Rounds.{entries_by_signature, read_by_signature}
 use Rattle.clean.proofs.MappingLaws.{latch-there}
-use Rattle.latch_merging.proofs.CoarsestLaws.{told_is}
+use Rattle.latch_merging.proofs.CoarsestLaws.{signature_is}
 use Rattle.latch_merging.proofs.RoundLaws.{firsts-start, firsts-more, read-more}
 use Rattle.latch_merging.proofs.RoundStepLaws.{next-more, next-end, item-read}
 use Rattle.latch_merging.proofs.splitting.reading_by_names.Goals as goal
@@ -33,14 +33,14 @@ loop-place-preserved c =
     let within : k < length names =
     omega (arith, c.loop-place-test.true, c.requires.names, ap (λ (xs : List Latch). length xs) c.latches-latch-items.ensures.value) in
     let key : c.class_by-class.result ≡ class_of names k latch =
-    told_is c.class_by-class.result.class c.class_by-class.result.literal (from_reset latch.reset (read names k)) 0
+    signature_is c.class_by-class.result.class c.class_by-class.result.literal (from_reset latch.reset (read names k)) 0
     (c.class_by-class.ensures.class ∙ ap (from_reset latch.reset) (item-read names k c.index-names-place.result within c.index-names-place.is)) c.class_by-class.ensures.literal in
     record {
       next = next-more g held (class_of names) k c.loop-place.reads.items c.push.new.self.items c.in_ok-lit.lit c.loop-place.invariant.next
-          (c.in_ok-lit.ensures.literal ∙ ap (λ (x : Told). read_told g held c.loop-place.firsts x k latch) key
+          (c.in_ok-lit.ensures.literal ∙ ap (λ (x : Signature). read_by_signature g held c.loop-place.firsts x k latch) key
           ∙ read-more g held (class_of names) k latch there c.loop-place.firsts c.loop-place.invariant.firsts) c.in_ok-push.ensures.items;
       firsts = firsts-more g held (class_of names) k latch there c.loop-place.firsts c.loop-place.invariant.firsts c.next_read.new.firsts
-          (c.in_ok-lit.ensures.entries ∙ ap (λ (x : Told). entries_told g held c.loop-place.firsts x k latch) key);
+          (c.in_ok-lit.ensures.entries ∙ ap (λ (x : Signature). entries_by_signature g held c.loop-place.firsts x k latch) key);
     }
 
 pub returns : goal.returns

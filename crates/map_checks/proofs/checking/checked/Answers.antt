@@ -1,7 +1,7 @@
 use Rattle.std.proofs.Common.{◌≡◌, ◌∙◌, IfNone, List, Option, ℕ, sym, subst}
 use Rattle.aig_graph.specs.Streams.{SameStreams}
 use Rattle.state_maps.specs.MapCircuits.{IsMapCircuit}
-use Rattle.map_checks.specs.declared.answer.Doubt.{Doubt}
+use Rattle.map_checks.specs.declared.answer.Obligation.{Obligation}
 use Rattle.map_checks.specs.declared.checking.Opening.{Opening}
 use Rattle.map_checks.specs.Answers.{Begins, IsBegun, KeepsStates}
 use Rattle.map_checks.proofs.AnswerLaws.{shows}
@@ -12,7 +12,7 @@ returns-in-None c =
     let begun : Begins c.args.first.now c.args.second.now c.args.map.now c.in-Kept.kept =
     subst (λ (o : Opening). IsBegun c.args.first.now c.args.second.now c.args.map.now o) c.in-Kept.is c.in_ok-kept.ensures in
     let keeps : KeepsStates c.args.first.now c.args.second.now c.args.map.now =
-    subst (λ (o : Option Doubt). IfNone o (KeepsStates c.args.first.now c.args.second.now c.args.map.now)) c.in-None.is c.in_ok-doubt_of_step.ensures in
+    subst (λ (o : Option Obligation). IfNone o (KeepsStates c.args.first.now c.args.second.now c.args.map.now)) c.in-None.is c.in_ok-obligation_of_step.ensures in
     let places : c.from_vec.result ≡ c.in-Kept.kept = c.from_vec.ensures ∙ c.into_vec.ensures in
     subst (λ (kept : List ℕ). IsMapCircuit c.args.first.now c.args.second.now kept c.args.map.now × SameStreams c.args.first.now c.args.second.now kept) (sym places)
     (shows c.args.first.now c.args.second.now c.args.map.now c.in-Kept.kept c.known.ensures.graph c.known.ensures.netlist c.requires.latches c.requires.fitting begun keeps)

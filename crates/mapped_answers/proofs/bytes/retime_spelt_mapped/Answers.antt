@@ -1,6 +1,6 @@
 use Rattle.std.proofs.lemmas.Result.{IfErr-weaker, IfOk-weaker}
 use Rattle.mapped_answers.specs.Mapping.{IsMadeCutOff, IsMadeWritten, IsMappedOf, IsMappingStop}
-use Rattle.mapped_answers.proofs.MakingLaws.{cut_off-answer, makes-nothing, told-answer, written-answer}
+use Rattle.mapped_answers.proofs.MakingLaws.{cut_off-answer, makes-nothing, notified-answer, written-answer}
 use Rattle.mapped_answers.proofs.bytes.retime_spelt_mapped.Goals as goal
 
 pub returns-in-Ok-clause-ok : goal.returns-in-Ok-clause-ok
@@ -29,8 +29,8 @@ pub returns-in-Err-clause-err : goal.returns-in-Err-clause-err
 returns-in-Err-clause-err g c =
     makes-nothing c.args.options.now c.args.spelt (g.W.CountedWrite.output c.args.writer.now) c.in-Err.error c.in-Err.ensures.err
 
-pub returns-in-Ok-clause-told : goal.returns-in-Ok-clause-told
-returns-in-Ok-clause-told g c =
+pub returns-in-Ok-clause-notified : goal.returns-in-Ok-clause-notified
+returns-in-Ok-clause-notified g c =
     IfOk-weaker c.write_made.result _ _
-    (λ m written. told-answer g.V.FrameWatcher.was_told c.args.options.now.max_frames c.args.watcher.now c.made_over.new.watcher c.enter.new.self c.in-Ok.made m written.same
-    c.in-Ok.ensures.told c.enter.ensures) c.write_made.ensures.ok
+    (λ m written. notified-answer g.V.FrameWatcher.was_notified c.args.options.now.max_frames c.args.watcher.now c.made_over.new.watcher c.enter.new.self c.in-Ok.made m written.same
+    c.in-Ok.ensures.notified c.enter.ensures) c.write_made.ensures.ok

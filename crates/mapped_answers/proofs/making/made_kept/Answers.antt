@@ -1,8 +1,8 @@
 use Rattle.std.proofs.Common.{ap, subst}
 use Rattle.std.proofs.lemmas.Result.{IfOk-weaker}
 use Rattle.retimed_circuits.specs.declared.report.Retimed.{Retimed}
-use Rattle.frames.specs.Stages.{Tells, looks_of}
-use Rattle.mapped_answers.proofs.MakingLaws.{same-told}
+use Rattle.frames.specs.Stages.{Notifies, looks_of}
+use Rattle.mapped_answers.proofs.MakingLaws.{same-notified}
 use Rattle.mapped_answers.proofs.making.made_kept.Goals as goal
 
 pub begin-requires-clause-there : goal.begin-requires-clause-there
@@ -23,5 +23,5 @@ with_map-requires g c = c.in_ok-end.ensures.retimed c.args.circuit.now c.in_ok-b
 pub returns-clause-made : goal.returns-clause-made
 returns-clause-made g c = c.with_map.ensures.made
 
-pub returns-clause-told : goal.returns-clause-told
-returns-clause-told g c = same-told g.V.FrameWatcher.was_told c.args.options.now.max_frames c.args.watcher.now c.finish.new.watcher c.in_ok-end.end.retimed c.with_map.result c.in_ok-end.ensures.told c.with_map.ensures.same
+pub returns-clause-notified : goal.returns-clause-notified
+returns-clause-notified g c = same-notified g.V.FrameWatcher.was_notified c.args.options.now.max_frames c.args.watcher.now c.finish.new.watcher c.in_ok-end.end.retimed c.with_map.result c.in_ok-end.ensures.notified c.with_map.ensures.same

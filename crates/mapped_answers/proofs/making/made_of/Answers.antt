@@ -4,7 +4,7 @@ use Rattle.std.proofs.lemmas.Result.{IfErr-weaker}
 use Rattle.aig_graph.specs.Keep.{IsFirstMissing, NoneMissing, held_in, names_of}
 use Rattle.aig_graph.specs.declared.holding.KeepError.{KeepError}
 use Rattle.frames.specs.Stages.{Cleaning, looks_of}
-use Rattle.frames.proofs.StageLaws.{all-told}
+use Rattle.frames.proofs.StageLaws.{all-notified}
 use Rattle.mapped_answers.specs.Mapping.{IsMakingError, IsMapError}
 use Rattle.mapped_answers.specs.declared.errors.AnswerError.{AnswerError}
 use Rattle.mapped_answers.proofs.MakingLaws.{unmapped, unnamed}
@@ -24,10 +24,10 @@ returns-in-Ok-clause-err g c =
     let circuit = c.args.circuit.now in
     IfErr-weaker c.made_mapped.result IsMapError (IsMakingError options circuit) (unmapped options circuit) c.made_mapped.ensures.err
 
-pub returns-in-Ok-clause-told : goal.returns-in-Ok-clause-told
-returns-in-Ok-clause-told g c =
+pub returns-in-Ok-clause-notified : goal.returns-in-Ok-clause-notified
+returns-in-Ok-clause-notified g c =
     let limit = c.args.options.now.max_frames in
-    all-told g.V.FrameWatcher.was_told c.made_mapped.result c.args.watcher.now c.enter.new.self c.made_mapped.new.watcher (Cleaning ∷ []) (λ made. looks_of limit made.retimed) c.enter.ensures c.made_mapped.ensures.told
+    all-notified g.V.FrameWatcher.was_notified c.made_mapped.result c.args.watcher.now c.enter.new.self c.made_mapped.new.watcher (Cleaning ∷ []) (λ made. looks_of limit made.retimed) c.enter.ensures c.made_mapped.ensures.notified
 
 pub returns-in-Err-clause-err : goal.returns-in-Err-clause-err
 returns-in-Err-clause-err g c =

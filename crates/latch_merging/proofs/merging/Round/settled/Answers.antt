@@ -1,6 +1,6 @@
 use Rattle.std.proofs.Common.{◌∙◌, ap, length, List, ℕ}
 use Rattle.aig_graph.specs.Graph.{IsGraph}
-use Rattle.latch_merging.specs.Rounds.{told_of}
+use Rattle.latch_merging.specs.Rounds.{signature_of}
 use Rattle.latch_merging.proofs.CoarsestLaws.{round-rough}
 use Rattle.latch_merging.proofs.RoundLaws.{length-round}
 use Rattle.latch_merging.proofs.merging.Round.settled.Goals as goal
@@ -12,7 +12,7 @@ pub parts-requires-clause-next : goal.parts-requires-clause-next
 parts-requires-clause-next c =
     let g = c.args.aig.now in
     let held : List ℕ = c.args.held.now.positions.now in
-    ap (λ (xs : List ℕ). length xs) c.requires.next ∙ length-round g held (told_of g c.args.self.reads.items)
+    ap (λ (xs : List ℕ). length xs) c.requires.next ∙ length-round g held (signature_of g c.args.self.reads.items)
 
 pub split-requires-clause-next : goal.split-requires-clause-next
 split-requires-clause-next c =

@@ -9,5 +9,5 @@ returns c =
     let g = c.args.aig.now in
     let held = c.args.held.now.positions.now in
     let rest = c.in_ok-run.ensures c.if-not-branch.false in
-    let rough : IsRough g held (round_by g held (class_of c.run.new.self.names.items)) = rough-names g held c.run.new.self.names.items c.run.new.self.tolds.items rest.alike in
+    let rough : IsRough g held (round_by g held (class_of c.run.new.self.names.items)) = rough-names g held c.run.new.self.names.items c.run.new.self.signatures.items rest.alike in
     subst (λ (xs : List ℕ). IsRough g held xs) (sym (c.in_ok-reads.ensures ∙ ap (λ (xs : List ℕ). round_by g held (class_of xs)) c.as_slice.ensures.value)) rough

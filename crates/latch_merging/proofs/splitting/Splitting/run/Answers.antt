@@ -13,11 +13,11 @@ loop-init c =
     let new = c.name_gates.new.self in
     let P : Readers → Type 0 = λ r. AreReaders g r.heads.items r.links.items in
     let Q : List ℕ → Type 0 = λ xs. AreAtRest g held new.names.items xs new.pairs new.marked.latches new.marked.gates self.leaving in
-    let S : List Bool → Type 0 = λ bs. AreAtRest g held new.names.items new.tolds.items new.pairs new.marked.latches new.marked.gates bs in
+    let S : List Bool → Type 0 = λ bs. AreAtRest g held new.names.items new.signatures.items new.pairs new.marked.latches new.marked.gates bs in
     record {
       readers = subst P (sym c.name_gates.ensures.readers) c.requires.readers;
-      rest = λ went. subst S (sym c.name_gates.ensures.leaving) (subst Q (sym c.name_gates.ensures.tolds)
-          (rest-named g held self.names.items new.names.items self.tolds.items self.pairs new.pairs self.marked.latches new.marked.latches self.marked.gates new.marked.gates self.leaving
+      rest = λ went. subst S (sym c.name_gates.ensures.leaving) (subst Q (sym c.name_gates.ensures.signatures)
+          (rest-named g held self.names.items new.names.items self.signatures.items self.pairs new.pairs self.marked.latches new.marked.latches self.marked.gates new.marked.gates self.leaving
           c.requires.rest (c.in_ok-goes_on.ensures.named went)));
       settled = λ went. c.in_ok-goes_on.ensures.all went;
     }

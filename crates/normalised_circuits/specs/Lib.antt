@@ -1,0 +1,3 @@
+pub mod Normalised
+pub mod Laws
+pub mod Gathered

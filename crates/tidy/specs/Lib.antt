@@ -1,3 +1,0 @@
-pub mod Tidy
-pub mod Laws
-pub mod Gathered
