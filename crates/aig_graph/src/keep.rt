@@ -37,7 +37,7 @@ impl Model for Keep {
 
 impl Keep {
     /// The latches at these positions are held.
-    pub(crate) fn new(positions: Vec<u32>) -> Keep
+    pub fn new(positions: Vec<u32>) -> Keep
         requires { IsStrictlyIncreasing positions.items }
         ensures { result ≡ positions.items }
     {
