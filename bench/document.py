@@ -75,15 +75,26 @@ def is_of_release(stored):
         return f'program {stored["program"]}\n' in file.read()
 
 
-def levels(stored):
-    """What bench/levels counted, and of which program."""
-    it = stored.get('levels')
+def counts(stored, name, head, rows_of):
+    """What a script counted, and of which program."""
+    it = stored.get(name)
     if not it:
-        return ['Not counted: `bench/levels --store=bench/results.json` does it.']
+        return [f'Not counted: `bench/{name} --store=bench/results.json` does it.']
     which = 'the program of `release/`' if is_of_release(it) else f'an earlier program, whose SHA-256 begins with {it["program"][:12]}'
-    rows = [cells for circuit in it['circuits'] for cells in results.rows_of_levels(circuit)]
+    rows = [cells for circuit in it['circuits'] for cells in rows_of(circuit)]
+    return [f'On {it["date"]}, by {which}.', '', *table(head, rows)]
+
+
+def levels(stored):
+    """What bench/levels counted, and its chart."""
     name, title = LEVELS_CHART
-    return [f'On {it["date"]}, by {which}.', '', *table(results.LEVELS_HEAD, rows), '', f'![{title}](../docs/pictures/{name})']
+    chart = ['', f'![{title}](../docs/pictures/{name})'] if 'levels' in stored else []
+    return counts(stored, 'levels', results.LEVELS_HEAD, results.rows_of_levels) + chart
+
+
+def backward(stored):
+    """What bench/backward counted."""
+    return counts(stored, 'backward', results.BACKWARD_HEAD, lambda circuit: [results.row_of_backward(circuit)])
 
 
 def span(values):
@@ -182,7 +193,8 @@ def pictures(drawn):
 def blocks(stored, drawn):
     """The texts between the marks of bench/RESULTS.md, by name."""
     return {'program': [measured(stored)], 'circuits': circuits(stored), 'charts': pictures(drawn), 'aims': aims(stored),
-            'batch': stored_table(stored, 'batch'), 'certificates': stored_table(stored, 'certificates'), 'levels': levels(stored)}
+            'batch': stored_table(stored, 'batch'), 'certificates': stored_table(stored, 'certificates'), 'levels': levels(stored),
+            'backward': backward(stored)}
 
 
 def results_text(text, stored, drawn):

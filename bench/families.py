@@ -374,8 +374,27 @@ def counter(bits):
     return c
 
 
+def gray(bits):
+    """A counter that an input steps, and its Gray code in registers behind the XORs of neighbouring bits."""
+    c = Builder()
+    word, step = c.register(bits), c.input()
+    following = c.add(word, [step])[:bits]
+    c.follow(word, following)
+    c.outputs = [c.latch(c.xor(a, b)) for a, b in zip(following, following[1:] + [0])]
+    return c
+
+
+def decoders(count, bits):
+    """Decoders of so many bits, each line of which has a register behind it."""
+    c = Builder()
+    for _ in range(count):
+        address = c.word(bits)
+        c.outputs += [c.latch(c.is_number(address, line), reset=line == 0) for line in range(1 << bits)]
+    return c
+
+
 FAMILIES = {it.__name__: it for it in (products, multiplier, divider, cordic, fir, two_stages, adder_tree, delay_lines, rounds,
-                                       gates, lockstep, voted, serial_ports, tied_off, counter)}
+                                       gates, lockstep, voted, serial_ports, tied_off, counter, gray, decoders)}
 
 
 def main(words):

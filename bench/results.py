@@ -1,12 +1,15 @@
 """The stored results of the scripts: a file of JSON with the machine, the sum of the one program that was measured, an entry a
-circuit, and the tables of bench/batch and bench/certificates; and what bench/levels counted, which is no time, with the sum of the
-program that it ran."""
+circuit, and the tables of bench/batch and bench/certificates; and what bench/levels and bench/backward counted, which is no time, each
+with the sum of the program that it ran."""
 import datetime
 import hashlib
 import json
 import os
 
 import measure
+
+
+COUNTS = ['levels', 'backward']
 
 
 def read(path):
@@ -65,7 +68,7 @@ def begun(path, program):
     if all(stored.get(name) == value for name, value in head.items()):
         return stored
     others = map(of_others, stored['circuits']) if stored.get('machine') == head['machine'] else []
-    counted = {'levels': stored['levels']} if 'levels' in stored else {}
+    counted = {name: stored[name] for name in COUNTS if name in stored}
     return head | counted | {'circuits': list(others), 'tables': {}}
 
 
@@ -94,9 +97,9 @@ def put_table(path, program, name, head, rows):
 LEVELS_HEAD = ['Circuit', 'Bound', 'Latches', 'Levels', 'Equal', 'ABC latches', 'ABC levels', 'ABC equal']
 
 
-def put_levels(path, program, date, circuits):
-    """Stores what bench/levels counted, in place of what it had counted before."""
-    write(path, read(path) | {'levels': {'program': sum_of(program), 'date': date, 'circuits': circuits}})
+def put_counts(path, program, name, date, circuits):
+    """Stores what a script counted, in place of what it had counted before."""
+    write(path, read(path) | {name: {'program': sum_of(program), 'date': date, 'circuits': circuits}})
 
 
 def rows_of_levels(circuit):
@@ -106,3 +109,20 @@ def rows_of_levels(circuit):
     for run in circuit['runs']:
         bound = 'none' if run['bound'] is None else f'{run["times"]:g} times: {run["bound"]}'
         yield ['', bound, *cells(run['ours']), *cells(run['abc'])]
+
+
+BACKWARD_HEAD = ['Circuit', 'As read', 'Forward', 'Backward', 'Both', 'Forward, no longer', 'Backward, no longer', 'Both, no longer',
+                 'ABC `retime -M 3`', 'ABC `dretime`']
+
+
+def row_of_backward(circuit):
+    """The row of a circuit: latches/levels of each run, and what was said of it."""
+    def cell(run):
+        if 'latches' not in run:
+            return run['failed']
+        free = f', {run["free"]} free' if run['free'] else ''
+        equal = '**no**' if run['equal'] == 'no' else run['equal']
+        return f'{run["latches"]}/{run["levels"]} {equal}{free}'
+
+    runs = [*circuit['without'].values(), *circuit['bounded'].values(), *circuit['abc'].values()]
+    return [circuit['circuit'], f'{circuit["latches"]}/{circuit["levels"]}', *map(cell, runs)]

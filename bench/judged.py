@@ -1,0 +1,31 @@
+"""What a run leaves: latches and levels of the file that it wrote, by the tests' own code, and what ABC's `dsec` says of it."""
+import os
+import sys
+
+import measure
+
+sys.path.append(os.path.join(measure.TOP, 'tests'))
+import checker  # noqa: E402
+
+
+def counted(path):
+    """The latches of a file, how many of them are free, and the levels."""
+    circuit = checker.read_circuit(measure.content(path))[0]
+    return {'latches': len(circuit.latches), 'free': len(circuit.latches) - len(circuit.known()), 'levels': circuit.levels()}
+
+
+def verdict(read, written, seconds):
+    """What ABC says of the circuit that was read and the one that was written."""
+    said = measure.Run([measure.ABC, '-c', f'read_aiger {read}; dsec -n -T {seconds} {written}'], 2 * seconds).printed
+    if 'NOT EQUIVALENT' in said:
+        return 'no'
+    return 'yes' if 'Networks are equivalent' in said else 'undecided'
+
+
+def left(runs, seconds, read, written):
+    """What runs leave, one after the other, or that one failed."""
+    for words in runs:
+        done = measure.Run(words, seconds)
+        if done.stopped or done.status != 0:
+            return {'failed': f'over {seconds} s' if done.stopped else measure.ending(done.status)}
+    return counted(written) | {'equal': verdict(read, written, seconds)}
