@@ -11,6 +11,7 @@ pub mod SearchLaws
 pub mod ReadingLaws
 pub mod BorderLaws
 pub mod HoldingLaws
+pub mod PositionLaws
 pub mod ClosedBorderLaws
 pub mod SetLaws
 pub mod StreamLaws

@@ -1,7 +1,9 @@
--- The latches that names hold.
-use Rattle.std.specs.Prelude.{ℕ, ◌≡◌, Bool, not, List, map, filter, bytes_eq, Option, None, Some}
+-- The latches that names and positions hold.
+use Rattle.std.specs.Prelude.{ℕ, ◌<◌, ◌≤◌, ◌≡◌, ◌||◌, Bool, not, List, [], ◌∷◌, length, get_or, take, map, filter, bytes_eq, All, Option, None, Some}
 use Rattle.std.specs.Global.{Vec}
 use Rattle.std.specs.List.{list_any, position}
+use Rattle.variable_tables.specs.Counting.{places}
+use Rattle.variable_tables.specs.Marking.{has}
 use Rattle.aig_graph.specs.Circuits.{Netlist}
 use Rattle.aig_graph.specs.declared.properties.Symbol.{Symbol}
 use Rattle.aig_graph.specs.declared.holding.KeepError.{KeepError}
@@ -42,3 +44,27 @@ IsFirstMissing names c place = first_missing c.symbols.latches names ≡ Some pl
 abbrev pub keep_error_code : KeepError → ℕ
 keep_error_code (NoSuchName place) = 1
 keep_error_code NoMemory = 2
+
+-- which latches are asked to be held: those that have one of the names, and those at the positions
+pub record Holding : Type 0 where
+  pub names : List (List ℕ)
+  pub positions : List ℕ
+
+-- these positions of a circuit's latches and those in a list, rising
+abbrev pub held_also : List ℕ → List ℕ → Netlist → List ℕ
+held_also held [] c = held
+held_also held (position ∷ positions) c = places (λ j. has held j || has (position ∷ positions) j) (length c.aig.latches)
+
+-- the positions of the latches that are held, rising
+abbrev pub held_of : Holding → Netlist → List ℕ
+held_of h c = held_also (held_in h.names c) h.positions c
+
+-- each of the positions is that of one of n latches
+abbrev pub AreLatches : ℕ → List ℕ → Type 0
+AreLatches n positions = All (λ j. j < n) positions
+
+-- the k-th of the positions is the first that is that of none of n latches
+pub record IsFirstNoLatch (n : ℕ) (positions : List ℕ) (k : ℕ) : Type 0 where
+  pub within : k < length positions
+  pub none : n ≤ get_or positions k 0
+  pub before : AreLatches n (take k positions)

@@ -1,9 +1,13 @@
-//! Holding latches by their symbols' names.
-ghost use Rattle.std.specs.Prelude.{ℕ, List, ◌≡◌, map, bytes_eq, IfOk, OnOk, IsErrOf};
+//! Holding latches by their symbols' names and by their positions. Both are looked up once: from then on the held latches are
+//! known by their positions alone.
+ghost use Rattle.std.specs.Prelude.{ℕ, List, ◌≡◌, ◌<◌, ◌||◌, All, length, map, bytes_eq, IfOk, OnOk, IsErrOf, MatchOption};
 ghost use Rattle.std.specs.HashSet.{contains_by};
 ghost use Rattle.std.specs.List.{list_any};
-ghost use Rattle.aig_graph.specs.Keep.{IsFirstMissing, NoneMissing, first_missing, has_name, held_by, held_in, names_of};
+ghost use Rattle.aig_graph.specs.Keep.{AreLatches, IsFirstMissing, IsFirstNoLatch, NoneMissing, first_missing, has_name, held_also, held_by, held_in, held_of, names_of};
 ghost use Rattle.aig_graph.specs.declared.holding.KeepError.TheVariants.{NoMemory, NoSuchName};
+ghost use Rattle.aig_graph.specs.declared.holding.HoldError.TheVariants as hold_error;
+ghost use Rattle.variable_tables.specs.Marking.{has};
+ghost use Rattle.variable_tables.specs.Tables.{table};
 
 use crate::circuit::Circuit;
 use crate::keep::Keep;
@@ -11,7 +15,7 @@ use crate::properties::Symbol;
 use std::alloc::{AllocError, AllocFailed, Global};
 use std::collections::HashSet;
 use thiserror::Error;
-use variable_tables::NoMemory;
+use variable_tables::{NoMemory, mark_variables, marked_variables, marks_of};
 
 /// Why latches can't be held by name.
 #[derive(Clone, Copy, Debug, PartialEq, Eq, Error)]
@@ -145,5 +149,113 @@ pub fn keep_by_names(alloc: Global, circuit: &Circuit, names: &[Vec<u8>]) -> Res
         Ok(keep) => Ok(keep),
         Err(KeepError::NoMemory) => Err(NoMemory),
         Err(KeepError::NoSuchName(_)) => unreachable!(),
+    }
+}
+
+/// Why latches can't be held by names and positions.
+#[derive(Clone, Copy, Debug, PartialEq, Eq, Error)]
+pub enum HoldError {
+    /// The position with this number, from 0, is the first that is that of no latch.
+    #[error("position {0} is that of no latch")]
+    NoSuchLatch(usize),
+    /// The name with this number, from 0, is the first that no latch has.
+    #[error("no latch has name {0}")]
+    NoSuchName(usize),
+    /// Memory was refused.
+    #[error("out of memory")]
+    NoMemory,
+}
+
+/// The number of the first of the positions that is that of none of so many latches.
+fn first_no_latch(latches: usize, positions: &[u32]) -> Option<usize>
+    ensures { MatchOption result (AreLatches latches positions.now)
+        (IsFirstNoLatch latches positions.now) }
+{
+    for (k, position) in positions.iter().enumerate() {
+        if *position as usize >= latches {
+            return Some(k);
+        }
+    }
+    None
+}
+
+/// The number of the first of the positions that is that of no latch of the circuit.
+fn wrong_position(circuit: &Circuit, positions: &[u32]) -> Option<usize>
+    ensures { MatchOption result (AreLatches (length circuit.now.aig.latches) positions.now)
+        (IsFirstNoLatch (length circuit.now.aig.latches) positions.now) }
+{
+    first_no_latch(circuit.aig().latches().len(), positions)
+}
+
+/// Whether each of so many latches is at one of the positions of two lists.
+fn marks_of_both(
+    alloc: Global,
+    latches: usize,
+    held: &[u32],
+    positions: &[u32],
+) -> Result<Vec<bool>, NoMemory>
+    ensures { IfOk result (λ marks. marks.items
+        ≡ table 0 latches (λ j. has held.now j || has positions.now j)) }
+{
+    let mut marks = marks_of(alloc, 0, latches, held)?;
+    mark_variables(marks.as_mut_slice(), 0, positions);
+    Ok(marks)
+}
+
+/// These held latches of a circuit, and those at the positions.
+fn held_also(
+    alloc: Global,
+    circuit: &Circuit,
+    keep: Keep,
+    positions: &[u32],
+) -> Result<Keep, NoMemory>
+    ensures { IfOk result (λ all. all ≡ held_also keep positions.now circuit.now) }
+{
+    if positions.is_empty() {
+        return Ok(keep);
+    }
+    let latches = circuit.aig().latches().len();
+    let marks = marks_of_both(alloc, latches, keep.positions(), positions)?;
+    let all = marked_variables(alloc, 0, marks.as_slice())?;
+    Ok(Keep::new(all))
+}
+
+/// The latches that are held: those that have one of the names, all of them where several have it, and those at the positions, from
+/// 0, in any order, of which one may stand there more than once. This is the one call that looks latches up: each step of a run
+/// returns where they stand in what it makes. Time as that of [`keep_of`], and with positions time and memory linear in the latches;
+/// no names and no positions hold nothing, and take no memory.
+///
+/// # Errors
+///
+/// `NoSuchLatch` with the number of the first position that is that of no latch, which is found first; `NoSuchName` with the number
+/// of the first name that no latch has; `NoMemory` where memory is refused.
+pub fn hold(
+    alloc: Global,
+    circuit: &Circuit,
+    names: &[Vec<u8>],
+    positions: &[u32],
+) -> Result<Keep, HoldError>
+    ensures ok { IfOk result (λ keep. keep ≡ held_of
+        (record { names = names_of names.now; positions = positions.now }) circuit.now) }
+    ensures in_range { IfOk result (λ keep. All (λ j. j < length circuit.now.aig.latches) keep) }
+    ensures latches { OnOk result (AreLatches (length circuit.now.aig.latches) positions.now) }
+    ensures none_missing { OnOk result (NoneMissing (names_of names.now) circuit.now) }
+    ensures no_latch { (k : ℕ) → IsErrOf result (hold_error.NoSuchLatch k)
+        → IsFirstNoLatch (length circuit.now.aig.latches) positions.now k }
+    ensures missing { (k : ℕ) → IsErrOf result (hold_error.NoSuchName k)
+        → IsFirstMissing (names_of names.now) circuit.now k }
+{
+    // That the held latches are among the circuit's is what its readers ensure.
+    circuit.known();
+    match wrong_position(circuit, positions) {
+        Some(k) => Err(HoldError::NoSuchLatch(k)),
+        None => match keep_of(alloc, circuit, names) {
+            Ok(keep) => match held_also(alloc, circuit, keep, positions) {
+                Ok(all) => Ok(all),
+                Err(_) => Err(HoldError::NoMemory),
+            },
+            Err(KeepError::NoSuchName(k)) => Err(HoldError::NoSuchName(k)),
+            Err(KeepError::NoMemory) => Err(HoldError::NoMemory),
+        },
     }
 }

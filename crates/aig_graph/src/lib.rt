@@ -28,7 +28,7 @@ pub use chosen_sets::chosen_law;
 pub use circuit::Circuit;
 pub use closed::{ClosedSet, is_closed};
 pub use graph::{Aig, Gate, Latch, Reset, reset_value};
-pub use holding::{KeepError, keep_by_names, keep_of};
+pub use holding::{HoldError, KeepError, hold, keep_by_names, keep_of};
 pub use keep::Keep;
 pub use laws::{set_laws, stream_laws, value_laws};
 pub use literal::{Lit, MAX_VARIABLES};

@@ -1,4 +1,3 @@
-mod HeldLaws
 mod MovingLaws
 mod PlainLaws
 mod PrintingLaws

@@ -5,12 +5,12 @@ ghost use Rattle.backward_commands.specs.Held.{held_for};
 ghost use Rattle.backward_commands.specs.Moving.{AnswersTask, IsAnswerOf, bound_of};
 ghost use Rattle.backward_commands.specs.Moving as wanted;
 
-use crate::holding::held_latches;
 use aig_binary::{Spelling, SpeltCircuit};
-use aig_graph::Circuit;
+use aig_graph::{Circuit, Keep};
 use backward_retiming::{MoveOptions, MovedBack, move_back};
 use circuit_counts::Counts;
 use circuit_files::{Failure, circuit_at};
+use command_endings::held_latches;
 use command_line::Moving;
 use counted_io::CountedRead;
 use frames::PathBound;
@@ -36,6 +36,14 @@ fn bound_of(bound: PathBound) -> Option<u32>
     }
 }
 
+/// The latches that the task holds.
+fn held_for<'a>(alloc: Global, circuit: &Circuit, task: &Moving<'a>) -> Result<Keep, Failure<'a>>
+    ensures { IfOk result (λ keep. keep ≡ held_for task.now circuit.now) }
+{
+    let positions = task.keep_latches.as_slice();
+    held_latches(alloc, circuit, task.input, task.keep.as_slice(), positions)
+}
+
 /// Moves the latches of the circuit that are not held.
 fn moved<'a>(alloc: Global, circuit: Circuit, task: &Moving<'a>) -> Result<MovedBack, Failure<'a>>
     ensures { IfOk result (IsAnswerTo circuit (held_for task.now circuit)
@@ -45,7 +53,7 @@ fn moved<'a>(alloc: Global, circuit: Circuit, task: &Moving<'a>) -> Result<Moved
         frames: task.frames,
         levels: bound_of(task.bound),
     };
-    match held_latches(alloc, &circuit, task) {
+    match held_for(alloc, &circuit, task) {
         Ok(keep) => {
             let moved = move_back(alloc, circuit, &keep, &options);
             drop(keep);

@@ -3,7 +3,6 @@
 #![tactic(auto)]
 
 mod answering;
-mod holding;
 mod lines;
 mod moving;
 mod object;

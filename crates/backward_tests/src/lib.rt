@@ -2,6 +2,8 @@
 #![tactic(auto)]
 
 #[cfg(test)]
+mod lifts;
+#[cfg(test)]
 mod rows;
 #[cfg(test)]
 mod wrong_drafts;

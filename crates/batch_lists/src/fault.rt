@@ -3,7 +3,7 @@ ghost use Rattle.std.specs.Prelude.{◌≡◌};
 use std::alloc::AllocFailed;
 use thiserror::Error;
 
-/// Why bytes were not read as a list. The number is the offset of the first byte of the line at fault.
+/// Why a list is refused. The number is the offset of the first byte of the line at fault.
 #[derive(Clone, Copy, Debug, PartialEq, Eq, Error)]
 pub enum ListError {
     /// A line isn't two paths in UTF-8 with one tab between.
@@ -12,6 +12,9 @@ pub enum ListError {
     /// There are more than 2^20 lines.
     #[error("TooLarge at {0}")]
     TooLarge(u64),
+    /// The file that a line writes is that of a line before it, by whatever paths.
+    #[error("SameFile at {0}")]
+    SameFile(u64),
     /// Memory was refused.
     #[error("out of memory")]
     NoMemory,
@@ -28,6 +31,7 @@ impl ListError {
             ListError::BadLine(_) => 1,
             ListError::TooLarge(_) => 2,
             ListError::NoMemory => 3,
+            ListError::SameFile(_) => 4,
         }
     }
 
@@ -38,6 +42,7 @@ impl ListError {
         match self {
             ListError::BadLine(_) => "BadLine",
             ListError::TooLarge(_) => "TooLarge",
+            ListError::SameFile(_) => "SameFile",
             ListError::NoMemory => "NoMemory",
         }
     }
@@ -47,7 +52,7 @@ impl ListError {
         ensures { result ≡ offset_of self }
     {
         match self {
-            ListError::BadLine(at) | ListError::TooLarge(at) => Some(at),
+            ListError::BadLine(at) | ListError::TooLarge(at) | ListError::SameFile(at) => Some(at),
             ListError::NoMemory => None,
         }
     }

@@ -13,7 +13,7 @@ use Rattle.frames.specs.declared.errors.BytesError.{BytesError}
 use Rattle.frames.specs.declared.errors.BytesError.TheVariants.{Read, Retime, Write}
 use Rattle.frames.specs.declared.errors.RetimeError.TheVariants as retiming
 use Rattle.frames.specs.Bounds.{bound_in}
-use Rattle.frames.specs.Named.{names_in}
+use Rattle.frames.specs.Named.{holding_in}
 use Rattle.frames.specs.Answering.{IsAnswered, IsBytesError, text_for}
 use Rattle.batch_pool.specs.declared.job.Outcome.{Outcome}
 use Rattle.batch_pool.specs.declared.job.Outcome.TheVariants as outcomes
@@ -35,6 +35,7 @@ pub no_answer : (bytes : List ℕ) (options : Options) (e : BytesError) (old new
 no_answer bytes options (Read fault) old new before after known why = refuses bytes options fault old new known why.0
 no_answer bytes options (Retime retiming.NoMemory) old new before after known why = tt
 no_answer bytes options (Retime (retiming.NoSuchName place)) old new before after known why = record { circuit = why.spelt.circuit; read = why.spells.circuit.bytes bytes known; missing = why.stop.1 }
+no_answer bytes options (Retime (retiming.NoSuchLatch place)) old new before after known why = record { circuit = why.spelt.circuit; read = why.spells.circuit.bytes bytes known; no_latch = why.stop.1 }
 no_answer bytes options (Write e) old new before after known why = tt
 
 -- a text that was written where there was none is the text of the answer
@@ -51,7 +52,7 @@ an_answer bytes text options r old before after known empty full answered =
       answer = answered.written.answer;
       text_is = writes;
       reads_back = answered.reads_back bytes known;
-      before_is = read-latches options.merge (bound_in options answered.spelt.circuit) options.choice answered.spelt.circuit (names_in options) options.max_frames options.certify r answered.written.answer.retimed;
+      before_is = read-latches options.merge (bound_in options answered.spelt.circuit) options.choice answered.spelt.circuit (holding_in options) options.max_frames options.certify r answered.written.answer.retimed;
       after_is = refl;
       frames_is = refl;
     }

@@ -7,11 +7,11 @@ use Rattle.aig_binary.specs.Spellings.{spelling_of, read_any}
 use Rattle.aig_binary.specs.declared.reading.SpeltCircuit.{SpeltCircuit}
 use Rattle.retimed_circuits.specs.declared.report.Retimed.{Retimed}
 use Rattle.frames.specs.declared.options.Options.{Options}
-use Rattle.frames.specs.Named.{IsFirstMissingBy}
+use Rattle.frames.specs.Named.{IsFirstMissingBy, IsFirstNoLatchBy}
 use Rattle.frames.specs.Answering.{IsAnswer, ReadsBack, text_for}
 use Rattle.batch_pool.specs.declared.job.Job.{Job}
 use Rattle.batch_pool.specs.declared.job.Outcome.{Outcome}
-use Rattle.batch_pool.specs.declared.job.Outcome.TheVariants.{Done, Refused, NoMemory, NoSuchName}
+use Rattle.batch_pool.specs.declared.job.Outcome.TheVariants.{Done, Refused, NoMemory, NoSuchLatch, NoSuchName}
 
 -- the bytes are those of a circuit in a spelling, and this is its text retimed, which is read as the retimed circuit
 pub record IsDone (bytes : List ℕ) (options : Options) (text : List ℕ) (before after frames : ℕ) : Type 0 where
@@ -37,12 +37,19 @@ pub record IsUnnamed (bytes : List ℕ) (options : Options) (place : ℕ) : Type
   pub read : read_any bytes ≡ Ok circuit
   pub missing : IsFirstMissingBy options circuit place
 
+-- the bytes are those of a circuit, and the position at this place is the first that is that of no latch
+pub record IsUnplaced (bytes : List ℕ) (options : Options) (place : ℕ) : Type 0 where
+  pub circuit : Netlist
+  pub read : read_any bytes ≡ Ok circuit
+  pub no_latch : IsFirstNoLatchBy options circuit place
+
 -- what becomes of the bytes of a file; want of memory says nothing of them
 abbrev pub IsOutcome : List ℕ → Options → Outcome → Type 0
 IsOutcome bytes options (Done text before after frames) = IsDone bytes options text.items before after frames
 IsOutcome bytes options (Refused fault) = IsRefused bytes fault
 IsOutcome bytes options NoMemory = ⊤
 IsOutcome bytes options (NoSuchName place) = IsUnnamed bytes options place
+IsOutcome bytes options (NoSuchLatch place) = IsUnplaced bytes options place
 
 -- what becomes of each job, in their order
 pub record AreOutcomes (options : Options) (jobs : List Job) (outcomes : List Outcome) : Type 0 where

@@ -38,6 +38,8 @@ pub enum Outcome {
     NoMemory,
     /// The name at this place, from 0, of those whose latches are to be held is the first that no latch has.
     NoSuchName(usize),
+    /// The position at this place, from 0, of those whose latches are to be held is the first that is that of no latch.
+    NoSuchLatch(usize),
 }
 
 /// The outcome of a circuit that was retimed, and its text.
@@ -77,6 +79,7 @@ fn of_error(error: BytesError) -> Outcome
         BytesError::Read(fault) => of_fault(fault),
         BytesError::Retime(RetimeError::NoMemory) => Outcome::NoMemory,
         BytesError::Retime(RetimeError::NoSuchName(place)) => Outcome::NoSuchName(place),
+        BytesError::Retime(RetimeError::NoSuchLatch(place)) => Outcome::NoSuchLatch(place),
         BytesError::Write(_) => Outcome::NoMemory,
     }
 }

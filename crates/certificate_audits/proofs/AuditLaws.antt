@@ -1,23 +1,22 @@
 -- Audits, block after block.
 use Rattle.std.proofs.Common.{ℕ, ◌+◌, ◌≡◌, ◌≢◌, ◌<◌, ◌≤◌, suc, List, [], ◌∷◌, length, drop, get_or, nat_eq, true, false, refl, arith, ap, sym, ◌∙◌, subst, Option, Some, None, Result, Ok, Err}
 use Rattle.std.specs.Result.{IfOk}
+use Rattle.std.specs.List.{All}
 use Rattle.std.proofs.lemmas.List.{drop_all, drop_more, length-drop}
 use Rattle.aig_graph.specs.Circuits.{IsNetlist, Netlist}
 use Rattle.aig_graph.specs.Graph.{IsGraph, known_latches}
 use Rattle.certificates.specs.declared.certificate.Certificate.{Certificate}
 use Rattle.certificates.specs.declared.verdict.Verdict.TheVariants.{Yes}
 use Rattle.certificates.proofs.RouteLaws.{yes-law}
-use Rattle.aig_graph.specs.Keep.{held_in}
-use Rattle.retimed_circuits.specs.Names.{held_latches}
+use Rattle.retimed_circuits.specs.Certified.{passes_bounded, passes_whole}
 use Rattle.path_levels.specs.Arrivals.{IsClosedWithin}
 use Rattle.path_levels.specs.Bounded.{bounded}
 use Rattle.path_levels.proofs.BoundedLaws.{bounded-law}
-use Rattle.certificate_audits.specs.Audits.{passes_bounded, passes_whole}
 use Rattle.certificate_audits.specs.declared.outcome.Audit.{Audit}
 use Rattle.certificate_audits.specs.declared.outcome.End.{End}
 use Rattle.certificate_audits.specs.declared.outcome.End.TheVariants.{NoBlocks, Certified, Open, BlocksFollow, Objected}
 use Rattle.certificate_audits.specs.declared.outcome.Replay.{Replay}
-use Rattle.certificate_audits.specs.Audits.{Audits, IsConfirmed, IsVerdictIn, Saves, SavesNone, IsNext, IsAudit, IsMergedAudit, no_blocks, objected, open_end, certified_end, past_end, goes_on}
+use Rattle.certificate_audits.specs.Audits.{Audits, IsConfirmed, IsVerdictBy, Saves, IsNext, IsAudit, IsMergedAudit, no_blocks, objected, open_end, certified_end, past_end, goes_on}
 use Rattle.certificate_audits.specs.Findings.{EndsWith, GoesOn, IsLastOf}
 use Rattle.certificate_audits.specs.Replays.{EndIn, IsLast, IsMergedReplay, IsReplay, Replays, no_more, at_end, after_move}
 use Rattle.certificate_audits.specs.Laws.{IsLeastIn, NoneSmallerIn, AreLeast, IsCertified, itself, last, move, narrowed}
@@ -31,30 +30,31 @@ filled [] some = absurd (some refl)
 filled (x ∷ xs) some = omega arith
 
 -- no more blocks are confirmed than there are
-pub audits-within : (bound : Option ℕ) (names : List (List ℕ)) (c : Netlist) (blocks : List Certificate) (n : ℕ) (end : End) → Audits bound names c blocks n end → n ≤ length blocks
-audits-within bound names _ _ _ _ (no_blocks c) = omega arith
-audits-within bound names _ _ _ _ (objected c block rest objection verdict) = omega arith
-audits-within bound names _ _ _ _ (open_end c block saves) = omega arith
-audits-within bound names _ _ _ _ (certified_end c block none) = omega arith
-audits-within bound names _ _ _ _ (past_end c block rest none follows) = omega arith
-audits-within bound names _ _ _ _ (goes_on c d block rest n end saves follows next more) = omega (arith, audits-within bound names d rest n end more)
+pub audits-within : (bound : Option ℕ) (held : List ℕ) (c : Netlist) (blocks : List Certificate) (n : ℕ) (end : End) → Audits bound held c blocks n end → n ≤ length blocks
+audits-within bound _ _ _ _ _ (no_blocks held c) = omega arith
+audits-within bound _ _ _ _ _ (objected held c block rest objection verdict) = omega arith
+audits-within bound _ _ _ _ _ (open_end held c block saves) = omega arith
+audits-within bound _ _ _ _ _ (certified_end held c block none) = omega arith
+audits-within bound _ _ _ _ _ (past_end held c block rest none follows) = omega arith
+audits-within bound _ _ _ _ _ (goes_on held now c d block rest n end saves follows next more) = omega (arith, audits-within bound now d rest n end more)
 
--- the blocks below k are confirmed and saved latches, and this is the circuit of the k-th one; where there are blocks, there is a k-th
-pub record LeadsTo (bound : Option ℕ) (names : List (List ℕ)) (first : Netlist) (blocks : List Certificate) (k : ℕ) (circuit : Netlist) : Type 0 where
+-- the blocks below k are confirmed and saved latches, and this is the circuit of the k-th one, with these latches held; where there are blocks,
+-- there is a k-th
+pub record LeadsTo (bound : Option ℕ) (held : List ℕ) (first : Netlist) (blocks : List Certificate) (k : ℕ) (now : List ℕ) (circuit : Netlist) : Type 0 where
   -- the audit of the blocks from k on is, with k more confirmed, that of all blocks
-  pub onward : (n : ℕ) (end : End) → Audits bound names circuit (drop k blocks) n end → Audits bound names first blocks (k + n) end
-  -- this circuit has the held latches of the first one
-  pub held : held_latches names circuit ≡ held_latches names first
+  pub onward : (n : ℕ) (end : End) → Audits bound now circuit (drop k blocks) n end → Audits bound held first blocks (k + n) end
+  -- the held latches are among the circuit's
+  pub in_range : All (λ j. j < length circuit.aig.latches) now
   -- where there are blocks, there is one at place k
   pub another : 0 < length blocks → k < length blocks
   -- what the blocks from k on end in, all blocks end in
-  pub makes : (e : Netlist) → EndIn bound names circuit (drop k blocks) e → EndIn bound names first blocks e
+  pub makes : (e : Netlist) → EndIn bound now circuit (drop k blocks) e → EndIn bound held first blocks e
 
 -- before the first block the circuit is the first one
-pub leads-first : (bound : Option ℕ) (names : List (List ℕ)) (first : Netlist) (blocks : List Certificate) → LeadsTo bound names first blocks 0 first
-leads-first bound names first blocks = record {
-  onward = λ n end audits. let same : n ≡ 0 + n = omega arith in subst (λ (m : ℕ). Audits bound names first blocks m end) same audits;
-  held = refl;
+pub leads-first : (bound : Option ℕ) (held : List ℕ) (first : Netlist) (blocks : List Certificate) → All (λ j. j < length first.aig.latches) held → LeadsTo bound held first blocks 0 held first
+leads-first bound held first blocks in_range = record {
+  onward = λ n end audits. let same : n ≡ 0 + n = omega arith in subst (λ (m : ℕ). Audits bound held first blocks m end) same audits;
+  in_range = in_range;
   another = λ some. some;
   makes = λ e ends. ends;
 }
@@ -64,146 +64,147 @@ here : (blocks : List Certificate) (k : ℕ) (block : Certificate) → k < lengt
 here blocks k block within there = drop_more blocks k block within ∙ ap (λ (b : Certificate). b ∷ drop (k + 1) blocks) (sym there)
 
 -- a block that saves latches, and that others follow, leads on to the circuit that its move makes
-pub leads-next : (bound : Option ℕ) (names : List (List ℕ)) (first circuit d : Netlist) (blocks : List Certificate) (k : ℕ) (block : Certificate) → k < length blocks → block ≡ get_or blocks k block
-    → GoesOn bound names circuit block (drop (k + 1) blocks) → IsNext names circuit block d → held_latches names d ≡ held_latches names circuit
-    → LeadsTo bound names first blocks k circuit → LeadsTo bound names first blocks (k + 1) d
-leads-next bound names first circuit d blocks k block within there goes next held leads = record {
+pub leads-next : (bound : Option ℕ) (held now later : List ℕ) (first circuit d : Netlist) (blocks : List Certificate) (k : ℕ) (block : Certificate) → k < length blocks → block ≡ get_or blocks k block
+    → GoesOn bound now circuit block (drop (k + 1) blocks) → IsNext now circuit block d later → All (λ j. j < length d.aig.latches) later
+    → LeadsTo bound held first blocks k now circuit → LeadsTo bound held first blocks (k + 1) later d
+leads-next bound held now later first circuit d blocks k block within there goes next in_range leads = record {
   onward = λ n end audits.
       let rest : List Certificate = drop (k + 1) blocks in
-      let all : Audits bound names circuit (drop k blocks) (suc n) end =
-      subst (λ (bs : List Certificate). Audits bound names circuit bs (suc n) end) (sym (here blocks k block within there)) (goes_on circuit d block rest n end goes.saves goes.follows next audits) in
+      let all : Audits bound now circuit (drop k blocks) (suc n) end =
+      subst (λ (bs : List Certificate). Audits bound now circuit bs (suc n) end) (sym (here blocks k block within there)) (goes_on now later circuit d block rest n end goes.saves goes.follows next audits) in
       let same : k + suc n ≡ k + 1 + n = omega arith in
-      subst (λ (m : ℕ). Audits bound names first blocks m end) same (leads.onward (suc n) end all);
-  held = held ∙ leads.held;
+      subst (λ (m : ℕ). Audits bound held first blocks m end) same (leads.onward (suc n) end all);
+  in_range = in_range;
   another = λ some. omega (arith, filled (drop (k + 1) blocks) goes.follows, length-drop (k + 1) blocks);
   makes = λ e ends.
       let rest : List Certificate = drop (k + 1) blocks in
-      leads.makes e (subst (λ (bs : List Certificate). EndIn bound names circuit bs e) (sym (here blocks k block within there)) (after_move circuit d e block rest goes.saves next ends));
+      leads.makes e (subst (λ (bs : List Certificate). EndIn bound now circuit bs e) (sym (here blocks k block within there)) (after_move now later circuit d e block rest goes.saves next ends));
 }
 
 -- what the audit finds from this block on ends, with k more confirmed, the audit of all blocks
-pub ends-at : (bound : Option ℕ) (names : List (List ℕ)) (first circuit : Netlist) (blocks : List Certificate) (k : ℕ) (block : Certificate) (n : ℕ) (end : End) → k < length blocks
-    → block ≡ get_or blocks k block → Audits bound names circuit (block ∷ drop (k + 1) blocks) n end → LeadsTo bound names first blocks k circuit → Audits bound names first blocks (k + n) end
-ends-at bound names first circuit blocks k block n end within there audits leads =
-    leads.onward n end (subst (λ (bs : List Certificate). Audits bound names circuit bs n end) (sym (here blocks k block within there)) audits)
+pub ends-at : (bound : Option ℕ) (held now : List ℕ) (first circuit : Netlist) (blocks : List Certificate) (k : ℕ) (block : Certificate) (n : ℕ) (end : End) → k < length blocks
+    → block ≡ get_or blocks k block → Audits bound now circuit (block ∷ drop (k + 1) blocks) n end → LeadsTo bound held first blocks k now circuit → Audits bound held first blocks (k + n) end
+ends-at bound held now first circuit blocks k block n end within there audits leads =
+    leads.onward n end (subst (λ (bs : List Certificate). Audits bound now circuit bs n end) (sym (here blocks k block within there)) audits)
 
 -- the loop ends by itself only where there is no block
-pub none-left : (bound : Option ℕ) (names : List (List ℕ)) (first circuit : Netlist) (blocks : List Certificate) (k : ℕ) → length blocks ≤ k → LeadsTo bound names first blocks k circuit → Audits bound names first blocks 0 NoBlocks
-none-left bound names first circuit [] k past leads = no_blocks first
-none-left bound names first circuit (block ∷ rest) k past leads = absurd (omega (arith, past, leads.another (omega arith)))
+pub none-left : (bound : Option ℕ) (held now : List ℕ) (first circuit : Netlist) (blocks : List Certificate) (k : ℕ) → length blocks ≤ k → LeadsTo bound held first blocks k now circuit → Audits bound held first blocks 0 NoBlocks
+none-left bound held now first circuit [] k past leads = no_blocks held first
+none-left bound held now first circuit (block ∷ rest) k past leads = absurd (omega (arith, past, leads.another (omega arith)))
 
 -- ---- what blocks end in
 
 -- what ends with a block of c is an audit of it and of those after it
-pub ends-audits : (bound : Option ℕ) (names : List (List ℕ)) (c : Netlist) (block : Certificate) (rest : List Certificate) (n : ℕ) (end : End) → EndsWith bound names c block rest n end → Audits bound names c (block ∷ rest) n end
-ends-audits bound names c block rest n NoBlocks p = absurd p
-ends-audits bound names c block rest n (Objected objection) p = subst (λ (m : ℕ). Audits bound names c (block ∷ rest) m (Objected objection)) (sym p.0) (objected c block rest objection p.1)
-ends-audits bound names c block rest n Open p =
-    let P : ℕ → List Certificate → Type 0 = λ m bs. Audits bound names c (block ∷ bs) m Open in subst (λ (m : ℕ). P m rest) (sym p.0) (subst (P 1) (sym p.2) (open_end c block p.1))
-ends-audits bound names c block rest n Certified p =
-    let P : ℕ → List Certificate → Type 0 = λ m bs. Audits bound names c (block ∷ bs) m Certified in subst (λ (m : ℕ). P m rest) (sym p.0) (subst (P 1) (sym p.2) (certified_end c block p.1))
-ends-audits bound names c block rest n BlocksFollow p = subst (λ (m : ℕ). Audits bound names c (block ∷ rest) m BlocksFollow) (sym p.0) (past_end c block rest p.1 p.2)
+pub ends-audits : (bound : Option ℕ) (held : List ℕ) (c : Netlist) (block : Certificate) (rest : List Certificate) (n : ℕ) (end : End) → EndsWith bound held c block rest n end → Audits bound held c (block ∷ rest) n end
+ends-audits bound held c block rest n NoBlocks p = absurd p
+ends-audits bound held c block rest n (Objected objection) p = subst (λ (m : ℕ). Audits bound held c (block ∷ rest) m (Objected objection)) (sym p.0) (objected held c block rest objection p.1)
+ends-audits bound held c block rest n Open p =
+    let P : ℕ → List Certificate → Type 0 = λ m bs. Audits bound held c (block ∷ bs) m Open in subst (λ (m : ℕ). P m rest) (sym p.0) (subst (P 1) (sym p.2) (open_end held c block p.1))
+ends-audits bound held c block rest n Certified p =
+    let P : ℕ → List Certificate → Type 0 = λ m bs. Audits bound held c (block ∷ bs) m Certified in subst (λ (m : ℕ). P m rest) (sym p.0) (subst (P 1) (sym p.2) (certified_end held c block p.1))
+ends-audits bound held c block rest n BlocksFollow p = subst (λ (m : ℕ). Audits bound held c (block ∷ rest) m BlocksFollow) (sym p.0) (past_end held c block rest p.1 p.2)
 
 -- and the circuit at which it ends is what the block and those after it end in
-pub ends-last : (bound : Option ℕ) (names : List (List ℕ)) (c : Netlist) (block : Certificate) (rest : List Certificate) (n : ℕ) (end : End) (made : Option Netlist) → EndsWith bound names c block rest n end
-    → IsLastOf names c block end made → IsLast bound names c (block ∷ rest) end made
-ends-last bound names c block rest n NoBlocks made p is = absurd p
-ends-last bound names c block rest n Open (Some d) p is = after_move c d d block rest p.1 is (subst (λ (bs : List Certificate). EndIn bound names d bs d) (sym p.2) (no_more d))
-ends-last bound names c block rest n Open None p is = is
-ends-last bound names c block rest n Certified (Some d) p is =
-    let P : List Certificate → Netlist → Type 0 = λ bs e. EndIn bound names c (block ∷ bs) e in subst (λ (e : Netlist). P rest e) (sym is) (subst (λ (bs : List Certificate). P bs c) (sym p.2) (at_end c block p.1))
-ends-last bound names c block rest n Certified None p is = is
-ends-last bound names c block rest n BlocksFollow (Some d) p is = absurd is
-ends-last bound names c block rest n BlocksFollow None p is = is
-ends-last bound names c block rest n (Objected objection) (Some d) p is = absurd is
-ends-last bound names c block rest n (Objected objection) None p is = is
+pub ends-last : (bound : Option ℕ) (held : List ℕ) (c : Netlist) (block : Certificate) (rest : List Certificate) (n : ℕ) (end : End) (made : Option Netlist) → EndsWith bound held c block rest n end
+    → IsLastOf held c block end made → IsLast bound held c (block ∷ rest) end made
+ends-last bound held c block rest n NoBlocks made p is = absurd p
+ends-last bound held c block rest n Open (Some d) p is = after_move held is.0 c d d block rest p.1 is.1 (subst (λ (bs : List Certificate). EndIn bound is.0 d bs d) (sym p.2) (no_more is.0 d))
+ends-last bound held c block rest n Open None p is = is
+ends-last bound held c block rest n Certified (Some d) p is =
+    let P : List Certificate → Netlist → Type 0 = λ bs e. EndIn bound held c (block ∷ bs) e in subst (λ (e : Netlist). P rest e) (sym is) (subst (λ (bs : List Certificate). P bs c) (sym p.2) (at_end held c block p.1))
+ends-last bound held c block rest n Certified None p is = is
+ends-last bound held c block rest n BlocksFollow (Some d) p is = absurd is
+ends-last bound held c block rest n BlocksFollow None p is = is
+ends-last bound held c block rest n (Objected objection) (Some d) p is = absurd is
+ends-last bound held c block rest n (Objected objection) None p is = is
 
 -- what the blocks from k on end in, all blocks end in, where nothing speaks against one
-all-last : (bound : Option ℕ) (names : List (List ℕ)) (first circuit : Netlist) (blocks : List Certificate) (k : ℕ) (block : Certificate) (end : End) (made : Option Netlist) → k < length blocks
-    → block ≡ get_or blocks k block → LeadsTo bound names first blocks k circuit → IsLast bound names circuit (block ∷ drop (k + 1) blocks) end made → IsLast bound names first blocks end made
-all-last bound names first circuit blocks k block end None within there leads is = is
-all-last bound names first circuit blocks k block end (Some d) within there leads is =
-    leads.makes d (subst (λ (bs : List Certificate). EndIn bound names circuit bs d) (sym (here blocks k block within there)) is)
+all-last : (bound : Option ℕ) (held now : List ℕ) (first circuit : Netlist) (blocks : List Certificate) (k : ℕ) (block : Certificate) (end : End) (made : Option Netlist) → k < length blocks
+    → block ≡ get_or blocks k block → LeadsTo bound held first blocks k now circuit → IsLast bound now circuit (block ∷ drop (k + 1) blocks) end made → IsLast bound held first blocks end made
+all-last bound held now first circuit blocks k block end None within there leads is = is
+all-last bound held now first circuit blocks k block end (Some d) within there leads is =
+    leads.makes d (subst (λ (bs : List Certificate). EndIn bound now circuit bs d) (sym (here blocks k block within there)) is)
 
 -- a replay that ends with the k-th block is that of all blocks
-replays-at : (bound : Option ℕ) (names : List (List ℕ)) (first circuit : Netlist) (blocks : List Certificate) (k : ℕ) (block : Certificate) (n : ℕ) (end : End) (replay : Replay) → k < length blocks
-    → block ≡ get_or blocks k block → EndsWith bound names circuit block (drop (k + 1) blocks) n end → LeadsTo bound names first blocks k circuit
-    → replay.audit ≡ record { confirmed = k + n; end = end } → IsLastOf names circuit block end replay.last → Replays bound names first blocks replay
-replays-at bound names first circuit blocks k block n end replay within there ends leads found made =
+replays-at : (bound : Option ℕ) (held now : List ℕ) (first circuit : Netlist) (blocks : List Certificate) (k : ℕ) (block : Certificate) (n : ℕ) (end : End) (replay : Replay) → k < length blocks
+    → block ≡ get_or blocks k block → EndsWith bound now circuit block (drop (k + 1) blocks) n end → LeadsTo bound held first blocks k now circuit
+    → replay.audit ≡ record { confirmed = k + n; end = end } → IsLastOf now circuit block end replay.last → Replays bound held first blocks replay
+replays-at bound held now first circuit blocks k block n end replay within there ends leads found made =
     let rest : List Certificate = drop (k + 1) blocks in
-    let audits : Audits bound names first blocks (k + n) end = ends-at bound names first circuit blocks k block n end within there (ends-audits bound names circuit block rest n end ends) leads in
-    let is : IsLast bound names first blocks end replay.last = all-last bound names first circuit blocks k block end replay.last within there leads (ends-last bound names circuit block rest n end replay.last ends made) in
+    let audits : Audits bound held first blocks (k + n) end = ends-at bound held now first circuit blocks k block n end within there (ends-audits bound now circuit block rest n end ends) leads in
+    let is : IsLast bound held first blocks end replay.last = all-last bound held now first circuit blocks k block end replay.last within there leads (ends-last bound now circuit block rest n end replay.last ends made) in
     record {
-      audits = subst (λ (a : Audit). Audits bound names first blocks a.confirmed a.end) (sym found) audits;
-      last = subst (λ (a : Audit). IsLast bound names first blocks a.end replay.last) (sym found) is;
+      audits = subst (λ (a : Audit). Audits bound held first blocks a.confirmed a.end) (sym found) audits;
+      last = subst (λ (a : Audit). IsLast bound held first blocks a.end replay.last) (sym found) is;
     }
 
 -- the same of one that was made, unless memory was wanting
-pub replayed-at : {E : Type 0} (bound : Option ℕ) (names : List (List ℕ)) (first circuit : Netlist) (blocks : List Certificate) (k : ℕ) (block : Certificate) (n : ℕ) (end : End) (result : Result Replay E) → k < length blocks
-    → block ≡ get_or blocks k block → EndsWith bound names circuit block (drop (k + 1) blocks) n end → LeadsTo bound names first blocks k circuit
-    → IfOk result (λ replay. replay.audit ≡ record { confirmed = k + n; end = end }) → IfOk result (λ replay. IsLastOf names circuit block end replay.last)
-    → IfOk result (Replays bound names first blocks)
-replayed-at bound names first circuit blocks k block n end (Ok replay) within there ends leads found made = replays-at bound names first circuit blocks k block n end replay within there ends leads found made
-replayed-at bound names first circuit blocks k block n end (Err error) within there ends leads found made = tt
+pub replayed-at : {E : Type 0} (bound : Option ℕ) (held now : List ℕ) (first circuit : Netlist) (blocks : List Certificate) (k : ℕ) (block : Certificate) (n : ℕ) (end : End) (result : Result Replay E) → k < length blocks
+    → block ≡ get_or blocks k block → EndsWith bound now circuit block (drop (k + 1) blocks) n end → LeadsTo bound held first blocks k now circuit
+    → IfOk result (λ replay. replay.audit ≡ record { confirmed = k + n; end = end }) → IfOk result (λ replay. IsLastOf now circuit block end replay.last)
+    → IfOk result (Replays bound held first blocks)
+replayed-at bound held now first circuit blocks k block n end (Ok replay) within there ends leads found made = replays-at bound held now first circuit blocks k block n end replay within there ends leads found made
+replayed-at bound held now first circuit blocks k block n end (Err error) within there ends leads found made = tt
 
 -- where there is no block, they end in the circuit
-pub replays-none : (bound : Option ℕ) (names : List (List ℕ)) (first circuit : Netlist) (blocks : List Certificate) (k : ℕ) → length blocks ≤ k → LeadsTo bound names first blocks k circuit
-    → Replays bound names first blocks (record { audit = record { confirmed = 0; end = NoBlocks }; last = Some circuit })
-replays-none bound names first circuit blocks k past leads = record {
-  audits = none-left bound names first circuit blocks k past leads;
-  last = leads.makes circuit (subst (λ (bs : List Certificate). EndIn bound names circuit bs circuit) (sym (drop_all k blocks past)) (no_more circuit));
+pub replays-none : (bound : Option ℕ) (held now : List ℕ) (first circuit : Netlist) (blocks : List Certificate) (k : ℕ) (made : Netlist) → made ≡ circuit → length blocks ≤ k → LeadsTo bound held first blocks k now circuit
+    → Replays bound held first blocks (record { audit = record { confirmed = 0; end = NoBlocks }; last = Some made })
+replays-none bound held now first circuit blocks k made same past leads = record {
+  audits = none-left bound held now first circuit blocks k past leads;
+  last = subst (λ (d : Netlist). EndIn bound held first blocks d) (sym same)
+      (leads.makes circuit (subst (λ (bs : List Certificate). EndIn bound now circuit bs circuit) (sym (drop_all k blocks past)) (no_more now circuit)));
 }
 
 -- where the audit is open, the block that ended it saves latches
-pub still-saves : (bound : Option ℕ) (names : List (List ℕ)) (c : Netlist) (block : Certificate) (rest : List Certificate) (n : ℕ) (end : End) → EndsWith bound names c block rest n end → end ≡ Open → Saves bound names c block
-still-saves bound names c block rest n end ends is_open = let is : EndsWith bound names c block rest n Open = subst (λ (e : End). EndsWith bound names c block rest n e) is_open ends in is.1
+pub still-saves : (bound : Option ℕ) (held : List ℕ) (c : Netlist) (block : Certificate) (rest : List Certificate) (n : ℕ) (end : End) → EndsWith bound held c block rest n end → end ≡ Open → Saves bound held c block
+still-saves bound held c block rest n end ends is_open = let is : EndsWith bound held c block rest n Open = subst (λ (e : End). EndsWith bound held c block rest n e) is_open ends in is.1
 
 -- the audit of a replay
-pub replay-audit : (bound : Option ℕ) (names : List (List ℕ)) (c : Netlist) (blocks : List Certificate) (replay : Replay) → IsReplay bound names c blocks replay → IsAudit bound names c blocks replay.audit
-replay-audit bound names c blocks replay is = record { first = is.first; kept = is.kept; cleaned = is.cleaned; audits = is.replays.audits }
+pub replay-audit : (bound : Option ℕ) (held : List ℕ) (c : Netlist) (blocks : List Certificate) (replay : Replay) → IsReplay bound held c blocks replay → IsAudit bound held c blocks replay.audit
+replay-audit bound held c blocks replay is = record { first = is.first; kept = is.kept; now = is.now; cleaned = is.cleaned; audits = is.replays.audits }
 
 -- and that of one of what c is merged to
-pub merged-replay-audit : (bound : Option ℕ) (names : List (List ℕ)) (c : Netlist) (blocks : List Certificate) (replay : Replay) → IsMergedReplay bound names c blocks replay → IsMergedAudit bound names c blocks replay.audit
-merged-replay-audit bound names c blocks replay is = record { start = is.start; kept = is.kept; counts = is.counts; merges = is.merges; of_start = replay-audit bound names is.start blocks replay is.of_start }
+pub merged-replay-audit : (bound : Option ℕ) (held : List ℕ) (c : Netlist) (blocks : List Certificate) (replay : Replay) → IsMergedReplay bound held c blocks replay → IsMergedAudit bound held c blocks replay.audit
+merged-replay-audit bound held c blocks replay is = record { start = is.start; kept = is.kept; start_held = is.start_held; counts = is.counts; merges = is.merges; of_start = replay-audit bound is.start_held is.start blocks replay is.of_start }
 
 -- ---- what an audit shows
 
 -- a block that passes has a set that is closed in c, and the count of that
-pub confirmed-by : (bound : Option ℕ) (names : List (List ℕ)) (c : Netlist) (block : Certificate) → IsGraph c.aig → IsNetlist c → IsVerdictIn bound names c block Yes → IsConfirmed bound names c block
-confirmed-by None names c block graph netlist v = record { passes = v; closed = v.0; counted = v.3.of_border }
-confirmed-by (Some bound) names c block graph netlist (passes_whole v) = record { passes = passes_whole v; closed = v.0; counted = v.3.of_border }
-confirmed-by (Some bound) names c block graph netlist (passes_bounded v) =
-    let law = bounded-law bound (held_in names c) c graph netlist in
-    let within : IsClosedWithin bound c.aig (held_in names c) block.gates = (law.closed block.gates).0 v.0 in
+pub confirmed-by : (bound : Option ℕ) (held : List ℕ) (c : Netlist) (block : Certificate) → IsGraph c.aig → IsNetlist c → IsVerdictBy bound held c block Yes → IsConfirmed bound held c block
+confirmed-by None held c block graph netlist v = record { passes = v; closed = v.0; counted = v.3.of_border }
+confirmed-by (Some bound) held c block graph netlist (passes_whole v) = record { passes = passes_whole v; closed = v.0; counted = v.3.of_border }
+confirmed-by (Some bound) held c block graph netlist (passes_bounded v) =
+    let law = bounded-law bound held c graph netlist in
+    let within : IsClosedWithin bound c.aig held block.gates = (law.closed block.gates).0 v.0 in
     record { passes = passes_bounded v; closed = within.closed; counted = v.3.of_border ∙ law.border block.gates within }
 
 -- and that is a least set of c, or of c bounded
-least-in : (bound : Option ℕ) (names : List (List ℕ)) (c : Netlist) (block : Certificate) → IsVerdictIn bound names c block Yes → (d : Netlist) × IsLeastIn bound names c d block
-least-in None names c block v = let shown = yes-law c (held_in names c) block v in (c, record { searched = itself None; least = shown.0; counted = shown.1 })
-least-in (Some bound) names c block (passes_whole v) =
-    let shown = yes-law c (held_in names c) block v in (c, record { searched = itself (Some bound); least = shown.0; counted = shown.1 })
-least-in (Some bound) names c block (passes_bounded v) =
-    let shown = yes-law (bounded bound (held_in names c) c) (held_in names c) block v in
-    (bounded bound (held_in names c) c, record { searched = narrowed bound; least = shown.0; counted = shown.1 })
+least-in : (bound : Option ℕ) (held : List ℕ) (c : Netlist) (block : Certificate) → IsVerdictBy bound held c block Yes → (d : Netlist) × IsLeastIn bound held c d block
+least-in None held c block v = let shown = yes-law c held block v in (c, record { searched = itself None; least = shown.0; counted = shown.1 })
+least-in (Some bound) held c block (passes_whole v) =
+    let shown = yes-law c held block v in (c, record { searched = itself (Some bound); least = shown.0; counted = shown.1 })
+least-in (Some bound) held c block (passes_bounded v) =
+    let shown = yes-law (bounded bound held c) held block v in
+    (bounded bound held c, record { searched = narrowed bound; least = shown.0; counted = shown.1 })
 
-none-smaller : (bound : Option ℕ) (names : List (List ℕ)) (c d : Netlist) (block : Certificate) → IsLeastIn bound names c d block → known_latches c.aig ≤ block.count → NoneSmallerIn names c d
-none-smaller bound names c d block shown many r closed = let least = shown.least.least r closed in omega (arith, least, shown.counted, many)
+none-smaller : (bound : Option ℕ) (held : List ℕ) (c d : Netlist) (block : Certificate) → IsLeastIn bound held c d block → known_latches c.aig ≤ block.count → NoneSmallerIn held c d
+none-smaller bound held c d block shown many r closed = let least = shown.least.least r closed in omega (arith, least, shown.counted, many)
 
-certified : (bound : Option ℕ) (names : List (List ℕ)) (c : Netlist) (blocks : List Certificate) (n : ℕ) (end : End) → Audits bound names c blocks n end → end ≡ Certified → (n ≡ length blocks) × AreLeast bound names c blocks
-certified bound names _ _ _ _ (no_blocks c) e = absurd (cc)
-certified bound names _ _ _ _ (objected c block rest objection verdict) e = absurd (cc)
-certified bound names _ _ _ _ (open_end c block saves) e = absurd (cc)
-certified bound names _ _ _ _ (certified_end c block none) e = (
-    let shown = least-in bound names c block none.confirmed.passes in
-    (refl, last c shown.0 block shown.1 (none-smaller bound names c shown.0 block shown.1 none.no_fewer)))
-certified bound names _ _ _ _ (past_end c block rest none follows) e = absurd (cc)
-certified bound names _ _ _ _ (goes_on c d block rest n end saves follows next more) e =
-    let after = certified bound names d rest n end more e in
-    let shown = least-in bound names c block saves.confirmed.passes in
-    (ap suc after.0, move c shown.0 d block rest shown.1 saves.fewer next after.1)
+certified : (bound : Option ℕ) (held : List ℕ) (c : Netlist) (blocks : List Certificate) (n : ℕ) (end : End) → Audits bound held c blocks n end → end ≡ Certified → (n ≡ length blocks) × AreLeast bound held c blocks
+certified bound _ _ _ _ _ (no_blocks held c) e = absurd (cc)
+certified bound _ _ _ _ _ (objected held c block rest objection verdict) e = absurd (cc)
+certified bound _ _ _ _ _ (open_end held c block saves) e = absurd (cc)
+certified bound _ _ _ _ _ (certified_end held c block none) e = (
+    let shown = least-in bound held c block none.confirmed.passes in
+    (refl, last held c shown.0 block shown.1 (none-smaller bound held c shown.0 block shown.1 none.no_fewer)))
+certified bound _ _ _ _ _ (past_end held c block rest none follows) e = absurd (cc)
+certified bound _ _ _ _ _ (goes_on held now c d block rest n end saves follows next more) e =
+    let after = certified bound now d rest n end more e in
+    let shown = least-in bound held c block saves.confirmed.passes in
+    (ap suc after.0, move held now c shown.0 d block rest shown.1 saves.fewer next after.1)
 
 -- an audit that ends certified has confirmed all blocks, each with a least set, of which the last saves no latch
-pub certified-law : (bound : Option ℕ) (names : List (List ℕ)) (c : Netlist) (blocks : List Certificate) (audit : Audit) → IsAudit bound names c blocks audit → audit.end ≡ Certified → IsCertified bound names c blocks audit
-certified-law bound names c blocks audit is e =
-    let shown = certified bound names is.first blocks audit.confirmed audit.end is.audits e in
-    record { all_confirmed = shown.0; first = is.first; kept = is.kept; cleaned = is.cleaned; least = shown.1 }
+pub certified-law : (bound : Option ℕ) (held : List ℕ) (c : Netlist) (blocks : List Certificate) (audit : Audit) → IsAudit bound held c blocks audit → audit.end ≡ Certified → IsCertified bound held c blocks audit
+certified-law bound held c blocks audit is e =
+    let shown = certified bound is.now is.first blocks audit.confirmed audit.end is.audits e in
+    record { all_confirmed = shown.0; first = is.first; kept = is.kept; now = is.now; cleaned = is.cleaned; least = shown.1 }

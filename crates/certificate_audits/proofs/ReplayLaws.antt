@@ -1,23 +1,17 @@
 -- What blocks end in has the streams of the circuit.
-use Rattle.std.proofs.Common.{ℕ, ◌≤◌, List, Option, Some, None, arith}
+use Rattle.std.proofs.Common.{ℕ, List, Option, Some, None, arith}
 use Rattle.std.specs.Option.{IfSome}
-use Rattle.aig_graph.specs.declared.literal.TheConstants.{MAX_VARIABLES}
 use Rattle.aig_graph.specs.Circuits.{Netlist}
 use Rattle.aig_graph.specs.Closed.{IsClosedSet}
-use Rattle.aig_graph.specs.Graph.{variables_end}
-use Rattle.aig_graph.specs.Keep.{held_in}
 use Rattle.aig_graph.specs.Laws.{all_free, composed}
-use Rattle.aig_graph.specs.Move.{Move}
-use Rattle.aig_graph.proofs.GraphLaws.{room}
+use Rattle.aig_graph.specs.Move.{Move, move_of}
 use Rattle.aig_graph.proofs.StreamLaws.{same_streams-reflexive, same_streams-transitive}
 use Rattle.cleaned_circuits.proofs.PassLaws.{IsCircuit, IsCircuit-cleans, cleans-streams}
 use Rattle.merged_latches.proofs.MergingLaws.{IsGraph-merged_latches, IsNetlist-merged_latches, merged-streams}
-use Rattle.rebuild.specs.Moved.{moved_graph, moved_of}
-use Rattle.rebuild.proofs.FreeLaws.{moved-room}
-use Rattle.rebuild.proofs.MovedLaws.{IsGraph-moved}
-use Rattle.rebuild.proofs.NameLaws.{IsNetlist-moved}
+use Rattle.rebuild.specs.Moved.{moved_of}
 use Rattle.rebuild.proofs.StreamLaws.{same_streams}
-use Rattle.retimed_circuits.specs.Frames.{CleansIn, count_in, move_in}
+use Rattle.retimed_circuits.specs.Frames.{CleansTo, held_over}
+use Rattle.retimed_circuits.proofs.CircuitLaws.{moved-circuit}
 use Rattle.certificates.specs.declared.certificate.Certificate.{Certificate}
 use Rattle.certificate_audits.specs.declared.outcome.End.{End}
 use Rattle.certificate_audits.specs.declared.outcome.Replay.{Replay}
@@ -30,10 +24,10 @@ record Follows (c d : Netlist) : Type 0 where
   circuit : IsCircuit d
   streams : HasStreamsOf c d
 
-cleans-follows : (names : List (List ℕ)) (c d : Netlist) (kept : List ℕ) → IsCircuit c → CleansIn names c d kept → Follows c d
-cleans-follows names c d kept valid cleans = record {
-  circuit = IsCircuit-cleans d (held_in names c) c kept cleans valid;
-  streams = (kept, cleans-streams d (held_in names c) c kept cleans valid);
+cleans-follows : (held : List ℕ) (c d : Netlist) (kept now : List ℕ) → IsCircuit c → CleansTo held c d kept now → Follows c d
+cleans-follows held c d kept now valid cleans = record {
+  circuit = IsCircuit-cleans d held c kept cleans.cleans valid;
+  streams = (kept, cleans-streams d held c kept cleans.cleans valid);
 }
 
 follows-then : (c d e : Netlist) → Follows c d → Follows d e → Follows c e
@@ -42,47 +36,46 @@ follows-then c d e p q = record {
   streams = (composed p.streams.0 q.streams.0, same_streams-transitive c d e p.streams.0 q.streams.0 p.streams.1 q.streams.1);
 }
 
-next-follows : (bound : Option ℕ) (names : List (List ℕ)) (c d : Netlist) (block : Certificate) → IsCircuit c → Saves bound names c block → IsNext names c block d → Follows c d
-next-follows bound names c d block valid saves next =
-    let m : Move = move_in names c block.gates in
-    let set : IsClosedSet c.aig (held_in names c) block.gates = saves.confirmed.closed in
-    let small : variables_end (moved_graph m) ≤ MAX_VARIABLES = moved-room m set (room c.aig (count_in names c block.gates) valid.graph (omega (arith, saves.confirmed.counted, saves.fewer))) in
-    let moved : IsCircuit (moved_of m) = record { graph = IsGraph-moved m valid.graph set small; netlist = IsNetlist-moved m valid.graph set valid.netlist } in
+next-follows : (bound : Option ℕ) (held : List ℕ) (c d : Netlist) (block : Certificate) (now : List ℕ) → IsCircuit c → Saves bound held c block → IsNext held c block d now → Follows c d
+next-follows bound held c d block now valid saves next =
+    let m : Move = move_of c held block.gates in
+    let set : IsClosedSet c.aig held block.gates = saves.confirmed.closed in
+    let moved : IsCircuit (moved_of m) = moved-circuit held c block.gates valid set (omega (arith, saves.confirmed.counted, saves.fewer)) in
     let over : Follows c (moved_of m) = record { circuit = moved; streams = (all_free c.aig, same_streams m valid.graph valid.netlist set moved.graph) } in
-    follows-then c (moved_of m) d over (cleans-follows names (moved_of m) d next.kept moved next.cleaned)
+    follows-then c (moved_of m) d over (cleans-follows (held_over held c block.gates) (moved_of m) d next.kept now moved next.cleaned)
 
-end-follows : (bound : Option ℕ) (names : List (List ℕ)) (c : Netlist) (blocks : List Certificate) (e : Netlist) → IsCircuit c → EndIn bound names c blocks e → Follows c e
-end-follows bound names _ _ _ valid (no_more c) = record { circuit = valid; streams = (all_free c.aig, same_streams-reflexive c) }
-end-follows bound names _ _ _ valid (at_end c block none) = record { circuit = valid; streams = (all_free c.aig, same_streams-reflexive c) }
-end-follows bound names _ _ _ valid (after_move c d e block rest saves next more) =
-    let moved : Follows c d = next-follows bound names c d block valid saves next in
-    follows-then c d e moved (end-follows bound names d rest e moved.circuit more)
+end-follows : (bound : Option ℕ) (held : List ℕ) (c : Netlist) (blocks : List Certificate) (e : Netlist) → IsCircuit c → EndIn bound held c blocks e → Follows c e
+end-follows bound _ _ _ _ valid (no_more held c) = record { circuit = valid; streams = (all_free c.aig, same_streams-reflexive c) }
+end-follows bound _ _ _ _ valid (at_end held c block none) = record { circuit = valid; streams = (all_free c.aig, same_streams-reflexive c) }
+end-follows bound _ _ _ _ valid (after_move held now c d e block rest saves next more) =
+    let moved : Follows c d = next-follows bound held c d block now valid saves next in
+    follows-then c d e moved (end-follows bound now d rest e moved.circuit more)
 
-last-streams : (bound : Option ℕ) (names : List (List ℕ)) (c first : Netlist) (blocks : List Certificate) (end : End) (last : Option Netlist) → Follows c first → IsLast bound names first blocks end last → IfSome last (HasStreamsOf c)
-last-streams bound names c first blocks end None follows is = tt
-last-streams bound names c first blocks end (Some d) follows is = (follows-then c first d follows (end-follows bound names first blocks d follows.circuit is)).streams
+last-streams : (bound : Option ℕ) (held : List ℕ) (c first : Netlist) (blocks : List Certificate) (end : End) (last : Option Netlist) → Follows c first → IsLast bound held first blocks end last → IfSome last (HasStreamsOf c)
+last-streams bound held c first blocks end None follows is = tt
+last-streams bound held c first blocks end (Some d) follows is = (follows-then c first d follows (end-follows bound held first blocks d follows.circuit is)).streams
 
-replay-from : (bound : Option ℕ) (names : List (List ℕ)) (c start : Netlist) (blocks : List Certificate) (replay : Replay) → Follows c start → IsReplay bound names start blocks replay → IfSome replay.last (HasStreamsOf c)
-replay-from bound names c start blocks replay follows is =
-    last-streams bound names c is.first blocks replay.audit.end replay.last
-    (follows-then c start is.first follows (cleans-follows names start is.first is.kept follows.circuit is.cleaned)) is.replays.last
+replay-from : (bound : Option ℕ) (held : List ℕ) (c start : Netlist) (blocks : List Certificate) (replay : Replay) → Follows c start → IsReplay bound held start blocks replay → IfSome replay.last (HasStreamsOf c)
+replay-from bound held c start blocks replay follows is =
+    last-streams bound is.now c is.first blocks replay.audit.end replay.last
+    (follows-then c start is.first follows (cleans-follows held start is.first is.kept is.now follows.circuit is.cleaned)) is.replays.last
 
 -- what the blocks of a replay end in has the streams of the circuit
-pub replay-streams : (bound : Option ℕ) (names : List (List ℕ)) (c : Netlist) (blocks : List Certificate) → ReplayLaw bound names c blocks
-replay-streams bound names c blocks replay graph netlist is =
-    replay-from bound names c c blocks replay (record { circuit = record { graph = graph; netlist = netlist }; streams = (all_free c.aig, same_streams-reflexive c) }) is
+pub replay-streams : (bound : Option ℕ) (held : List ℕ) (c : Netlist) (blocks : List Certificate) → ReplayLaw bound held c blocks
+replay-streams bound held c blocks replay graph netlist is =
+    replay-from bound held c c blocks replay (record { circuit = record { graph = graph; netlist = netlist }; streams = (all_free c.aig, same_streams-reflexive c) }) is
 
 -- and so where latches were merged first
-pub merged-replay-streams : (bound : Option ℕ) (names : List (List ℕ)) (c : Netlist) (blocks : List Certificate) → MergedReplayLaw bound names c blocks
-merged-replay-streams bound names c blocks replay graph netlist is =
+pub merged-replay-streams : (bound : Option ℕ) (held : List ℕ) (c : Netlist) (blocks : List Certificate) → MergedReplayLaw bound held c blocks
+merged-replay-streams bound held c blocks replay graph netlist is =
     let clean : Netlist = is.merges.clean in
-    let held : List ℕ = held_in names clean in
-    let cleaned : Follows c clean = cleans-follows names c clean is.kept (record { graph = graph; netlist = netlist }) is.merges.cleaned in
+    let now : List ℕ = is.start_held in
+    let cleaned : Follows c clean = cleans-follows held c clean is.kept now (record { graph = graph; netlist = netlist }) is.merges.cleaned in
     let merged : Follows clean is.start = record {
       circuit = record {
-        graph = IsGraph-merged_latches held clean is.start cleaned.circuit.graph is.merges.merged;
-        netlist = IsNetlist-merged_latches held clean is.start cleaned.circuit.graph cleaned.circuit.netlist is.merges.merged;
+        graph = IsGraph-merged_latches now clean is.start cleaned.circuit.graph is.merges.merged;
+        netlist = IsNetlist-merged_latches now clean is.start cleaned.circuit.graph cleaned.circuit.netlist is.merges.merged;
       };
-      streams = (all_free clean.aig, merged-streams held clean is.start cleaned.circuit.graph cleaned.circuit.netlist is.merges.merged);
+      streams = (all_free clean.aig, merged-streams now clean is.start cleaned.circuit.graph cleaned.circuit.netlist is.merges.merged);
     } in
-    replay-from bound names c is.start blocks replay (follows-then c clean is.start cleaned merged) is.of_start
+    replay-from bound now c is.start blocks replay (follows-then c clean is.start cleaned merged) is.of_start

@@ -1,24 +1,23 @@
 -- There is one audit.
 use Rattle.std.proofs.Common.{ℕ, ◌≡◌, ◌≢◌, suc, List, [], ◌∷◌, Option, Some, None, refl, arith, ap, sym, ◌∙◌, subst}
 use Rattle.aig_graph.specs.Circuits.{Netlist}
-use Rattle.cleaned_circuits.proofs.CleanedLaws.{cleans-one}
 use Rattle.retimed_circuits.proofs.MergedRunLaws.{merges-one}
+use Rattle.retimed_circuits.proofs.RunLaws.{cleaned-one}
 use Rattle.certificates.specs.declared.certificate.Certificate.{Certificate}
 use Rattle.certificates.specs.declared.verdict.Verdict.{Verdict}
 use Rattle.certificates.specs.declared.verdict.Verdict.TheVariants.{Yes, No}
 use Rattle.certificates.specs.declared.verdict.Objection.{Objection}
 use Rattle.certificates.specs.declared.verdict.Objection.TheVariants.{NotClosed, BadRoute, UsedTwice, CountDiffers}
 use Rattle.certificates.specs.Verdicts.{IsVerdict}
-use Rattle.aig_graph.specs.Keep.{held_in}
 use Rattle.path_levels.specs.Bounded.{bounded}
-use Rattle.certificate_audits.specs.Audits.{PassesEither, passes_bounded, passes_whole}
-use Rattle.retimed_circuits.specs.Frames.{moved_in}
+use Rattle.retimed_circuits.specs.Certified.{PassesWithin, passes_bounded, passes_whole}
+use Rattle.retimed_circuits.specs.Frames.{held_over, moved_over}
 use Rattle.certificate_audits.specs.declared.judging.Finding.{Finding}
 use Rattle.certificate_audits.specs.declared.judging.Finding.TheVariants.{Objected, Fewer, NotFewer}
 use Rattle.certificate_audits.specs.declared.outcome.Audit.{Audit}
 use Rattle.certificate_audits.specs.declared.outcome.End.{End}
 use Rattle.certificate_audits.specs.declared.outcome.End.TheVariants as ending
-use Rattle.certificate_audits.specs.Audits.{FailsWithin, IsVerdictBy, IsVerdictIn, IsMergedAudit, Audits, IsNext, IsAudit, no_blocks, objected, open_end, certified_end, past_end, goes_on}
+use Rattle.certificate_audits.specs.Audits.{FailsWithin, IsVerdictBy, IsMergedAudit, Audits, IsNext, IsAudit, no_blocks, objected, open_end, certified_end, past_end, goes_on}
 use Rattle.certificate_audits.specs.Findings.{IsFinding}
 
 verdict-one : (c : Netlist) (held : List ℕ) (cert : Certificate) (v w : Verdict) → IsVerdict c held cert v → IsVerdict c held cert w → v ≡ w
@@ -53,23 +52,23 @@ finding_of Yes = Fewer
 finding_of (No objection) = Objected objection
 
 -- what passes doesn't fail
-passes-never-fails : (bound : ℕ) (c : Netlist) (held : List ℕ) (block : Certificate) (o : Objection) → PassesEither bound c held block → FailsWithin bound c held block o → ⊥
-passes-never-fails bound c held block o (passes_whole v) fails = let clash : Yes ≡ No o = verdict-one c held block Yes (No o) v fails.whole in absurd (cc)
-passes-never-fails bound c held block o (passes_bounded v) fails =
+passes-never-fails : (bound : ℕ) (held : List ℕ) (c : Netlist) (block : Certificate) (o : Objection) → PassesWithin bound held c block → FailsWithin bound held c block o → ⊥
+passes-never-fails bound held c block o (passes_whole v) fails = let clash : Yes ≡ No o = verdict-one c held block Yes (No o) v fails.whole in absurd (cc)
+passes-never-fails bound held c block o (passes_bounded v) fails =
     let clash : Yes ≡ No fails.other = verdict-one (bounded bound held c) held block Yes (No fails.other) v fails.bounded_too in absurd (cc)
 
-one-verdict-by : (bound : Option ℕ) (c : Netlist) (held : List ℕ) (block : Certificate) (v w : Verdict) → IsVerdictBy bound c held block v → IsVerdictBy bound c held block w → v ≡ w
-one-verdict-by None c held block v w p q = verdict-one c held block v w p q
-one-verdict-by (Some bound) c held block Yes Yes p q = refl
-one-verdict-by (Some bound) c held block Yes (No o) p q = absurd (passes-never-fails bound c held block o p q)
-one-verdict-by (Some bound) c held block (No o) Yes p q = absurd (passes-never-fails bound c held block o q p)
-one-verdict-by (Some bound) c held block (No o) (No r) p q = verdict-one c held block (No o) (No r) p.whole q.whole
+verdict-by-one : (bound : Option ℕ) (held : List ℕ) (c : Netlist) (block : Certificate) (v w : Verdict) → IsVerdictBy bound held c block v → IsVerdictBy bound held c block w → v ≡ w
+verdict-by-one None held c block v w p q = verdict-one c held block v w p q
+verdict-by-one (Some bound) held c block Yes Yes p q = refl
+verdict-by-one (Some bound) held c block Yes (No o) p q = absurd (passes-never-fails bound held c block o p q)
+verdict-by-one (Some bound) held c block (No o) Yes p q = absurd (passes-never-fails bound held c block o q p)
+verdict-by-one (Some bound) held c block (No o) (No r) p q = verdict-one c held block (No o) (No r) p.whole q.whole
 
-module _ (bound : Option ℕ) (names : List (List ℕ)) (c : Netlist) (block : Certificate) where
-  one-verdict : (v w : Verdict) → IsVerdictIn bound names c block v → IsVerdictIn bound names c block w → v ≡ w
-  one-verdict = one-verdict-by bound c (held_in names c) block
+module _ (bound : Option ℕ) (held : List ℕ) (c : Netlist) (block : Certificate) where
+  one-verdict : (v w : Verdict) → IsVerdictBy bound held c block v → IsVerdictBy bound held c block w → v ≡ w
+  one-verdict = verdict-by-one bound held c block
 
-  finding-one : (f g : Finding) → IsFinding bound names c block f → IsFinding bound names c block g → f ≡ g
+  finding-one : (f g : Finding) → IsFinding bound held c block f → IsFinding bound held c block g → f ≡ g
   finding-one (Objected o) (Objected r) p q = ap finding_of (one-verdict (No o) (No r) p q)
   finding-one (Objected o) Fewer p q = let clash : No o ≡ Yes = one-verdict (No o) Yes p q.confirmed.passes in absurd (cc)
   finding-one (Objected o) NotFewer p q = let clash : No o ≡ Yes = one-verdict (No o) Yes p q.confirmed.passes in absurd (cc)
@@ -83,9 +82,10 @@ module _ (bound : Option ℕ) (names : List (List ℕ)) (c : Netlist) (block : C
   -- the audit goes on behind the block
   record GoesTo (rest : List Certificate) (m : ℕ) (end : End) : Type 0 where
     d : Netlist
+    now : List ℕ
     n : ℕ
-    next : IsNext names c block d
-    more : Audits bound names d rest n end
+    next : IsNext held c block d now
+    more : Audits bound now d rest n end
     count : m ≡ suc n
 
   abbrev AfterFewer : List Certificate → ℕ → End → Type 0
@@ -104,7 +104,7 @@ module _ (bound : Option ℕ) (names : List (List ℕ)) (c : Netlist) (block : C
 
   record Found (rest : List Certificate) (m : ℕ) (end : End) : Type 0 where
     finding : Finding
-    is : IsFinding bound names c block finding
+    is : IsFinding bound held c block finding
     after : After finding rest m end
 
   past : (rest : List Certificate) → rest ≢ [] → AfterNotFewer rest 1 ending.BlocksFollow
@@ -116,13 +116,14 @@ module _ (bound : Option ℕ) (names : List (List ℕ)) (c : Netlist) (block : C
   onward (next ∷ rest) m end follows goes = goes
 
   abbrev Same : List Certificate → Type 0
-  Same rest = (d : Netlist) (n m : ℕ) (e f : End) → Audits bound names d rest n e → Audits bound names d rest m f → (n ≡ m) × (e ≡ f)
+  Same rest = (now : List ℕ) (d : Netlist) (n m : ℕ) (e f : End) → Audits bound now d rest n e → Audits bound now d rest m f → (n ≡ m) × (e ≡ f)
 
   goes-one : (rest : List Certificate) (n m : ℕ) (e f : End) → Same rest → GoesTo rest n e → GoesTo rest m f → (n ≡ m) × (e ≡ f)
   goes-one rest n m e f again p q =
-      let moved : Netlist = moved_in names c block.gates in
-      let same = cleans-one p.d (held_in names moved) moved p.next.kept p.next.cleaned q.d q.next.kept q.next.cleaned in
-      let ends = again p.d p.n q.n e f p.more (subst (λ (d : Netlist). Audits bound names d rest q.n f) (sym same.0) q.more) in
+      let same = cleaned-one (held_over held c block.gates) (moved_over held c block.gates) p.d q.d p.next.kept q.next.kept p.now q.now n n p.next.cleaned q.next.cleaned refl in
+      let P : List ℕ → Netlist → Type 0 = λ now d. Audits bound now d rest q.n f in
+      let other : P p.now p.d = subst (λ (now : List ℕ). P now p.d) (sym same.held) (subst (P q.now) (sym same.circuit) q.more) in
+      let ends = again p.now p.d p.n q.n e f p.more other in
       (p.count ∙ ap suc ends.0 ∙ sym q.count, ends.1)
 
   fewer-one : (rest : List Certificate) (n m : ℕ) (e f : End) → Same rest → AfterFewer rest n e → AfterFewer rest m f → (n ≡ m) × (e ≡ f)
@@ -144,34 +145,37 @@ module _ (bound : Option ℕ) (names : List (List ℕ)) (c : Netlist) (block : C
       after-one q.finding rest n m e f again (subst (λ (finding : Finding). After finding rest n e) same p.after) q.after
 
 -- an audit by its first block
-abbrev Viewed : Option ℕ → List (List ℕ) → Netlist → List Certificate → ℕ → End → Type 0
-Viewed bound names c [] m end = (m ≡ 0) × (end ≡ ending.NoBlocks)
-Viewed bound names c (block ∷ rest) m end = Found bound names c block rest m end
+abbrev Viewed : Option ℕ → List ℕ → Netlist → List Certificate → ℕ → End → Type 0
+Viewed bound held c [] m end = (m ≡ 0) × (end ≡ ending.NoBlocks)
+Viewed bound held c (block ∷ rest) m end = Found bound held c block rest m end
 
-viewed : (bound : Option ℕ) (names : List (List ℕ)) (c : Netlist) (blocks : List Certificate) (m : ℕ) (end : End) → Audits bound names c blocks m end → Viewed bound names c blocks m end
-viewed bound names _ _ _ _ (no_blocks c) = (refl, refl)
-viewed bound names _ _ _ _ (objected c block rest objection verdict) = record { finding = Objected objection; is = verdict; after = (refl, refl) }
-viewed bound names _ _ _ _ (open_end c block saves) = record { finding = Fewer; is = saves; after = (refl, refl) }
-viewed bound names _ _ _ _ (certified_end c block none) = record { finding = NotFewer; is = none; after = (refl, refl) }
-viewed bound names _ _ _ _ (past_end c block rest none follows) = record { finding = NotFewer; is = none; after = past bound names c block rest follows }
-viewed bound names _ _ _ _ (goes_on c d block rest n end saves follows next more) =
-    record { finding = Fewer; is = saves; after = onward bound names c block rest (suc n) end follows (record { d = d; n = n; next = next; more = more; count = refl }) }
+viewed : (bound : Option ℕ) (held : List ℕ) (c : Netlist) (blocks : List Certificate) (m : ℕ) (end : End) → Audits bound held c blocks m end → Viewed bound held c blocks m end
+viewed bound _ _ _ _ _ (no_blocks held c) = (refl, refl)
+viewed bound _ _ _ _ _ (objected held c block rest objection verdict) = record { finding = Objected objection; is = verdict; after = (refl, refl) }
+viewed bound _ _ _ _ _ (open_end held c block saves) = record { finding = Fewer; is = saves; after = (refl, refl) }
+viewed bound _ _ _ _ _ (certified_end held c block none) = record { finding = NotFewer; is = none; after = (refl, refl) }
+viewed bound _ _ _ _ _ (past_end held c block rest none follows) = record { finding = NotFewer; is = none; after = past bound held c block rest follows }
+viewed bound _ _ _ _ _ (goes_on held now c d block rest n end saves follows next more) =
+    record { finding = Fewer; is = saves; after = onward bound held c block rest (suc n) end follows (record { d = d; now = now; n = n; next = next; more = more; count = refl }) }
 
-audits-one : (bound : Option ℕ) (names : List (List ℕ)) (blocks : List Certificate) (c : Netlist) (n m : ℕ) (e f : End) → Audits bound names c blocks n e → Audits bound names c blocks m f → (n ≡ m) × (e ≡ f)
-audits-one bound names [] c n m e f p q = let one = viewed bound names c [] n e p in let other = viewed bound names c [] m f q in (one.0 ∙ sym other.0, one.1 ∙ sym other.1)
-audits-one bound names (block ∷ rest) c n m e f p q =
-    found-one bound names c block rest n m e f (λ d i j a b before after. audits-one bound names rest d i j a b before after) (viewed bound names c (block ∷ rest) n e p) (viewed bound names c (block ∷ rest) m f q)
+audits-one : (bound : Option ℕ) (blocks : List Certificate) (held : List ℕ) (c : Netlist) (n m : ℕ) (e f : End) → Audits bound held c blocks n e → Audits bound held c blocks m f → (n ≡ m) × (e ≡ f)
+audits-one bound [] held c n m e f p q = let one = viewed bound held c [] n e p in let other = viewed bound held c [] m f q in (one.0 ∙ sym other.0, one.1 ∙ sym other.1)
+audits-one bound (block ∷ rest) held c n m e f p q =
+    found-one bound held c block rest n m e f (λ now d i j a b before after. audits-one bound rest now d i j a b before after) (viewed bound held c (block ∷ rest) n e p) (viewed bound held c (block ∷ rest) m f q)
 
 -- two audits of the same blocks for one circuit are the same
-pub audit-one : (bound : Option ℕ) (names : List (List ℕ)) (c : Netlist) (blocks : List Certificate) (a b : Audit) → IsAudit bound names c blocks a → IsAudit bound names c blocks b → a ≡ b
-audit-one bound names c blocks a b p q =
-    let same = cleans-one p.first (held_in names c) c p.kept p.cleaned q.first q.kept q.cleaned in
-    let audits : Audits bound names p.first blocks b.confirmed b.end = subst (λ (d : Netlist). Audits bound names d blocks b.confirmed b.end) (sym same.0) q.audits in
-    let ends = audits-one bound names blocks p.first a.confirmed b.confirmed a.end b.end p.audits audits in
+pub audit-one : (bound : Option ℕ) (held : List ℕ) (c : Netlist) (blocks : List Certificate) (a b : Audit) → IsAudit bound held c blocks a → IsAudit bound held c blocks b → a ≡ b
+audit-one bound held c blocks a b p q =
+    let same = cleaned-one held c p.first q.first p.kept q.kept p.now q.now blocks blocks p.cleaned q.cleaned refl in
+    let P : List ℕ → Netlist → Type 0 = λ now d. Audits bound now d blocks b.confirmed b.end in
+    let audits : P p.now p.first = subst (λ (now : List ℕ). P now p.first) (sym same.held) (subst (P q.now) (sym same.circuit) q.audits) in
+    let ends = audits-one bound blocks p.now p.first a.confirmed b.confirmed a.end b.end p.audits audits in
     λ i. record { confirmed = ends.0 i; end = ends.1 i }
 
 -- and so that of what a circuit is merged to
-pub merged-audit-one : (bound : Option ℕ) (names : List (List ℕ)) (c : Netlist) (blocks : List Certificate) (a b : Audit) → IsMergedAudit bound names c blocks a → IsMergedAudit bound names c blocks b → a ≡ b
-merged-audit-one bound names c blocks a b p q =
-    let start = merges-one names c p.start q.start p.kept q.kept p.counts q.counts p.merges q.merges in
-    audit-one bound names p.start blocks a b p.of_start (subst (λ (d : Netlist). IsAudit bound names d blocks b) (sym start.circuit) q.of_start)
+pub merged-audit-one : (bound : Option ℕ) (held : List ℕ) (c : Netlist) (blocks : List Certificate) (a b : Audit) → IsMergedAudit bound held c blocks a → IsMergedAudit bound held c blocks b → a ≡ b
+merged-audit-one bound held c blocks a b p q =
+    let start = merges-one held c p.start q.start p.kept q.kept p.start_held q.start_held p.counts q.counts p.merges q.merges in
+    let P : List ℕ → Netlist → Type 0 = λ now d. IsAudit bound now d blocks b in
+    let other : P p.start_held p.start = subst (λ (now : List ℕ). P now p.start) (sym start.held) (subst (P q.start_held) (sym start.circuit) q.of_start) in
+    audit-one bound p.start_held p.start blocks a b p.of_start other

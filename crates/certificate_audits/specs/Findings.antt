@@ -7,35 +7,35 @@ use Rattle.certificate_audits.specs.declared.judging.Finding.{Finding}
 use Rattle.certificate_audits.specs.declared.judging.Finding.TheVariants.{Objected, Fewer, NotFewer}
 use Rattle.certificate_audits.specs.declared.outcome.End.{End}
 use Rattle.certificate_audits.specs.declared.outcome.End.TheVariants as ends
-use Rattle.certificate_audits.specs.Audits.{IsNext, IsVerdictIn, Saves, SavesNone}
+use Rattle.certificate_audits.specs.Audits.{IsNext, IsVerdictBy, Saves, SavesNone}
 use Rattle.certificate_audits.specs.Ends.{is_accepted}
 
-abbrev pub IsFinding : Option ℕ → List (List ℕ) → Netlist → Certificate → Finding → Type 0
-IsFinding bound names c block (Objected objection) = IsVerdictIn bound names c block (No objection)
-IsFinding bound names c block Fewer = Saves bound names c block
-IsFinding bound names c block NotFewer = SavesNone bound names c block
+abbrev pub IsFinding : Option ℕ → List ℕ → Netlist → Certificate → Finding → Type 0
+IsFinding bound held c block (Objected objection) = IsVerdictBy bound held c block (No objection)
+IsFinding bound held c block Fewer = Saves bound held c block
+IsFinding bound held c block NotFewer = SavesNone bound held c block
 
 -- the audit doesn't end with the block: it saves latches, and others follow
-pub record GoesOn (bound : Option ℕ) (names : List (List ℕ)) (c : Netlist) (block : Certificate) (rest : List Certificate) : Type 0 where
-  pub saves : Saves bound names c block
+pub record GoesOn (bound : Option ℕ) (held : List ℕ) (c : Netlist) (block : Certificate) (rest : List Certificate) : Type 0 where
+  pub saves : Saves bound held c block
   pub follows : rest ≢ []
 
 -- the audit ends with the block, which these others follow, so many being confirmed of it, and so
-abbrev pub EndsWith : Option ℕ → List (List ℕ) → Netlist → Certificate → List Certificate → ℕ → End → Type 0
-EndsWith bound names c block rest n ends.NoBlocks = ⊥
-EndsWith bound names c block rest n (ends.Objected objection) = (n ≡ 0) × IsVerdictIn bound names c block (No objection)
-EndsWith bound names c block rest n ends.Open = (n ≡ 1) × Saves bound names c block × (rest ≡ [])
-EndsWith bound names c block rest n ends.Certified = (n ≡ 1) × SavesNone bound names c block × (rest ≡ [])
-EndsWith bound names c block rest n ends.BlocksFollow = (n ≡ 1) × SavesNone bound names c block × (rest ≢ [])
+abbrev pub EndsWith : Option ℕ → List ℕ → Netlist → Certificate → List Certificate → ℕ → End → Type 0
+EndsWith bound held c block rest n ends.NoBlocks = ⊥
+EndsWith bound held c block rest n (ends.Objected objection) = (n ≡ 0) × IsVerdictBy bound held c block (No objection)
+EndsWith bound held c block rest n ends.Open = (n ≡ 1) × Saves bound held c block × (rest ≡ [])
+EndsWith bound held c block rest n ends.Certified = (n ≡ 1) × SavesNone bound held c block × (rest ≡ [])
+EndsWith bound held c block rest n ends.BlocksFollow = (n ≡ 1) × SavesNone bound held c block × (rest ≢ [])
 
 -- what the blocks end in, where the audit ends so with this block of c: after a last move, or at c itself
-abbrev pub IsEndOf : List (List ℕ) → Netlist → Certificate → End → Netlist → Type 0
-IsEndOf names c block ends.NoBlocks d = d ≡ c
-IsEndOf names c block ends.Certified d = d ≡ c
-IsEndOf names c block ends.Open d = IsNext names c block d
-IsEndOf names c block ends.BlocksFollow d = ⊥
-IsEndOf names c block (ends.Objected objection) d = ⊥
+abbrev pub IsEndOf : List ℕ → Netlist → Certificate → End → Netlist → Type 0
+IsEndOf held c block ends.NoBlocks d = d ≡ c
+IsEndOf held c block ends.Certified d = d ≡ c
+IsEndOf held c block ends.Open d = (now : List ℕ) × IsNext held c block d now
+IsEndOf held c block ends.BlocksFollow d = ⊥
+IsEndOf held c block (ends.Objected objection) d = ⊥
 
 -- the same, or none where something speaks against the block
-abbrev pub IsLastOf : List (List ℕ) → Netlist → Certificate → End → Option Netlist → Type 0
-IsLastOf names c block end last = MatchOption last (is_accepted end ≡ false) (IsEndOf names c block end)
+abbrev pub IsLastOf : List ℕ → Netlist → Certificate → End → Option Netlist → Type 0
+IsLastOf held c block end last = MatchOption last (is_accepted end ≡ false) (IsEndOf held c block end)

@@ -3,7 +3,7 @@ use Rattle.std.specs.Prelude.{ℕ, ◌≡◌, false, List, [], ◌∷◌, Option
 use Rattle.aig_graph.specs.Circuits.{Netlist}
 use Rattle.certificates.specs.declared.certificate.Certificate.{Certificate}
 use Rattle.merged_latches.specs.declared.counts.MergeCounts.{MergeCounts}
-use Rattle.retimed_circuits.specs.Frames.{CleansIn}
+use Rattle.retimed_circuits.specs.Frames.{CleansTo}
 use Rattle.retimed_circuits.specs.Merging.{MergesIn}
 use Rattle.certificate_audits.specs.declared.outcome.End.{End}
 use Rattle.certificate_audits.specs.declared.outcome.Replay.{Replay}
@@ -12,32 +12,34 @@ use Rattle.certificate_audits.specs.Ends.{is_accepted}
 
 -- d is what c becomes by the blocks, one after another: the latches move over the set of a block that saves latches, and the circuit is cleaned;
 -- a last block that saves none moves nothing
-pub data EndIn (bound : Option ℕ) (names : List (List ℕ)) : Netlist → List Certificate → Netlist → Type 0 where
-  no_more : (c : Netlist) → EndIn bound names c [] c
-  at_end : (c : Netlist) (block : Certificate) → SavesNone bound names c block → EndIn bound names c (block ∷ []) c
-  after_move : (c d e : Netlist) (block : Certificate) (rest : List Certificate) → Saves bound names c block → IsNext names c block d → EndIn bound names d rest e
-      → EndIn bound names c (block ∷ rest) e
+pub data EndIn (bound : Option ℕ) : List ℕ → Netlist → List Certificate → Netlist → Type 0 where
+  no_more : (held : List ℕ) (c : Netlist) → EndIn bound held c [] c
+  at_end : (held : List ℕ) (c : Netlist) (block : Certificate) → SavesNone bound held c block → EndIn bound held c (block ∷ []) c
+  after_move : (held now : List ℕ) (c d e : Netlist) (block : Certificate) (rest : List Certificate) → Saves bound held c block → IsNext held c block d now → EndIn bound now d rest e
+      → EndIn bound held c (block ∷ rest) e
 
 -- the circuit that the blocks end in is there exactly where nothing speaks against a block
-abbrev pub IsLast : Option ℕ → List (List ℕ) → Netlist → List Certificate → End → Option Netlist → Type 0
-IsLast bound names c blocks end last = MatchOption last (is_accepted end ≡ false) (EndIn bound names c blocks)
+abbrev pub IsLast : Option ℕ → List ℕ → Netlist → List Certificate → End → Option Netlist → Type 0
+IsLast bound held c blocks end last = MatchOption last (is_accepted end ≡ false) (EndIn bound held c blocks)
 
 -- the audit of blocks, the first of which is for this circuit, and what they end in
-pub record Replays (bound : Option ℕ) (names : List (List ℕ)) (c : Netlist) (blocks : List Certificate) (replay : Replay) : Type 0 where
-  pub audits : Audits bound names c blocks replay.audit.confirmed replay.audit.end
-  pub last : IsLast bound names c blocks replay.audit.end replay.last
+pub record Replays (bound : Option ℕ) (held : List ℕ) (c : Netlist) (blocks : List Certificate) (replay : Replay) : Type 0 where
+  pub audits : Audits bound held c blocks replay.audit.confirmed replay.audit.end
+  pub last : IsLast bound held c blocks replay.audit.end replay.last
 
 -- the same of blocks, the first of which is for c cleaned
-pub record IsReplay (bound : Option ℕ) (names : List (List ℕ)) (c : Netlist) (blocks : List Certificate) (replay : Replay) : Type 0 where
+pub record IsReplay (bound : Option ℕ) (held : List ℕ) (c : Netlist) (blocks : List Certificate) (replay : Replay) : Type 0 where
   pub first : Netlist
   pub kept : List ℕ
-  pub cleaned : CleansIn names c first kept
-  pub replays : Replays bound names first blocks replay
+  pub now : List ℕ
+  pub cleaned : CleansTo held c first kept now
+  pub replays : Replays bound now first blocks replay
 
 -- the same of a circuit whose latches were merged first: that of what c is merged to
-pub record IsMergedReplay (bound : Option ℕ) (names : List (List ℕ)) (c : Netlist) (blocks : List Certificate) (replay : Replay) : Type 0 where
+pub record IsMergedReplay (bound : Option ℕ) (held : List ℕ) (c : Netlist) (blocks : List Certificate) (replay : Replay) : Type 0 where
   pub start : Netlist
   pub kept : List ℕ
+  pub start_held : List ℕ
   pub counts : MergeCounts
-  pub merges : MergesIn names c start kept counts
-  pub of_start : IsReplay bound names start blocks replay
+  pub merges : MergesIn held c start kept start_held counts
+  pub of_start : IsReplay bound start_held start blocks replay

@@ -1,13 +1,13 @@
 //! What one block shows of its circuit, and whether an audit ends with it.
 ghost use Rattle.std.specs.Prelude.{IfOk, MatchOption};
-ghost use Rattle.aig_graph.specs.Keep.{NoneMissing, names_of};
 ghost use Rattle.certificates.specs.Verdicts.{IsVerdict};
 ghost use Rattle.path_levels.specs.Bounded.{bounded};
 ghost use Rattle.certificate_audits.specs.Audits.{IsVerdictBy};
 ghost use Rattle.certificate_audits.specs.Findings.{EndsWith, GoesOn, IsFinding};
 
+use crate::moving::Stage;
 use crate::outcome::{Audit, End};
-use aig_graph::{Circuit, Keep, NoMemory, keep_by_names};
+use aig_graph::{Circuit, Keep, NoMemory};
 use certificates::{Certificate, Objection, Verdict, check};
 use path_levels::bounded;
 use std::alloc::Global;
@@ -46,7 +46,7 @@ fn verdict(
     keep: &Keep,
     bound: Option<u32>,
 ) -> Result<Verdict, NoMemory>
-    ensures { IfOk result (IsVerdictBy bound circuit.now keep.now block.now) }
+    ensures { IfOk result (IsVerdictBy bound keep.now circuit.now block.now) }
 {
     let whole = check(alloc, circuit, block, keep)?;
     let Some(most) = bound else {
@@ -64,19 +64,16 @@ fn verdict(
 /// Judges a block for its circuit.
 fn judge(
     alloc: Global,
-    circuit: &Circuit,
+    stage: &Stage,
     block: &Certificate,
-    names: &[Vec<u8>],
     bound: Option<u32>,
 ) -> Result<Finding, NoMemory>
-    requires { NoneMissing (names_of names.now) circuit.now }
-    ensures { IfOk result (IsFinding bound (names_of names.now) circuit.now block.now) }
+    ensures { IfOk result (IsFinding bound stage.now.keep stage.now.circuit block.now) }
 {
     // That it is a circuit is what its readers ensure.
-    circuit.known();
-    let keep = keep_by_names(alloc, circuit, names)?;
-    let known = circuit.aig().known_latches();
-    match verdict(alloc, circuit, block, &keep, bound)? {
+    stage.circuit.known();
+    let known = stage.circuit.aig().known_latches();
+    match verdict(alloc, &stage.circuit, block, &stage.keep, bound)? {
         Verdict::No(objection) => Ok(Finding::Objected(objection)),
         Verdict::Yes if block.count < known => Ok(Finding::Fewer),
         Verdict::Yes => Ok(Finding::NotFewer),
@@ -86,19 +83,17 @@ fn judge(
 /// The audit of a block and of those after it, where it ends with this block.
 pub(crate) fn end_at(
     alloc: Global,
-    circuit: &Circuit,
+    stage: &Stage,
     block: &Certificate,
     rest: &[Certificate],
-    names: &[Vec<u8>],
     bound: Option<u32>,
 ) -> Result<Option<Audit>, NoMemory>
-    requires { NoneMissing (names_of names.now) circuit.now }
     ensures { IfOk result (λ found. MatchOption found
-        (GoesOn bound (names_of names.now) circuit.now block.now rest.now)
-        (λ audit. EndsWith bound (names_of names.now) circuit.now block.now rest.now
+        (GoesOn bound stage.now.keep stage.now.circuit block.now rest.now)
+        (λ audit. EndsWith bound stage.now.keep stage.now.circuit block.now rest.now
         audit.confirmed audit.end)) }
 {
-    let (confirmed, end) = match judge(alloc, circuit, block, names, bound)? {
+    let (confirmed, end) = match judge(alloc, stage, block, bound)? {
         Finding::Objected(objection) => (0, End::Objected(objection)),
         Finding::Fewer if rest.is_empty() => (1, End::Open),
         Finding::Fewer => return Ok(None),

@@ -1,16 +1,43 @@
 //! The circuit that a block makes of its own.
-ghost use Rattle.std.specs.Prelude.{ℕ, ◌≡◌, IfOk, Option};
+ghost use Rattle.std.specs.Prelude.{ℕ, ◌≡◌, ◌<◌, ◌≤◌, All, IfOk, List, Option, length};
 ghost use Rattle.std.specs.List.Sorted.{IsStrictlyIncreasing};
-ghost use Rattle.aig_graph.specs.Keep.{NoneMissing, names_of};
-ghost use Rattle.retimed_circuits.specs.Frames.{moved_in};
-ghost use Rattle.retimed_circuits.specs.Names.{held_latches};
+ghost use Rattle.aig_graph.specs.Closed.{IsClosedSet};
+ghost use Rattle.aig_graph.specs.Move.{move_of};
+ghost use Rattle.aig_graph.specs.declared.literal.TheConstants.{MAX_VARIABLES};
+ghost use Rattle.rebuild.specs.Moved.{moved_size};
+ghost use Rattle.retimed_circuits.specs.Frames.{held_over, moved_over};
 ghost use Rattle.certificate_audits.specs.Audits.{IsNext, Saves};
 
-use aig_graph::{Circuit, ClosedSet, NoMemory, keep_by_names};
+use aig_graph::{Circuit, ClosedSet, Keep, NoMemory};
 use certificates::Certificate;
-use clean::{Cleaned, clean_by_names};
-use rebuild::moved;
+use clean::{Cleaned, clean};
+use rebuild::{MoveMarks, moved_by};
 use std::alloc::Global;
+
+/// A circuit that a block is for, and the latches that are held in it.
+#[derive(Drop)]
+pub(crate) struct Stage {
+    pub(crate) circuit: Circuit,
+    pub(crate) keep: Keep,
+}
+
+/// The circuit alone.
+pub(crate) fn circuit_of(stage: Stage) -> Circuit
+    ensures { result ≡ stage.circuit }
+{
+    let Stage { circuit, keep } = stage;
+    drop(keep);
+    circuit
+}
+
+/// What is left of a circuit that was cleaned, with its held latches.
+pub(crate) fn stage_of(cleaned: Cleaned) -> Stage
+    ensures circuit { result.circuit ≡ cleaned.circuit }
+    ensures keep { result.keep ≡ cleaned.keep }
+{
+    let Cleaned { circuit, keep, .. } = cleaned;
+    Stage { circuit, keep }
+}
 
 /// The set of gates that rise.
 fn set_of(alloc: Global, gates: &[u32]) -> Result<ClosedSet, NoMemory>
@@ -25,54 +52,53 @@ fn set_of(alloc: Global, gates: &[u32]) -> Result<ClosedSet, NoMemory>
     }
 }
 
-/// The circuit with its latches moved over the set of the block.
-fn moved_over(
-    alloc: Global,
-    circuit: &Circuit,
-    block: &Certificate,
-    names: &[Vec<u8>],
-) -> Result<Circuit, NoMemory>
-    requires names { NoneMissing (names_of names.now) circuit.now }
-    requires saves { (bound : Option ℕ) × Saves bound (names_of names.now) circuit.now block.now }
-    ensures { IfOk result (λ after. after ≡ moved_in
-        (names_of names.now) circuit.now block.now.gates) }
+/// The circuit with its latches moved over a set, and where the held ones stand then.
+fn moved_stage(alloc: Global, stage: &Stage, set: &ClosedSet) -> Result<Stage, NoMemory>
+    requires in_range { All (λ j. j < length stage.now.circuit.aig.latches) stage.now.keep }
+    requires closed { IsClosedSet stage.now.circuit.aig stage.now.keep set.now }
+    requires room { moved_size (move_of stage.now.circuit stage.now.keep set.now) ≤ MAX_VARIABLES }
+    ensures circuit { IfOk result (λ after. after.circuit
+        ≡ moved_over stage.now.keep stage.now.circuit set.now) }
+    ensures keep { IfOk result (λ after. after.keep
+        ≡ held_over stage.now.keep stage.now.circuit set.now) }
 {
-    // That the circuit is a graph is what its readers ensure.
-    circuit.known();
-    let keep = keep_by_names(alloc, circuit, names)?;
-    let set = set_of(alloc, block.gates.as_slice())?;
-    moved(alloc, circuit, &set, &keep)
+    let marks = MoveMarks::new(alloc, &stage.circuit, set, &stage.keep)?;
+    let keep = marks.held_after(alloc, &stage.circuit, set, &stage.keep)?;
+    let circuit = moved_by(alloc, &stage.circuit, set, &stage.keep, marks)?;
+    Ok(Stage { circuit, keep })
 }
 
-/// The circuit of a cleaned one.
-pub(crate) fn circuit_of(cleaned: Cleaned) -> Circuit
-    ensures { result ≡ cleaned.circuit }
+/// The same over the set of a block that saves latches.
+fn moved_over(alloc: Global, stage: &Stage, block: &Certificate) -> Result<Stage, NoMemory>
+    requires in_range { All (λ j. j < length stage.now.circuit.aig.latches) stage.now.keep }
+    requires saves { (bound : Option ℕ) × Saves bound stage.now.keep stage.now.circuit block.now }
+    ensures circuit { IfOk result (λ after. after.circuit
+        ≡ moved_over stage.now.keep stage.now.circuit block.now.gates) }
+    ensures keep { IfOk result (λ after. after.keep
+        ≡ held_over stage.now.keep stage.now.circuit block.now.gates) }
 {
-    let Cleaned { circuit, .. } = cleaned;
-    circuit
+    // That the circuit is a graph is what its readers ensure.
+    stage.circuit.known();
+    let set = set_of(alloc, block.gates.as_slice())?;
+    let moved = moved_stage(alloc, stage, &set);
+    drop(set);
+    moved
 }
 
 /// The circuit of the next block: that of this one with its latches moved over the block's set, cleaned.
-fn next_circuit(
-    alloc: Global,
-    circuit: &Circuit,
-    block: &Certificate,
-    names: &[Vec<u8>],
-) -> Result<Circuit, NoMemory>
-    requires names { NoneMissing (names_of names.now) circuit.now }
-    requires saves { (bound : Option ℕ) × Saves bound (names_of names.now) circuit.now block.now }
-    ensures next { IfOk result (IsNext (names_of names.now) circuit.now block.now) }
-    ensures held { IfOk result (λ next. held_latches (names_of names.now) next
-        ≡ held_latches (names_of names.now) circuit.now) }
+fn next_stage(alloc: Global, stage: &Stage, block: &Certificate) -> Result<Stage, NoMemory>
+    requires in_range { All (λ j. j < length stage.now.circuit.aig.latches) stage.now.keep }
+    requires saves { (bound : Option ℕ) × Saves bound stage.now.keep stage.now.circuit block.now }
+    ensures next { IfOk result (λ next. IsNext stage.now.keep stage.now.circuit block.now
+        next.circuit next.keep) }
+    ensures in_range { IfOk result (λ next.
+        All (λ j. j < length next.circuit.aig.latches) next.keep) }
 {
-    // What a circuit's names and latches are is what its readers ensure.
-    circuit.known();
-    let after = moved_over(alloc, circuit, block, names)?;
-    after.known();
-    let cleaned = clean_by_names(alloc, &after, names);
+    let after = moved_over(alloc, stage, block)?;
+    let cleaned = clean(alloc, &after.circuit, &after.keep);
     drop(after);
     match cleaned {
-        Ok(found) => Ok(circuit_of(found)),
+        Ok(found) => Ok(stage_of(found)),
         Err(error) => Err(error),
     }
 }
@@ -80,17 +106,17 @@ fn next_circuit(
 /// The circuit of the next block, in place of this one.
 pub(crate) fn after_block(
     alloc: Global,
-    circuit: Circuit,
+    stage: Stage,
     block: &Certificate,
-    names: &[Vec<u8>],
-) -> Result<Circuit, NoMemory>
-    requires names { NoneMissing (names_of names.now) circuit }
-    requires saves { (bound : Option ℕ) × Saves bound (names_of names.now) circuit block.now }
-    ensures next { IfOk result (IsNext (names_of names.now) circuit block.now) }
-    ensures held { IfOk result (λ next. held_latches (names_of names.now) next
-        ≡ held_latches (names_of names.now) circuit) }
+) -> Result<Stage, NoMemory>
+    requires in_range { All (λ j. j < length stage.circuit.aig.latches) stage.keep }
+    requires saves { (bound : Option ℕ) × Saves bound stage.keep stage.circuit block.now }
+    ensures next { IfOk result (λ next. IsNext stage.keep stage.circuit block.now
+        next.circuit next.keep) }
+    ensures in_range { IfOk result (λ next.
+        All (λ j. j < length next.circuit.aig.latches) next.keep) }
 {
-    let next = next_circuit(alloc, &circuit, block, names);
-    drop(circuit);
+    let next = next_stage(alloc, &stage, block);
+    drop(stage);
     next
 }

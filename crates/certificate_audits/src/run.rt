@@ -1,5 +1,5 @@
 //! Block after block.
-ghost use Rattle.std.specs.Prelude.{ℕ, ◌≡◌, IfOk, OnOk, IsErrOf, Option};
+ghost use Rattle.std.specs.Prelude.{ℕ, ◌≡◌, ◌<◌, All, IfOk, OnOk, IsErrOf, Option, length};
 ghost use Rattle.aig_graph.specs.Keep.{IsFirstMissing, NoneMissing, held_in, names_of};
 ghost use Rattle.aig_graph.specs.declared.holding.KeepError.TheVariants.{NoSuchName};
 ghost use Rattle.certificate_audits.specs.Audits.{IsAudit, Saves};
@@ -7,7 +7,7 @@ ghost use Rattle.certificate_audits.specs.Findings.{IsLastOf};
 ghost use Rattle.certificate_audits.specs.Replays.{IsReplay, Replays};
 
 use crate::judging::end_at;
-use crate::moving::{after_block, circuit_of};
+use crate::moving::{Stage, after_block, circuit_of, stage_of};
 use crate::outcome::{Audit, End, Replay, audit_of};
 use aig_graph::{Circuit, Keep, KeepError, NoMemory, keep_of};
 use certificates::Certificate;
@@ -17,24 +17,23 @@ use std::alloc::Global;
 /// What blocks end in, of which the last one, of this circuit, ended their audit so.
 fn last_circuit(
     alloc: Global,
-    circuit: Circuit,
+    stage: Stage,
     block: &Certificate,
     end: End,
-    names: &[Vec<u8>],
 ) -> Result<Option<Circuit>, NoMemory>
-    requires names { NoneMissing (names_of names.now) circuit }
+    requires in_range { All (λ j. j < length stage.circuit.aig.latches) stage.keep }
     requires saves { end ≡ End.Open
-        → (bound : Option ℕ) × Saves bound (names_of names.now) circuit block.now }
-    ensures { IfOk result (IsLastOf (names_of names.now) circuit block.now end) }
+        → (bound : Option ℕ) × Saves bound stage.keep stage.circuit block.now }
+    ensures { IfOk result (IsLastOf stage.keep stage.circuit block.now end) }
 {
     match end {
-        End::Open => match after_block(alloc, circuit, block, names) {
-            Ok(next) => Ok(Some(next)),
+        End::Open => match after_block(alloc, stage, block) {
+            Ok(next) => Ok(Some(circuit_of(next))),
             Err(error) => Err(error),
         },
-        End::NoBlocks | End::Certified => Ok(Some(circuit)),
+        End::NoBlocks | End::Certified => Ok(Some(circuit_of(stage))),
         End::BlocksFollow | End::Objected(_) => {
-            drop(circuit);
+            drop(stage);
             Ok(None)
         }
     }
@@ -43,19 +42,18 @@ fn last_circuit(
 /// What an audit found that ends with this block of this circuit, and what the blocks end in.
 fn ended_with(
     alloc: Global,
-    circuit: Circuit,
+    stage: Stage,
     block: &Certificate,
     audit: Audit,
-    names: &[Vec<u8>],
 ) -> Result<Replay, NoMemory>
-    requires names { NoneMissing (names_of names.now) circuit }
+    requires in_range { All (λ j. j < length stage.circuit.aig.latches) stage.keep }
     requires saves { audit.end ≡ End.Open
-        → (bound : Option ℕ) × Saves bound (names_of names.now) circuit block.now }
+        → (bound : Option ℕ) × Saves bound stage.keep stage.circuit block.now }
     ensures audit { IfOk result (λ replay. replay.audit ≡ audit) }
-    ensures last { IfOk result (λ replay. IsLastOf (names_of names.now) circuit block.now
+    ensures last { IfOk result (λ replay. IsLastOf stage.keep stage.circuit block.now
         audit.end replay.last) }
 {
-    match last_circuit(alloc, circuit, block, audit.end, names) {
+    match last_circuit(alloc, stage, block, audit.end) {
         Ok(last) => Ok(Replay { audit, last }),
         Err(error) => Err(error),
     }
@@ -64,27 +62,26 @@ fn ended_with(
 /// The audit of blocks, the first of which is for this circuit, and what they end in.
 fn replay_from(
     alloc: Global,
-    first: Circuit,
+    first: Stage,
     blocks: &[Certificate],
-    names: &[Vec<u8>],
     bound: Option<u32>,
 ) -> Result<Replay, NoMemory>
-    requires { NoneMissing (names_of names.now) first }
-    ensures { IfOk result (Replays bound (names_of names.now) first blocks.now) }
+    requires { All (λ j. j < length first.circuit.aig.latches) first.keep }
+    ensures { IfOk result (Replays bound first.keep first.circuit blocks.now) }
 {
-    let mut circuit = first;
+    let mut stage = first;
     for (place, block) in blocks.iter().enumerate() {
-        match end_at(alloc, &circuit, block, &blocks[place + 1..], names, bound) {
-            Ok(None) => circuit = after_block(alloc, circuit, block, names)?,
+        match end_at(alloc, &stage, block, &blocks[place + 1..], bound) {
+            Ok(None) => stage = after_block(alloc, stage, block)?,
             Ok(Some(last)) => {
                 let audit = Audit {
                     confirmed: place + last.confirmed,
                     end: last.end,
                 };
-                return ended_with(alloc, circuit, block, audit, names);
+                return ended_with(alloc, stage, block, audit);
             }
             Err(error) => {
-                drop(circuit);
+                drop(stage);
                 return Err(error);
             }
         }
@@ -94,53 +91,46 @@ fn replay_from(
             confirmed: 0,
             end: End::NoBlocks,
         },
-        last: Some(circuit),
+        last: Some(circuit_of(stage)),
     })
 }
 
-/// The audit of blocks, the first of which is for the circuit cleaned, and what they end in.
-pub(crate) fn replay_held(
-    alloc: Global,
-    circuit: &Circuit,
-    keep: &Keep,
-    blocks: &[Certificate],
-    names: &[Vec<u8>],
-    bound: Option<u32>,
-) -> Result<Replay, NoMemory>
-    requires keep { keep.now ≡ held_in (names_of names.now) circuit.now }
-    requires names { NoneMissing (names_of names.now) circuit.now }
-    ensures { IfOk result (IsReplay bound (names_of names.now) circuit.now blocks.now) }
-{
-    // That the held latches are among the circuit's is what its readers ensure.
-    circuit.known();
-    let first = clean(alloc, circuit, keep)?;
-    replay_from(alloc, circuit_of(first), blocks, names, bound)
-}
-
-/// [`audit_blocks`], and the circuit that the blocks end in: where they are those of a whole run of `retime`, or of one that the limit of
-/// frames ended, it is what the run wrote.
+/// [`audit_blocks`] where these latches are held, and the circuit that the blocks end in: where they are those of a whole run of
+/// `retime`, or of one that the limit of frames ended, it is what the run wrote.
 ///
 /// Where the last block saves latches, it takes one move and one cleaning more.
 ///
 /// # Errors
 ///
-/// `NoSuchName` where a name is that of no latch of the circuit, which is found first; `NoMemory` where memory is refused.
+/// `NoMemory` where memory is refused.
 pub fn replay_blocks(
     alloc: Global,
     circuit: &Circuit,
     blocks: &[Certificate],
-    names: &[Vec<u8>],
+    keep: &Keep,
     bound: Option<u32>,
-) -> Result<Replay, KeepError>
-    ensures replay { IfOk result (IsReplay bound (names_of names.now) circuit.now blocks.now) }
-    ensures none_missing { OnOk result (NoneMissing (names_of names.now) circuit.now) }
-    ensures missing { (place : ℕ) → IsErrOf result (NoSuchName place)
-        → IsFirstMissing (names_of names.now) circuit.now place }
+) -> Result<Replay, NoMemory>
+    requires { All (λ j. j < length circuit.now.aig.latches) keep.now }
+    ensures { IfOk result (IsReplay bound keep.now circuit.now blocks.now) }
 {
-    let keep = keep_of(alloc, circuit, names)?;
-    match replay_held(alloc, circuit, &keep, blocks, names, bound) {
-        Ok(replay) => Ok(replay),
-        Err(NoMemory) => Err(KeepError::NoMemory),
+    let first = clean(alloc, circuit, keep)?;
+    replay_from(alloc, stage_of(first), blocks, bound)
+}
+
+/// The audit of blocks where these latches are held.
+fn audit_held(
+    alloc: Global,
+    circuit: &Circuit,
+    blocks: &[Certificate],
+    keep: &Keep,
+    bound: Option<u32>,
+) -> Result<Audit, NoMemory>
+    requires { All (λ j. j < length circuit.now.aig.latches) keep.now }
+    ensures { IfOk result (IsAudit bound keep.now circuit.now blocks.now) }
+{
+    match replay_blocks(alloc, circuit, blocks, keep, bound) {
+        Ok(replay) => Ok(audit_of(replay)),
+        Err(error) => Err(error),
     }
 }
 
@@ -163,13 +153,17 @@ pub fn audit_blocks(
     names: &[Vec<u8>],
     bound: Option<u32>,
 ) -> Result<Audit, KeepError>
-    ensures audit { IfOk result (IsAudit bound (names_of names.now) circuit.now blocks.now) }
+    ensures audit { IfOk result (IsAudit bound (held_in (names_of names.now) circuit.now)
+        circuit.now blocks.now) }
     ensures none_missing { OnOk result (NoneMissing (names_of names.now) circuit.now) }
     ensures missing { (place : ℕ) → IsErrOf result (NoSuchName place)
         → IsFirstMissing (names_of names.now) circuit.now place }
 {
-    match replay_blocks(alloc, circuit, blocks, names, bound) {
-        Ok(replay) => Ok(audit_of(replay)),
-        Err(error) => Err(error),
+    // That the held latches are among the circuit's is what its readers ensure.
+    circuit.known();
+    let keep = keep_of(alloc, circuit, names)?;
+    match audit_held(alloc, circuit, blocks, &keep, bound) {
+        Ok(audit) => Ok(audit),
+        Err(NoMemory) => Err(KeepError::NoMemory),
     }
 }

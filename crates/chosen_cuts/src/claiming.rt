@@ -11,9 +11,9 @@ use crate::following::routes_of_units;
 use crate::records::Records;
 use aig_graph::{Circuit, ClosedSet, Keep, NoMemory, Sequence};
 use certificates::{Certificate, check_closed};
-use cut_cert::GateFlow;
 use frame_net::{PassSet, leaving_marks, passable};
 use std::alloc::Global;
+use unit_flows::GateFlow;
 
 /// The members of a set.
 fn members(alloc: Global, set: &ClosedSet) -> Result<Sequence<u32>, NoMemory>

@@ -4,9 +4,9 @@
 
 use aig_graph::{Aig, Circuit, NoMemory};
 use certificates::Routes;
-use cut_cert::GateFlow;
 use frame_net::Point;
 use std::alloc::Global;
+use unit_flows::GateFlow;
 
 /// Stands for no gate.
 const NOBODY: u32 = u32::MAX;

@@ -13,11 +13,10 @@ use crate::claiming::certify_by_units;
 use crate::records::Records;
 use aig_graph::{Choice, Circuit, ClosedSet, Keep, NoMemory};
 use certificates::Routes;
-use cut_cert::{greatest_cut, near_cut, network_in, preflow_along, routes};
-use frame_net::{Net, Tables};
-use pulse::{Crew, MOST_ARCS_KEPT, MaxPreflow, PhaseGate};
+use cut_cert::{greatest_cut, maximum_preflow, near_cut, network, routes};
+use frame_net::Net;
+use pulse::{Crew, MaxPreflow, PhaseGate};
 use std::alloc::Global;
-use std::mem;
 use std::thread::Threads;
 use unit_components::chosen_least_in_parts;
 
@@ -116,24 +115,6 @@ fn chosen_set(
     }
 }
 
-/// The memory of a network's tables, or none where the network is large.
-fn tables_of(alloc: Global, net: Net) -> Tables {
-    if net.arcs() > MOST_ARCS_KEPT {
-        drop(net);
-        return Tables::none(alloc);
-    }
-    net.into_tables()
-}
-
-/// The memory of a preflow's residuals, or none where the network is large.
-fn residuals_of(alloc: Global, net: &Net, preflow: MaxPreflow) -> Vec<u32> {
-    if net.arcs() > MOST_ARCS_KEPT {
-        drop(preflow);
-        return Vec::new(alloc);
-    }
-    preflow.into_residuals(alloc)
-}
-
 /// The set, where its certificate is added by the routes of the units of the records' flows, or none is wanted.
 fn certified(
     alloc: Global,
@@ -174,7 +155,10 @@ fn shown_by_units<G: PhaseGate>(
     ensures certificate { IfOk result (λ shown. MatchOption shown (AddsNone records.old records.new)
         (AddsOne circuit.now keep.now records.old records.new)) }
 {
-    match chosen_least_in_parts(rt, alloc, circuit, keep, choice, crew, &mut records.flows)? {
+    let mut flow = records.take_flow(alloc);
+    let shown = chosen_least_in_parts(rt, alloc, circuit, keep, choice, crew, &mut flow);
+    records.keep_flow(flow);
+    match shown? {
         Some(set) => certified(alloc, circuit, keep, set, records),
         None => Ok(None),
     }
@@ -193,18 +177,11 @@ fn chosen_by_flow<G: PhaseGate>(
     ensures set { IfOk result (IsChosen choice circuit.now keep.now) }
     ensures certificate { IfOk result (AddsOne circuit.now keep.now records.old records.new) }
 {
-    let tables = mem::replace(&mut records.tables, Tables::none(alloc));
-    let net = network_in(alloc, circuit, keep, tables)?;
-    let Records {
-        flows,
-        flow_tables,
-        ..
-    } = &mut *records;
-    let preflow = preflow_along(rt, alloc, circuit, &net, crew, flows, flow_tables)?;
+    let net = network(alloc, circuit, keep)?;
+    let preflow = maximum_preflow(rt, alloc, &net, crew)?;
     let set = chosen_set(alloc, circuit, keep, &net, &preflow, choice, records);
-    let residuals = residuals_of(alloc, &net, preflow);
-    drop(mem::replace(&mut records.flow_tables.residuals, residuals));
-    drop(mem::replace(&mut records.tables, tables_of(alloc, net)));
+    drop(preflow);
+    drop(net);
     set
 }
 
@@ -212,9 +189,8 @@ fn chosen_by_flow<G: PhaseGate>(
 /// this flow did at the circuit's gates. They are hints: the set is the same whatever they say. Where the records want certificates, one
 /// of the set is added to them, which passes all tests of `certificates::check`.
 ///
-/// Where a flow of units shows the set, and its units' ways pass those tests, no network is made. Else what is made on the way (the network, its flow, for the smallest set the
-/// routes of the flow) is dropped, but for the memory of a small network's tables by arc, of its flow's residuals and of its pushes, which the
-/// records keep for the next circuit.
+/// Where a flow of units shows the set, and its units' ways pass those tests, no network is made. Else a maximum flow of the circuit's network is,
+/// from nothing; what is made on the way (the network, its flow, for the smallest set the routes of the flow) is dropped.
 ///
 /// # Errors
 ///

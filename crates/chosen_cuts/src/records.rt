@@ -1,21 +1,19 @@
-//! What a run keeps from circuit to circuit: flows, memory, and the certificates of the sets that were found.
+//! What a run keeps from circuit to circuit: flows, and the certificates of the sets that were found.
 
 use aig_graph::{Circuit, ClosedSet, Keep, NoMemory};
 use certificates::{Certificate, Routes, Verdict};
-use cut_cert::{GateFlow, certificate_of};
-use frame_net::Tables;
-use pulse::FlowTables;
+use cut_cert::certificate_of;
 use std::alloc::Global;
+use std::mem;
+use unit_flows::{GateFlow, SpareTables, UnitFlow};
 
 /// What is kept from circuit to circuit.
 #[derive(Drop)]
 pub struct Records {
     /// What the last flow did at the gates of the circuit that comes next: hints.
     pub flows: Vec<GateFlow>,
-    /// The memory of the last network's tables by arc, for the next one.
-    pub tables: Tables,
-    /// The memory of the last flow's tables by arc, for the next one.
-    pub flow_tables: FlowTables,
+    /// Tables of the last flow of units, for the next one.
+    pub spare: SpareTables,
     /// Whether certificates are wanted. Where they aren't, none is made.
     pub certify: bool,
     /// The certificates of the sets that were found, in order.
@@ -38,11 +36,29 @@ impl Records {
     {
         Records {
             flows: Vec::new(alloc),
-            tables: Tables::none(alloc),
-            flow_tables: FlowTables::none(alloc),
+            spare: SpareTables::none(alloc),
             certify,
             certificates: Vec::new(alloc),
         }
+    }
+
+    /// Takes the flow and its tables out.
+    pub(crate) fn take_flow(&mut self, alloc: Global) -> UnitFlow
+        ensures { AddsNone self.old self.new }
+    {
+        UnitFlow {
+            gates: mem::replace(&mut self.flows, Vec::new(alloc)),
+            spare: mem::replace(&mut self.spare, SpareTables::none(alloc)),
+        }
+    }
+
+    /// Keeps a flow and its tables.
+    pub(crate) fn keep_flow(&mut self, flow: UnitFlow)
+        ensures { AddsNone self.old self.new }
+    {
+        let UnitFlow { gates, spare } = flow;
+        self.flows = gates;
+        self.spare = spare;
     }
 
     /// Forgets the last certificate, where certificates are wanted: that of a set which isn't taken after all.

@@ -1,11 +1,10 @@
 //! What a retiming leaves: what the circuit has then, and why no more latches go.
 ghost use Rattle.std.specs.Prelude.{◌≡◌, IfOk};
-ghost use Rattle.aig_graph.specs.Keep.{names_of};
-ghost use Rattle.circuit_counts.specs.Remaining.{held_latches, remaining};
+ghost use Rattle.circuit_counts.specs.Remaining.{remaining};
 
 use crate::held_back::HeldBack;
 use crate::statistics::Counts;
-use aig_graph::{Circuit, Keep, KeepError, NoMemory, keep_of};
+use aig_graph::{Circuit, Keep, NoMemory};
 use std::alloc::Global;
 
 /// What a retiming leaves.
@@ -19,20 +18,9 @@ pub struct Remaining {
     pub is_least: bool,
 }
 
-/// The latches that the names hold, and none where a name is that of no latch.
-fn held_latches(alloc: Global, circuit: &Circuit, names: &[Vec<u8>]) -> Result<Keep, NoMemory>
-    ensures { IfOk result (λ keep. keep ≡ held_latches (names_of names.now) circuit.now) }
-{
-    match keep_of(alloc, circuit, names) {
-        Ok(keep) => Ok(keep),
-        Err(KeepError::NoSuchName(_)) => Ok(Keep::none()),
-        Err(KeepError::NoMemory) => Err(NoMemory),
-    }
-}
-
 impl Remaining {
-    /// What a retiming leaves that held the latches of these names and had this bound on levels, or none, by the circuit that it made.
-    /// Linear in the circuit and the names.
+    /// What a retiming leaves that had this bound on levels, or none, by the circuit that it made and its held latches. Linear in the
+    /// circuit.
     ///
     /// # Errors
     ///
@@ -40,16 +28,14 @@ impl Remaining {
     pub fn of(
         alloc: Global,
         circuit: &Circuit,
-        names: &[Vec<u8>],
+        keep: &Keep,
         bound: Option<u32>,
         is_least: bool,
     ) -> Result<Remaining, NoMemory>
-        ensures { IfOk result (λ found. found
-            ≡ remaining circuit.now (names_of names.now) bound is_least) }
+        ensures { IfOk result (λ found. found ≡ remaining circuit.now keep.now bound is_least) }
     {
         let counts = Counts::of(alloc, circuit)?;
-        let keep = held_latches(alloc, circuit, names)?;
-        let held_back = HeldBack::within(alloc, circuit, &keep, bound)?;
+        let held_back = HeldBack::within(alloc, circuit, keep, bound)?;
         Ok(Remaining {
             counts,
             held_back,

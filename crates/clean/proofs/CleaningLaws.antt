@@ -1,11 +1,11 @@
 -- Pass after pass.
-use Rattle.std.proofs.Common.{zero-add, ℕ, ◌+◌, ◌<◌, ◌≤◌, ◌≡◌, ◌≢◌, ◌⊎◌, inl, inr, List, [], ◌∷◌, ◌++◌, length, map, Bool, true, get_or, refl, arith, ap, sym, ◌∙◌, subst}
+use Rattle.std.proofs.Common.{zero-add, ℕ, ◌+◌, ◌<◌, ◌≤◌, ◌≡◌, ◌≢◌, ◌⊎◌, inl, inr, List, [], ◌∷◌, ◌++◌, length, map, true, get_or, refl, arith, ap, sym, ◌∙◌, subst}
 use Rattle.std.specs.List.{All, range_with_len}
 use Rattle.std.proofs.Math.Seq.{get_or-append_seam}
 use Rattle.std.proofs.lemmas.List.{length-map, get_or-map, append_assoc, length_push}
 use Rattle.std.proofs.lemmas.Bool.{cases_lt}
 use Rattle.std.proofs.lemmas.List.FromFn.{get_or-range_with_len}
-use Rattle.std.proofs.lemmas.List.Elements.{All-map, All-head, All-tail}
+use Rattle.std.proofs.lemmas.List.Elements.{All-head, All-tail}
 use Rattle.aig_graph.specs.Graph.{first_latch, first_gate, variables_end, latches_and_gates, free_latches}
 use Rattle.aig_graph.specs.Circuits.{Netlist}
 use Rattle.aig_graph.specs.Laws.{all_free, composed}
@@ -14,11 +14,13 @@ use Rattle.cleaned_circuits.specs.Merged.{merged_of, substitutes_of}
 use Rattle.cleaned_circuits.specs.Reached.{stays}
 use Rattle.cleaned_circuits.specs.Trimmed.{trimmed_graph, new_variable, new_position}
 use Rattle.cleaned_circuits.specs.Cleaned.{IsPass, Cleans, unchanged, after_pass}
+use Rattle.cleaned_circuits.specs.Held.{HeldAfter, held_unchanged, held_after_pass}
 use Rattle.variable_tables.proofs.ListLaws.{map-map}
 use Rattle.cleaned_circuits.proofs.MergedLaws.{length-replaced_latches, replaced-first_latch, replaced-first_gate, replaced-end}
 use Rattle.cleaned_circuits.proofs.PickedLaws.{count-all}
-use Rattle.cleaned_circuits.proofs.TrimmedLaws.{trimmed-first_latch, trimmed-first_gate, trimmed-end, new-less, new-from, stays-reached}
+use Rattle.cleaned_circuits.proofs.TrimmedLaws.{trimmed-first_latch, trimmed-first_gate, trimmed-end}
 use Rattle.cleaned_circuits.proofs.PassLaws.{IsCircuit, pass-streams, cleans-streams, IsCircuit-pass}
+use Rattle.cleaned_circuits.proofs.HeldLaws.{still-in_range}
 use Rattle.cleaned_circuits.proofs.UnchangedLaws.{count-full, map-fixed_all, pass-unchanged}
 use Rattle.normalised_circuits.specs.Normalised.{IsNormalised}
 use Rattle.normalised_circuits.proofs.PassLaws.{normalised-pass}
@@ -43,21 +45,6 @@ composed-then first second third below =
     alike (x ∷ xs) all =
         ap (λ (n : ℕ). n ∷ map (λ place. get_or first (get_or second place 0) 0) xs) (All-head (λ (place : ℕ). get_or first (get_or second place 0) 0 ≡ get_or (composed first second) place 0) x xs all)
         ∙ ap (λ (ys : List ℕ). get_or (composed first second) x 0 ∷ ys) (alike xs (All-tail (λ (place : ℕ). get_or first (get_or second place 0) 0 ≡ get_or (composed first second) place 0) x xs all))
-
--- the held latches stay in range
-pub still-in_range : (held : List ℕ) (c d : Netlist) (kept still : List ℕ) → IsPass held c d kept still → All (λ j. j < length c.aig.latches) held → All (λ j. j < length d.aig.latches) still
-still-in_range held c d kept still pass in_range =
-    let m : Netlist = merged_of held c in
-    let s : ℕ → Bool = pass.reached in
-    let same : length m.aig.latches ≡ length c.aig.latches = length-replaced_latches (substitutes_of c.aig held) c.aig in
-    let P : Netlist → Type 0 = λ e. All (λ j. j < length e.aig.latches) still in
-    let Q : List ℕ → Type 0 = λ js. All (λ j. j < length (trimmed_graph m.aig s).latches) js in
-    subst P (sym pass.circuit) (subst Q (sym pass.positions) (All-map (λ j. j < length (trimmed_graph m.aig s).latches) (new_position m.aig s) held (λ k d h.
-    let j : ℕ = get_or held k d in
-    let within : j < length c.aig.latches = in_range k d h in
-    let stayed : stays m.aig s (first_latch m.aig + j) ≡ true = stays-reached m.aig s (first_latch m.aig + j) (pass.are_reached.holds.all_held k d h) in
-    let ranks : new_variable m.aig s (first_latch m.aig + j) < new_variable m.aig s (first_gate m.aig) = new-less m.aig s (first_latch m.aig + j) (first_gate m.aig) stayed (omega arith) in
-    omega (arith, ranks, trimmed-first_gate m.aig s, trimmed-first_latch m.aig s, new-from m.aig s (first_latch m.aig + j) (omega arith)))))
 
 -- a pass that leaves as many latches and gates leaves the circuit, and the positions of held latches
 module _ (held : List ℕ) (c d : Netlist) (kept still : List ℕ) (valid : IsCircuit c) (in_range : All (λ j. j < length c.aig.latches) held) (pass : IsPass held c d kept still)
@@ -106,11 +93,17 @@ module _ (held : List ℕ) (c d : Netlist) (kept still : List ℕ) (valid : IsCi
       new-same (first_latch merged.aig + j) (omega (arith, length-replaced_latches (substitutes_of c.aig held) c.aig)) in
       omega (arith, at)) held in_range
 
-  cleans-unchanged : Cleans d held c kept
-  cleans-unchanged =
+  pass-same : IsPass held c c kept held
+  pass-same =
       let P : Netlist → Type 0 = λ e. IsPass held c e kept still in
       let Q : List ℕ → Type 0 = λ js. IsPass held c c kept js in
-      unchanged held c kept (subst Q positions-same (subst P circuit-same pass)) circuit-same
+      subst Q positions-same (subst P circuit-same pass)
+
+  cleans-unchanged : Cleans d held c kept
+  cleans-unchanged = unchanged held c kept pass-same circuit-same
+
+  held-unchanged : HeldAfter d still held c
+  held-unchanged = held_unchanged held c kept pass-same circuit-same positions-same
 
 -- what is left of a circuit after some passes, of which the last had so many latches and gates before it
 pub record Passed (held : List ℕ) (c : Netlist) (before : ℕ) (d : Netlist) (kept still : List ℕ) : Type 0 where
@@ -134,6 +127,8 @@ pub record Passed (held : List ℕ) (c : Netlist) (before : ℕ) (d : Netlist) (
   pub is : kept ≡ composed from_kept first
   -- what it is cleaned to is what c is cleaned to
   pub front : (x : Netlist) (more : List ℕ) → Cleans x from_held from more → Cleans x held c (composed from_kept more)
+  -- where its held latches stand after cleaning, there those of c do
+  pub onward : (x : Netlist) (now : List ℕ) → HeldAfter x now from_held from → HeldAfter x now held c
 
 -- what the first pass makes of a circuit is what passes leave of it
 pub passed-start : (held : List ℕ) (c d : Netlist) (before : ℕ) (kept still : List ℕ) → IsCircuit c → All (λ j. j < length c.aig.latches) held → IsPass held c d kept still → before ≡ latches_and_gates c.aig
@@ -153,6 +148,7 @@ passed-start held c d before kept still valid in_range pass size =
       front = λ x more cleans.
           let P : List ℕ → Type 0 = λ places. Cleans x held c places in
           subst P (sym (composed-all n more (cleans-streams x held c more cleans valid).places.below)) cleans;
+      onward = λ x now after. after;
     }
 
 module _ (held : List ℕ) (c : Netlist) (before : ℕ) (d : Netlist) (kept still : List ℕ) (passed : Passed held c before d kept still) where
@@ -171,6 +167,9 @@ module _ (held : List ℕ) (c : Netlist) (before : ℕ) (d : Netlist) (kept stil
   pub kept-long : length kept ≡ free_latches d.aig
   kept-long = ap (λ (xs : List ℕ). length xs) passed.is ∙ length-map passed.first (λ place. get_or passed.from_kept place 0) ∙ first-long
 
+  differs : latches_and_gates d.aig < before → d ≢ passed.from
+  differs less = λ same. omega (arith, less, passed.size, ap (λ (n : Netlist). latches_and_gates n.aig) same)
+
   -- one more pass, after one that left fewer latches or gates
   pub passed-more : (e : Netlist) (second both still2 : List ℕ) → latches_and_gates d.aig < before → IsPass still d e second still2 → both ≡ composed kept second → Passed held c (latches_and_gates d.aig) e both still2
   passed-more e second both still2 less pass is = record {
@@ -184,13 +183,13 @@ module _ (held : List ℕ) (c : Netlist) (before : ℕ) (d : Netlist) (kept stil
     size = refl;
     is = is;
     front = λ x more cleans.
-        let other : d ≢ passed.from = λ same. omega (arith, less, passed.size, ap (λ (n : Netlist). latches_and_gates n.aig) same) in
-        let whole = passed.front x (composed passed.first more) (after_pass passed.from_held passed.from d passed.first more still passed.pass other cleans) in
+        let whole = passed.front x (composed passed.first more) (after_pass passed.from_held passed.from d passed.first more still passed.pass (differs less) cleans) in
         let below : All (λ place. place < length passed.first) more = λ k a h.
         let here : get_or more k a < free_latches d.aig = (cleans-streams x still d more cleans passed-valid).places.below k a h in
         omega (arith, here, first-long) in
         let P : List ℕ → Type 0 = λ places. Cleans x held c places in
         subst P (composed-then passed.from_kept passed.first more below ∙ ap (λ (xs : List ℕ). composed xs more) (sym passed.is)) whole;
+    onward = λ x now after. passed.onward x now (held_after_pass passed.from_held passed.from d passed.first still passed.pass (differs less) after);
   }
 
   -- the places that a next pass keeps are among those that are kept
@@ -207,6 +206,10 @@ module _ (held : List ℕ) (c : Netlist) (before : ℕ) (d : Netlist) (kept stil
       let P : List ℕ → Type 0 = λ places. Cleans d held c places in
       subst P (sym passed.is) (passed.front d passed.first last)
 
+  -- the held latches stand where it left them
+  pub held-end : before ≤ latches_and_gates d.aig → HeldAfter d still held c
+  held-end many = passed.onward d still (held-unchanged passed.from_held passed.from d passed.first still passed.valid passed.in_range passed.pass (omega (arith, many, passed.size)))
+
 -- the entries of a list from a place on, read one after another
 read-from : (ys xs : List ℕ) → map (λ place. get_or (ys ++ xs) place 0) (range_with_len (length ys) (length xs)) ≡ xs
 read-from ys [] = refl
@@ -220,17 +223,22 @@ read-from ys (x ∷ xs) =
 composed-range : (xs : List ℕ) → composed xs (range_with_len 0 (length xs)) ≡ xs
 composed-range xs = read-from [] xs
 
+-- where each latch stands for itself, one more pass changes nothing
+settled-next : (held : List ℕ) (c : Netlist) (before : ℕ) (d : Netlist) (kept still : List ℕ) → Passed held c before d kept still → AreOwnLatches d.aig still → latches_and_gates d.aig < before
+    → Passed held c (latches_and_gates d.aig) d (composed kept (all_free d.aig)) still
+settled-next held c before d kept still passed own less =
+    let valid : IsCircuit d = passed-valid held c before d kept still passed in
+    let in_range : All (λ j. j < length d.aig.latches) still = passed-in_range held c before d kept still passed in
+    let normalised : IsNormalised still d = settled-normalised passed.from_held passed.from d passed.first still passed.valid passed.in_range passed.pass own in
+    let same : IsPass still d d (all_free d.aig) still = normalised-pass still d valid in_range normalised in
+    passed-more held c before d kept still passed d (all_free d.aig) (composed kept (all_free d.aig)) still less same refl
+
 -- what a pass left is what is left of the circuit, where each latch stands for itself
 pub settled-end : (held : List ℕ) (c : Netlist) (before : ℕ) (d : Netlist) (kept still : List ℕ) → Passed held c before d kept still → AreOwnLatches d.aig still → Cleans d held c kept
 settled-end held c before d kept still passed own = elim (cases_lt (latches_and_gates d.aig) before) [
   | inr many ↦ passed-end held c before d kept still passed many
   | inl less ↦ (
-      let valid : IsCircuit d = passed-valid held c before d kept still passed in
-      let in_range : All (λ j. j < length d.aig.latches) still = passed-in_range held c before d kept still passed in
-      let normalised : IsNormalised still d = settled-normalised passed.from_held passed.from d passed.first still passed.valid passed.in_range passed.pass own in
-      let same : IsPass still d d (all_free d.aig) still = normalised-pass still d valid in_range normalised in
-      let next : Passed held c (latches_and_gates d.aig) d (composed kept (all_free d.aig)) still =
-      passed-more held c before d kept still passed d (all_free d.aig) (composed kept (all_free d.aig)) still less same refl in
+      let next = settled-next held c before d kept still passed own less in
       let places : composed kept (all_free d.aig) ≡ kept = ap (λ (n : ℕ). composed kept (range_with_len 0 n)) (sym (kept-long held c before d kept still passed)) ∙ composed-range kept in
       subst (λ (xs : List ℕ). Cleans d held c xs) places (passed-end held c (latches_and_gates d.aig) d (composed kept (all_free d.aig)) still next (omega arith)))
 ]
@@ -239,3 +247,11 @@ settled-end held c before d kept still passed own = elim (cases_lt (latches_and_
 pub passed-done : (held : List ℕ) (c : Netlist) (before : ℕ) (d : Netlist) (kept still : List ℕ) → Passed held c before d kept still → (before ≤ latches_and_gates d.aig) ⊎ AreOwnLatches d.aig still → Cleans d held c kept
 passed-done held c before d kept still passed (inl many) = passed-end held c before d kept still passed many
 passed-done held c before d kept still passed (inr own) = settled-end held c before d kept still passed own
+
+-- and there the held latches stand where the last pass left them
+pub passed-held : (held : List ℕ) (c : Netlist) (before : ℕ) (d : Netlist) (kept still : List ℕ) → Passed held c before d kept still → (before ≤ latches_and_gates d.aig) ⊎ AreOwnLatches d.aig still → HeldAfter d still held c
+passed-held held c before d kept still passed (inl many) = held-end held c before d kept still passed many
+passed-held held c before d kept still passed (inr own) = elim (cases_lt (latches_and_gates d.aig) before) [
+  | inr many ↦ held-end held c before d kept still passed many
+  | inl less ↦ held-end held c (latches_and_gates d.aig) d (composed kept (all_free d.aig)) still (settled-next held c before d kept still passed own less) (omega arith)
+]

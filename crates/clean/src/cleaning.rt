@@ -3,10 +3,12 @@
 //! one changes something only where a latch doesn't stand for itself: where each does, it isn't made. What a caller is told of places, among the free latches
 //! and among the gates, is composed over all passes.
 ghost use Rattle.std.specs.Prelude.{◌≡◌, ◌<◌, ◌≤◌, ◌⊎◌, All, IfOk, false, length, map, slice_index, true};
+ghost use Rattle.std.specs.List.Sorted.{IsStrictlyIncreasing};
 ghost use Rattle.aig_graph.specs.Graph.{free_latches, latches_and_gates};
 ghost use Rattle.aig_graph.specs.Streams.{SameStreams};
 ghost use Rattle.aig_graph.specs.Laws.{composed};
 ghost use Rattle.cleaned_circuits.specs.Cleaned.{Cleans};
+ghost use Rattle.cleaned_circuits.specs.Held.{HeldAfter};
 ghost use Rattle.clean.specs.Passes.{IsPassAfter};
 ghost use Rattle.clean.specs.Settled.{AreOwnLatches};
 
@@ -21,6 +23,8 @@ use std::alloc::Global;
 pub struct Cleaned {
     /// What is left of the circuit.
     pub circuit: Circuit,
+    /// The latches that were held, at their positions in what is left.
+    pub keep: Keep,
     /// Of each free latch that stays, its place, from 0, among the free latches of the circuit that was cleaned.
     pub kept_free: Sequence<u32>,
     /// Of each gate that stays, its place among the gates of the circuit that was cleaned. A hint: no clause speaks of it.
@@ -124,17 +128,20 @@ fn goes_on(alloc: Global, last: &Pass, before: usize) -> bool
 
 /// What the last pass leaves.
 fn cleaned_by(last: Pass) -> Cleaned
+    requires { IsStrictlyIncreasing last.held.items }
     ensures circuit { result.circuit ≡ last.circuit }
+    ensures keep { result.keep ≡ last.held.items }
     ensures kept_free { result.kept_free ≡ last.kept_free.items }
 {
     let Pass {
         circuit,
         kept_free,
         kept_gates,
-        ..
+        held,
     } = last;
     Cleaned {
         circuit,
+        keep: Keep::new(held),
         kept_free: Sequence::from_vec(kept_free),
         kept_gates,
     }
@@ -145,7 +152,8 @@ fn cleaned_by(last: Pass) -> Cleaned
 /// In a pass a latch that never leaves its reset becomes that constant, and a latch with the next literal and the known
 /// reset of an earlier one becomes that one. Gates come down to constants, to one of their literals, or to an earlier gate
 /// of the same literals. What no property and no held latch rests on goes, and numbers close up. Inputs and properties
-/// always stay, and so do the latches that are held; free latches are never replaced. A latch that stays keeps its name.
+/// always stay, and so do the latches that are held, whose new positions it returns; free latches are never replaced. A latch that
+/// stays keeps its name.
 ///
 /// A pass is linear in the latches, gates, properties and names, but for the hash table of gates. A circuit of inputs alone
 /// takes kilobytes, however many they are.
@@ -153,6 +161,8 @@ pub fn clean(alloc: Global, circuit: &Circuit, keep: &Keep) -> Result<Cleaned, N
     requires in_range { All (λ j. j < length circuit.now.aig.latches) keep.now }
     ensures cleaned { IfOk result (λ c. Cleans c.circuit keep.now circuit.now c.kept_free) }
     ensures streams { IfOk result (λ c. SameStreams circuit.now c.circuit c.kept_free) }
+    ensures held { IfOk result (λ c. HeldAfter c.circuit c.keep keep.now circuit.now) }
+    ensures in_range { IfOk result (λ c. All (λ j. j < length c.circuit.aig.latches) c.keep) }
 {
     let mut before = circuit.aig().latches_and_gates();
     let mut last = run_pass(alloc, circuit, keep.positions())?;

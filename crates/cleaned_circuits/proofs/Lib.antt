@@ -8,6 +8,7 @@ pub mod TrimmedValueLaws
 pub mod TrimmedNameLaws
 pub mod PassLaws
 pub mod CleanedLaws
+pub mod HeldLaws
 pub mod OwnLaws
 pub mod UnchangedLaws
 pub mod Examples

@@ -18,7 +18,8 @@ module _ (g : Graph) (s : ℕ → Bool) where
   abbrev stays_at : ℕ → Bool
   stays_at j = s (first_latch g + j)
 
-  positions-rising : (xs : List ℕ) → IsStrictlyIncreasing xs → All (λ j. s (first_latch g + j) ≡ true) xs → IsStrictlyIncreasing (map (new_position g s) xs)
+  -- the new positions of latches that stay rise
+  pub positions-rising : (xs : List ℕ) → IsStrictlyIncreasing xs → All (λ j. s (first_latch g + j) ≡ true) xs → IsStrictlyIncreasing (map (new_position g s) xs)
   positions-rising xs rising all k h =
       let long : length (map (new_position g s) xs) ≡ length xs = length-map xs (new_position g s) in
       let a : ℕ = get_or xs k 0 in

@@ -1,18 +1,23 @@
--- Why latches can't be held by their names.
-use Rattle.std.specs.Prelude.{ℕ, ◌≡◌, List, Some, slice_get}
+-- The latches that a command holds, and why they can't be held.
+use Rattle.std.specs.Prelude.{ℕ, ◌≡◌, List, Some, map, slice_get}
 use Rattle.std.specs.Borrow.{Bor}
-use Rattle.aig_graph.specs.declared.holding.KeepError.{KeepError}
-use Rattle.aig_graph.specs.declared.holding.KeepError.TheVariants.{NoMemory, NoSuchName}
+use Rattle.aig_graph.specs.declared.holding.HoldError.{HoldError}
+use Rattle.aig_graph.specs.declared.holding.HoldError.TheVariants.{NoMemory, NoSuchLatch, NoSuchName}
 use Rattle.stream_paths.specs.Streams.{source_name}
 use Rattle.stream_paths.specs.declared.source.Source.{Source}
 use Rattle.circuit_files.specs.declared.outcome.Failure.{Failure}
 use Rattle.circuit_files.specs.declared.outcome.Failure.TheVariants as fails
 
+-- the texts of names
+abbrev pub texts_of : List (Bor (List ℕ)) → List (List ℕ)
+texts_of names = map (λ name. name.now) names
+
 -- the failure is one of these, by the name of what is read
 abbrev pub OfSource : Source → (Bor (List ℕ) → Type 0) → Type 0
 OfSource source IsFailure = (name : Bor (List ℕ)) × (name.now ≡ source_name source) × IsFailure name
 
--- the failure that an error is: the name at this place is that of no latch, or no memory
-abbrev pub IsFailureOfNames : Source → List (Bor (List ℕ)) → KeepError → Failure → Type 0
-IsFailureOfNames source names NoMemory failure = failure ≡ fails.Memory
-IsFailureOfNames source names (NoSuchName place) failure = (name : Bor (List ℕ)) → slice_get names place ≡ Some name → OfSource source (λ path. failure ≡ fails.NoSuchName path name)
+-- the failure that an error is: the name or the position with this number is that of no latch, or no memory
+abbrev pub IsFailureOfHolding : Source → List (Bor (List ℕ)) → List ℕ → HoldError → Failure → Type 0
+IsFailureOfHolding source names positions NoMemory failure = failure ≡ fails.Memory
+IsFailureOfHolding source names positions (NoSuchName number) failure = (name : Bor (List ℕ)) → slice_get names number ≡ Some name → OfSource source (λ path. failure ≡ fails.NoSuchName path name)
+IsFailureOfHolding source names positions (NoSuchLatch number) failure = (position : ℕ) → slice_get positions number ≡ Some position → OfSource source (λ path. failure ≡ fails.NoSuchLatch path position)

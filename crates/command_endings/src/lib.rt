@@ -16,5 +16,5 @@ pub use findings::{
     print_audit, print_batch, print_difference, print_retiming, print_shapes_differ,
     print_statistics,
 };
-pub use names::{bytes_of_names, failure_of_names, missing_name};
+pub use names::{bytes_of_names, failure_of_holding, held_latches, missing_latch, missing_name};
 pub use writing::write_circuit;

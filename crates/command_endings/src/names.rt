@@ -1,10 +1,11 @@
-//! The names of latches that are held.
-ghost use Rattle.std.specs.Prelude.{ℕ, ◌≡◌, List, Some, IfOk, map, slice_get};
+//! The latches that a command holds in the circuit that it reads.
+ghost use Rattle.std.specs.Prelude.{ℕ, ◌≡◌, ◌<◌, All, List, Some, IfOk, length, map, slice_get};
 ghost use Rattle.std.specs.Borrow.{Bor};
-ghost use Rattle.circuit_files.specs.declared.outcome.Failure.TheVariants.{NoSuchName};
-ghost use Rattle.command_endings.specs.HeldNames.{IsFailureOfNames};
+ghost use Rattle.aig_graph.specs.Keep.{held_of};
+ghost use Rattle.circuit_files.specs.declared.outcome.Failure.TheVariants as fails;
+ghost use Rattle.command_endings.specs.HeldNames.{IsFailureOfHolding, texts_of};
 
-use aig_graph::KeepError;
+use aig_graph::{Circuit, HoldError, Keep, hold};
 use circuit_files::Failure;
 use std::alloc::{AllocError, Global};
 use stream_paths::Source;
@@ -24,17 +25,52 @@ pub fn bytes_of_names(alloc: Global, keep: &[&str]) -> Result<Vec<Vec<u8>>, Allo
 /// The failure that no latch of the file's circuit has the name with this place.
 pub fn missing_name<'a>(path: &'a str, keep: &[&'a str], place: usize) -> Failure<'a>
     ensures { (name : Bor (List ℕ)) → slice_get keep.now place ≡ Some name
-        → result ≡ NoSuchName path.entry name }
+        → result ≡ fails.NoSuchName path.entry name }
 {
     Failure::NoSuchName(path, keep.get(place).copied().unwrap_or(""))
 }
 
-/// The failure that an error is, of the names of latches that are held in the circuit that is read.
-pub fn failure_of_names<'a>(error: KeepError, input: Source<'a>, keep: &[&'a str]) -> Failure<'a>
-    ensures { IsFailureOfNames input.entry keep.now error result }
+/// The failure that no latch of the file's circuit stands at the position with this number.
+pub fn missing_latch<'a>(path: &'a str, positions: &[u32], number: usize) -> Failure<'a>
+    ensures { (position : ℕ) → slice_get positions.now number ≡ Some position
+        → result ≡ fails.NoSuchLatch path.entry position }
+{
+    Failure::NoSuchLatch(path, positions.get(number).copied().unwrap_or(0))
+}
+
+/// The failure that an error is, of the latches that are to be held in the circuit that is read.
+pub fn failure_of_holding<'a>(
+    error: HoldError,
+    input: Source<'a>,
+    keep: &[&'a str],
+    positions: &[u32],
+) -> Failure<'a>
+    ensures { IsFailureOfHolding input.entry keep.now positions.now error result }
 {
     match error {
-        KeepError::NoMemory => Failure::Memory,
-        KeepError::NoSuchName(place) => missing_name(input.name(), keep, place),
+        HoldError::NoMemory => Failure::Memory,
+        HoldError::NoSuchName(place) => missing_name(input.name(), keep, place),
+        HoldError::NoSuchLatch(number) => missing_latch(input.name(), positions, number),
+    }
+}
+
+/// The latches with these names and at these positions of the circuit that is read.
+pub fn held_latches<'a>(
+    alloc: Global,
+    circuit: &Circuit,
+    input: Source<'a>,
+    keep: &[&'a str],
+    positions: &[u32],
+) -> Result<Keep, Failure<'a>>
+    ensures held { IfOk result (λ held. held
+        ≡ held_of (record { names = texts_of keep.now; positions = positions.now }) circuit.now) }
+    ensures in_range { IfOk result (λ held. All (λ j. j < length circuit.now.aig.latches) held) }
+{
+    let Ok(names) = bytes_of_names(alloc, keep) else {
+        return Err(Failure::Memory);
+    };
+    match hold(alloc, circuit, names.as_slice(), positions) {
+        Ok(held) => Ok(held),
+        Err(error) => Err(failure_of_holding(error, input, keep, positions)),
     }
 }

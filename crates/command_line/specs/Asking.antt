@@ -196,6 +196,7 @@ pub record IsDrawing (matches : ArgMatches) (drawing : Drawing) : Type 0 where
   pub output : IsTarget matches (codes "OUT") drawing.output
   pub frame : IsFlag matches (codes "frame") drawing.frame
   pub merge : IsFlag matches (codes "merge") drawing.merge
+  pub bound : IsBound matches drawing.bound
   pub around : option_map (λ name. name.now) drawing.around ≡ first_value (found_of matches) (codes "around")
   pub depth : IsNumber matches (codes "depth") 2 drawing.depth
   pub names : map (λ name. name.now) drawing.keep.items ≡ values_of matches (codes "keep")
@@ -246,6 +247,7 @@ pub record IsLifting (matches : ArgMatches) (lifting : Lifting) : Type 0 where
   pub witness : IsSource matches (codes "CERT") lifting.witness
   pub output : IsTarget matches (codes "RESULT") lifting.output
   pub spelling : IsSpelling matches lifting.spelling
+  pub back : IsFlag matches (codes "back") lifting.back
 
 -- each path of the task, and the name of a fault, is the value of its own argument, so that no file is written that was to be read
 abbrev pub AsksFor : ArgMatches → Task → Type 0

@@ -91,6 +91,7 @@ fn drawing<'a>(alloc: Global, matches: &ArgMatches<'a>) -> Result<Option<Task<'a
         output,
         frame: matches.get_flag("frame"),
         merge: merge(matches),
+        bound: bound(matches),
         around: matches.get_str("around"),
         depth: depth(matches),
         keep: keep(alloc, matches)?,
@@ -281,6 +282,7 @@ fn lifting<'a>(matches: &ArgMatches<'a>) -> Option<Task<'a>>
         witness,
         output,
         spelling: spelling(matches),
+        back: matches.get_flag("back"),
     }))
 }
 

@@ -174,6 +174,8 @@ pub struct Drawing<'a> {
     pub frame: bool,
     /// Whether latches that always agree are merged, where that set is shown.
     pub merge: bool,
+    /// How long moves may make paths, where that set is shown.
+    pub bound: PathBound,
     /// The names of the latches that are held in their places.
     pub keep: Vec<&'a str>,
     /// The positions of the latches that are held in their places.
@@ -251,6 +253,8 @@ pub struct Lifting<'a> {
     pub output: Target<'a>,
     /// The spelling of the written file; `None` is that of the witness circuit that is read.
     pub spelling: Option<Spelling>,
+    /// Whether the map leads back, from the states of the circuit that was made to those of the first one.
+    pub back: bool,
 }
 
 /// What a command line asks for.

@@ -292,6 +292,12 @@ pub(crate) const LIFT: &[Argument] = &[
         Always,
         "The witness circuit for IN to write",
     ),
+    Argument(
+        "back",
+        Flag,
+        Free,
+        "Read MAP as 'backward' writes it, from OUT to IN",
+    ),
     ASCII,
     BINARY,
 ];
@@ -310,6 +316,18 @@ pub(crate) const DOT: &[Argument] = &[
         Flag,
         With("frame"),
         "Merge latches that always agree first",
+    ),
+    Argument(
+        "levels",
+        Number(0, (1 << 32) - 1),
+        WithApart("frame", "no-longer"),
+        "Let no move make a path of more than n gates",
+    ),
+    Argument(
+        "no-longer",
+        Flag,
+        With("frame"),
+        "Let no path get longer than the longest of IN",
     ),
     KEEP,
     KEEP_FROM,

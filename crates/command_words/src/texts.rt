@@ -128,8 +128,8 @@ file.
 A line of LIST is the path of a circuit, a tab, and the path of the file to
 write. All circuits are read before the first is retimed. The workers take them
 one at a time; what is written is the same for every number of workers. In a
-line '-' is a file of that name. Of two circuits that are written to one file
-the later one stands.";
+line '-' is a file of that name. No two lines may write one file, by whatever
+paths.";
 
 pub(crate) const BATCH_EXAMPLE: &str =
     "It prints a line for each circuit, in the order of the list, once its file is
@@ -262,6 +262,10 @@ literal 12; if no name says so, the first ones are those of OUT, in order.
 RESULT has the inputs and latches of IN, and then CERT's own. Literals are those
 of binary files: 'convert' gives IN these, if another tool wrote it in ASCII.
 
+With --back MAP leads from OUT to IN, as 'backward --map' writes it, and the
+latches of OUT become RESULT's own, before CERT's. IN may have no free latch
+then.
+
 Where MAP is a map and CERT passes the five checks for OUT, RESULT passes them
 for IN, as any SAT solver can find; neither is checked here. 'check' checks the
 map.";
@@ -270,8 +274,13 @@ pub(crate) const LIFT_EXAMPLE: &str = "Example:
   fretime retime ring.aag less.aag --map ring.map
   fretime lift ring.aag less.aag ring.map less.cert ring.cert
 
+Back over latches that moved backward:
+  fretime backward less.aag least.aag --map least.map
+  fretime lift --back less.aag least.aag least.map least.cert less.cert
+
 RESULT is made at its first byte: if something is refused, it stays as it
-was. 'shapes differ' is printed if IN, OUT and MAP don't fit together.
+was. 'shapes differ' is printed if IN, OUT and MAP don't fit together, or with
+--back if IN has a free latch.
 
 Exit status: 0 done, 1 a file is refused, MAP is no map, CERT names what OUT
 hasn't, or shapes differ, 2 command line, 3 device, 4 out of memory.";
@@ -337,8 +346,8 @@ move over them; outputs and other properties are notes. An edge with a dot is a
 negation. Names are those of the file.
 
 With --frame the circuit is cleaned first, and merged if --merge is given, as
-'retime' does; the gates over which 'retime' moves latches next are shaded, and
-what holds a latch afterwards has a bold line.
+'retime' does; the gates over which 'retime' moves latches next, under the bound
+if one is given, are shaded, and what holds a latch afterwards has a bold line.
 
 A circuit of over 2,000 nodes is refused, but for a neighbourhood: --around NAME
 draws what is at most so many edges away from the input, latch or property with
@@ -390,9 +399,10 @@ MaxIndex, BadLine, BadLiteral, DefinedTwice, Undefined, Cycle, BadReset,
 BadDelta, Truncated, BadSymbol, Trailing. Of a stimulus or a witness: Width,
 TooMany, NoSuchProperty. Of random sequences: TooManySteps. Of names and
 pictures: NoSuchName, NoSuchLatch, TooManyNodes. Of maps and witness circuits:
-NotAMap, NoSuchLiteral. Of two circuits: ShapesDiffer. Of certificates:
-NotClosed, BadRoute, UsedTwice, CountDiffers. Of a run: NoMemory, Device. What a
-message says stands for a name too: 'shapes differ', 'out of memory', 'device'.
+NotAMap, NoSuchLiteral. Of the list of a batch: SameFile. Of two circuits:
+ShapesDiffer. Of certificates: NotClosed, BadRoute, UsedTwice, CountDiffers. Of a
+run: NoMemory, Device. What a message says stands for a name too: 'shapes
+differ', 'out of memory', 'device'.
 
 Exit status: 0 done, 2 command line, or there is no such fault, 3 device, 4 out
 of memory.";

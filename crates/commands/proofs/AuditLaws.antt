@@ -17,45 +17,25 @@ use Rattle.circuit_files.specs.declared.outcome.Failure.{Failure}
 use Rattle.command_endings.specs.Printing.{EndsPrinting, Prints, ending}
 use Rattle.frames.specs.Bounds.{bound_for}
 use Rattle.frames.specs.declared.bound.PathBound.{PathBound}
-use Rattle.latch_marks.specs.Marks.{circuit_held, marks_of, names_held}
-use Rattle.latch_marks.proofs.HeldLaws.{circuit-held, names-held}
-use Rattle.mapped_answers.proofs.AnswerLaws.{no-places}
 use Rattle.command_line.specs.declared.task.Verification.{Verification}
 use Rattle.commands.specs.Replaying.{IsJudgement, IsReplayFor}
-use Rattle.commands.specs.Verifying.{EndsWithAudit, EndsWithObject, IsJudgedBy, IsMarkedFor, IsReplayHeld, IsReplayOf, held_names, outcome_by, outcome_of_end, outcome_of_judgement}
+use Rattle.commands.specs.Verifying.{EndsWithAudit, EndsWithObject, IsJudgedBy, IsReplayOf, outcome_by, outcome_of_end, outcome_of_judgement}
 use Rattle.commands.specs.declared.replaying.Judgement.{Judgement}
 use Rattle.command_endings.proofs.PrintingLaws.{lines_print, object_prints}
 
 -- what the blocks end in, as the task says
-pub merged_replay : {E : Type 0} (bound : PathBound) (most : Option ℕ) (merge : Bool) (names : List (List ℕ)) (c : Netlist) (blocks : List Certificate) (r : Result Replay E)
-    → most ≡ bound_for bound c → merge ≡ true → IfOk r (IsMergedReplay most names c blocks) → IfOk r (IsReplayFor bound merge names c blocks)
-merged_replay bound most merge names c blocks r settled asked is =
-    let P : Bool → Type 0 = λ m. IfOk r (IsReplayFor bound m names c blocks) in
-    subst P (sym asked) (subst (λ (n : Option ℕ). IfOk r (IsMergedReplay n names c blocks)) settled is)
+pub merged_replay : {E : Type 0} (bound : PathBound) (most : Option ℕ) (merge : Bool) (held : List ℕ) (c : Netlist) (blocks : List Certificate) (r : Result Replay E)
+    → most ≡ bound_for bound c → merge ≡ true → IfOk r (IsMergedReplay most held c blocks) → IfOk r (IsReplayFor bound merge held c blocks)
+merged_replay bound most merge held c blocks r settled asked is =
+    let P : Bool → Type 0 = λ m. IfOk r (IsReplayFor bound m held c blocks) in
+    subst P (sym asked) (subst (λ (n : Option ℕ). IfOk r (IsMergedReplay n held c blocks)) settled is)
 
 -- the same where no latches were merged
-pub plain_replay : {E : Type 0} (bound : PathBound) (most : Option ℕ) (merge : Bool) (names : List (List ℕ)) (c : Netlist) (blocks : List Certificate) (r : Result Replay E)
-    → most ≡ bound_for bound c → merge ≡ false → IfOk r (IsReplay most names c blocks) → IfOk r (IsReplayFor bound merge names c blocks)
-plain_replay bound most merge names c blocks r settled unasked is =
-    let P : Bool → Type 0 = λ m. IfOk r (IsReplayFor bound m names c blocks) in
-    subst P (sym unasked) (subst (λ (n : Option ℕ). IfOk r (IsReplay n names c blocks)) settled is)
-
--- where latches are held by their names alone
-pub named_replay : {E : Type 0} (task : Verification) (c : Netlist) (blocks : List Certificate) (r : Result Replay E)
-    → nat_eq (length task.keep_latches.items) 0 ≡ true → IfOk r (IsReplayFor task.bound task.merge (held_names task) c blocks) → IfOk r (IsReplayHeld task c blocks)
-named_replay task c blocks r none is =
-    let C : List ℕ → Netlist = λ places. circuit_held (held_names task) places c in
-    subst (λ (places : List ℕ). IfOk r (IsReplayFor task.bound task.merge (names_held (held_names task) places (C places)) (C places) blocks)) (sym (no-places task.keep_latches.items none)) is
-
--- where they are held by their places
-pub marked_replay : {E : Type 0} (task : Verification) (c m : Netlist) (blocks : List Certificate) (r : Result Replay E)
-    → 0 < length task.keep_latches.items → IsMarkedFor task c m → IfOk r (IsReplayFor task.bound task.merge (marks_of m) m blocks) → IfOk r (IsReplayHeld task c blocks)
-marked_replay task c m blocks r some is replays =
-    let names = held_names task in
-    let places = task.keep_latches.items in
-    let held : circuit_held names places c ≡ m = circuit-held names places c some ∙ sym is in
-    let A : List (List ℕ) → Netlist → Type 0 = λ ns d. IfOk r (IsReplayFor task.bound task.merge ns d blocks) in
-    subst (λ (d : Netlist). A (names_held names places d) d) (sym held) (subst (λ (ns : List (List ℕ)). A ns m) (sym (names-held names places m some)) replays)
+pub plain_replay : {E : Type 0} (bound : PathBound) (most : Option ℕ) (merge : Bool) (held : List ℕ) (c : Netlist) (blocks : List Certificate) (r : Result Replay E)
+    → most ≡ bound_for bound c → merge ≡ false → IfOk r (IsReplay most held c blocks) → IfOk r (IsReplayFor bound merge held c blocks)
+plain_replay bound most merge held c blocks r settled unasked is =
+    let P : Bool → Type 0 = λ m. IfOk r (IsReplayFor bound m held c blocks) in
+    subst P (sym unasked) (subst (λ (n : Option ℕ). IfOk r (IsReplay n held c blocks)) settled is)
 
 -- what is judged of a replay is judged of the task
 pub judged-result : (task : Verification) (c : Netlist) (blocks : List Certificate) (bytes : Option (List ℕ)) (replay : Replay) (bound : Option ℕ) (judgement : Judgement)

@@ -1,7 +1,5 @@
 -- How printing a retiming ends, by the form that is asked for.
 use Rattle.std.proofs.Common.{◌≡◌, ◌∙◌, ℕ, Bool, true, false, refl, List, Option, Result, length, nat_lt, sym, subst, ap}
-use Rattle.std.specs.Global.{Vec}
-use Rattle.aig_graph.specs.Keep.{names_of}
 use Rattle.circuit_counts.specs.Remaining.{remaining}
 use Rattle.counted_io.specs.Output.{Output}
 use Rattle.retimed_circuits.specs.declared.report.Retimed.{Retimed}
@@ -17,37 +15,35 @@ use Rattle.circuit_counts.specs.declared.remaining.Remaining.{Remaining}
 use Rattle.command_line.specs.declared.task.Retiming.{Retiming}
 use Rattle.reports.specs.Retimings.{retiming_text}
 use Rattle.command_endings.specs.Printing.{EndsPrinting}
-use Rattle.commands.specs.RetimingTasks.{EndsPrintingFrames, PrintsAlike, SaysFrames, names_for, remaining_of}
+use Rattle.commands.specs.RetimingTasks.{EndsPrintingFrames, PrintsAlike, SaysFrames, remaining_of}
 
 -- an object where it was asked for
-pub frames_as_object : (json : Bool) (task : Retiming) (r : Retimed) (levels : ReadLevels) (times : Option Times) (mapped : Option MapCounts) (old new : Output) (result : Result Outcome Failure)
-    → json ≡ true → EndsPrintingFrames true task r levels times mapped old new result → EndsPrintingFrames json task r levels times mapped old new result
-frames_as_object json task r levels times mapped old new result asked p = subst (λ (j : Bool). EndsPrintingFrames j task r levels times mapped old new result) (sym asked) p
+pub frames_as_object : (json : Bool) (task : Retiming) (r : Retimed) (held : List ℕ) (levels : ReadLevels) (times : Option Times) (mapped : Option MapCounts) (old new : Output) (result : Result Outcome Failure)
+    → json ≡ true → EndsPrintingFrames true task r held levels times mapped old new result → EndsPrintingFrames json task r held levels times mapped old new result
+frames_as_object json task r held levels times mapped old new result asked p = subst (λ (j : Bool). EndsPrintingFrames j task r held levels times mapped old new result) (sym asked) p
 
 -- by what is left of it, and by the times that were taken
-pub object_of_frames : (task : Retiming) (r : Retimed) (levels : ReadLevels) (left : Remaining) (took times : Option Times) (mapped : Option MapCounts) (old new : Output) (result : Result Outcome Failure)
-    → left ≡ remaining_of task levels.bound r → took ≡ times → EndsPrintingObject Done (retiming_data r levels left took mapped) old new result → EndsPrintingFrames true task r levels times mapped old new result
-object_of_frames task r levels left took times mapped old new result is same p =
-    subst (λ (t : Option Times). EndsPrintingObject Done (retiming_data r levels (remaining_of task levels.bound r) t mapped) old new result) same
+pub object_of_frames : (task : Retiming) (r : Retimed) (held : List ℕ) (levels : ReadLevels) (left : Remaining) (took times : Option Times) (mapped : Option MapCounts) (old new : Output) (result : Result Outcome Failure)
+    → left ≡ remaining_of task levels.bound r held → took ≡ times → EndsPrintingObject Done (retiming_data r levels left took mapped) old new result → EndsPrintingFrames true task r held levels times mapped old new result
+object_of_frames task r held levels left took times mapped old new result is same p =
+    subst (λ (t : Option Times). EndsPrintingObject Done (retiming_data r levels (remaining_of task levels.bound r held) t mapped) old new result) same
     (subst (λ (x : Remaining). EndsPrintingObject Done (retiming_data r levels x took mapped) old new result) is p)
 
--- what is left, by the names as bytes and the number of frames
-pub remaining_is : (task : Retiming) (bound : Option ℕ) (r : Retimed) (names read : List (Vec ℕ)) (frames : ℕ) → read ≡ names → names_of names ≡ names_for task r.circuit → frames ≡ length r.frames
-    → remaining r.circuit (names_of read) bound (nat_lt frames task.frames) ≡ remaining_of task bound r
-remaining_is task bound r names read frames same alike many =
-    ap (λ (xs : List (List ℕ)). remaining r.circuit xs bound (nat_lt frames task.frames)) (ap names_of same ∙ alike)
-    ∙ ap (λ (n : ℕ). remaining r.circuit (names_for task r.circuit) bound (nat_lt n task.frames)) many
+-- what is left, by the number of frames
+pub remaining_is : (task : Retiming) (bound : Option ℕ) (r : Retimed) (held : List ℕ) (frames : ℕ) → frames ≡ length r.frames
+    → remaining r.circuit held bound (nat_lt frames task.frames) ≡ remaining_of task bound r held
+remaining_is task bound r held frames many = ap (λ (n : ℕ). remaining r.circuit held bound (nat_lt n task.frames)) many
 
 -- what is printed alike ends alike
-pub frames_alike : (json : Bool) (task : Retiming) (r s : Retimed) (levels : ReadLevels) (times : Option Times) (mapped : Option MapCounts) (old new : Output) (result : Result Outcome Failure)
-    → PrintsAlike r s → EndsPrintingFrames json task r levels times mapped old new result → EndsPrintingFrames json task s levels times mapped old new result
-frames_alike true task r s levels times mapped old new result alike p = subst (λ value. EndsPrintingObject Done value old new result) (alike.1 task levels times mapped) p
-frames_alike false task r s levels times mapped old new result alike p = subst (λ (text : List ℕ). EndsPrinting Done text old new result) alike.0 p
+pub frames_alike : (json : Bool) (task : Retiming) (r s : Retimed) (held : List ℕ) (levels : ReadLevels) (times : Option Times) (mapped : Option MapCounts) (old new : Output) (result : Result Outcome Failure)
+    → PrintsAlike r s → EndsPrintingFrames json task r held levels times mapped old new result → EndsPrintingFrames json task s held levels times mapped old new result
+frames_alike true task r s held levels times mapped old new result alike p = subst (λ value. EndsPrintingObject Done value old new result) (alike.1 task held levels times mapped) p
+frames_alike false task r s held levels times mapped old new result alike p = subst (λ (text : List ℕ). EndsPrinting Done text old new result) alike.0 p
 
 -- where two retimings are printed alike, what says the frames of the one says those of the other
-pub says_alike : (task : Retiming) (r s : Retimed) (levels : ReadLevels) (times : Option Times) (mapped : Option MapCounts) (old new : Output) → PrintsAlike r s → SaysFrames task r levels times mapped old new → SaysFrames task s levels times mapped old new
-says_alike task r s levels times mapped old new alike p = record { ended = p.ended; prints = frames_alike task.json task r s levels times mapped old new p.ended alike p.prints }
+pub says_alike : (task : Retiming) (r s : Retimed) (held : List ℕ) (levels : ReadLevels) (times : Option Times) (mapped : Option MapCounts) (old new : Output) → PrintsAlike r s → SaysFrames task r held levels times mapped old new → SaysFrames task s held levels times mapped old new
+says_alike task r s held levels times mapped old new alike p = record { ended = p.ended; prints = frames_alike task.json task r s held levels times mapped old new p.ended alike p.prints }
 
 -- each retiming is printed as itself
 pub alike_itself : (r : Retimed) → PrintsAlike r r
-alike_itself r = (refl, λ task levels times mapped. refl)
+alike_itself r = (refl, λ task held levels times mapped. refl)

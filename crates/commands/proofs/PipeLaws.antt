@@ -11,14 +11,17 @@ use Rattle.aig_binary.specs.declared.reading.SpeltCircuit.{SpeltCircuit}
 use Rattle.aig_binary.proofs.LimitLaws.{reads-within}
 use Rattle.counted_io.specs.Output.{Output, WritesAll}
 use Rattle.retimed_circuits.specs.declared.report.Retimed.{Retimed}
+use Rattle.frames.specs.declared.errors.BytesError.{BytesError}
 use Rattle.frames.specs.declared.errors.BytesError.TheVariants.{Read, Retime, Write}
-use Rattle.frames.specs.declared.errors.RetimeError.TheVariants.{NoMemory, NoSuchName}
-use Rattle.mapped_answers.specs.declared.options.HeldOptions.{HeldOptions}
-use Rattle.mapped_answers.specs.Answering.{IsHeldAnswer, IsHeldMapStop, IsHeldMapped, IsHeldStop, ReadsBack, text_for}
+use Rattle.frames.specs.declared.errors.RetimeError.TheVariants.{NoMemory, NoSuchLatch, NoSuchName}
+use Rattle.frames.specs.declared.options.Options.{Options}
+use Rattle.frames.specs.Answering.{IsAnswer, IsStop, IsWritten, ReadsBack, text_for}
+use Rattle.frames.specs.Retiming.{IsRetimedHeld}
+use Rattle.mapped_answers.specs.Mapping.{IsMappedOf, IsMappingStop}
 use Rattle.mapped_answers.specs.declared.mapped.Mapped.{Mapped}
 use Rattle.mapped_answers.specs.declared.mapped.SpeltMap.{SpeltMap}
 use Rattle.mapped_answers.specs.declared.errors.AnswerError.{AnswerError}
-use Rattle.mapped_answers.specs.declared.errors.AnswerError.TheVariants.{Bytes, MapTooLarge, NoSuchLatch}
+use Rattle.mapped_answers.specs.declared.errors.AnswerError.TheVariants.{Bytes, MapTooLarge}
 use Rattle.stream_paths.specs.Streams.{is_stdout}
 use Rattle.stream_paths.specs.declared.target.Target.{Target}
 use Rattle.command_line.specs.StreamUses.{takes_stdout, writes_stdout}
@@ -35,43 +38,47 @@ use Rattle.json_reports.specs.declared.counts.ReadLevels.{ReadLevels}
 use Rattle.commands.specs.declared.answer.Answer.{Answer as Answered}
 use Rattle.commands.specs.Pipes.{AnswersPipe, IsAnswerTo, IsMapOf, IsPipe, IsReportOf, PrintsRetiming, WritesAnswer, WritesBeside, WritesCertificates, WritesMap, WritesPipe, WritesRetiming, blocks_text}
 use Rattle.command_endings.specs.Printing.{EndsAside, Prints, ending}
-use Rattle.commands.specs.RetimingTasks.{EndsPrintingFrames, HasFailed, IsRunFailureOf, PrintsAlike, SaysFrames, counts_of, levels_reported}
+use Rattle.commands.specs.RetimingTasks.{EndsPrintingFrames, HasFailed, IsFailureOf, IsMapFailureOf, PrintsAlike, SaysFrames, counts_of, levels_reported}
 use Rattle.command_endings.proofs.PrintingLaws.{failing_after, prints_after}
 use Rattle.commands.proofs.FrameLaws.{frames_alike, says_alike}
 
 -- why there is no whole answer of what was read, as the failure of the task
-pub stopped : (task : Retiming) (options : HeldOptions) (spelt : SpeltCircuit) (before after : Output) (e : AnswerError) (f : Failure)
-    → IsRunFailureOf task e f → IsHeldStop options spelt before after e → Prints (outcome_of f) before after
-stopped task options spelt before after (NoSuchLatch number) f is p = failing_after f before after p.0
-stopped task options spelt before after (Bytes (Read e)) f is p = absurd p
-stopped task options spelt before after (Bytes (Retime NoMemory)) f is p = failing_after f before after p
-stopped task options spelt before after (Bytes (Retime (NoSuchName place))) f is p = failing_after f before after p.0
-stopped task options spelt before after (Bytes (Write e)) f is p = subst (λ (g : Failure). Prints (outcome_of g) before after) (sym is.2) tt
-stopped task options spelt before after MapTooLarge f is p = absurd p
+pub stopped : (task : Retiming) (options : Options) (spelt : SpeltCircuit) (before after : Output) (e : BytesError) (f : Failure)
+    → IsFailureOf task e f → IsStop options spelt before after e → Prints (outcome_of f) before after
+stopped task options spelt before after (Read e) f is p = absurd p
+stopped task options spelt before after (Retime NoMemory) f is p = failing_after f before after p
+stopped task options spelt before after (Retime (NoSuchName place)) f is p = failing_after f before after p.0
+stopped task options spelt before after (Retime (NoSuchLatch number)) f is p = failing_after f before after p.0
+stopped task options spelt before after (Write e) f is p = subst (λ (g : Failure). Prints (outcome_of g) before after) (sym is.2) tt
 
 -- the same where a map is made
-pub stopped_mapped : (task : Retiming) (options : HeldOptions) (spelt : SpeltCircuit) (before after : Output) (e : AnswerError) (f : Failure)
-    → IsRunFailureOf task e f → IsHeldMapStop options spelt before after e → Prints (outcome_of f) before after
-stopped_mapped task options spelt before after (NoSuchLatch number) f is p = stopped task options spelt before after (NoSuchLatch number) f is p
-stopped_mapped task options spelt before after (Bytes e) f is p = stopped task options spelt before after (Bytes e) f is p
+pub stopped_mapped : (task : Retiming) (options : Options) (spelt : SpeltCircuit) (before after : Output) (e : AnswerError) (f : Failure)
+    → IsMapFailureOf task e f → IsMappingStop options spelt before after e → Prints (outcome_of f) before after
+stopped_mapped task options spelt before after (Bytes e) f is p = stopped task options spelt before after e f is p
 stopped_mapped task options spelt before after MapTooLarge f is p = failing_after f before after p
 
+-- an answer is that of the run, with its held latches
+pub is_answer : (task : Retiming) (options : Options) (spelt : SpeltCircuit) (old new : Output) (r : Retimed) (keep : List ℕ) (answer : Answered) → answer.retimed ≡ r → answer.keep ≡ keep
+    → answer.levels ≡ levels_reported task spelt.circuit → IsMapOf options spelt r answer.map → is_some answer.map ≡ is_some task.map → IsRetimedHeld options spelt.circuit r keep
+    → IsWritten options spelt old new r → IsAnswerTo task options spelt old new answer
+is_answer task options spelt old new r keep answer retimed same levels map has_map held w = record {
+  of = record {
+    is = subst (IsAnswer options spelt) (sym retimed) w.answer;
+    held = subst (λ (x : Retimed). IsRetimedHeld options spelt.circuit x answer.keep) (sym retimed) (subst (IsRetimedHeld options spelt.circuit r) (sym same) held);
+    reads_back = λ within. subst (ReadsBack options spelt) (sym retimed) (w.reads_back within);
+    levels_are = levels;
+    map_is = subst (λ (x : Retimed). IsMapOf options spelt x answer.map) (sym retimed) map;
+    has_map = has_map;
+  };
+  writes = subst (λ (x : Retimed). WritesAll old new (text_for options spelt x)) (sym retimed) w.writes;
+}
+
 -- an answer with its map is the answer of the run
-pub mapped_answer : (task : Retiming) (options : HeldOptions) (spelt : SpeltCircuit) (old new : Output) (mapped : Mapped) (answer : Answered) → answer.retimed ≡ mapped.retimed
-    → answer.levels ≡ levels_reported task spelt.circuit → answer.map ≡ Some mapped.map → is_some task.map ≡ true → IsHeldMapped options spelt old new mapped → IsAnswerTo task options spelt old new answer
-mapped_answer task options spelt old new mapped answer retimed levels made asked is =
-    let w = is.written in
-    record {
-      of = record {
-        is = subst (λ (r : Retimed). IsHeldAnswer options spelt r) (sym retimed) w.answer;
-        reads_back = λ within. subst (λ (r : Retimed). ReadsBack options spelt r) (sym retimed) (w.reads_back within);
-        levels_are = levels;
-        map_is = subst (λ (m : Option SpeltMap). IsMapOf options spelt answer.retimed m) (sym made)
-            (subst (λ (r : Retimed). IsMapOf options spelt r (Some mapped.map)) (sym retimed) (is.map, is.spelling));
-        has_map = ap is_some made ∙ sym asked;
-      };
-      writes = subst (λ (r : Retimed). WritesAll old new (text_for options spelt r)) (sym retimed) w.writes;
-    }
+pub mapped_answer : (task : Retiming) (options : Options) (spelt : SpeltCircuit) (old new : Output) (mapped : Mapped) (answer : Answered) → answer.retimed ≡ mapped.retimed → answer.keep ≡ mapped.keep
+    → answer.levels ≡ levels_reported task spelt.circuit → answer.map ≡ Some mapped.map → is_some task.map ≡ true → IsMappedOf options spelt old new mapped → IsAnswerTo task options spelt old new answer
+mapped_answer task options spelt old new mapped answer retimed same levels made asked is =
+    let map = subst (λ (m : Option SpeltMap). IsMapOf options spelt mapped.retimed m) (sym made) (is.map, is.spelling) in
+    is_answer task options spelt old new mapped.retimed mapped.keep answer retimed same levels map (ap is_some made ∙ sym asked) is.held is.written
 
 -- what goes to no standard output leaves it as it was
 map_aside : (FileGiven : List ℕ → List ℕ → Type 0) (target : Option Target) (made : Option SpeltMap) (old new : Output) → writes_stdout target ≡ false → WritesMap FileGiven target made old new → new ≡ old
@@ -110,13 +117,14 @@ answers_pipe FileGiven task input old new answer pipe all =
     })
 
 -- what is written beside the answer changes nothing of what is reported of it
-pub report_of : (FileGiven : List ℕ → List ℕ → Type 0) (task : Retiming) (input : Input) (old mid new : Output) (answer after : Answered) (r : Retimed) (levels : ReadLevels) (counts : Option MapCounts)
-    → levels ≡ after.levels → after.levels ≡ answer.levels → r ≡ after.retimed → PrintsAlike after.retimed answer.retimed
+pub report_of : (FileGiven : List ℕ → List ℕ → Type 0) (task : Retiming) (input : Input) (old mid new : Output) (answer after : Answered) (r : Retimed) (held : List ℕ) (levels : ReadLevels) (counts : Option MapCounts)
+    → held ≡ after.keep → after.keep ≡ answer.keep → levels ≡ after.levels → after.levels ≡ answer.levels → r ≡ after.retimed → PrintsAlike after.retimed answer.retimed
     → counts ≡ option_map (λ (m : SpeltMap). counts_of m.circuit) after.map → after.map ≡ answer.map
-    → WritesAnswer FileGiven task input old mid answer → WritesBeside FileGiven task answer mid new → IsReportOf FileGiven task input old new r levels counts
-report_of FileGiven task input old mid new answer after r levels counts reported leveled same alike counted mapped circuit beside = record {
+    → WritesAnswer FileGiven task input old mid answer → WritesBeside FileGiven task answer mid new → IsReportOf FileGiven task input old new r held levels counts
+report_of FileGiven task input old mid new answer after r held levels counts stand stood reported leveled same alike counted mapped circuit beside = record {
   answer = answer;
   alike = subst (λ (x : Retimed). PrintsAlike x answer.retimed) (sym same) alike;
+  held_are = stand ∙ stood;
   levels_are = reported ∙ leveled;
   counts_are = subst (λ (m : Option SpeltMap). counts ≡ option_map (λ (x : SpeltMap). counts_of x.circuit) m) mapped counted;
   written = record { between = mid; circuit = circuit; beside = beside };
@@ -145,11 +153,11 @@ if_ended (Ok ended) P p = p
 if_ended (Err failure) P p = tt
 
 -- what is reported of it is printed
-pub prints_retiming : (FileGiven : List ℕ → List ℕ → Type 0) (task : Retiming) (is_terminal : Bool) (input : Input) (old mid new shown reported said : Output) (r : Retimed) (levels : ReadLevels) (times : Option Times) (mapped : Option MapCounts) (result : Result Outcome Failure)
-    → IsReportOf FileGiven task input old mid r levels mapped → (takes_stdout task ≡ true → EndsAside Done mid new result)
-    → (takes_stdout task ≡ true → SaysFrames task r levels times mapped shown reported) → (takes_stdout task ≡ false → EndsPrintingFrames task.json task r levels times mapped mid new result)
+pub prints_retiming : (FileGiven : List ℕ → List ℕ → Type 0) (task : Retiming) (is_terminal : Bool) (input : Input) (old mid new shown reported said : Output) (r : Retimed) (held : List ℕ) (levels : ReadLevels) (times : Option Times) (mapped : Option MapCounts) (result : Result Outcome Failure)
+    → IsReportOf FileGiven task input old mid r held levels mapped → (takes_stdout task ≡ true → EndsAside Done mid new result)
+    → (takes_stdout task ≡ true → SaysFrames task r held levels times mapped shown reported) → (takes_stdout task ≡ false → EndsPrintingFrames task.json task r held levels times mapped mid new result)
     → (is_terminal ≡ false → said ≡ reported) → IfOk result (λ ended. PrintsRetiming FileGiven task is_terminal input old new said (Ok ended))
-prints_retiming FileGiven task is_terminal input old mid new shown reported said r levels times mapped result of aside says frames still =
+prints_retiming FileGiven task is_terminal input old mid new shown reported said r held levels times mapped result of aside says frames still =
     let answer = of.answer in
     let counts = option_map (λ (m : SpeltMap). counts_of m.circuit) answer.map in
     if_ended result (λ (r : Result Outcome Failure). PrintsRetiming FileGiven task is_terminal input old new said r) (record {
@@ -157,15 +165,17 @@ prints_retiming FileGiven task is_terminal input old mid new shown reported said
       times = times;
       between = mid;
       written = of.written;
-      printed = λ free. subst (λ (m : Option MapCounts). EndsPrintingFrames task.json task answer.retimed answer.levels times m mid new result) of.counts_are
-          (subst (λ (l : ReadLevels). EndsPrintingFrames task.json task answer.retimed l times mapped mid new result) of.levels_are
-          (frames_alike task.json task r answer.retimed levels times mapped mid new result of.alike (frames free)));
+      printed = λ free. subst (λ (m : Option MapCounts). EndsPrintingFrames task.json task answer.retimed answer.keep answer.levels times m mid new result) of.counts_are
+          (subst (λ (l : ReadLevels). EndsPrintingFrames task.json task answer.retimed answer.keep l times mapped mid new result) of.levels_are
+          (subst (λ (js : List ℕ). EndsPrintingFrames task.json task answer.retimed js levels times mapped mid new result) of.held_are
+          (frames_alike task.json task r answer.retimed held levels times mapped mid new result of.alike (frames free))));
       quiet = λ taken. stays_quiet mid mid new result (aside taken);
       shown = shown;
-      aside = λ taken quiet. subst (SaysFrames task answer.retimed answer.levels times counts shown) (sym (still quiet))
-          (subst (λ (m : Option MapCounts). SaysFrames task answer.retimed answer.levels times m shown reported) of.counts_are
-          (subst (λ (l : ReadLevels). SaysFrames task answer.retimed l times mapped shown reported) of.levels_are
-          (says_alike task r answer.retimed levels times mapped shown reported of.alike (says taken))));
+      aside = λ taken quiet. subst (SaysFrames task answer.retimed answer.keep answer.levels times counts shown) (sym (still quiet))
+          (subst (λ (m : Option MapCounts). SaysFrames task answer.retimed answer.keep answer.levels times m shown reported) of.counts_are
+          (subst (λ (l : ReadLevels). SaysFrames task answer.retimed answer.keep l times mapped shown reported) of.levels_are
+          (subst (λ (js : List ℕ). SaysFrames task answer.retimed js levels times mapped shown reported) of.held_are
+          (says_alike task r answer.retimed held levels times mapped shown reported of.alike (says taken)))));
     })
 
 -- what holds anyway holds where a result is there
@@ -174,9 +184,9 @@ if_done (Ok x) P p = p
 if_done (Err e) P p = tt
 
 -- so a pipe has its answer
-pub writes_pipe : {T E : Type 0} (FileGiven : List ℕ → List ℕ → Type 0) (task : Retiming) (input : Input) (old mid new : Output) (r : Retimed) (levels : ReadLevels) (mapped : Option MapCounts) (result : Result Outcome Failure) (ended : Result T E)
-    → IsReportOf FileGiven task input old mid r levels mapped → (takes_stdout task ≡ true → EndsAside Done mid new result) → IfOk ended (λ x. IsPipe task → WritesPipe task input old new)
-writes_pipe FileGiven task input old mid new r levels mapped result ended of aside =
+pub writes_pipe : {T E : Type 0} (FileGiven : List ℕ → List ℕ → Type 0) (task : Retiming) (input : Input) (old mid new : Output) (r : Retimed) (held : List ℕ) (levels : ReadLevels) (mapped : Option MapCounts) (result : Result Outcome Failure) (ended : Result T E)
+    → IsReportOf FileGiven task input old mid r held levels mapped → (takes_stdout task ≡ true → EndsAside Done mid new result) → IfOk ended (λ x. IsPipe task → WritesPipe task input old new)
+writes_pipe FileGiven task input old mid new r held levels mapped result ended of aside =
     let answer = of.answer in
     let still : IsPipe task → new ≡ mid = λ pipe. stays_quiet mid mid new result (aside (pipe_takes_stdout task pipe)) in
     if_done ended (IsPipe task → WritesPipe task input old new)

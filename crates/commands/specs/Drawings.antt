@@ -1,12 +1,9 @@
 -- What a picture shows.
 use Rattle.std.specs.Prelude.{ℕ, ◌≡◌, ◌<◌, ◌≤◌, ◌+◌, Bool, true, false, List, length, map, Option, Some, None, option_map}
 use Rattle.std.specs.Borrow.{Bor}
-use Rattle.aig_graph.specs.Graph.{known_latches, variables_end}
+use Rattle.aig_graph.specs.Graph.{variables_end}
 use Rattle.aig_graph.specs.Circuits.{Netlist}
-use Rattle.aig_graph.specs.Closed.{IsClosedSet}
-use Rattle.aig_graph.specs.Move.{move_of}
-use Rattle.aig_graph.specs.Border.{IsGreatestLeast, border_size}
-use Rattle.aig_graph.specs.Keep.{held_in}
+use Rattle.aig_graph.specs.Keep.{Holding, held_of}
 use Rattle.aig_binary.specs.declared.reading.SpeltCircuit.{SpeltCircuit}
 use Rattle.counted_io.specs.Input.{Input}
 use Rattle.counted_io.specs.Output.{Output}
@@ -18,25 +15,26 @@ use Rattle.circuit_files.specs.declared.outcome.Outcome.{Outcome}
 use Rattle.circuit_files.specs.declared.outcome.Outcome.TheVariants.{Done}
 use Rattle.aig_graph.specs.declared.choice.Choice.TheVariants.{Greatest}
 use Rattle.retimed_circuits.specs.declared.report.Retimed.{Retimed}
-use Rattle.frames.specs.Named.{names_in}
-use Rattle.frames.specs.Retiming.{IsRetimedBy}
+use Rattle.frames.specs.Bounds.{bound_in}
+use Rattle.frames.specs.Named.{holding_in}
+use Rattle.frames.specs.Retiming.{IsNextSet, IsRetimedHeld}
+use Rattle.frames.specs.declared.follower.NoFollower.{NoFollower}
 use Rattle.frames.specs.declared.options.Options.{Options}
+use Rattle.frames.specs.declared.run.Run.{Run}
 use Rattle.pictures.specs.Looks.{everything}
 use Rattle.pictures.specs.Near.{has_node, is_centre, is_near}
 use Rattle.pictures.specs.Pictures.{picture}
-use Rattle.latch_marks.specs.Marks.{circuit_freed, circuit_held, names_held}
 use Rattle.command_line.specs.declared.task.Drawing.{Drawing}
-use Rattle.command_endings.specs.HeldNames.{OfSource}
+use Rattle.command_endings.specs.HeldNames.{OfSource, texts_of}
 use Rattle.command_endings.specs.Sources.{IsCircuitAt}
-use Rattle.held_circuits.specs.HeldLatches.{texts_of}
 use Rattle.commands.specs.declared.scene.Scene.{Scene}
 
--- a circuit while the task holds its latches, and the names by which it does in one that is so
-abbrev pub held_for : Drawing → Netlist → Netlist
-held_for task c = circuit_held (texts_of task.keep.items) task.keep_latches.items c
+-- which latches the task asks to be held, and their positions in a circuit
+abbrev pub holding_for : Drawing → Holding
+holding_for task = record { names = texts_of task.keep.items; positions = task.keep_latches.items }
 
-abbrev pub names_for : Drawing → Netlist → List (List ℕ)
-names_for task c = names_held (texts_of task.keep.items) task.keep_latches.items c
+abbrev pub held_for : Drawing → Netlist → List ℕ
+held_for task c = held_of (holding_for task) c
 
 -- the neighbourhood of what the name names, or all variables
 abbrev pub shown : Netlist → Drawing → ℕ → Bool
@@ -60,52 +58,46 @@ abbrev pub IsRefusal : Option (Bor (List ℕ)) → Netlist → Source → Failur
 IsRefusal (Some name) c input failure = (has_node c name.now ≡ false) × OfSource input (λ path. failure ≡ fails.NoSuchName path name)
 IsRefusal None c input failure = (2000 < nodes c) × OfSource input (λ path. failure ≡ fails.TooManyNodes path)
 
--- the set that is shown: where the next frame is asked for the greatest least set, if it leaves fewer known latches than there are,
--- and none only where no closed set does; else none
-abbrev pub IsSetFor : Bool → Netlist → List ℕ → Option (List ℕ) → Type 0
-IsSetFor true c held (Some set) = IsGreatestLeast c held set × (border_size (move_of c held set) < known_latches c.aig)
-IsSetFor true c held None = (s : List ℕ) → IsClosedSet c.aig held s → known_latches c.aig ≤ border_size (move_of c held s)
-IsSetFor false c held set = set ≡ None
-
--- the options of a retiming of c that takes no frame, where the task holds latches
-pub record AreOptionsFor (task : Drawing) (c : Netlist) (options : Options) : Type 0 where
+-- the options of a retiming that takes no frame, where the task holds latches
+pub record AreOptionsFor (task : Drawing) (options : Options) : Type 0 where
   pub frames : options.max_frames ≡ 0
   pub choice : options.choice ≡ Greatest
   pub certify : options.certify ≡ false
   pub merge : options.merge ≡ task.merge
-  pub names : names_in options ≡ names_for task c
+  pub bound : options.bound ≡ task.bound
+  pub holding : holding_in options ≡ holding_for task
 
--- d is c cleaned, and where the task asks for it merged, as before the first frame
-pub record IsCleanedFor (task : Drawing) (c d : Netlist) : Type 0 where
+-- the run of c by the options, which has taken all its frames, under the bound for c
+pub record IsRunBy (options : Options) (c : Netlist) (run : Run NoFollower) : Type 0 where
+  pub is : IsRetimedHeld options c run.retimed run.keep
+  pub bound : run.bound ≡ bound_in options c
+
+-- what a run came to, its held latches, and the set that its next frame takes
+pub record IsShownOf (options : Options) (run : Run NoFollower) (scene : Scene) : Type 0 where
+  pub circuit : scene.circuit ≡ run.retimed.circuit
+  pub keep : scene.keep ≡ run.keep
+  pub set : IsNextSet options run.bound run.keep run.retimed.circuit scene.set
+
+-- c cleaned, and where the task asks for it merged, as before the first frame, with its held latches, and the set over which that frame moves
+-- latches, under the bound that the task names, where one makes fewer
+pub record IsNextShown (task : Drawing) (c : Netlist) (scene : Scene) : Type 0 where
   pub options : Options
-  pub are : AreOptionsFor task c options
-  pub retimed : Retimed
-  pub is : IsRetimedBy options c retimed
-  pub circuit : d ≡ retimed.circuit
+  pub are : AreOptionsFor task options
+  pub run : Run NoFollower
+  pub is : IsRunBy options c run
+  pub shown : IsShownOf options run scene
 
--- the circuit that is shown: the one that is read, or where the next frame is asked for what that frame begins with
-abbrev pub IsCircuitFor : Bool → Drawing → Netlist → Netlist → Type 0
-IsCircuitFor true task c d = IsCleanedFor task c d
-IsCircuitFor false task c d = d ≡ c
+-- what is shown of c: itself with the latches that the task holds, or where the next frame is asked for what that frame begins with
+abbrev pub IsShownFor : Bool → Drawing → Netlist → Scene → Type 0
+IsShownFor true task c scene = IsNextShown task c scene
+IsShownFor false task c scene = (scene.circuit ≡ c) × (scene.keep ≡ held_for task c) × (scene.set ≡ None)
 
--- a scene of the circuit, in which these latches are held: it can be drawn, and where the next frame is asked for, a set is shown
-pub record IsSceneWith (task : Drawing) (c : Netlist) (kept : List ℕ) (scene : Scene) : Type 0 where
-  pub circuit : scene.circuit ≡ c
-  pub held : scene.keep ≡ kept
-  pub can : CanBeDrawn task.around c
-  pub set : IsSetFor task.frame c scene.keep scene.set
-
--- a scene of c, in which the task holds latches, when they are let go
-abbrev pub IsScene : Drawing → Netlist → Scene → Type 0
-IsScene task c scene = IsSceneWith task (circuit_freed task.keep_latches.items c) (held_in (names_for task c) c) scene
-
--- a scene of what the task shows of the circuit that is read, while it holds latches of that
+-- a scene of what the task shows of the circuit that is read, which can be drawn
 pub record IsSceneOf (task : Drawing) (before after : Input) (scene : Scene) : Type 0 where
   pub spelt : SpeltCircuit
   pub read : IsCircuitAt task.input before after spelt
-  pub circuit : Netlist
-  pub shown : IsCircuitFor task.frame task (held_for task spelt.circuit) circuit
-  pub is : IsScene task circuit scene
+  pub shown : IsShownFor task.frame task spelt.circuit scene
+  pub can : CanBeDrawn task.around scene.circuit
 
 -- what is written of a scene
 abbrev pub picture_of : Drawing → Scene → List ℕ

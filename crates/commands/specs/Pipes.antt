@@ -9,9 +9,10 @@ use Rattle.aig_binary.specs.declared.reading.SpeltCircuit.{SpeltCircuit}
 use Rattle.aig_binary.specs.Ending.{Spells}
 use Rattle.state_maps.specs.MapCircuits.{IsMapCircuit}
 use Rattle.retimed_circuits.specs.declared.report.Retimed.{Retimed}
-use Rattle.mapped_answers.specs.Answering.{IsHeldAnswer, IsHeldAnswered, ReadsBack, freed, text_for}
+use Rattle.frames.specs.Answering.{IsAnswer, IsAnswered, ReadsBack, text_for}
+use Rattle.frames.specs.Retiming.{IsRetimedHeld}
+use Rattle.frames.specs.declared.options.Options.{Options}
 use Rattle.mapped_answers.specs.declared.mapped.SpeltMap.{SpeltMap}
-use Rattle.mapped_answers.specs.declared.options.HeldOptions.{HeldOptions}
 use Rattle.stream_paths.specs.Streams.{is_stdin, is_stdout}
 use Rattle.stream_paths.specs.declared.source.Source.{Source}
 use Rattle.stream_paths.specs.declared.target.Target.{Target}
@@ -36,31 +37,32 @@ pub record IsPipe (task : Retiming) : Type 0 where
   pub map_aside : writes_stdout task.map ≡ false
 
 -- a map, where there is one, is that of the run: from the circuit that was read to the one that is written, in its spelling
-abbrev pub IsMapOf : HeldOptions → SpeltCircuit → Retimed → Option SpeltMap → Type 0
+abbrev pub IsMapOf : Options → SpeltCircuit → Retimed → Option SpeltMap → Type 0
 IsMapOf options spelt r None = Unit {0}
-IsMapOf options spelt r (Some m) = IsMapCircuit spelt.circuit (freed options r) r.kept_free m.circuit × (m.spelling ≡ unwrap_or options.options.spelling spelt.spelling)
+IsMapOf options spelt r (Some m) = IsMapCircuit spelt.circuit r.circuit r.kept_free m.circuit × (m.spelling ≡ unwrap_or options.spelling spelt.spelling)
 
--- of a circuit that was read, this is the answer by the options, which is read back; its levels are reported, and its map is made, where that is asked for
-pub record IsAnswerOf (task : Retiming) (options : HeldOptions) (spelt : SpeltCircuit) (answer : Answer) : Type 0 where
-  pub is : IsHeldAnswer options spelt answer.retimed
+-- of a circuit that was read, this is the answer by the options, which is read back; its held latches stand where it is said, its levels are reported, and its map is made, where that is asked for
+pub record IsAnswerOf (task : Retiming) (options : Options) (spelt : SpeltCircuit) (answer : Answer) : Type 0 where
+  pub is : IsAnswer options spelt answer.retimed
+  pub held : IsRetimedHeld options spelt.circuit answer.retimed answer.keep
   pub reads_back : IsWithinLimits spelt.circuit → ReadsBack options spelt answer.retimed
   pub levels_are : answer.levels ≡ levels_reported task spelt.circuit
   pub map_is : IsMapOf options spelt answer.retimed answer.map
   pub has_map : is_some answer.map ≡ is_some task.map
 
 -- it was written, and nothing else
-pub record IsAnswerTo (task : Retiming) (options : HeldOptions) (spelt : SpeltCircuit) (old new : Output) (answer : Answer) : Type 0 where
+pub record IsAnswerTo (task : Retiming) (options : Options) (spelt : SpeltCircuit) (old new : Output) (answer : Answer) : Type 0 where
   pub of : IsAnswerOf task options spelt answer
   pub writes : WritesAll old new (text_for options spelt answer.retimed)
 
 -- it was written to what the task writes
-pub record IsAnswerAt (FileGiven : List ℕ → List ℕ → Type 0) (task : Retiming) (options : HeldOptions) (spelt : SpeltCircuit) (old new : Output) (answer : Answer) : Type 0 where
+pub record IsAnswerAt (FileGiven : List ℕ → List ℕ → Type 0) (task : Retiming) (options : Options) (spelt : SpeltCircuit) (old new : Output) (answer : Answer) : Type 0 where
   pub of : IsAnswerOf task options spelt answer
   pub writes : IsTargetGiven FileGiven task.output old new (text_for options spelt answer.retimed)
 
 -- so was the answer, by the options of the task, of what it reads: of standard input, of the bytes that were left
 pub record WritesAnswer (FileGiven : List ℕ → List ℕ → Type 0) (task : Retiming) (input : Input) (old new : Output) (answer : Answer) : Type 0 where
-  pub options : HeldOptions
+  pub options : Options
   pub are_options : AreOptionsOf task options
   pub spelt : SpeltCircuit
   pub read : is_stdin task.input ≡ true → Spells input spelt
@@ -94,9 +96,10 @@ pub record WritesRetiming (FileGiven : List ℕ → List ℕ → Type 0) (task :
   pub beside : WritesBeside FileGiven task answer between new
 
 -- what is reported of r is reported of an answer whose parts were all written, and of its map
-pub record IsReportOf (FileGiven : List ℕ → List ℕ → Type 0) (task : Retiming) (input : Input) (old new : Output) (r : Retimed) (levels : ReadLevels) (mapped : Option MapCounts) : Type 0 where
+pub record IsReportOf (FileGiven : List ℕ → List ℕ → Type 0) (task : Retiming) (input : Input) (old new : Output) (r : Retimed) (held : List ℕ) (levels : ReadLevels) (mapped : Option MapCounts) : Type 0 where
   pub answer : Answer
   pub alike : PrintsAlike r answer.retimed
+  pub held_are : held ≡ answer.keep
   pub levels_are : levels ≡ answer.levels
   pub counts_are : mapped ≡ option_map (λ (m : SpeltMap). counts_of m.circuit) answer.map
   pub written : WritesRetiming FileGiven task input old new answer
@@ -108,17 +111,17 @@ pub record PrintsRetiming (FileGiven : List ℕ → List ℕ → Type 0) (task :
   pub times : Option Times
   pub between : Output
   pub written : WritesRetiming FileGiven task input old between answer
-  pub printed : takes_stdout task ≡ false → EndsPrintingFrames task.json task answer.retimed answer.levels times (option_map (λ (m : SpeltMap). counts_of m.circuit) answer.map) between new result
+  pub printed : takes_stdout task ≡ false → EndsPrintingFrames task.json task answer.retimed answer.keep answer.levels times (option_map (λ (m : SpeltMap). counts_of m.circuit) answer.map) between new result
   pub quiet : takes_stdout task ≡ true → new ≡ between
   pub shown : Output
-  pub aside : takes_stdout task ≡ true → is_terminal ≡ false → SaysFrames task answer.retimed answer.levels times (option_map (λ (m : SpeltMap). counts_of m.circuit) answer.map) shown said
+  pub aside : takes_stdout task ≡ true → is_terminal ≡ false → SaysFrames task answer.retimed answer.keep answer.levels times (option_map (λ (m : SpeltMap). counts_of m.circuit) answer.map) shown said
 
 -- the answer by the options of the task, of the bytes that standard input had left, was written, and nothing else; the levels are those of
 -- the circuit of the bytes
 pub record AnswersPipe (task : Retiming) (input : Input) (old new : Output) (retimed : Retimed) (levels : ReadLevels) : Type 0 where
-  pub options : HeldOptions
+  pub options : Options
   pub are_options : AreOptionsOf task options
-  pub answered : IsHeldAnswered input old new options retimed
+  pub answered : IsAnswered input old new options retimed
   pub levels_are : levels ≡ levels_reported task answered.spelt.circuit
 
 -- that is so of some retiming

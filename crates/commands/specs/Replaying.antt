@@ -10,7 +10,6 @@ use Rattle.certificate_audits.specs.Replays.{IsMergedReplay, IsReplay}
 use Rattle.certificate_audits.specs.declared.outcome.Replay.{Replay}
 use Rattle.frames.specs.Bounds.{bound_for}
 use Rattle.frames.specs.declared.bound.PathBound.{PathBound}
-use Rattle.latch_marks.specs.Marks.{circuit_freed}
 use Rattle.reports.specs.Agreements.{IsAgreement}
 use Rattle.reports.specs.declared.agreement.Agreement.{Agreement}
 use Rattle.stream_paths.specs.Streams.{source_name}
@@ -20,15 +19,10 @@ use Rattle.circuit_files.specs.declared.outcome.Failure.{Failure}
 use Rattle.command_endings.specs.Sources.{IsReadAt}
 use Rattle.commands.specs.declared.replaying.Judgement.{Judgement}
 
--- what the blocks end in for c under the bound, or, where latches were merged before the first frame, for what c is merged to
-abbrev pub IsReplayFor : PathBound → Bool → List (List ℕ) → Netlist → List Certificate → Replay → Type 0
-IsReplayFor bound false names c blocks replay = IsReplay (bound_for bound c) names c blocks replay
-IsReplayFor bound true names c blocks replay = IsMergedReplay (bound_for bound c) names c blocks replay
-
--- the same replay, whose circuit no longer has the marks of latches that are held at these places
-pub record IsFreed (places : List ℕ) (held replay : Replay) : Type 0 where
-  pub audit : replay.audit ≡ held.audit
-  pub last : replay.last ≡ option_map (circuit_freed places) held.last
+-- what the blocks end in for c, where the latches at these positions are held, under the bound, or, where latches were merged before the first frame, for what c is merged to
+abbrev pub IsReplayFor : PathBound → Bool → List ℕ → Netlist → List Certificate → Replay → Type 0
+IsReplayFor bound false held c blocks replay = IsReplay (bound_for bound c) held c blocks replay
+IsReplayFor bound true held c blocks replay = IsMergedReplay (bound_for bound c) held c blocks replay
 
 -- the bytes that a vector has, where there is one
 abbrev pub bytes_in : Option (Vec ℕ) → Option (List ℕ)

@@ -20,7 +20,8 @@ use Rattle.command_endings.specs.Sources.{IsCircuitAt}
 pub record AreMergeCounts (c : Netlist) (counts : MergeCounts) : Type 0 where
   pub start : Netlist
   pub kept : List ℕ
-  pub merges : MergesIn [] c start kept counts
+  pub now : List ℕ
+  pub merges : MergesIn [] c start kept now counts
 
 -- where they are asked for
 abbrev pub AreMergeCountsFor : Bool → Netlist → Option MergeCounts → Type 0

@@ -1,6 +1,7 @@
 -- What is printed of an audit, and of a file that is compared with what its blocks end in, and how the run ends by it.
-use Rattle.std.specs.Prelude.{ℕ, ◌≡◌, Bool, true, false, List, Option, Some, None, Result, map}
+use Rattle.std.specs.Prelude.{ℕ, ◌≡◌, Bool, true, false, List, Option, Some, None, Result}
 use Rattle.aig_graph.specs.Circuits.{Netlist}
+use Rattle.aig_graph.specs.Keep.{held_of}
 use Rattle.aig_binary.specs.declared.reading.SpeltCircuit.{SpeltCircuit}
 use Rattle.counted_io.specs.Input.{Input}
 use Rattle.counted_io.specs.Output.{Output, WritesAll}
@@ -15,15 +16,15 @@ use Rattle.reports.specs.declared.agreement.Agreement.TheVariants.{Same, Differs
 use Rattle.frames.specs.Bounds.{bound_for}
 use Rattle.json_reports.specs.Audits.{audit_data}
 use Rattle.json_reports.specs.Lines.{json_line}
-use Rattle.latch_marks.specs.Marks.{circuit_held, held_places, marked, names_held}
 use Rattle.command_line.specs.declared.task.Verification.{Verification}
 use Rattle.circuit_files.specs.Codes.{status_of}
 use Rattle.circuit_files.specs.declared.outcome.Failure.{Failure}
 use Rattle.circuit_files.specs.declared.outcome.Outcome.{Outcome}
 use Rattle.circuit_files.specs.declared.outcome.Outcome.TheVariants.{Done, Unconfirmed}
+use Rattle.command_endings.specs.HeldNames.{texts_of}
 use Rattle.command_endings.specs.Objects.{EndsPrintingObject}
 use Rattle.command_endings.specs.Sources.{AreCertificatesAt, IsCircuitAt}
-use Rattle.commands.specs.Replaying.{AreRetimedAt, IsFreed, IsJudgement, IsReplayFor}
+use Rattle.commands.specs.Replaying.{AreRetimedAt, IsJudgement, IsReplayFor}
 use Rattle.commands.specs.declared.replaying.Judgement.{Judgement}
 
 abbrev pub outcome_of_end : End → Outcome
@@ -42,9 +43,9 @@ outcome_by (Some (DiffersAt offset)) end = Unconfirmed
 abbrev pub outcome_of_judgement : Judgement → Outcome
 outcome_of_judgement judgement = outcome_by judgement.agreement judgement.audit.end
 
--- the names of the latches that the task holds
-abbrev pub held_names : Verification → List (List ℕ)
-held_names task = map (λ name. name.now) task.keep.items
+-- the positions of the latches that the task holds
+abbrev pub held_for : Verification → Netlist → List ℕ
+held_for task c = held_of (record { names = texts_of task.keep.items; positions = task.keep_latches.items }) c
 
 -- the object of a judgement after which the run ends so
 abbrev pub EndsWithObject : List Certificate → Judgement → Outcome → Output → Output → Result Outcome Failure → Type 0
@@ -61,24 +62,9 @@ pub record EndsWithAudit (json : Bool) (blocks : List Certificate) (judgement : 
   pub prints : WritesAll old new (printed_audit json blocks judgement)
   pub ends : ended ≡ outcome_of_judgement judgement
 
--- m is c in which the latches that the task holds have marks
-abbrev pub IsMarkedFor : Verification → Netlist → Netlist → Type 0
-IsMarkedFor task c m = m ≡ marked (held_places (held_names task) task.keep_latches.items c) c
-
--- the circuit while the task holds its latches
-abbrev pub circuit_for : Verification → Netlist → Netlist
-circuit_for task c = circuit_held (held_names task) task.keep_latches.items c
-
--- what the blocks end in for c while the task holds its latches
-abbrev pub IsReplayHeld : Verification → Netlist → List Certificate → Replay → Type 0
-IsReplayHeld task c blocks replay =
-    IsReplayFor task.bound task.merge (names_held (held_names task) task.keep_latches.items (circuit_for task c)) (circuit_for task c) blocks replay
-
--- the same once they are let go
-pub record IsReplayOf (task : Verification) (c : Netlist) (blocks : List Certificate) (replay : Replay) : Type 0 where
-  pub held : Replay
-  pub replays : IsReplayHeld task c blocks held
-  pub freed : IsFreed task.keep_latches.items held replay
+-- what the blocks end in for c, where the latches are held that the task names
+abbrev pub IsReplayOf : Verification → Netlist → List Certificate → Replay → Type 0
+IsReplayOf task c blocks replay = IsReplayFor task.bound task.merge (held_for task c) c blocks replay
 
 -- the audit of the blocks for this circuit, with the latches held that the task names, and what comes of comparing these bytes with
 -- what they end in

@@ -1,44 +1,44 @@
 //! From the circuit that `retime` reads to the one that it writes, with a map of states where one is asked for.
-ghost use Rattle.std.specs.Prelude.{◌≡◌, ◌<◌, ◌≤◌, true, false, IfErr, IfOk, OnOk, Some, option_map};
+ghost use Rattle.std.specs.Prelude.{◌≡◌, ◌<◌, ◌≤◌, true, false, IfErr, IfOk, None, OnOk, Some, option_map};
 ghost use Rattle.aig_binary.specs.Spellings.{text_in};
 ghost use Rattle.stream_paths.specs.Streams.{is_stdout, target_name};
 ghost use Rattle.stream_paths.specs.declared.target.Target.{Target};
-ghost use Rattle.mapped_answers.specs.Answering.{IsHeldMapStop, IsHeldMapped, IsHeldWritten};
+ghost use Rattle.frames.specs.Answering.{IsWritten};
+ghost use Rattle.frames.specs.Retiming.{IsRetimedHeld};
+ghost use Rattle.mapped_answers.specs.Mapping.{IsMappedOf, IsMappingStop};
 ghost use Rattle.circuit_files.specs.Outcomes.{outcome_of};
 ghost use Rattle.circuit_files.specs.WrittenFiles.{IsFileGiven, IsTargetGiven};
 ghost use Rattle.command_line.specs.StreamUses.{writes_stdout};
 ghost use Rattle.command_endings.specs.Printing.{Prints};
 ghost use Rattle.commands.specs.Pipes.{IsAnswerTo, WritesMap};
-ghost use Rattle.commands.specs.RetimingTasks.{AreOptionsOf, HasFailed, IsFailureOf, IsRunFailureOf, counts_of, levels_reported};
+ghost use Rattle.commands.specs.RetimingTasks.{AreOptionsOf, HasFailed, IsFailureOf, IsFailureOfRun, IsMapFailureOf, counts_of, levels_reported};
 
 use aig_binary::{Spelling, SpeltCircuit};
-use aig_graph::{Circuit, NoMemory};
+use aig_graph::{Circuit, Keep, NoMemory};
 use circuit_files::{Failure, file_at};
-use command_endings::missing_name;
+use command_endings::{missing_latch, missing_name};
 use command_line::Retiming;
 use counted_io::{CountedWrite, WriteError};
 use file_words::ReadError;
-use frames::{BytesError, FrameWatcher, RetimeError, Retimed};
-use held_circuits::missing_latch;
+use frames::{BytesError, FrameWatcher, NoFollower, Options, RetimeError, Retimed, Run, run_spelt};
 use json_reports::{MapCounts, ReadLevels};
-use mapped_answers::{
-    AnswerError, HeldOptions, Mapped, SpeltMap, retime_held, retime_held_mapped, write_state_map,
-};
+use mapped_answers::{AnswerError, Mapped, SpeltMap, retime_spelt_mapped, write_state_map};
 use path_levels::levels;
 use pulse::{Crew, OpenGate};
 use std::alloc::Global;
 use std::rt::Files;
 use std::thread::Threads;
-use stream_paths::Target;
+use stream_paths::{Source, Target};
 
 /// The most workers of a crew.
 const MOST_WORKERS: u32 = 64;
 
-/// A retiming whose circuit is written, without the marks by which it may still hold latches, what is reported of the levels of the circuit
-/// that was read, the spelling of that, and its map where one is asked for.
+/// A retiming whose circuit is written, where its held latches stand, what is reported of the levels of the circuit that was read, the
+/// spelling of that, and its map where one is asked for.
 #[derive(Drop)]
 pub(crate) struct Answer {
     pub retimed: Retimed,
+    pub keep: Keep,
     pub levels: ReadLevels,
     pub spelling: Spelling,
     pub map: Option<SpeltMap>,
@@ -50,15 +50,31 @@ fn crew(task: &Retiming<'_>) -> Crew<OpenGate>
     Crew::new(task.workers.clamp(1, MOST_WORKERS), OpenGate)
 }
 
+/// The failure that an error of a run is, with the name of what it is about.
+pub(crate) fn failure_of_run<'a>(
+    error: RetimeError,
+    input: Source<'a>,
+    keep: &[&'a str],
+    positions: &[u32],
+) -> Failure<'a>
+    ensures { IsFailureOfRun input.entry keep.now positions.now error result }
+{
+    match error {
+        RetimeError::NoMemory => Failure::Memory,
+        RetimeError::NoSuchName(place) => missing_name(input.name(), keep, place),
+        RetimeError::NoSuchLatch(number) => missing_latch(input.name(), positions, number),
+    }
+}
+
 /// The failure that an error is, with the name of what it is about.
 fn failure_of<'a>(error: BytesError, task: &Retiming<'a>) -> Failure<'a>
     ensures { IsFailureOf task.now error result }
 {
     match error {
         BytesError::Read(error) => Failure::of_reading(error, task.input.name()),
-        BytesError::Retime(RetimeError::NoMemory) => Failure::Memory,
-        BytesError::Retime(RetimeError::NoSuchName(place)) => {
-            missing_name(task.input.name(), task.keep.as_slice(), place)
+        BytesError::Retime(error) => {
+            let positions = task.keep_latches.as_slice();
+            failure_of_run(error, task.input, task.keep.as_slice(), positions)
         }
         BytesError::Write(_) => Failure::Device(task.output.name()),
     }
@@ -74,15 +90,12 @@ fn map_name<'a>(task: &Retiming<'a>) -> &'a str
     }
 }
 
-/// The same of a whole run: a map that is too large fails as a file that says so in its first line.
-fn failure_of_run<'a>(error: AnswerError, task: &Retiming<'a>) -> Failure<'a>
-    ensures { IsRunFailureOf task.now error result }
+/// The same of a run with a map: one that is too large fails as a file that says so in its first line.
+fn failure_of_mapping<'a>(error: AnswerError, task: &Retiming<'a>) -> Failure<'a>
+    ensures { IsMapFailureOf task.now error result }
 {
     match error {
         AnswerError::Bytes(error) => failure_of(error, task),
-        AnswerError::NoSuchLatch(number) => {
-            missing_latch(task.input.name(), task.keep_latches.as_slice(), number)
-        }
         AnswerError::MapTooLarge => Failure::Refused(map_name(task), ReadError::TooLarge(0)),
     }
 }
@@ -116,20 +129,22 @@ fn plain_to<'a, R: Threads + Sync, W: CountedWrite, V: FrameWatcher>(
     rt: &R,
     alloc: Global,
     task: &Retiming<'a>,
-    options: &HeldOptions,
+    options: &Options,
     spelt: SpeltCircuit,
     writer: &mut W,
     watcher: &mut V,
-) -> Result<Retimed, Failure<'a>>
-    ensures written { IfOk result (IsHeldWritten options.now spelt (W.output writer.old)
-        (W.output writer.new)) }
+) -> Result<Run<NoFollower>, Failure<'a>>
+    ensures written { IfOk result (λ run. IsWritten options.now spelt (W.output writer.old)
+        (W.output writer.new) run.retimed) }
+    ensures held { IfOk result (λ run. IsRetimedHeld options.now spelt.circuit run.retimed
+        run.keep) }
     ensures prints { IfErr result (λ failure. Prints (outcome_of failure) (W.output writer.old)
         (W.output writer.new)) }
 {
     let crew = crew(task);
-    match retime_held(rt, alloc, spelt, writer, options, &crew, watcher) {
-        Ok(retimed) => Ok(retimed),
-        Err(error) => Err(failure_of_run(error, task)),
+    match run_spelt(rt, alloc, spelt, writer, options, &crew, watcher) {
+        Ok(run) => Ok(run),
+        Err(error) => Err(failure_of(error, task)),
     }
 }
 
@@ -138,41 +153,52 @@ fn mapped_to<R: Threads + Sync, W: CountedWrite, V: FrameWatcher>(
     rt: &R,
     alloc: Global,
     task: &Retiming<'_>,
-    options: &HeldOptions,
+    options: &Options,
     spelt: SpeltCircuit,
     writer: &mut W,
     watcher: &mut V,
 ) -> Result<Mapped, AnswerError>
-    ensures ok { IfOk result (IsHeldMapped options.now spelt (W.output writer.old)
+    ensures ok { IfOk result (IsMappedOf options.now spelt (W.output writer.old)
         (W.output writer.new)) }
-    ensures err { IfErr result (IsHeldMapStop options.now spelt (W.output writer.old)
+    ensures err { IfErr result (IsMappingStop options.now spelt (W.output writer.old)
         (W.output writer.new)) }
 {
     let crew = crew(task);
-    retime_held_mapped(rt, alloc, spelt, writer, options, &crew, watcher)
+    retime_spelt_mapped(rt, alloc, spelt, writer, options, &crew, watcher)
+}
+
+/// A run without a map, as an answer.
+fn plain_answer(run: Run<NoFollower>, levels: ReadLevels, spelling: Spelling) -> Answer
+    ensures retimed { result.retimed ≡ run.retimed }
+    ensures keep { result.keep ≡ run.keep }
+    ensures levels { result.levels ≡ levels }
+    ensures map { result.map ≡ None }
+{
+    let Run { retimed, keep, .. } = run;
+    Answer {
+        retimed,
+        keep,
+        levels,
+        spelling,
+        map: None,
+    }
 }
 
 /// A retiming with its map, as an answer.
-fn answer_of(mapped: Mapped, levels: ReadLevels, spelling: Spelling) -> Answer
+fn mapped_answer(mapped: Mapped, levels: ReadLevels, spelling: Spelling) -> Answer
     ensures retimed { result.retimed ≡ mapped.retimed }
+    ensures keep { result.keep ≡ mapped.keep }
     ensures levels { result.levels ≡ levels }
     ensures map { result.map ≡ Some mapped.map }
 {
-    let Mapped { retimed, map } = mapped;
+    let Mapped { retimed, keep, map } = mapped;
     Answer {
         retimed,
+        keep,
         levels,
         spelling,
         map: Some(map),
     }
-}
-
-/// The retiming of an answer.
-pub(crate) fn retimed_of(answer: Answer) -> Retimed
-    ensures { result ≡ answer.retimed }
-{
-    let Answer { retimed, .. } = answer;
-    retimed
 }
 
 /// How many gates and constraints the map has.
@@ -193,7 +219,7 @@ pub(crate) fn retime_to<'a, R: Threads + Sync, W: CountedWrite, V: FrameWatcher>
     rt: &R,
     alloc: Global,
     task: &Retiming<'a>,
-    options: &HeldOptions,
+    options: &Options,
     spelt: SpeltCircuit,
     writer: &mut W,
     watcher: &mut V,
@@ -211,16 +237,11 @@ pub(crate) fn retime_to<'a, R: Threads + Sync, W: CountedWrite, V: FrameWatcher>
     let spelling = spelt.spelling;
     match task.map {
         Some(_) => match mapped_to(rt, alloc, task, options, spelt, writer, watcher) {
-            Ok(mapped) => Ok(answer_of(mapped, levels, spelling)),
-            Err(error) => Err(failure_of_run(error, task)),
+            Ok(mapped) => Ok(mapped_answer(mapped, levels, spelling)),
+            Err(error) => Err(failure_of_mapping(error, task)),
         },
         None => match plain_to(rt, alloc, task, options, spelt, writer, watcher) {
-            Ok(retimed) => Ok(Answer {
-                retimed,
-                levels,
-                spelling,
-                map: None,
-            }),
+            Ok(run) => Ok(plain_answer(run, levels, spelling)),
             Err(failure) => Err(failure),
         },
     }

@@ -14,6 +14,7 @@ use aig_graph::NoMemory;
 use circuit_files::{Failure, Outcome, file_at};
 use command_line::Drawing;
 use counted_io::{CountedRead, CountedWrite, write_all};
+use frames::PathBound;
 use pictures::{View, write_dot};
 use std::alloc::Global;
 use std::rt::Files;
@@ -22,6 +23,10 @@ use stream_paths::Target;
 
 /// What a terminal is told where the next frame was to be shown and there is none.
 const NO_FRAME: &[u8] = b"no set of gates leaves fewer latches, so no frame is shown\n";
+
+/// The same where there is a bound.
+const NO_FRAME_WITHIN: &[u8] =
+    b"no set of gates leaves fewer latches and keeps the bound, so no frame is shown\n";
 
 /// The view of a scene that is asked for: of a neighbourhood, or of the whole circuit.
 fn view(alloc: Global, scene: &Scene, task: &Drawing<'_>) -> Result<View, NoMemory>
@@ -103,12 +108,20 @@ fn draw_to<'a, R: Files, O: CountedWrite>(
     }
 }
 
+/// What a terminal is told where no frame is shown.
+fn no_frame(bound: PathBound) -> &'static [u8] {
+    match bound {
+        PathBound::None => NO_FRAME,
+        PathBound::Levels(_) | PathBound::NoLonger => NO_FRAME_WITHIN,
+    }
+}
+
 /// Tells on a terminal that the next frame moves no latches, where it was to be shown. A write that fails changes nothing.
 fn tell_no_frame<E: CountedWrite>(scene: &Scene, task: &Drawing<'_>, is_terminal: bool, err: &mut E)
     ensures { is_terminal ≡ false → E.output err.new ≡ E.output err.old }
 {
     if is_terminal && task.frame && scene.set.is_none() {
-        let _ = write_all(err, NO_FRAME);
+        let _ = write_all(err, no_frame(task.bound));
     }
 }
 

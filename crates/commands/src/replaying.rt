@@ -1,19 +1,17 @@
 //! The circuit that blocks of certificates end in, and a file that is compared with it.
-ghost use Rattle.std.specs.Prelude.{◌≡◌, IfErr, IfOk};
-ghost use Rattle.aig_graph.specs.Keep.{names_of};
+ghost use Rattle.std.specs.Prelude.{◌≡◌, ◌<◌, All, IfErr, IfOk, length};
 ghost use Rattle.aig_binary.specs.Spellings.{text_in};
 ghost use Rattle.reports.specs.Agreements.{IsAgreement};
-ghost use Rattle.commands.specs.Replaying.{AreRetimedAt, IsAboutRetimed, IsAgreementOn, IsAgreementWith, IsFreed, IsJudgement, IsReplayFor, bytes_in, text_like};
+ghost use Rattle.commands.specs.Replaying.{AreRetimedAt, IsAboutRetimed, IsAgreementOn, IsAgreementWith, IsJudgement, IsReplayFor, bytes_in, text_like};
 
 use aig_binary::{Spelling, spelling, write};
-use aig_graph::{Circuit, KeepError, NoMemory};
+use aig_graph::{Circuit, Keep, NoMemory};
 use certificate_audits::{Audit, Replay, replay_blocks, replay_merged};
 use certificates::Certificate;
 use circuit_files::{Failure, bytes_at};
 use command_line::Verification;
 use counted_io::{Counted, CountedRead};
 use frames::PathBound;
-use held_circuits::freed_circuit;
 use reports::{Agreement, compare};
 use std::alloc::Global;
 use std::rt::Files;
@@ -27,42 +25,24 @@ pub(crate) struct Judgement {
     pub(crate) agreement: Option<Agreement>,
 }
 
-/// The audit of certificates of a run that held the latches with these names, merged others first where that is said, and had this bound
-/// on levels; and the circuit that they end in.
+/// The audit of certificates of a run that held these latches, merged others first where that is said, and had this bound on levels; and the
+/// circuit that they end in.
 pub(crate) fn replay_of(
     alloc: Global,
     circuit: &Circuit,
     blocks: &[Certificate],
-    names: &[Vec<u8>],
+    keep: &Keep,
     merge: bool,
     bound: PathBound,
-) -> Result<Replay, KeepError>
-    ensures { IfOk result (IsReplayFor bound merge (names_of names.now) circuit.now blocks.now) }
+) -> Result<Replay, NoMemory>
+    requires { All (λ j. j < length circuit.now.aig.latches) keep.now }
+    ensures { IfOk result (IsReplayFor bound merge keep.now circuit.now blocks.now) }
 {
-    let Ok(most) = bound.for_circuit(alloc, circuit) else {
-        return Err(KeepError::NoMemory);
-    };
+    let most = bound.for_circuit(alloc, circuit)?;
     if merge {
-        replay_merged(alloc, circuit, blocks, names, most)
+        replay_merged(alloc, circuit, blocks, keep, most)
     } else {
-        replay_blocks(alloc, circuit, blocks, names, most)
-    }
-}
-
-/// The same replay, whose circuit no longer has the marks of latches that are held at these places.
-pub(crate) fn freed(alloc: Global, replay: Replay, places: &[u32]) -> Result<Replay, NoMemory>
-    ensures { IfOk result (IsFreed places.now replay) }
-{
-    let Replay { audit, last } = replay;
-    match last {
-        None => Ok(Replay { audit, last: None }),
-        Some(circuit) => match freed_circuit(alloc, circuit, places) {
-            Ok(circuit) => Ok(Replay {
-                audit,
-                last: Some(circuit),
-            }),
-            Err(error) => Err(error),
-        },
+        replay_blocks(alloc, circuit, blocks, keep, most)
     }
 }
 

@@ -1,6 +1,5 @@
 //! The command `retime`.
 ghost use Rattle.std.specs.Prelude.{◌≡◌, ◌⊎◌, true, false, IfErr, IfOk, Ok, OnOk, option_map};
-ghost use Rattle.aig_graph.specs.Keep.{names_of};
 ghost use Rattle.counted_io.specs.Output.{Writes};
 ghost use Rattle.certificate_files.specs.Texts.{file_text};
 ghost use Rattle.stream_paths.specs.Streams.{is_stdout};
@@ -10,12 +9,12 @@ ghost use Rattle.circuit_files.specs.WrittenFiles.{IsFileGiven, IsTargetGiven};
 ghost use Rattle.circuit_files.specs.declared.outcome.Outcome.TheVariants.{Done};
 ghost use Rattle.commands.specs.Pipes.{IsAnswerAt, IsPipe, IsReportOf, PrintsRetiming, WritesAnswer, WritesBeside, WritesCertificates, WritesPipe, blocks_text};
 ghost use Rattle.command_endings.specs.Printing.{EndsAside, Prints, ending};
-ghost use Rattle.commands.specs.RetimingTasks.{AreOptionsOf, EndsPrintingFrames, HasFailed, PrintsAlike, SaysFrames, counts_of, names_for, remaining_of};
+ghost use Rattle.commands.specs.RetimingTasks.{AreOptionsOf, EndsPrintingFrames, HasFailed, PrintsAlike, SaysFrames, counts_of, remaining_of};
 ghost use Rattle.command_line.specs.declared.task.Shown.TheVariants.{Nothing};
 
-use crate::answer::{Answer, map_counts, map_written, retime_to, retimed_of};
+use crate::answer::{Answer, map_counts, map_written, retime_to};
 use aig_binary::{Spelling, SpeltCircuit};
-use aig_graph::{Circuit, NoMemory, Sequence};
+use aig_graph::{Keep, NoMemory, Sequence};
 use certificate_files::{CertFile, Choice, write_cert};
 use certificates::Certificate;
 use circuit_counts::Remaining;
@@ -24,9 +23,7 @@ use command_endings::{bytes_of_names, ended};
 use command_line::{Retiming, Shown};
 use counted_io::{CountedRead, CountedWrite, WriteError, write_all};
 use frames::{FrameWatcher, Options, Retimed};
-use held_circuits::names_held;
 use json_reports::{MapCounts, ReadLevels, Times};
-use mapped_answers::HeldOptions;
 use progress::Progress;
 use reports::{print_remaining, print_retiming};
 use std::alloc::{AllocError, Global};
@@ -36,22 +33,20 @@ use std::thread::Threads;
 use std::time::Clock;
 use stream_paths::Target;
 
-fn options(alloc: Global, task: &Retiming<'_>) -> Result<HeldOptions, AllocError>
+fn options(alloc: Global, task: &Retiming<'_>) -> Result<Options, AllocError>
     ensures { IfOk result (AreOptionsOf task.now) }
 {
-    let places = Vec::from_slice(alloc, task.keep_latches.as_slice())?;
+    let keep_latches = Vec::from_slice(alloc, task.keep_latches.as_slice())?;
     let keep = bytes_of_names(alloc, task.keep.as_slice())?;
-    Ok(HeldOptions {
-        options: Options {
-            spelling: task.spelling,
-            max_frames: task.frames,
-            choice: task.choice,
-            certify: task.certificates.is_some(),
-            keep,
-            merge: task.merge,
-            bound: task.bound,
-        },
-        places,
+    Ok(Options {
+        spelling: task.spelling,
+        max_frames: task.frames,
+        choice: task.choice,
+        certify: task.certificates.is_some(),
+        keep,
+        keep_latches,
+        merge: task.merge,
+        bound: task.bound,
     })
 }
 
@@ -60,7 +55,7 @@ fn retime_by<'a, R: Files + Threads + Sync, O: CountedWrite, V: FrameWatcher>(
     rt: &R,
     alloc: Global,
     task: &Retiming<'a>,
-    options: &HeldOptions,
+    options: &Options,
     spelt: SpeltCircuit,
     out: &mut O,
     watcher: &mut V,
@@ -86,7 +81,7 @@ fn retime_read<'a, R: Files + Threads + Sync, I: CountedRead, O: CountedWrite, V
     rt: &R,
     alloc: Global,
     task: &Retiming<'a>,
-    options: &HeldOptions,
+    options: &Options,
     stdin: &mut I,
     out: &mut O,
     watcher: &mut V,
@@ -198,6 +193,7 @@ fn write_beside<'a, R: Files, O: CountedWrite>(
     ensures file { writes_stdout task.now.map ≡ false → writes_stdout task.now.certificates
         ≡ false → O.output out.new ≡ O.output out.old }
     ensures frames { PrintsAlike answer.new.retimed answer.old.retimed }
+    ensures keep { answer.new.keep ≡ answer.old.keep }
     ensures levels { answer.new.levels ≡ answer.old.levels }
     ensures map { answer.new.map ≡ answer.old.map }
     ensures err { IfErr result (λ failure. HasFailed task.now.map failure ⊎ HasFailed task.now.certificates failure) }
@@ -206,11 +202,12 @@ fn write_beside<'a, R: Files, O: CountedWrite>(
     certify(rt, alloc, task, &mut answer.retimed, out)
 }
 
-/// A retiming, what is reported of the levels of the circuit that was read, its spelling, how long the parts of the run took, where that was
+/// A retiming, where its held latches stand, what is reported of the levels of the circuit that was read, its spelling, how long the parts of the run took, where that was
 /// measured, and what its map has, where one is written.
 #[derive(Drop)]
 struct Timed {
     retimed: Retimed,
+    keep: Keep,
     levels: ReadLevels,
     spelling: Spelling,
     times: Option<Times>,
@@ -220,14 +217,21 @@ struct Timed {
 /// What is reported of an answer whose parts took so long.
 fn with_times(answer: Answer, times: Option<Times>) -> Timed
     ensures retimed { result.retimed ≡ answer.retimed }
+    ensures keep { result.keep ≡ answer.keep }
     ensures levels { result.levels ≡ answer.levels }
     ensures map { result.map ≡ option_map (λ map. counts_of map.circuit) answer.map }
 {
     let map = map_counts(&answer);
-    let levels = answer.levels;
-    let spelling = answer.spelling;
+    let Answer {
+        retimed,
+        keep,
+        levels,
+        spelling,
+        ..
+    } = answer;
     Timed {
-        retimed: retimed_of(answer),
+        retimed,
+        keep,
         levels,
         spelling,
         times,
@@ -252,8 +256,8 @@ fn certified<
     err: &mut E,
 ) -> Result<Timed, Failure<'a>>
     ensures reported { IfOk result (λ timed. IsReportOf (IsFileGiven R R.Dir R.File.contents) task.now
-        (I.input stdin.old) (O.output out.old) (O.output out.new) timed.retimed timed.levels
-        timed.map) }
+        (I.input stdin.old) (O.output out.old) (O.output out.new) timed.retimed timed.keep
+        timed.levels timed.map) }
     ensures file { takes_stdout task.now ≡ false → O.output out.new ≡ O.output out.old }
     ensures prints { IfErr result (λ failure. Prints (outcome_of failure) (O.output out.old)
         (O.output out.new)) }
@@ -271,30 +275,19 @@ fn certified<
     }
 }
 
-/// The names by which the task holds latches in this circuit.
-fn names_for(
-    alloc: Global,
-    circuit: &Circuit,
-    task: &Retiming<'_>,
-) -> Result<Vec<Vec<u8>>, NoMemory>
-    ensures { IfOk result (λ names. names_of names.items ≡ names_for task.now circuit.now) }
+/// What the task's retiming leaves under its bound, or without one.
+fn remaining(alloc: Global, task: &Retiming<'_>, timed: &Timed) -> Result<Remaining, NoMemory>
+    ensures { IfOk result (λ left. left ≡ remaining_of task.now timed.now.levels.bound
+        timed.now.retimed timed.now.keep) }
 {
-    let places = task.keep_latches.as_slice();
-    names_held(alloc, circuit, task.keep.as_slice(), places)
-}
-
-/// What the task's retiming leaves under a bound, or without one.
-fn remaining(
-    alloc: Global,
-    task: &Retiming<'_>,
-    retimed: &Retimed,
-    bound: Option<u32>,
-) -> Result<Remaining, NoMemory>
-    ensures { IfOk result (λ left. left ≡ remaining_of task.now bound retimed.now) }
-{
-    let names = names_for(alloc, &retimed.circuit, task)?;
+    let Timed {
+        retimed,
+        keep,
+        levels,
+        ..
+    } = timed;
     let is_least = retimed.frames.len() < task.frames as usize;
-    Remaining::of(alloc, &retimed.circuit, names.as_slice(), bound, is_least)
+    Remaining::of(alloc, &retimed.circuit, keep, levels.bound, is_least)
 }
 
 /// Prints the frames that were taken as an object of JSON.
@@ -304,10 +297,10 @@ fn print_object<'a, W: CountedWrite>(
     timed: &Timed,
     writer: &mut W,
 ) -> Result<Outcome, Failure<'a>>
-    ensures { EndsPrintingFrames true task.now timed.now.retimed timed.now.levels timed.now.times
-        timed.now.map (W.output writer.old) (W.output writer.new) result }
+    ensures { EndsPrintingFrames true task.now timed.now.retimed timed.now.keep timed.now.levels
+        timed.now.times timed.now.map (W.output writer.old) (W.output writer.new) result }
 {
-    match remaining(alloc, task, &timed.retimed, timed.levels.bound) {
+    match remaining(alloc, task, timed) {
         Ok(left) => {
             let times = timed.times.as_ref();
             command_endings::print_retiming(
@@ -332,8 +325,8 @@ fn print_as<'a, W: CountedWrite>(
     json: bool,
     writer: &mut W,
 ) -> Result<Outcome, Failure<'a>>
-    ensures frames { EndsPrintingFrames json task.now timed.now.retimed timed.now.levels
-        timed.now.times timed.now.map (W.output writer.old) (W.output writer.new) result }
+    ensures frames { EndsPrintingFrames json task.now timed.now.retimed timed.now.keep
+        timed.now.levels timed.now.times timed.now.map (W.output writer.old) (W.output writer.new) result }
     ensures prints { Prints (ending result) (W.output writer.old) (W.output writer.new) }
 {
     if json {
@@ -368,7 +361,7 @@ fn tell_remaining<E: CountedWrite>(
     ensures quiet { task.now.shown ≡ Nothing → E.output err.new ≡ E.output err.old }
 {
     if is_terminal && !task.json && task.shown != Shown::Nothing {
-        if let Ok(left) = remaining(alloc, task, &timed.retimed, timed.levels.bound) {
+        if let Ok(left) = remaining(alloc, task, timed) {
             let _ = print_remaining(&left, err);
         }
         if is_still_ascii(task, timed) {
@@ -389,9 +382,10 @@ fn print_frames<'a, O: CountedWrite, E: CountedWrite>(
     ensures aside { takes_stdout task.now ≡ true
         → EndsAside Done (O.output out.old) (O.output out.new) result }
     ensures says { takes_stdout task.now ≡ true → SaysFrames task.now timed.now.retimed
-        timed.now.levels timed.now.times timed.now.map (E.output err.old) (E.output err.new) }
+        timed.now.keep timed.now.levels timed.now.times timed.now.map (E.output err.old) (E.output err.new) }
     ensures frames { takes_stdout task.now ≡ false → EndsPrintingFrames task.now.json task.now
-        timed.now.retimed timed.now.levels timed.now.times timed.now.map (O.output out.old)
+        timed.now.retimed timed.now.keep timed.now.levels timed.now.times timed.now.map
+        (O.output out.old)
         (O.output out.new) result }
     ensures prints { takes_stdout task.now ≡ false
         → Prints (ending result) (O.output out.old) (O.output out.new) }

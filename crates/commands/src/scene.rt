@@ -1,21 +1,18 @@
-//! What `dot` draws. It is made by steps, each of which consumes what the one before it made: the circuit that is read, the circuit
-//! that is shown, the scene.
-ghost use Rattle.std.specs.Prelude.{◌≡◌, true, IfOk, OnOk};
-ghost use Rattle.aig_graph.specs.Keep.{held_in, names_of};
-ghost use Rattle.latch_marks.specs.Marks.{circuit_freed};
-ghost use Rattle.commands.specs.Drawings.{AreOptionsFor, CanBeDrawn, IsCircuitFor, IsCleanedFor, IsScene, IsSceneOf, IsSceneWith, IsSetFor, held_for, names_for};
+//! What `dot` draws: the circuit that is read, with its held latches, or where the next frame is asked for what that frame begins with, and the
+//! set that it takes.
+ghost use Rattle.std.specs.Prelude.{◌≡◌, IfOk, false};
+ghost use Rattle.commands.specs.Drawings.{AreOptionsFor, IsNextShown, IsRunBy, IsSceneOf, IsShownFor, IsShownOf, held_for};
 
+use crate::answer::failure_of_run;
 use crate::drawable::check_drawable;
-use aig_graph::{Circuit, ClosedSet, Keep, NoMemory, count, keep_of};
+use aig_graph::{Circuit, ClosedSet, Keep};
 use circuit_files::{Failure, circuit_at};
-use command_endings::{failure_of_names, missing_name};
+use command_endings::{bytes_of_names, held_latches};
 use command_line::Drawing;
 use counted_io::CountedRead;
-use cut_cert::greatest_least;
-use frames::{Options, RetimeError, Retimed, retime};
-use held_circuits::{freed_circuit, held_circuit, names_held};
+use frames::{NoFollower, NoWatcher, Options, Retimed, Run, next_set, run_watched};
 use pulse::{Crew, OpenGate};
-use std::alloc::Global;
+use std::alloc::{AllocError, Global};
 use std::rt::Files;
 use std::thread::Threads;
 
@@ -29,211 +26,149 @@ pub(crate) struct Scene {
     pub(crate) set: Option<ClosedSet>,
 }
 
-/// The names by which the task holds latches in this circuit.
-fn names_for(alloc: Global, circuit: &Circuit, task: &Drawing<'_>) -> Result<Vec<Vec<u8>>, NoMemory>
-    ensures { IfOk result (λ names. names_of names.items ≡ names_for task.now circuit.now) }
+/// The latches that the task holds.
+fn held_for<'a>(alloc: Global, circuit: &Circuit, task: &Drawing<'a>) -> Result<Keep, Failure<'a>>
+    ensures { IfOk result (λ keep. keep ≡ held_for task.now circuit.now) }
 {
-    let places = task.keep_latches.as_slice();
-    names_held(alloc, circuit, task.keep.as_slice(), places)
+    let positions = task.keep_latches.as_slice();
+    held_latches(alloc, circuit, task.input, task.keep.as_slice(), positions)
 }
 
 /// The options of a retiming that takes no frame.
-fn options(alloc: Global, circuit: &Circuit, task: &Drawing<'_>) -> Result<Options, NoMemory>
-    ensures { IfOk result (AreOptionsFor task.now circuit.now) }
+fn options(alloc: Global, task: &Drawing<'_>) -> Result<Options, AllocError>
+    ensures { IfOk result (AreOptionsFor task.now) }
 {
+    let keep_latches = Vec::from_slice(alloc, task.keep_latches.as_slice())?;
     Ok(Options {
         max_frames: 0,
-        keep: names_for(alloc, circuit, task)?,
+        keep: bytes_of_names(alloc, task.keep.as_slice())?,
+        keep_latches,
         merge: task.merge,
+        bound: task.bound,
         ..Options::defaults(alloc)
     })
 }
 
-/// The circuit of a retiming, which is let go.
-fn circuit_of(retimed: Retimed) -> Circuit
-    ensures { result ≡ retimed.circuit }
+/// The run under this bound.
+fn under(run: Run<NoFollower>, bound: Option<u32>) -> Run<NoFollower>
+    ensures retimed { result.retimed ≡ run.retimed }
+    ensures keep { result.keep ≡ run.keep }
+    ensures bound { result.bound ≡ bound }
 {
+    let Run {
+        retimed,
+        keep,
+        follower,
+        ..
+    } = run;
+    Run {
+        retimed,
+        keep,
+        follower,
+        bound,
+    }
+}
+
+/// The run of the circuit before its first frame.
+fn run_by<'a, R: Threads + Sync>(
+    rt: &R,
+    alloc: Global,
+    circuit: &Circuit,
+    options: &Options,
+    task: &Drawing<'a>,
+) -> Result<Run<NoFollower>, Failure<'a>>
+    ensures { IfOk result (IsRunBy options.now circuit.now) }
+{
+    let Ok(bound) = options.bound.for_circuit(alloc, circuit) else {
+        return Err(Failure::Memory);
+    };
+    let crew = Crew::new(1, OpenGate);
+    match run_watched(rt, alloc, circuit, options, &crew, &mut NoWatcher) {
+        Ok(run) => Ok(under(run, bound)),
+        Err(error) => {
+            let positions = task.keep_latches.as_slice();
+            Err(failure_of_run(error, task.input, task.keep.as_slice(), positions))
+        }
+    }
+}
+
+/// What a run came to, with this set.
+fn scene_with(run: Run<NoFollower>, set: Option<ClosedSet>) -> Scene
+    ensures circuit { result.circuit ≡ run.retimed.circuit }
+    ensures keep { result.keep ≡ run.keep }
+    ensures set { result.set ≡ set }
+{
+    let Run { retimed, keep, .. } = run;
     let Retimed {
         circuit,
         certificates,
         ..
     } = retimed;
     drop(certificates);
-    circuit
+    Scene { circuit, keep, set }
 }
 
-/// The circuit cleaned, as before the first frame of `retime`.
-fn cleaned<'a, R: Threads + Sync>(
+/// What is shown of a run: its circuit, and the set that its next frame takes.
+fn shown_of<'a, R: Threads + Sync>(
     rt: &R,
     alloc: Global,
-    circuit: &Circuit,
-    task: &Drawing<'a>,
-) -> Result<Circuit, Failure<'a>>
-    ensures { IfOk result (IsCleanedFor task.now circuit.now) }
+    run: Run<NoFollower>,
+    options: &Options,
+) -> Result<Scene, Failure<'a>>
+    ensures { IfOk result (IsShownOf options.now run) }
 {
-    let Ok(options) = options(alloc, circuit, task) else {
-        return Err(Failure::Memory);
-    };
     let crew = Crew::new(1, OpenGate);
-    let retimed = retime(rt, alloc, circuit, &options, &crew);
-    drop(options);
-    match retimed {
-        Ok(retimed) => Ok(circuit_of(retimed)),
-        Err(RetimeError::NoMemory) => Err(Failure::Memory),
-        Err(RetimeError::NoSuchName(place)) => {
-            Err(missing_name(task.input.name(), task.keep.as_slice(), place))
+    match next_set(rt, alloc, &run, options, &crew) {
+        Ok(set) => Ok(scene_with(run, set)),
+        Err(_) => {
+            drop(run);
+            Err(Failure::Memory)
         }
     }
 }
 
-/// The circuit that is shown: the one that was read, or where the next frame is asked for that one cleaned.
-fn circuit_for<'a, R: Threads + Sync>(
+/// The same of the run of a circuit by these options.
+fn shown_by<'a, R: Threads + Sync>(
     rt: &R,
     alloc: Global,
-    circuit: Circuit,
+    circuit: &Circuit,
+    options: &Options,
     task: &Drawing<'a>,
-) -> Result<Circuit, Failure<'a>>
-    ensures { IfOk result (IsCircuitFor task.now.frame task.now circuit) }
+) -> Result<Scene, Failure<'a>>
+    requires { AreOptionsFor task.now options.now }
+    ensures { IfOk result (IsNextShown task.now circuit.now) }
 {
-    if !task.frame {
-        return Ok(circuit);
-    }
-    let shown = cleaned(rt, alloc, &circuit, task);
-    drop(circuit);
+    let run = run_by(rt, alloc, circuit, options, task)?;
+    shown_of(rt, alloc, run, options)
+}
+
+/// What is shown of the circuit before the next frame, with the set that this takes.
+fn next_shown<'a, R: Threads + Sync>(
+    rt: &R,
+    alloc: Global,
+    circuit: &Circuit,
+    task: &Drawing<'a>,
+) -> Result<Scene, Failure<'a>>
+    ensures { IfOk result (IsNextShown task.now circuit.now) }
+{
+    let Ok(options) = options(alloc, task) else {
+        return Err(Failure::Memory);
+    };
+    let shown = shown_by(rt, alloc, circuit, &options, task);
+    drop(options);
     shown
 }
 
-/// The latches that the task holds.
-fn keep_for<'a>(alloc: Global, circuit: &Circuit, task: &Drawing<'a>) -> Result<Keep, Failure<'a>>
-    ensures { IfOk result (λ keep. keep ≡ held_in (names_for task.now circuit.now) circuit.now) }
+/// The circuit that is read, and the latches that the task holds.
+fn as_read<'a>(alloc: Global, circuit: Circuit, task: &Drawing<'a>) -> Result<Scene, Failure<'a>>
+    ensures { IfOk result (IsShownFor false task.now circuit) }
 {
-    let Ok(names) = names_for(alloc, circuit, task) else {
-        return Err(Failure::Memory);
-    };
-    match keep_of(alloc, circuit, names.as_slice()) {
-        Ok(keep) => Ok(keep),
-        Err(error) => Err(failure_of_names(error, task.input, task.keep.as_slice())),
-    }
-}
-
-/// The greatest least set of a circuit, where latches become fewer over it: what the next frame takes.
-fn next_set<R: Threads + Sync>(
-    rt: &R,
-    alloc: Global,
-    circuit: &Circuit,
-    keep: &Keep,
-) -> Result<Option<ClosedSet>, NoMemory>
-    ensures { IfOk result (IsSetFor true circuit.now keep.now) }
-{
-    let crew = Crew::new(1, OpenGate);
-    let set = greatest_least(rt, alloc, circuit, keep, &crew)?;
-    let after = count(alloc, circuit, &set, keep)?;
-    if after < circuit.aig().known_latches() {
-        Ok(Some(set))
-    } else {
-        Ok(None)
-    }
-}
-
-/// The set that is shown: where the next frame is asked for the one that it takes.
-fn set_for<'a, R: Threads + Sync>(
-    rt: &R,
-    alloc: Global,
-    circuit: &Circuit,
-    keep: &Keep,
-    frame: bool,
-) -> Result<Option<ClosedSet>, Failure<'a>>
-    ensures { IfOk result (IsSetFor frame circuit.now keep.now) }
-{
-    if !frame {
-        return Ok(None);
-    }
-    match next_set(rt, alloc, circuit, keep) {
-        Ok(set) => Ok(set),
-        Err(_) => Err(Failure::Memory),
-    }
-}
-
-/// The set that is shown in a circuit that can be drawn as it is.
-fn set_drawn<'a, R: Threads + Sync>(
-    rt: &R,
-    alloc: Global,
-    circuit: &Circuit,
-    keep: &Keep,
-    task: &Drawing<'a>,
-) -> Result<Option<ClosedSet>, Failure<'a>>
-    ensures can { OnOk result (CanBeDrawn task.now.around circuit.now) }
-    ensures set { IfOk result (IsSetFor task.now.frame circuit.now keep.now) }
-{
-    check_drawable(circuit, task)?;
-    set_for(rt, alloc, circuit, keep, task.frame)
-}
-
-/// The scene of a circuit that can be drawn as it is, in which these latches are held.
-fn scene_with<'a, R: Threads + Sync>(
-    rt: &R,
-    alloc: Global,
-    circuit: Circuit,
-    keep: Keep,
-    task: &Drawing<'a>,
-) -> Result<Scene, Failure<'a>>
-    ensures { IfOk result (IsSceneWith task.now circuit keep) }
-{
-    match set_drawn(rt, alloc, &circuit, &keep, task) {
-        Ok(set) => Ok(Scene { circuit, keep, set }),
-        Err(failure) => {
-            drop(circuit);
-            drop(keep);
-            Err(failure)
-        }
-    }
-}
-
-/// The circuit that is shown, whose latches are let go.
-fn shown_circuit<'a>(
-    alloc: Global,
-    circuit: Circuit,
-    task: &Drawing<'a>,
-) -> Result<Circuit, Failure<'a>>
-    ensures { IfOk result (λ shown. shown ≡ circuit_freed task.now.keep_latches.items circuit) }
-{
-    match freed_circuit(alloc, circuit, task.keep_latches.as_slice()) {
-        Ok(shown) => Ok(shown),
-        Err(_) => Err(Failure::Memory),
-    }
-}
-
-/// The scene of a circuit, in which these latches are held, when they are let go.
-fn scene_freed<'a, R: Threads + Sync>(
-    rt: &R,
-    alloc: Global,
-    circuit: Circuit,
-    keep: Keep,
-    task: &Drawing<'a>,
-) -> Result<Scene, Failure<'a>>
-    ensures { IfOk result (IsSceneWith task.now
-        (circuit_freed task.now.keep_latches.items circuit) keep) }
-{
-    match shown_circuit(alloc, circuit, task) {
-        Ok(shown) => scene_with(rt, alloc, shown, keep, task),
-        Err(failure) => {
-            drop(keep);
-            Err(failure)
-        }
-    }
-}
-
-/// The scene of a circuit in which the latches are held.
-fn scene_of<'a, R: Threads + Sync>(
-    rt: &R,
-    alloc: Global,
-    circuit: Circuit,
-    task: &Drawing<'a>,
-) -> Result<Scene, Failure<'a>>
-    ensures { IfOk result (IsScene task.now circuit) }
-{
-    match keep_for(alloc, &circuit, task) {
-        Ok(keep) => scene_freed(rt, alloc, circuit, keep, task),
+    match held_for(alloc, &circuit, task) {
+        Ok(keep) => Ok(Scene {
+            circuit,
+            keep,
+            set: None,
+        }),
         Err(failure) => {
             drop(circuit);
             Err(failure)
@@ -241,12 +176,21 @@ fn scene_of<'a, R: Threads + Sync>(
     }
 }
 
-/// The circuit that is read while the task holds its latches.
-fn held_for<'a>(alloc: Global, circuit: Circuit, task: &Drawing<'a>) -> Result<Circuit, Failure<'a>>
-    ensures { IfOk result (λ held. held ≡ held_for task.now circuit) }
+/// What is shown of the circuit: itself, or where the next frame is asked for what that begins with, and its set.
+fn shown_for<'a, R: Threads + Sync>(
+    rt: &R,
+    alloc: Global,
+    circuit: Circuit,
+    task: &Drawing<'a>,
+) -> Result<Scene, Failure<'a>>
+    ensures { IfOk result (IsShownFor task.now.frame task.now circuit) }
 {
-    let places = task.keep_latches.as_slice();
-    held_circuit(alloc, circuit, task.input, task.keep.as_slice(), places)
+    if !task.frame {
+        return as_read(alloc, circuit, task);
+    }
+    let shown = next_shown(rt, alloc, &circuit, task);
+    drop(circuit);
+    shown
 }
 
 /// The scene that the task asks for of the circuit that it reads.
@@ -259,7 +203,12 @@ pub(crate) fn scene_for<'a, R: Files + Threads + Sync, I: CountedRead>(
     ensures { IfOk result (IsSceneOf task.now (I.input stdin.old) (I.input stdin.new)) }
 {
     let spelt = circuit_at(rt, alloc, task.input, stdin)?;
-    let circuit = held_for(alloc, spelt.circuit, task)?;
-    let shown = circuit_for(rt, alloc, circuit, task)?;
-    scene_of(rt, alloc, shown, task)
+    let scene = shown_for(rt, alloc, spelt.circuit, task)?;
+    match check_drawable(&scene.circuit, task) {
+        Ok(()) => Ok(scene),
+        Err(failure) => {
+            drop(scene);
+            Err(failure)
+        }
+    }
 }

@@ -5,7 +5,7 @@ ghost use Rattle.circuit_files.specs.declared.outcome.Outcome.TheVariants.{Done}
 ghost use Rattle.command_endings.specs.Printing.{EndsPrinting, EndsWith, Prints, ending};
 ghost use Rattle.commands.specs.Statistics.{AreMergeCounts, AreMergeCountsFor, PrintsCounts, PrintsStatistics, statistics_text};
 
-use aig_graph::{Circuit, NoMemory};
+use aig_graph::{Circuit, Keep, NoMemory};
 use circuit_counts::Statistics;
 use circuit_files::{Failure, Outcome, circuit_at};
 use command_endings::ended;
@@ -21,7 +21,7 @@ use std::rt::Files;
 fn merge_counts(alloc: Global, circuit: &Circuit) -> Result<MergeCounts, NoMemory>
     ensures { IfOk result (AreMergeCounts circuit.now) }
 {
-    let start = merged_start(alloc, circuit, &[])?;
+    let start = merged_start(alloc, circuit, &Keep::none())?;
     let counts = start.counts;
     drop(start);
     Ok(counts)

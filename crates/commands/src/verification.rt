@@ -1,128 +1,40 @@
 //! The command `verify`.
-ghost use Rattle.std.specs.Prelude.{◌≡◌, ◌<◌, IfErr, IfOk, length};
-ghost use Rattle.aig_graph.specs.Keep.{names_of};
-ghost use Rattle.latch_marks.specs.Marks.{marks_of};
+ghost use Rattle.std.specs.Prelude.{◌≡◌, ◌<◌, All, IfErr, IfOk, length};
 ghost use Rattle.reports.specs.Audits.{audit_text};
 ghost use Rattle.stream_paths.specs.Streams.{source_name};
 ghost use Rattle.circuit_files.specs.Outcomes.{IsAbout};
 ghost use Rattle.command_endings.specs.Printing.{EndsPrinting, Prints, ending};
 ghost use Rattle.command_endings.specs.Sources.{AreCertificatesAt, IsCircuitAt};
-ghost use Rattle.commands.specs.Replaying.{IsReplayFor, bytes_in};
-ghost use Rattle.commands.specs.Verifying.{EndsWithAudit, EndsWithObject, IsJudgedBy, IsMarkedFor, IsReplayHeld, IsReplayOf, PrintsAudit, PrintsAuditBeside, PrintsAuditFor, PrintsAuditOf, held_names, outcome_of_end, outcome_of_judgement};
+ghost use Rattle.commands.specs.Replaying.{bytes_in};
+ghost use Rattle.commands.specs.Verifying.{EndsWithAudit, EndsWithObject, IsJudgedBy, IsReplayOf, PrintsAudit, PrintsAuditBeside, PrintsAuditFor, PrintsAuditOf, held_for, outcome_of_end, outcome_of_judgement};
 
-use crate::replaying::{Judgement, freed, judged, replay_of, retimed_at};
-use aig_graph::Circuit;
+use crate::replaying::{Judgement, judged, replay_of, retimed_at};
+use aig_graph::{Circuit, Keep};
 use certificate_audits::{End, Replay};
 use certificates::Certificate;
 use circuit_files::{Failure, Outcome, certificates_at, circuit_at};
-use command_endings::{bytes_of_names, ended, failure_of_names};
+use command_endings::{ended, held_latches};
 use command_line::Verification;
 use counted_io::{CountedRead, CountedWrite};
-use held_circuits::marked_circuit;
-use latch_marks::marks_of;
 use reports::{Agreement, print_audit};
 use std::alloc::Global;
 use std::fmt::Write;
 use std::rt::Files;
 
-/// What the certificates end in, where the latches with these names are held.
-fn replayed_by<'a>(
-    alloc: Global,
-    circuit: &Circuit,
-    blocks: &[Certificate],
-    names: &[Vec<u8>],
-    task: &Verification<'a>,
-) -> Result<Replay, Failure<'a>>
-    ensures { IfOk result (IsReplayFor task.now.bound task.now.merge (names_of names.now)
-        circuit.now blocks.now) }
-{
-    match replay_of(alloc, circuit, blocks, names, task.merge, task.bound) {
-        Ok(replay) => Ok(replay),
-        Err(error) => Err(failure_of_names(error, task.input, task.keep.as_slice())),
-    }
-}
-
-/// What the certificates end in, where latches are held by their names alone.
-fn replayed_named<'a>(
-    alloc: Global,
-    circuit: &Circuit,
-    blocks: &[Certificate],
-    task: &Verification<'a>,
-) -> Result<Replay, Failure<'a>>
-    ensures { IfOk result (IsReplayFor task.now.bound task.now.merge (held_names task.now)
-        circuit.now blocks.now) }
-{
-    match bytes_of_names(alloc, task.keep.as_slice()) {
-        Ok(names) => replayed_by(alloc, circuit, blocks, names.as_slice(), task),
-        Err(_) => Err(Failure::Memory),
-    }
-}
-
-/// What the certificates end in, where the marks of the circuit hold.
-fn replayed_marked<'a>(
-    alloc: Global,
-    circuit: &Circuit,
-    blocks: &[Certificate],
-    task: &Verification<'a>,
-) -> Result<Replay, Failure<'a>>
-    ensures { IfOk result (IsReplayFor task.now.bound task.now.merge (marks_of circuit.now)
-        circuit.now blocks.now) }
-{
-    match marks_of(alloc, circuit) {
-        Ok(marks) => replayed_by(alloc, circuit, blocks, marks.as_slice(), task),
-        Err(_) => Err(Failure::Memory),
-    }
-}
-
-/// A copy of the circuit in which the latches that the task holds have marks.
-fn marked_for<'a>(
+/// The latches that the task holds.
+fn held_for<'a>(
     alloc: Global,
     circuit: &Circuit,
     task: &Verification<'a>,
-) -> Result<Circuit, Failure<'a>>
-    ensures { IfOk result (IsMarkedFor task.now circuit.now) }
+) -> Result<Keep, Failure<'a>>
+    ensures held { IfOk result (λ keep. keep ≡ held_for task.now circuit.now) }
+    ensures in_range { IfOk result (λ keep. All (λ j. j < length circuit.now.aig.latches) keep) }
 {
-    let places = task.keep_latches.as_slice();
-    marked_circuit(alloc, circuit, task.input, task.keep.as_slice(), places)
+    let positions = task.keep_latches.as_slice();
+    held_latches(alloc, circuit, task.input, task.keep.as_slice(), positions)
 }
 
-/// What the certificates end in, where latches are held by their places: of a copy of the circuit in which they have marks.
-fn replayed_at_places<'a>(
-    alloc: Global,
-    circuit: &Circuit,
-    blocks: &[Certificate],
-    task: &Verification<'a>,
-) -> Result<Replay, Failure<'a>>
-    requires { 0 < length task.now.keep_latches.items }
-    ensures { IfOk result (IsReplayHeld task.now circuit.now blocks.now) }
-{
-    match marked_for(alloc, circuit, task) {
-        Ok(marked) => {
-            let replay = replayed_marked(alloc, &marked, blocks, task);
-            drop(marked);
-            replay
-        }
-        Err(failure) => Err(failure),
-    }
-}
-
-/// What the certificates end in while the latches are held.
-fn replayed_held<'a>(
-    alloc: Global,
-    circuit: &Circuit,
-    blocks: &[Certificate],
-    task: &Verification<'a>,
-) -> Result<Replay, Failure<'a>>
-    ensures { IfOk result (IsReplayHeld task.now circuit.now blocks.now) }
-{
-    if task.keep_latches.as_slice().is_empty() {
-        replayed_named(alloc, circuit, blocks, task)
-    } else {
-        replayed_at_places(alloc, circuit, blocks, task)
-    }
-}
-
-/// What the certificates end in, once the latches are let go.
+/// What the certificates end in, where the latches are held that the task holds.
 fn replayed<'a>(
     alloc: Global,
     circuit: &Circuit,
@@ -131,11 +43,15 @@ fn replayed<'a>(
 ) -> Result<Replay, Failure<'a>>
     ensures { IfOk result (IsReplayOf task.now circuit.now blocks.now) }
 {
-    match replayed_held(alloc, circuit, blocks, task) {
-        Ok(replay) => match freed(alloc, replay, task.keep_latches.as_slice()) {
-            Ok(freed) => Ok(freed),
-            Err(_) => Err(Failure::Memory),
-        },
+    match held_for(alloc, circuit, task) {
+        Ok(keep) => {
+            let replay = replay_of(alloc, circuit, blocks, &keep, task.merge, task.bound);
+            drop(keep);
+            match replay {
+                Ok(replay) => Ok(replay),
+                Err(_) => Err(Failure::Memory),
+            }
+        }
         Err(failure) => Err(failure),
     }
 }

@@ -1,7 +1,6 @@
 pub mod FrontLaws
 pub mod SinkWalkLaws
 pub mod GateLaws
-mod LabelledSideLaws
 pub mod LoweringLaws
 pub mod ArcPointLaws
 pub mod WalkLaws

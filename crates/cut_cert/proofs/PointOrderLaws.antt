@@ -60,9 +60,6 @@ module _ (g : Graph) (held : List ℕ) where
         ]
       ]
 
-  number-of : ℕ → Bool → ℕ
-  number-of v b = number g held (record { var = v; behind = b })
-
   -- points with nodes precede each other as their numbers do
   pub in-order : (p q : Point) → IsPlace g held p → IsPlace g held q → number g held p < number g held q → precedes (Some p) (Some q) ≡ true
   in-order p q a b less = elim (cases_order p.var q.var) [

@@ -1,9 +1,9 @@
 -- Walk after walk.
-use Rattle.std.proofs.Common.{◌≡◌, ℕ, ◌+◌, ◌<◌, ◌≤◌, ◌==◌, ◌||◌, inl, inr, Bool, true, false, All, List, [], ◌∷◌, ◌++◌, length, replicate, set, take, drop, append_assoc, slice_index, Some, arith, refl, ap, sym, ◌∙◌, subst}
+use Rattle.std.proofs.Common.{◌≡◌, ℕ, ◌+◌, ◌<◌, ◌≤◌, ◌==◌, ◌||◌, inl, inr, Bool, true, false, All, List, [], ◌∷◌, ◌++◌, length, replicate, take, drop, append_assoc, slice_index, Some, arith, refl, ap, sym, ◌∙◌, subst}
 use Rattle.std.specs.List.{AllByRecursion, IsDistinct}
 use Rattle.std.proofs.lemmas.Bool.{cases_Bool, cases_lt, cases_eq, eq-eqb, ne_eqb, or_cases, or_parts}
 use Rattle.std.proofs.lemmas.Option.{none-some}
-use Rattle.std.proofs.lemmas.List.{append-nil, drop_all, length_push, length-set, get_or-set_same, get_or-set_other, length-replicate, get_or-replicate}
+use Rattle.std.proofs.lemmas.List.{append-nil, drop_all, length_push, length-replicate, get_or-replicate}
 use Rattle.std.proofs.Math.Seq.{take-length}
 use Rattle.std.proofs.lemmas.List.Elements.{All-push}
 use Rattle.std.proofs.lemmas.List.Folds.{list_any-append}
@@ -149,33 +149,6 @@ module _ (net : FlowNet) (ok : IsFlowNet net) where
   -- places before which nothing comes in stay such where an arc carries one less
   pub searched-lower : (xs new places : List ℕ) (w k : ℕ) → length xs ≡ length net.heads → Comes net xs w k → new ≡ lowered net xs w k → AreSearched net xs places → AreSearched net new places
   searched-lower xs new places w k long comes is_new searched = searched-less xs new places (λ arc. omega (arith, ap (λ (zs : List ℕ). slice_index zs arc) is_new, none-more net ok xs long w k comes arc)) searched
-
-  -- a place of a node's row up to which nothing comes in may take the place of an earlier one
-  pub searched-to : (xs places : List ℕ) (at place : ℕ) → at < node_count net → NoneComes net xs at (slice_index places at) place → AreSearched net xs places → AreSearched net xs (set places at place)
-  searched-to xs places at place h none searched = record {
-    long = length-set places at place ∙ searched.long;
-    none = λ w l. elim (cases_eq w at) [
-      | inl same ↦ (
-          let here : slice_index (set places at place) w ≡ place = ap (slice_index (set places at place)) same ∙ get_or-set_same places at place 0 (omega (arith, h, searched.long)) in
-          λ k a b. ap (λ (v : ℕ). slice_index xs (mate net v k)) same ∙ whole k (omega (arith, b, here)))
-      | inr other ↦ (
-          let there : slice_index (set places at place) w ≡ slice_index places w = get_or-set_other places at w place 0 other in
-          λ k a b. searched.none w l k a (omega (arith, b, there)))
-    ];
-  }
-    where
-      whole : (k : ℕ) → k < place → slice_index xs (mate net at k) ≡ 0
-      whole k b = elim (cases_lt k (slice_index places at)) [
-        | inl less ↦ searched.none at h k (omega arith) less
-        | inr more ↦ none k more b
-      ]
-
-  -- a row of which nothing comes in after its place
-  pub none-whole : (xs places : List ℕ) (at : ℕ) → at < node_count net → AreSearched net xs places → NoneComes net xs at (slice_index places at) (row_len net at) → NoneComes net xs at 0 (row_len net at)
-  none-whole xs places at h searched none k a b = elim (cases_lt k (slice_index places at)) [
-    | inl less ↦ searched.none at h k (omega arith) less
-    | inr more ↦ none k more b
-  ]
 
   -- before the beginning of each row nothing comes in
   pub searched-first : (xs : List ℕ) (n : ℕ) → n ≡ node_count net → AreSearched net xs (replicate n 0)

@@ -75,11 +75,6 @@ on-pop n marks trail v on = record {
 pub reverse-push : (xs : List ℕ) (v : ℕ) → reverse (xs ++ v ∷ []) ≡ v ∷ reverse xs
 reverse-push xs v = reverse-append xs (v ∷ [])
 
--- a list of length 0, read from its end, is empty
-pub reverse-none : (xs ys : List ℕ) → xs ≡ ys ++ [] → length xs ≡ 0 → reverse xs ≡ []
-reverse-none [] ys e h = refl
-reverse-none (x ∷ xs) ys e h = absurd (omega (arith, h))
-
 -- what isn't in two joined lists isn't in the second
 pub suffix-absent : (xs ys : List ℕ) (v : ℕ) → has (xs ++ ys) v ≡ false → has ys v ≡ false
 suffix-absent [] ys v e = e

@@ -6,24 +6,19 @@ ghost use Rattle.pulse.specs.Conditions.{IsMaxPreflow, state_of};
 ghost use Rattle.cut_cert.specs.Gates.{gate_of, gates_below};
 ghost use Rattle.cut_cert.specs.Cuts.{IsGreatestLeastOf};
 
-use crate::labelled_side::labelled_side;
 use crate::sink_side::sink_side;
 use aig_graph::{ClosedSet, NoMemory};
 use frame_net::Net;
 use pulse::MaxPreflow;
 use std::alloc::Global;
 
-/// Marks the nodes that reach the sink: by exact labels, or else by a walk over the arcs, since with other labels a node may have one
-/// below the number of nodes and not reach the sink.
+/// Marks the nodes that reach the sink.
 fn marks_of(alloc: Global, net: &Net, preflow: &MaxPreflow) -> Result<Vec<bool>, NoMemory>
     requires { IsMaxPreflow net.now preflow.now }
     ensures side { IfOk result (λ marks. IsSourceSide (node_count net.now)
         (state_of net.now preflow.now.flow) (λ v. not (slice_index_or marks.items v false))) }
     ensures long { IfOk result (λ marks. length marks.items ≡ node_count net.now) }
 {
-    if preflow.has_exact_labels() {
-        return labelled_side(alloc, net, preflow);
-    }
     let side = sink_side(alloc, net, preflow)?;
     Ok(side.into_marks())
 }
@@ -60,7 +55,7 @@ fn gates_of(alloc: Global, net: &Net, marks: &[bool]) -> Result<Vec<u32>, NoMemo
 
 /// The greatest least set of the circuit whose network it is, by any maximum preflow of that network. The nodes of a circuit's
 /// network stand in the order of its gates, so the gates rise; of another network whose gates don't, the empty set is returned.
-/// Linear in the network; where the labels are exact no arc is looked at.
+/// Linear in the network.
 pub fn greatest_cut(alloc: Global, net: &Net, preflow: &MaxPreflow) -> Result<ClosedSet, NoMemory>
     requires { IsMaxPreflow net.now preflow.now }
     ensures { IfOk result (IsGreatestLeastOf net.now) }

@@ -10,44 +10,31 @@
 //! The smallest least set is read off routes: the gates to which residual arcs lead from the source, by the flow of one unit along
 //! each of them. The near side of a greatest flow is the smallest of the least cuts, and it lies in each of them, whichever flow it
 //! is of.
-//!
-//! What a frame's flow did at each gate, carried to the next frame as wishes.
-//!
-//! What is carried are hints: no clause speaks of their values, and the flow is a maximum one whatever they are.
 #![tactic(auto)]
 
 mod carried;
-mod carrying;
 mod certifying;
-mod gate_nodes;
 mod gathering;
 mod greatest;
-mod labelled_side;
-mod least_set;
 mod lookup;
 mod nearest;
-mod noting;
+mod preflow;
 mod reached;
 mod sink_side;
 mod source_side;
 mod trail;
 mod used_arcs;
 mod walk;
-mod wishing;
 
 ghost use Rattle.cut_cert.specs.Cuts.{NearSideIsSmallest, SmallestCutIsSmallestSet};
 
-pub use carrying::{after_cleaning, after_move};
 pub use certificate_files::{CertError, CertFile, Choice, read_cert, write_cert};
 pub use certificates::{Certificate, Objection, Routes, Verdict, check};
-pub use certifying::{certificate, certificate_of};
+pub use certifying::certificate_of;
 pub use gathering::routes;
 pub use greatest::greatest_cut;
-pub use least_set::{greatest_least, greatest_least_along, network, network_in, preflow_along};
 pub use nearest::near_cut;
-pub use noting::gate_flows;
-pub use unit_flows::GateFlow;
-pub use wishing::wishes;
+pub use preflow::{maximum_preflow, network};
 
 /// Of a flow with no excess at inner nodes whose residual arcs don't lead to the sink, the nodes to which they lead from the
 /// source are the smallest of the least cuts.

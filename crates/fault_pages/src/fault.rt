@@ -28,6 +28,7 @@ pub enum Fault {
     TooManySteps,
     NotAMap,
     NoSuchLiteral,
+    SameFile,
     ShapesDiffer,
     NotClosed,
     BadRoute,
@@ -37,7 +38,7 @@ pub enum Fault {
     Device,
 }
 
-const FAULTS: [Fault; 29] = [
+const FAULTS: [Fault; 30] = [
     Fault::BadHeader,
     Fault::TooLarge,
     Fault::MaxIndex,
@@ -60,6 +61,7 @@ const FAULTS: [Fault; 29] = [
     Fault::TooManySteps,
     Fault::NotAMap,
     Fault::NoSuchLiteral,
+    Fault::SameFile,
     Fault::ShapesDiffer,
     Fault::NotClosed,
     Fault::BadRoute,
@@ -105,6 +107,7 @@ impl Fault {
             Fault::TooManySteps => "TooManySteps",
             Fault::NotAMap => "NotAMap",
             Fault::NoSuchLiteral => "NoSuchLiteral",
+            Fault::SameFile => "SameFile",
             Fault::ShapesDiffer => "ShapesDiffer",
             Fault::NotClosed => "NotClosed",
             Fault::BadRoute => "BadRoute",

@@ -35,6 +35,7 @@ impl Fault {
             Fault::TooManySteps => others::TOO_MANY_STEPS,
             Fault::NotAMap => others::NOT_A_MAP,
             Fault::NoSuchLiteral => others::NO_SUCH_LITERAL,
+            Fault::SameFile => others::SAME_FILE,
             Fault::ShapesDiffer => others::SHAPES_DIFFER,
             Fault::NotClosed => others::NOT_CLOSED,
             Fault::BadRoute => others::BAD_ROUTE,

@@ -31,6 +31,7 @@ impl Fault {
             | Fault::TooManySteps
             | Fault::NotAMap
             | Fault::NoSuchLiteral
+            | Fault::SameFile
             | Fault::ShapesDiffer
             | Fault::NotClosed
             | Fault::BadRoute

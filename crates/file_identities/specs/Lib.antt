@@ -1,2 +1,3 @@
 pub mod FileUses
 pub mod Clashes
+pub mod Outputs

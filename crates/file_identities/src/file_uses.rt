@@ -137,7 +137,7 @@ fn name_file(path: &str) -> FileUse<'_>
     }
 }
 
-fn push<'a, R: Files>(
+pub(crate) fn push<'a, R: Files>(
     rt: &R,
     alloc: Global,
     file: FileUse<'a>,

@@ -1,6 +1,5 @@
-//! Tests of the public calls that read and write circuits in both spellings, of the parts that their readers are made of, of buffered
-//! writing and devices that fail, and of latches that are held by their places. They stand in a crate of their own, since a crate with
-//! tests is proved twice.
+//! Tests of the public calls that read and write circuits in both spellings, of the parts that their readers are made of, and of buffered
+//! writing and devices that fail. They stand in a crate of their own, since a crate with tests is proved twice.
 #![tactic(auto)]
 
 #[cfg(test)]
@@ -15,8 +14,6 @@ mod devices;
 mod faults;
 #[cfg(test)]
 mod gate_orders;
-#[cfg(test)]
-mod held_latches;
 #[cfg(test)]
 mod names_and_properties;
 #[cfg(test)]

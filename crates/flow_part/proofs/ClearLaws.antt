@@ -1,50 +1,13 @@
 -- Rows that the last phase wrote are cleared, one by one, all or those that are listed.
-use Rattle.std.proofs.Common.{◌≡◌, ℕ, ◌+◌, ◌-◌, ◌<◌, ◌≤◌, ◌≢◌, ◌⊎◌, true, false, List, length, slice_index, slice_set, refl, arith, sym, ap, ◌∙◌, subst, inl, inr, get_or-set_other, get_or-set_same}
+use Rattle.std.proofs.Common.{◌≡◌, ℕ, ◌+◌, ◌-◌, ◌<◌, ◌≤◌, ◌⊎◌, true, List, length, slice_index, refl, arith, ap, ◌∙◌, subst, inl, inr}
 use Rattle.std.specs.Vec.{with_items}
 use Rattle.std.proofs.lemmas.Bool.{cases_lt}
-use Rattle.std.proofs.lemmas.List.{length-set, with_items_is}
+use Rattle.std.proofs.lemmas.List.{with_items_is}
 use Rattle.frame_net.specs.FlowNet.{FlowNet, start, row_len, IsFlowNet}
 use Rattle.flow_part.specs.declared.parts.PushPart.{PushPart}
 use Rattle.flow_part.specs.Listing.{IsListed, ListsPushing}
-use Rattle.flow_part.specs.Parts.{Cells, PushPartFits}
-use Rattle.flow_part.specs.Reading.{Clears, ClearsListed, PartCleared, RowsAreZero, RowsRead, cells_active, cells_push}
-use Rattle.flow_part.proofs.WalkLaws.{idle_push}
-
-set_other : (xs : List ℕ) (a i x : ℕ) → i ≢ a → slice_index (slice_set xs a x) i ≡ slice_index xs i
-set_other xs a i x ne = rw get_or-set_other refl
-
--- in a list that stays as it is an empty range of places is cleared
-pub clears_none : (from : ℕ) (xs : List ℕ) → Clears from from xs xs
-clears_none from xs = record { same = refl; done = λ x lo hi. absurd (omega (arith, lo, hi)); kept = λ x out. refl }
-
--- a place that is set to 0 is cleared after those before it
-pub clears_more : (from to : ℕ) (old mid : List ℕ) → from ≤ to → to < length mid → Clears from to old mid → Clears from (to + 1) old (slice_set mid to 0)
-clears_more from to old mid up h c = record {
-  same = length-set mid to 0 ∙ c.same;
-  done = λ x lo hi. elim (cases_lt x to) [
-    | inl lt ↦ let ne : x ≢ to = omega arith in set_other mid to x 0 ne ∙ c.done x lo lt
-    | inr ge ↦ let e : to ≡ x = omega (arith, ge, hi) in subst (λ (y : ℕ). slice_index (slice_set mid to 0) y ≡ 0) e (get_or-set_same mid to 0 0 h)
-  ];
-  kept = λ x out. let ne : x ≢ to = λ q. elim out [ inl lt ↦ omega (arith, q, lt, up) | inr ge ↦ omega (arith, q, ge) ] in
-      set_other mid to x 0 ne ∙ c.kept x (elim out [ inl lt ↦ inl lt | inr ge ↦ inr (omega (arith, ge)) ]);
-}
-
--- ---- the row of an inactive node
-
--- the row of an inactive node that is cleared is what Read writes
-pub row_cleared : (net : FlowNet) (labels : List ℕ) (base v s e : ℕ) (c : Cells) (old new : List ℕ) → s ≡ start net v → e ≡ start net (v + 1) → base ≤ start net v → start net v ≤ start net (v + 1) → cells_active net labels c v ≡ false
-    → Clears (s - base) (e - base) old new → RowsRead net labels base v (v + 1) c old new
-row_cleared net labels base v s e c old new es ee from up off cl = record {
-  same = cl.same;
-  done = λ u k lo hi l. at u k (omega (arith, lo, hi)) l;
-  kept = λ x out. cl.kept x (elim out [ inl lt ↦ inl (omega (arith, lt, es)) | inr ge ↦ inr (omega (arith, ge, ee)) ]);
-}
-  where
-    here : (k : ℕ) → k < row_len net v → slice_index new (start net v + k - base) ≡ cells_push net labels c v k
-    here k l = cl.done (start net v + k - base) (omega (arith, es, from)) (omega (arith, ee, from, l, up)) ∙ sym (idle_push net labels c v k off)
-
-    at : (u k : ℕ) → v ≡ u → k < row_len net u → slice_index new (start net u + k - base) ≡ cells_push net labels c u k
-    at u k q = subst (λ (x : ℕ). k < row_len net x → slice_index new (start net x + k - base) ≡ cells_push net labels c x k) q (here k)
+use Rattle.flow_part.specs.Parts.{PushPartFits}
+use Rattle.flow_part.specs.Reading.{Clears, ClearsListed, PartCleared, RowsAreZero}
 
 -- ---- listed rows
 

@@ -1,25 +1,14 @@
--- Counts of rows walked: over one node, over ranges end to end, and over those nodes of a part that lie in a range.
-use Rattle.std.proofs.Common.{◌≡◌, ℕ, List, ◌+◌, ◌-◌, ◌<◌, ◌≤◌, ◌^◌, min, max, cond, true, false, arith, refl, ap, ◌∙◌}
+-- Counts of rows walked: over ranges end to end, and over those nodes of a part that lie in a range.
+use Rattle.std.proofs.Common.{◌≡◌, ℕ, List, ◌-◌, ◌<◌, ◌≤◌, min, max, cond, arith, refl, ap}
 use Rattle.flow_theory.proofs.SumLaws.{sum_below-mono}
 use Rattle.frame_net.specs.FlowNet.{FlowNet}
 use Rattle.flow_part.specs.declared.parts.PushPart.{PushPart}
 use Rattle.flow_part.specs.Parts.{Cells, PushPartFits}
 use Rattle.flow_part.specs.Reading.{IsCountedOn, PartReadOn, active_below, active_from, cells_active, clamped}
-use Rattle.flow_part.proofs.WalkLaws.{active_flat, active_on}
 
 -- of more nodes no fewer are active
 pub active_rising : (net : FlowNet) (labels : List ℕ) (c : Cells) (low high : ℕ) → low ≤ high → active_below net labels c low ≤ active_below net labels c high
 active_rising net labels c low high le = sum_below-mono low high (λ u. cond (cells_active net labels c u) 1 0) le
-
--- an active node counts the rows walked on by one
-pub counted_one : (net : FlowNet) (labels : List ℕ) (c : Cells) (v before after : ℕ) → cells_active net labels c v ≡ true → after ≡ min (before + 1) (2 ^ 32 - 1)
-    → IsCountedOn before (active_from net labels c v (v + 1)) after
-counted_one net labels c v before after on counted = omega (arith, counted, active_on net labels c v on)
-
--- an inactive node leaves the count of rows walked as it is
-pub counted_none : (net : FlowNet) (labels : List ℕ) (c : Cells) (v before : ℕ) → cells_active net labels c v ≡ false → IsCountedOn before (active_from net labels c v (v + 1)) before
-counted_none net labels c v before off =
-    omega (arith, active_flat net labels c v (v + 1) (omega arith) (λ u lo hi. let here : u ≡ v = omega arith in ap (cells_active net labels c) here ∙ off))
 
 -- counts over two ranges end to end are a count over both
 pub counted_then : (net : FlowNet) (labels : List ℕ) (c : Cells) (low mid high a b d : ℕ) → low ≤ mid → mid ≤ high → IsCountedOn a (active_from net labels c low mid) b → IsCountedOn b (active_from net labels c mid high) d

@@ -6,7 +6,7 @@ use Rattle.frame_net.specs.FlowNet.{FlowNet, node_count, start, row_len, IsFlowN
 use Rattle.flow_part.specs.declared.parts.FlowPart.{FlowPart}
 use Rattle.flow_part.specs.Parts.{Cells, HoldsNode}
 use Rattle.flow_part.specs.Reading.{RowsRead, arc_push, cells_push}
-use Rattle.flow_part.proofs.RowSliceLaws.{cut_len, cut_at}
+use Rattle.flow_part.proofs.RowSliceLaws.{cut_at}
 use Rattle.flow_part.proofs.PutLaws.{put_in, put_below, put_above, put_len}
 use Rattle.flow_part.proofs.ReadNodeLaws.{push_rows}
 
@@ -46,14 +46,6 @@ one_read net labels base v s e had c q rs old row ok vn es ee from to here ers e
 
     at_v : (u k : ℕ) → v ≡ u → k < row_len net u → slice_index (put_mid (s - base) (e - base - (s - base)) old row) (start net u + k - base) ≡ cells_push net labels c u k
     at_v u k p = subst (λ (x : ℕ). k < row_len net x → slice_index (put_mid (s - base) (e - base - (s - base)) old row) (start net x + k - base) ≡ cells_push net labels c x k) p (read_v k)
-
--- the row of node v is cut out of its part's residuals
-pub row_size : (net : FlowNet) (v s e : ℕ) (c : Cells) (q : FlowPart) (rs : List ℕ) → IsFlowNet net → v < node_count net → s ≡ start net v → e ≡ start net (v + 1) → HoldsNode net c v q → rs ≡ q.residuals.items
-    → length (take (e - q.base - (s - q.base)) (drop (s - q.base) rs)) ≡ row_len net v
-row_size net v s e c q rs ok vn es ee here ers =
-    let up : start net v ≤ start net (v + 1) = ok.rows v (v + 1) (omega arith) (omega arith) in
-    cut_len rs (s - q.base) (e - q.base - (s - q.base)) (omega (arith, ap length ers, here.in_arcs, here.from, up))
-    ∙ (let p : e - q.base - (s - q.base) ≡ row_len net v = omega (arith, here.from) in p)
 
 -- over an empty range rows are read as they are
 pub read_none : (net : FlowNet) (labels : List ℕ) (base low : ℕ) (c : Cells) (xs : List ℕ) → RowsRead net labels base low low c xs xs

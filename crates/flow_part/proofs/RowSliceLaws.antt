@@ -24,7 +24,3 @@ mate_lies net v k h m ok vn kl eh em =
     let p : HasMate net v k = ok.meets v k vn kl in
     let in_head : MateLies net (head net v k) m = record { after = omega (arith, p.arc, em); before = omega (arith, p.arc, em, p.inside) } in
     subst (λ (x : ℕ). MateLies net x m) (sym eh) in_head
-
--- each arc of a node's row is among all arcs
-pub arc_in : (net : FlowNet) (v k : ℕ) → IsFlowNet net → v < node_count net → k < row_len net v → start net v + k < length net.heads
-arc_in net v k ok vn kl = omega (arith, ok.rows (v + 1) (node_count net) (omega arith) (omega arith), ok.last)

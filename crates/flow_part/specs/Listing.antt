@@ -54,9 +54,6 @@ SparesTurning n labels q = HasTurning n labels q.first q.end q.excess.items q.ne
 abbrev pub ListsTurning : ℕ → List ℕ → FlowPart → Type 0
 ListsTurning n labels q = q.active.complete ≡ true → HasTurning n labels q.first q.end q.excess.items q.next.items q.active.nodes.items
 
-abbrev pub ListTurning : ℕ → List ℕ → List FlowPart → Type 0
-ListTurning n labels qs = (i : ℕ) (d : FlowPart) → i < length qs → ListsTurning n labels (slice_index_or qs i d)
-
 -- a complete list holds each node of the part whose row of pushes isn't all 0
 pub record ListsPushing (net : FlowNet) (p : PushPart) : Type 0 where
   pub within : p.pushing.complete ≡ true → AreWithin p.first p.end p.pushing.nodes.items

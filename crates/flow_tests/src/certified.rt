@@ -1,43 +1,34 @@
-//! The route and the certificate of the first worked circuit.
-ghost use Rattle.frame_net.specs.Cuts.{IsNetworkOf};
+//! The route of the first worked circuit, and the certificate that it makes.
 ghost use Rattle.pulse.specs.Conditions.{IsMaxPreflow};
 
-use crate::nets::{TWO_LATCHES, net_of};
+use crate::nets::TWO_LATCHES;
 use aag_text::read_aag;
-use aig_graph::{Circuit, Keep};
-use cut_cert::{Verdict, certificate, check, routes};
+use aig_graph::{Circuit, Keep, NoMemory, Sequence};
+use cut_cert::{Certificate, Routes, Verdict, check, network, routes};
 use frame_net::Net;
 use pulse::{Crew, MaxPreflow, OpenGate, run_to_end};
 use std::alloc::Global;
 use std::test::*;
 use std::thread::Threads;
 
-/// Whether there is one route, of three points.
-fn is_one_route(alloc: Global, net: &Net, preflow: &MaxPreflow) -> bool
-    requires { IsMaxPreflow net.now preflow.now }
-{
-    match routes(alloc, net, preflow) {
-        Ok(found) => {
-            let one = found.len() == 1 && found.route(0).len() == 3;
-            drop(found);
-            one
+/// What the worked certificate claims: the gate of the latches, the one latch after a move over it, and these routes.
+fn claim(alloc: Global, routes: Routes) -> Result<Certificate, NoMemory> {
+    match vec![in alloc; 5u32; 1] {
+        Ok(gates) => Ok(Certificate {
+            count: 1,
+            gates: Sequence::from_vec(gates),
+            routes,
+        }),
+        Err(_) => {
+            drop(routes);
+            Err(NoMemory)
         }
-        Err(_) => false,
     }
 }
 
-/// Whether the certificate passes all tests.
-fn is_certified(
-    alloc: Global,
-    circuit: &Circuit,
-    keep: &Keep,
-    net: &Net,
-    preflow: &MaxPreflow,
-) -> bool
-    requires network { IsNetworkOf circuit.now keep.now net.now }
-    requires preflow { IsMaxPreflow net.now preflow.now }
-{
-    match certificate(alloc, circuit, keep, net, preflow) {
+/// Whether the claim passes all tests.
+fn is_certified(alloc: Global, circuit: &Circuit, keep: &Keep, routes: Routes) -> bool {
+    match claim(alloc, routes) {
         Ok(made) => {
             let verdict = check(alloc, circuit, &made, keep);
             drop(made);
@@ -47,22 +38,38 @@ fn is_certified(
     }
 }
 
-/// Whether a run ends with one route, and with a certificate that passes.
+/// Whether there is one route, of three points, which makes a certificate that passes.
+fn is_one_route(
+    alloc: Global,
+    circuit: &Circuit,
+    keep: &Keep,
+    net: &Net,
+    preflow: &MaxPreflow,
+) -> bool
+    requires { IsMaxPreflow net.now preflow.now }
+{
+    match routes(alloc, net, preflow) {
+        Ok(found) => {
+            let one = found.len() == 1 && found.route(0).len() == 3;
+            one & is_certified(alloc, circuit, keep, found)
+        }
+        Err(_) => false,
+    }
+}
+
+/// Whether a run ends with it.
 fn certified_at_end<R: Threads + Sync>(
     rt: &R,
     alloc: Global,
     circuit: &Circuit,
     keep: &Keep,
     net: &Net,
-) -> bool
-    requires { IsNetworkOf circuit.now keep.now net.now }
-{
+) -> bool {
     match run_to_end(rt, alloc, net, &Crew::new(1, OpenGate)) {
         Ok(end) => {
-            let one = is_one_route(alloc, net, &end);
-            let certified = is_certified(alloc, circuit, keep, net, &end);
+            let certified = is_one_route(alloc, circuit, keep, net, &end);
             drop(end);
-            one & certified
+            certified
         }
         Err(_) => false,
     }
@@ -70,7 +77,7 @@ fn certified_at_end<R: Threads + Sync>(
 
 fn has_certificate<R: Threads + Sync>(rt: &R, alloc: Global, circuit: &Circuit) -> bool {
     let keep = Keep::none();
-    match net_of(alloc, circuit, &keep) {
+    match network(alloc, circuit, &keep) {
         Ok(net) => {
             let certified = certified_at_end(rt, alloc, circuit, &keep, &net);
             drop(net);

@@ -1,9 +1,12 @@
-//! The greatest least sets of worked circuits, at the end of a run.
+//! The greatest least sets of worked circuits, at the end of both runs.
+ghost use Rattle.std.specs.Prelude.{IfOk};
+ghost use Rattle.pulse.specs.Conditions.{IsMaxPreflow};
+
 use crate::nets::{TWO_LATCHES, net_of_text};
 use aig_graph::{ClosedSet, NoMemory};
-use cut_cert::greatest_cut;
+use cut_cert::{greatest_cut, maximum_preflow};
 use frame_net::Net;
-use pulse::{Crew, OpenGate, run_to_end};
+use pulse::{Crew, MaxPreflow, OpenGate, run_to_end};
 use std::alloc::Global;
 use std::test::*;
 use std::thread::Threads;
@@ -31,9 +34,11 @@ pub(crate) fn is_set(found: Result<ClosedSet, NoMemory>, gates: &[u32]) -> bool 
     }
 }
 
-/// Whether these are the gates of the greatest least set at the end of a run.
-fn is_greatest_at_end<R: Threads + Sync>(rt: &R, alloc: Global, net: &Net, gates: &[u32]) -> bool {
-    match run_to_end(rt, alloc, net, &Crew::new(1, OpenGate)) {
+/// Whether these are the gates of the greatest least set at the end of a run, if it has one.
+fn is_cut<E: Copy>(alloc: Global, net: &Net, ended: Result<MaxPreflow, E>, gates: &[u32]) -> bool
+    requires { IfOk ended (IsMaxPreflow net.now) }
+{
+    match ended {
         Ok(end) => {
             let set = greatest_cut(alloc, net, &end);
             drop(end);
@@ -43,8 +48,20 @@ fn is_greatest_at_end<R: Threads + Sync>(rt: &R, alloc: Global, net: &Net, gates
     }
 }
 
+/// Whether they are so at the end of the plain run, and of the one with global relabeling.
+fn is_greatest_at_end<R: Threads + Sync>(rt: &R, alloc: Global, net: &Net, gates: &[u32]) -> bool {
+    let crew = Crew::new(1, OpenGate);
+    let plain = is_cut(alloc, net, run_to_end(rt, alloc, net, &crew), gates);
+    plain & is_cut(alloc, net, maximum_preflow(rt, alloc, net, &crew), gates)
+}
+
 /// Whether they are of a circuit.
-fn is_greatest<R: Threads + Sync>(rt: &R, alloc: Global, text: &[u8], gates: &[u32]) -> bool {
+pub(crate) fn is_greatest<R: Threads + Sync>(
+    rt: &R,
+    alloc: Global,
+    text: &[u8],
+    gates: &[u32],
+) -> bool {
     match net_of_text(alloc, text) {
         Ok(net) => {
             let greatest = is_greatest_at_end(rt, alloc, &net, gates);

@@ -9,7 +9,7 @@ fn starts_with(alloc: Global, net: &Net, distances: &[u32]) -> Result<bool, Allo
     net.known_capacities();
     let mut labels = vec![in alloc; 0u32; nodes as usize]?;
     let mut queue = vec![in alloc; 0u32; nodes as usize]?;
-    let parts = start_parts(alloc, net, 2, Vec::new(alloc))?;
+    let parts = start_parts(alloc, net, 2)?;
     exact_labels(
         net,
         parts.as_slice(),

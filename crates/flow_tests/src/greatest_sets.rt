@@ -1,11 +1,9 @@
 //! The greatest and the smallest least set of a circuit that has two.
 ghost use Rattle.pulse.specs.Conditions.{IsMaxPreflow};
 
-use crate::cuts::is_set;
+use crate::cuts::{is_greatest, is_set};
 use crate::nets::net_of_text;
-use aag_text::read_aag;
-use aig_graph::Keep;
-use cut_cert::{greatest_least, near_cut, routes};
+use cut_cert::{near_cut, routes};
 use frame_net::Net;
 use pulse::{Crew, MaxPreflow, OpenGate, run_to_end};
 use std::alloc::Global;
@@ -54,21 +52,8 @@ fn is_smallest_first_gate<R: Threads + Sync>(rt: &R, alloc: Global) -> bool {
     }
 }
 
-/// Whether the greatest has both.
-fn is_greatest_both<R: Threads + Sync>(rt: &R, alloc: Global) -> bool {
-    match read_aag(alloc, TWO_LEAST_SETS) {
-        Ok(circuit) => {
-            let crew = Crew::new(1, OpenGate);
-            let set = greatest_least(rt, alloc, &circuit, &Keep::none(), &crew);
-            drop(circuit);
-            is_set(set, &[7, 8])
-        }
-        Err(_) => false,
-    }
-}
-
 #[test]
 fn smallest_has_the_first_gate_and_greatest_has_both(rt: HostRuntime) {
     let smallest = is_smallest_first_gate(&rt, rt.alloc());
-    assert!(rt; smallest & is_greatest_both(&rt, rt.alloc()));
+    assert!(rt; smallest & is_greatest(&rt, rt.alloc(), TWO_LEAST_SETS, &[7, 8]));
 }

@@ -33,8 +33,6 @@ mod unit_parts;
 #[cfg(test)]
 mod wide_circuits;
 #[cfg(test)]
-mod wished_runs;
-#[cfg(test)]
 mod worked_networks;
 #[cfg(test)]
 mod worked_pulses;

@@ -1,10 +1,8 @@
 //! The two circuits whose networks were worked by hand, and networks.
-ghost use Rattle.std.specs.Prelude.{IfOk};
-ghost use Rattle.frame_net.specs.Cuts.{IsNetworkOf};
-
 use aag_text::{ReadError, read_aag};
-use aig_graph::{Circuit, Keep, NoMemory};
-use frame_net::{Net, passable};
+use aig_graph::Keep;
+use cut_cert::network;
+use frame_net::Net;
 use std::alloc::Global;
 
 /// Two inputs, a latch at each, and the gate of the latches, which is variable 5 and the output.
@@ -15,21 +13,10 @@ pub(crate) const TWO_LATCHES: &[u8] = b"aag 5 2 2 1 1\n2\n4\n6 2\n8 4\n10\n10 8 
 pub(crate) const FOUR_LATCHES: &[u8] =
     b"aag 11 4 4 1 3\n2\n4\n6\n8\n10 2\n12 4\n14 6\n16 8\n22\n18 12 10\n20 16 14\n22 20 18\n";
 
-/// The network of a circuit and its held latches.
-pub(crate) fn net_of(alloc: Global, circuit: &Circuit, keep: &Keep) -> Result<Net, NoMemory>
-    ensures { IfOk result (IsNetworkOf circuit.now keep.now) }
-{
-    let pass = passable(alloc, circuit.aig(), keep)?;
-    let net = Net::build(alloc, circuit.aig(), circuit.props(), &pass, keep)?;
-    net.known();
-    net.known_points();
-    Ok(net)
-}
-
 /// The network of a circuit that is read, no latch held.
 pub(crate) fn net_of_text(alloc: Global, text: &[u8]) -> Result<Net, ReadError> {
     let circuit = read_aag(alloc, text)?;
-    let net = net_of(alloc, &circuit, &Keep::none());
+    let net = network(alloc, &circuit, &Keep::none());
     drop(circuit);
     match net {
         Ok(net) => Ok(net),

@@ -10,6 +10,7 @@ use std::alloc::Global;
 use std::test::*;
 use std::thread::Threads;
 use unit_components::chosen_least_in_parts;
+use unit_flows::UnitFlow;
 
 /// So many blocks leave as many active nodes as a pulse is shared out for.
 const MANY_BLOCKS: u32 = 4096;
@@ -17,17 +18,15 @@ const MANY_BLOCKS: u32 = 4096;
 /// Whether the flow of units shows a set of so many gates, by two workers that are in each of the first two phases at once.
 fn meet<R: Threads + Sync>(rt: &R, alloc: Global, circuit: &Circuit, gates: usize) -> bool {
     let crew = Crew::new(2, MeetingGate::new());
-    let mut flows = Vec::new(alloc);
+    let mut flow = UnitFlow::none(alloc);
     let keep = Keep::none();
     let greatest = Choice::Greatest;
-    let shows = match chosen_least_in_parts(
-        rt, alloc, circuit, &keep, greatest, &crew, &mut flows,
-    ) {
+    let shows = match chosen_least_in_parts(rt, alloc, circuit, &keep, greatest, &crew, &mut flow) {
         Ok(Some(set)) => set.vars().len() == gates,
         Ok(None) => false,
         Err(_) => false,
     };
-    drop(flows);
+    drop(flow);
     shows & crew.gate().saw_both(0) & crew.gate().saw_both(1)
 }
 

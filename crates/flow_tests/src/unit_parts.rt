@@ -11,7 +11,7 @@ use std::alloc::{AllocError, Global};
 use std::test::*;
 use std::thread::Threads;
 use unit_components::{Sizes, chosen_least_sized};
-use unit_flows::{Frame, GateFlow};
+use unit_flows::{Frame, GateFlow, UnitFlow};
 
 /// Each circuit is cut, and a part of over 64 places is large.
 const SMALL: Sizes = Sizes {
@@ -34,14 +34,14 @@ fn shown_gates<R: Threads + Sync, G: PhaseGate>(
     circuit: &Circuit,
     crew: &Crew<G>,
     sizes: Sizes,
-    flows: &mut Vec<GateFlow>,
+    flow: &mut UnitFlow,
 ) -> Option<usize> {
     let keep = Keep::none();
     let Ok(frame) = Frame::new(alloc, circuit, &keep) else {
         return None;
     };
     let greatest = Choice::Greatest;
-    let shown = chosen_least_sized(rt, alloc, &frame, greatest, crew, sizes, flows);
+    let shown = chosen_least_sized(rt, alloc, &frame, greatest, crew, sizes, flow);
     drop(frame);
     match shown {
         Ok(Some(set)) => Some(set.vars().len()),
@@ -60,9 +60,9 @@ fn meet<R: Threads + Sync>(
     gates: usize,
 ) -> bool {
     let crew = Crew::new(2, MeetingGate::new());
-    let mut flows = Vec::new(alloc);
-    let shown = shown_gates(rt, alloc, circuit, &crew, sizes, &mut flows);
-    drop(flows);
+    let mut flow = UnitFlow::none(alloc);
+    let shown = shown_gates(rt, alloc, circuit, &crew, sizes, &mut flow);
+    drop(flow);
     (shown == Some(gates)) & crew.gate().saw_both(phase)
 }
 
@@ -101,11 +101,11 @@ fn finds<R: Threads + Sync>(
     requires few { workers ≤ 64 }
 {
     let crew = Crew::new(workers, OpenGate);
-    let mut flows = Vec::new(alloc);
-    let shown = shown_gates(rt, alloc, circuit, &crew, SHARED, &mut flows);
-    let same = flows.as_slice() == wanted;
-    let again = shown_gates(rt, alloc, circuit, &crew, SHARED, &mut flows);
-    drop(flows);
+    let mut flow = UnitFlow::none(alloc);
+    let shown = shown_gates(rt, alloc, circuit, &crew, SHARED, &mut flow);
+    let same = flow.gates.as_slice() == wanted;
+    let again = shown_gates(rt, alloc, circuit, &crew, SHARED, &mut flow);
+    drop(flow);
     (shown == Some(gates)) & same & (again == Some(gates))
 }
 
@@ -117,12 +117,12 @@ fn find_the_same<R: Threads + Sync>(
     gates: usize,
 ) -> bool {
     let crew = Crew::new(2, OpenGate);
-    let mut flows = Vec::new(alloc);
-    let shown = shown_gates(rt, alloc, circuit, &crew, SHARED, &mut flows);
-    let same = finds(rt, alloc, circuit, 3, gates, flows.as_slice())
-        & finds(rt, alloc, circuit, 7, gates, flows.as_slice())
-        & finds(rt, alloc, circuit, 64, gates, flows.as_slice());
-    drop(flows);
+    let mut flow = UnitFlow::none(alloc);
+    let shown = shown_gates(rt, alloc, circuit, &crew, SHARED, &mut flow);
+    let same = finds(rt, alloc, circuit, 3, gates, flow.gates.as_slice())
+        & finds(rt, alloc, circuit, 7, gates, flow.gates.as_slice())
+        & finds(rt, alloc, circuit, 64, gates, flow.gates.as_slice());
+    drop(flow);
     (shown == Some(gates)) & same
 }
 

@@ -5,7 +5,6 @@ use crate::distances::start_as_worked;
 use crate::nets::{FOUR_LATCHES, TWO_LATCHES, net_of_text};
 use crate::phase_gates::{each_crew_passes, second_pulse_is_shared};
 use crate::runs::end_as_worked;
-use crate::wished_runs::one_unit_flows;
 use crate::worked_pulses::{follow_after_eleven, follow_states};
 use frame_net::Net;
 use std::alloc::Global;
@@ -18,8 +17,7 @@ fn is_first_as_worked<R: Threads + Sync>(rt: &R, alloc: Global, net: &Net) -> bo
     let distances = start_as_worked(alloc, net);
     let pulses = follow_states(rt, alloc, net) & sends_both_units(alloc, net);
     let phases = each_crew_passes(rt, alloc, net);
-    let runs = end_as_worked(rt, alloc, net) & one_unit_flows(rt, alloc, net);
-    arcs & distances & pulses & phases & runs
+    arcs & distances & pulses & phases & end_as_worked(rt, alloc, net)
 }
 
 #[test]

@@ -6,7 +6,7 @@ use Rattle.flow_theory.proofs.SumLaws.{sum_below-le_const, term-le-sum_below, gr
 use Rattle.flow_theory.proofs.PotentialLaws.{potential_falls}
 use Rattle.frame_net.specs.FlowNet.{FlowNet, node_count}
 use Rattle.flow_part.specs.declared.parts.FlowPart.{FlowPart}
-use Rattle.flow_part.specs.Listing.{active_by, ListActive, ListsActive}
+use Rattle.flow_part.specs.Listing.{ListActive, ListsActive}
 use Rattle.flow_part.specs.Parts.{FlowPartFits, AreFlowParts, cells_of, pairs, Agree}
 use Rattle.flow_whole.specs.Runs.{any_below, any_active, HasActive, LacksActive}
 use Rattle.flow_part.proofs.PartsLeftLaws.{Left, left_all, left_more, left_here, left_at}
@@ -118,15 +118,6 @@ pub lists_next : (net : FlowNet) (labels : List ℕ) (all : List FlowPart) (i : 
     → ListsActive nodes labels p
 lists_next net labels all i p nodes en h e lists =
     subst (λ (n : ℕ). ListsActive n labels p) (sym en) (subst (λ (q : FlowPart). ListsActive (node_count net) labels q) (sym e) (lists i p h))
-
--- where no listed node of a part is active none is
-pub lacks_listed : (nodes : ℕ) (labels : List ℕ) (q : FlowPart) → ListsActive nodes labels q → q.active.complete ≡ true
-    → ((i : ℕ) → i < length q.active.nodes.items → active_by nodes (slice_index q.active.nodes.items i) (slice_index q.excess.items (slice_index q.active.nodes.items i - q.first)) (slice_index labels (slice_index q.active.nodes.items i)) ≡ false)
-    → LacksActive nodes labels q
-lacks_listed nodes labels q lists done none v lo hi = elim (lists.rest done v lo hi) [
-  | inl at ↦ subst (λ (w : ℕ). active_by nodes w (slice_index q.excess.items (w - q.first)) (slice_index labels w) ≡ false) at.there (none at.place at.inside)
-  | inr off ↦ off
-]
 
 -- ---- runs
 

@@ -1,17 +1,8 @@
 -- The borders of equal parts, and parts that are appended one by one.
-use Rattle.std.proofs.Common.{◌≡◌, ℕ, ◌+◌, ◌*◌, ◌<◌, ◌≤◌, List, [], ◌∷◌, ◌++◌, length, arith, refl, sym, ◌∙◌, subst}
-use Rattle.std.proofs.Math.Nat.{div-mul-le_self, div-le_of_le-mul, mul-div_cancel_left, mul-le-mul_right}
-use Rattle.std.proofs.lemmas.Nat.{le-div}
+use Rattle.std.proofs.Common.{◌≡◌, ℕ, ◌+◌, ◌<◌, List, [], ◌∷◌, ◌++◌, length, arith, refl, sym, ◌∙◌, subst}
+use Rattle.std.proofs.Math.Nat.{mul-div_cancel_left}
 use Rattle.flow_part.specs.Parts.{IsParted}
 use Rattle.flow_whole.specs.Start.{border_of, AreShares, IsShare}
-
--- no border is past the last node
-pub border_within : (n w k : ℕ) → 0 < w → k ≤ w → border_of n w k ≤ n
-border_within n w k some h = div-le_of_le-mul w {m = k * n} {n = n} (mul-le-mul_right n h)
-
--- a worker's share ends no earlier than it begins
-pub border_up : (n w k : ℕ) → 0 < w → border_of n w k ≤ border_of n w (k + 1)
-border_up n w k some = le-div (border_of n w k) ((k + 1) * n) w some (omega (arith, div-mul-le_self (k * n) w))
 
 -- the last worker's share ends with the last node
 pub border_last : (n w : ℕ) → 0 < w → border_of n w w ≡ n

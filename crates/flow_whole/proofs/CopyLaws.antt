@@ -117,13 +117,6 @@ copied_off {P} fits first end values pos n low high all p ps a b xs up piece ord
       same = c.same;
     }
 
--- past the last part the values of the whole range were copied
-pub copied_all : {P : Type 0} (fits : P → Type 0) (first end : P → ℕ) (values : P → List ℕ) (pos : ℕ → ℕ) (n low high : ℕ) (all rest : List P) (xs : List ℕ) → low ≤ high → high ≤ n → rest ≡ []
-    → Copied fits first end values pos n low high all rest xs → length xs + pos low ≡ pos high
-copied_all {P} fits first end values pos n low high all rest xs ordered within none c =
-    let over : IsParted fits first end n c.from [] = subst (λ (r : List P). IsParted fits first end n c.from r) none c.left.cut in
-    c.sized ∙ ap pos (let e : max low (min high c.from) ≡ high = omega (arith, over) in e)
-
 -- the part at a place is one of the network's flow
 pub part_here : (net : FlowNet) (all : List FlowPart) (i : ℕ) (p : FlowPart) → i < length all → p ≡ get_or all i p → AreFlowParts net 0 all → FlowPartFits net p
 part_here net all i p h e cut = subst (λ (q : FlowPart). FlowPartFits net q) (sym e) (part_fits (FlowPartFits net) (λ q. q.first) (λ q. q.end) (node_count net) 0 all cut i p h)

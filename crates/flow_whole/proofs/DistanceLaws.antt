@@ -33,9 +33,6 @@ in_walk n s (suc k) v t =
     (and_from (nat_lt 0 (s.res v t.0)) (reaches_in n s k t.0) (lt-ltb 0 (s.res v t.0) t.1.1.0) (in_walk n s k t.0 t.1.1.1))
 
 module _ (n : ℕ) (s : State) where
-  length_of : ℕ → ℕ → ℕ
-  length_of v k = cond (reaches_in n s k v) k n
-
   -- what is computed is the residual distance to the sink
   pub distance_is : IsDistance n s (distance n s)
   distance_is = record {

@@ -23,6 +23,3 @@ pub mod ArcLaws
 pub mod WalkLaws
 pub mod DistanceLaws
 pub mod RunLaws
-pub mod UnitLaws
-pub mod SendLaws
-pub mod OnePartLaws

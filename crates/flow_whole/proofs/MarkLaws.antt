@@ -5,14 +5,11 @@ use Rattle.std.proofs.lemmas.Bool.{cases_lt, lt-ltb, le-leb, le-ltb, lt-leb, fal
 use Rattle.flow_theory.specs.Flow.{pulse}
 use Rattle.frame_net.specs.FlowNet.{FlowNet, node_count, start, IsFlowNet}
 use Rattle.flow_part.specs.declared.parts.FlowPart.{FlowPart}
-use Rattle.flow_part.specs.declared.parts.PushPart.{PushPart}
-use Rattle.flow_part.specs.Parts.{Cells, Agree, AreFlowParts, ArePushParts, pairs, cells_of, values_of}
-use Rattle.flow_part.specs.Reading.{PartsRead}
+use Rattle.flow_part.specs.Parts.{Cells, Agree, AreFlowParts, pairs, cells_of}
 use Rattle.flow_part.specs.Delivering.{HoldPushes, NodeKept, PartsDelivered, PartsSafe}
 use Rattle.flow_whole.specs.Marks.{RangeLaws, and_range, NoneMarked, AllMarked, ReadSoFar, DeliveredSoFar, IsPartlyDelivered}
 use Rattle.flow_part.proofs.DeliveredRangeLaws.{given_then_kept, kept_then_given, safe_rows}
 use Rattle.flow_whole.proofs.WholeDeliveryLaws.{whole_given, whole_kept}
-use Rattle.flow_whole.proofs.WholeReadLaws.{whole_read, whole_unread}
 use Rattle.flow_whole.proofs.StepLaws.{hold_pushes, given_is_pulse, node_safe, parts_safe_by}
 
 or_second : (a b : Bool) → b ≡ false → (a || b) ≡ true → a ≡ true
@@ -37,16 +34,6 @@ sides first end v = elim (cases_lt v first) [
 
 out_marked : (marks : ℕ → Bool) (first end v : ℕ) → (v < first) ⊎ (end ≤ v) → and_range marks first end v ≡ true → marks v ≡ true
 out_marked marks first end v out m = or_second (marks v) (nat_le first v && nat_lt v end) (off_range first end v out) m
-
--- reading a range of nodes adds them to those whose rows are read
-pub read_more : (net : FlowNet) (labels : List ℕ) (marks : ℕ → Bool) (first end : ℕ) (c : Cells) (ps rs : List PushPart) → IsFlowNet net → ArePushParts net 0 ps → length rs ≡ length ps
-    → PartsRead net labels first end c ps rs → ReadSoFar net labels marks c (values_of ps) → ReadSoFar net labels (and_range marks first end) c (values_of rs)
-read_more net labels marks first end c ps rs ok cut len reads r = record {
-  rows = λ v k vn m kl. elim (sides first end v) [
-    | inl inside ↦ whole_read net labels first end c ps rs ok cut len reads v k vn inside.0 inside.1 kl
-    | inr out ↦ whole_unread net labels first end c ps rs ok cut len reads v k vn out kl ∙ r.rows v k vn (out_marked marks first end v out m) kl
-  ];
-}
 
 -- where all nodes are marked as read, the rows hold what each node pushes
 pub read_whole : (net : FlowNet) (labels : List ℕ) (marks : ℕ → Bool) (c : Cells) (xs : List ℕ) → IsFlowNet net → AllMarked (node_count net) marks → ReadSoFar net labels marks c xs → HoldPushes net (pairs net c labels) xs

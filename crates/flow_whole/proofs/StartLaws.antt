@@ -1,17 +1,12 @@
 -- The excess that the start sends into a node fits a word.
-use Rattle.std.proofs.Common.{◌≡◌, ℕ, zero, suc, ◌+◌, ◌<◌, ◌==◌, cond, Bool, true, false, ◌||◌, nat_lt, length, slice_index, arith, refl, sym, ap, ◌∙◌}
+use Rattle.std.proofs.Common.{◌≡◌, ℕ, zero, suc, ◌+◌, ◌<◌, ◌==◌, cond, Bool, true, false, ◌||◌, nat_lt, slice_index, arith, refl, sym, ap, ◌∙◌}
 use Rattle.std.proofs.Math.Dec.{eqb-suc-zero}
 use Rattle.std.proofs.lemmas.Bool.{eq-eqb, true≢false}
 use Rattle.flow_theory.specs.Flow.{sum_below}
 use Rattle.flow_theory.proofs.SumLaws.{sum_below-same, sum_below-zero}
-use Rattle.frame_net.specs.FlowNet.{FlowNet, node_count, start, row_len, head, mate, cap_at, HasMate, IsFlowNet}
+use Rattle.frame_net.specs.FlowNet.{FlowNet, node_count, start, row_len, head, mate, cap_at, IsFlowNet}
 use Rattle.flow_part.specs.Delivering.{back}
 use Rattle.flow_whole.specs.Start.{start_excess, start_res}
-use Rattle.flow_part.proofs.RowSliceLaws.{arc_in}
-
--- the mate of each arc of a node's row is among all arcs
-pub mate_in : (net : FlowNet) (v k : ℕ) → IsFlowNet net → v < node_count net → k < row_len net v → mate net v k < length net.heads
-mate_in net v k ok vn kl = let m : HasMate net v k = ok.meets v k vn kl in omega (arith, m.arc, arc_in net (head net v k) m.place ok (ok.heads_in v k vn kl) m.inside)
 
 -- heads rise, so what comes from the source comes over the first arc of a row, if that leads to the source
 later_zero : (h x : ℕ) → 0 < h → cond (h == 0) x 0 ≡ 0

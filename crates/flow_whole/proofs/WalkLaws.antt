@@ -224,17 +224,6 @@ pub record Reading (net : FlowNet) (c : Cells) (d q : ℕ → ℕ) (count place 
   pub arcs : (j : ℕ) → j < k → 0 < slice_index c.residuals (mate net w j) → d (head net w j) ≤ label
 
 module _ (net : FlowNet) (ok : IsFlowNet net) (c : Cells) where
-  -- before its first arc, the reading of a queued node has only to have its label
-  pub reading_start : (d q : ℕ → ℕ) (count place w label : ℕ) → Sweeps (node_count net) (pairs net c []) d q count place → place < count → q place ≡ w → d w + 1 ≡ label
-      → Reading net c d q count place w label 0
-  reading_start d q count place w label sweeps now here labelled = record {
-    sweeps = sweeps;
-    now = now;
-    here = here;
-    labelled = labelled;
-    arcs = λ j l some. absurd (omega (arith, l));
-  }
-
   -- an arc whose head has a label, or whose mate has no residual
   pub reading_past : (d q : ℕ → ℕ) (count place w label k : ℕ) → Reading net c d q count place w label k → w < node_count net → k < row_len net w
       → (d (head net w k) ≡ node_count net → 0 < slice_index c.residuals (mate net w k) → ⊥) → Reading net c d q count place w label (k + 1)

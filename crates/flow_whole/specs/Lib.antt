@@ -6,4 +6,3 @@ pub mod TakingOver
 pub mod Distances
 pub mod ExactRuns
 pub mod Walks
-pub mod Wished

@@ -8,11 +8,6 @@
 //!
 //! Labels of the push-relabel method (Goldberg and Tarjan, 1988) are lower bounds of these distances. The label of a node whose excess
 //! can't reach the sink rises in small steps up to the number of nodes; exact labels give it that at once, and lower no label.
-//!
-//! A start of the flow along wishes.
-//!
-//! A wish is a number of units for an arc: as a rule what the last frame's flow sent there. Wishes are hints: a unit goes only from a
-//! node with excess over an arc with a residual, and never to a label more than one higher, so a sound flow stays one whatever is wished.
 #![tactic(auto)]
 
 mod active;
@@ -21,12 +16,9 @@ mod copying;
 mod distance_laws;
 mod labels;
 mod laws;
-mod memory;
 mod parting;
 mod phases;
-mod sending;
 mod starting;
-mod units;
 mod walk;
 
 pub use active::any_active_node;
@@ -35,6 +27,5 @@ pub use labels::{hold_labels, start_labels, turn};
 pub use laws::{parting_law, range_laws, start_law};
 pub use parting::{border, parted_anew, push_parts};
 pub use phases::{deliver_each, deliver_every, read_each, read_every};
-pub use sending::send_wished;
 pub use starting::start_parts;
 pub use walk::exact_labels;

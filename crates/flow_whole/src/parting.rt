@@ -1,5 +1,5 @@
 //! Parts for the ranges of a crew: worker i of n has the nodes from i*N/n up to (i+1)*N/n.
-ghost use Rattle.std.specs.Prelude.{◌≡◌, ◌<◌, ◌≤◌, IfOk, length, slice_index};
+ghost use Rattle.std.specs.Prelude.{◌≡◌, ◌<◌, ◌≤◌, IfOk, length, replicate, slice_index};
 ghost use Rattle.frame_net.specs.FlowNet.{node_count};
 ghost use Rattle.flow_part.specs.Listing.{ListActive, ListsActive};
 ghost use Rattle.flow_part.specs.Parts.{AreFlowParts, ArePushParts, PushPartFits, cells_of};
@@ -7,11 +7,9 @@ ghost use Rattle.flow_whole.specs.Start.{AreFlowShares, ArePushShares, border_of
 
 use crate::carrying::list_of;
 use crate::copying::{copied_excess, copied_labels, copied_residuals};
-use crate::memory::zeros_in;
 use flow_part::{FlowPart, NodeList, PushPart};
 use frame_net::Net;
 use std::alloc::{AllocError, Global};
-use std::mem;
 
 /// The first node of a worker's range.
 pub fn border(nodes: u32, workers: u32, worker: u32) -> u32
@@ -95,11 +93,17 @@ pub fn parted_anew(
     Ok(parts)
 }
 
-/// The pushes of the nodes from `first` up to `end`, all 0, in such memory: no node is listed as pushing.
+/// So many zeros.
+fn zeros(alloc: Global, entries: usize) -> Result<Vec<u32>, AllocError>
+    ensures { IfOk result (λ v. v.items ≡ replicate entries 0) }
+{
+    vec![in alloc; 0u32; entries]
+}
+
+/// The pushes of the nodes from `first` up to `end`, all 0: no node is listed as pushing.
 fn push_part(
     alloc: Global,
     net: &Net,
-    memory: Vec<u32>,
     worker: u32,
     first: u32,
     end: u32,
@@ -114,7 +118,7 @@ fn push_part(
     net.known();
     let base = net.start(first);
     let size = net.start(end) - base;
-    let values = zeros_in(memory, size)?;
+    let values = zeros(alloc, size)?;
     let mut pushing = NodeList::with_room(alloc, (end - first) as usize)?;
     pushing.begin();
     Ok(PushPart {
@@ -128,13 +132,8 @@ fn push_part(
     })
 }
 
-/// Parts of pushes for so many workers, all 0. Those of the first stand in the memory of a table whose values don't matter.
-pub fn push_parts(
-    alloc: Global,
-    net: &Net,
-    workers: u32,
-    memory: Vec<u32>,
-) -> Result<Vec<PushPart>, AllocError>
+/// Parts of pushes for so many workers, all 0.
+pub fn push_parts(alloc: Global, net: &Net, workers: u32) -> Result<Vec<PushPart>, AllocError>
     requires { 0 < workers }
     ensures len { IfOk result (λ v. length v.items ≡ workers) }
     ensures shares { IfOk result (λ v. ArePushShares (node_count net.now) workers v.items) }
@@ -143,11 +142,9 @@ pub fn push_parts(
     let nodes = net.nodes();
     let mut parts = Vec::with_capacity(alloc, workers as usize)?;
     let mut first = 0;
-    let mut memory = memory;
     for worker in 0..workers {
         let end = border(nodes, workers, worker + 1);
-        let own = mem::replace(&mut memory, Vec::new(alloc));
-        let part = push_part(alloc, net, own, worker, first, end)?;
+        let part = push_part(alloc, net, worker, first, end)?;
         parts.push(part)?;
         first = end;
     }

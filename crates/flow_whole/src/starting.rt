@@ -4,12 +4,10 @@ ghost use Rattle.frame_net.specs.FlowNet.{cap_at, node_count};
 ghost use Rattle.flow_whole.specs.Start.{AreFlowShares, start_res, start_excess, PartHolds, PartsHold};
 
 use crate::copying::add;
-use crate::memory::emptied;
 use crate::parting::border;
 use flow_part::{FlowPart, NodeList};
 use frame_net::Net;
 use std::alloc::{AllocError, Global};
-use std::mem;
 
 /// Puts the value of an arc or node in place, where that is one of those from `base` on.
 fn put(values: &mut [u32], base: u32, number: u32, value: u32)
@@ -48,13 +46,8 @@ fn replace_caps(net: &Net, base: u32, residuals: &mut [u32])
     }
 }
 
-/// The residuals of `size` arcs from `base` on, at the start, in such memory: a copy of the capacities, but for the arcs at the source.
-fn start_residuals(
-    memory: Vec<u32>,
-    net: &Net,
-    base: u32,
-    size: u32,
-) -> Result<Vec<u32>, AllocError>
+/// The residuals of `size` arcs from `base` on, at the start: a copy of the capacities, but for the arcs at the source.
+fn start_residuals(alloc: Global, net: &Net, base: u32, size: u32) -> Result<Vec<u32>, AllocError>
     requires { base + size ≤ length net.now.heads }
     ensures len { IfOk result (λ v. length v.items ≡ size) }
     ensures each { IfOk result (λ v. (i : ℕ) → i < length v.items
@@ -62,7 +55,7 @@ fn start_residuals(
 {
     net.known();
     net.known_capacities();
-    let mut residuals = emptied(memory, size as usize)?;
+    let mut residuals = Vec::with_capacity(alloc, size as usize)?;
     let from = base as usize;
     let to = from + size as usize;
     add(net.caps(), from, to, &mut residuals)?;
@@ -100,11 +93,10 @@ fn start_excesses(alloc: Global, net: &Net, first: u32, count: u32) -> Result<Ve
     Ok(excess)
 }
 
-/// The part of the nodes from `first` up to `end`, at the start, with its residuals in such memory.
+/// The part of the nodes from `first` up to `end`, at the start.
 fn start_part(
     alloc: Global,
     net: &Net,
-    memory: Vec<u32>,
     worker: u32,
     first: u32,
     end: u32,
@@ -121,7 +113,7 @@ fn start_part(
     net.known_capacities();
     let base = net.start(first);
     let size = net.start(end) - base;
-    let residuals = start_residuals(memory, net, base as u32, size as u32)?;
+    let residuals = start_residuals(alloc, net, base as u32, size as u32)?;
     let excess = start_excesses(alloc, net, first, end - first)?;
     let next = vec![in alloc; 0u32; excess.len()]?;
     let active = NodeList::with_room(alloc, excess.len())?;
@@ -139,14 +131,8 @@ fn start_part(
     })
 }
 
-/// The parts of all nodes, one for each worker, at the start. The residuals of the first stand in the memory of a table whose values
-/// don't matter.
-pub fn start_parts(
-    alloc: Global,
-    net: &Net,
-    workers: u32,
-    memory: Vec<u32>,
-) -> Result<Vec<FlowPart>, AllocError>
+/// The parts of all nodes, one for each worker, at the start.
+pub fn start_parts(alloc: Global, net: &Net, workers: u32) -> Result<Vec<FlowPart>, AllocError>
     requires { 0 < workers }
     ensures len { IfOk result (λ v. length v.items ≡ workers) }
     ensures shares { IfOk result (λ v. AreFlowShares (node_count net.now) workers v.items) }
@@ -156,11 +142,9 @@ pub fn start_parts(
     let nodes = net.nodes();
     let mut parts = Vec::with_capacity(alloc, workers as usize)?;
     let mut first = 0;
-    let mut memory = memory;
     for worker in 0..workers {
         let end = border(nodes, workers, worker + 1);
-        let own = mem::replace(&mut memory, Vec::new(alloc));
-        let part = start_part(alloc, net, own, worker, first, end)?;
+        let part = start_part(alloc, net, worker, first, end)?;
         parts.push(part)?;
         first = end;
     }

@@ -211,9 +211,6 @@ module _ (g : Graph) (props : Props) (held : List ℕ) (valid : IsGraph g) (w : 
   reads-w : (u : ℕ) → gate_reads u (gate_at g w) ≡ is_fan_in u gate
   reads-w u = ap (λ (o : Option Gate). gate_reads u o) there
 
-  other-number : (u x : ℕ) → x < before_number g held w → x ≡ before_number g held u → w ≢ u
-  other-number u x h e same = omega (arith, h, e, ap (λ (n : ℕ). before_number g held n) same)
-
   -- an adjacent lower node is that of a fan-in
   rest-after : (u x : ℕ) → x < before_number g held w → node_at (latch_count g held) (node_variables g held) x ≡ after u → w ≢ u → is_fan_in u gate ≡ false → adjacent (capacity g props held) (before_number g held w) x ≡ false
   rest-after u x h at differ not_in =
@@ -227,10 +224,6 @@ module _ (g : Graph) (props : Props) (held : List ℕ) (valid : IsGraph g) (w : 
       ∙ nothing g props held valid _ _
       (cond-false (gate_reads u (gate_at g w)) (unbounded g held) 0 (reads-w u ∙ not_in))
       (cond-false (gate_reads w (gate_at g u)) (unbounded g held) 0 (false_from_ne_true _ (λ r. omega (arith, e, h, rank-gate g held w from, rank-gate g held u ufrom, count-lt (has_node g held) w u (reads-below g valid w u r) p))))
-
-  -- nodes that are no fan-in's
-  Misses : ℕ → Type 0
-  Misses x = (u : ℕ) → has_node g held u ≡ true → first_of (base_of g held) (latch_number g held u) ≤ x → x < end_of (base_of g held) (latch_number g held u) → is_fan_in u gate ≡ false
 
   rest : (x : ℕ) → x < before_number g held w → View g held x → ((u : ℕ) → has_node g held u ≡ true → first_of (base_of g held) (latch_number g held u) ≤ x → x < end_of (base_of g held) (latch_number g held u) → is_fan_in u gate ≡ false)
       → adjacent (capacity g props held) (before_number g held w) x ≡ false

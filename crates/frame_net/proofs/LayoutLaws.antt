@@ -189,10 +189,6 @@ no-gate g held w none from p = false_true (sym (passable-no_gate g held w none) 
     false_true : false ≡ true → ⊥
     false_true e = absurd (cc)
 
--- two more than the number of known latches is below 2^29
-pub fit-bound : (g : Graph) (held : List ℕ) → IsGraph g → latch_count g held + 2 < 2 ^ 29
-fit-bound g held valid = omega (arith, latches-bound g held, valid.small)
-
 -- the number of a variable's node, counted as a latch's, is below 2^30
 pub number-fits : (g : Graph) (held : List ℕ) → IsGraph g → (v : ℕ) → v < variables_end g → latch_number g held v < 2 ^ 30
 number-fits g held valid v h = omega (arith, number-bound g held v, valid.small, h)

@@ -51,10 +51,4 @@ impl Capacities {
     {
         self.table.as_slice()
     }
-
-    /// The table, where this is its last owner.
-    pub(crate) fn into_table(self) -> Option<Vec<u32>> {
-        let Capacities { table } = self;
-        Arc::into_inner(table)
-    }
 }

@@ -16,11 +16,9 @@ mod layout;
 mod links;
 mod net;
 mod pass_set;
-mod tables;
 
 pub use capacities::Capacities;
 pub use cut_laws::{closed_sets_are_cuts, cuts_are_closed, greatest_cut_is_greatest_set};
 pub use layout::leaving_marks;
 pub use net::{Net, Point};
 pub use pass_set::{PassSet, passable};
-pub use tables::Tables;

@@ -9,7 +9,6 @@ use crate::build::{Rows, fill_rows};
 use crate::capacities::Capacities;
 use crate::layout::Layout;
 use crate::pass_set::PassSet;
-use crate::tables::Tables;
 use aig_graph::{Aig, Keep, NoMemory, Props};
 use std::alloc::Global;
 use std::marker::Model;
@@ -73,28 +72,13 @@ impl Net {
         requires { IsPassSet aig.now keep.now pass.now }
         ensures { IfOk result (λ net. IsNetOf aig.now props.now keep.now net) }
     {
-        Net::build_in(alloc, aig, props, pass, keep, Tables::none(alloc))
-    }
-
-    /// The same network, with its tables by arc in the memory of another network's.
-    pub fn build_in(
-        alloc: Global,
-        aig: &Aig,
-        props: &Props,
-        pass: &PassSet,
-        keep: &Keep,
-        tables: Tables,
-    ) -> Result<Net, NoMemory>
-        requires { IsPassSet aig.now keep.now pass.now }
-        ensures { IfOk result (λ net. IsNetOf aig.now props.now keep.now net) }
-    {
         let layout = Layout::new(alloc, aig, props, pass, keep)?;
         let Rows {
             starts,
             heads,
             mates,
             caps,
-        } = fill_rows(alloc, &layout, tables)?;
+        } = fill_rows(alloc, &layout)?;
         let Layout {
             variables,
             latches,
@@ -108,23 +92,6 @@ impl Net {
             latches,
             variables,
         })
-    }
-
-    /// The memory of the tables by arc, for a network to come. That of the capacities is among it unless a flow still shares them.
-    pub fn into_tables(self) -> Tables {
-        let Net {
-            starts: _starts,
-            heads,
-            mates,
-            caps,
-            latches: _latches,
-            variables: _variables,
-        } = self;
-        Tables {
-            heads,
-            mates,
-            caps: caps.into_table(),
-        }
     }
 
     /// That each network is one of rows whose arcs have mates. Costs nothing: a caller sees the value of a network alone, and has

@@ -23,6 +23,7 @@ pub(crate) fn options(alloc: Global, max_frames: u32) -> Options {
         choice: Choice::Greatest,
         certify: false,
         keep: Vec::new(alloc),
+        keep_latches: Vec::new(alloc),
         merge: false,
         bound: PathBound::None,
     }

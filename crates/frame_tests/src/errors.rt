@@ -1,6 +1,6 @@
 //! The numbers and the texts of errors.
 use aag_text::{ReadError, WriteError};
-use aig_graph::{BuildError, KeepError, NoMemory};
+use aig_graph::{BuildError, HoldError, KeepError, NoMemory};
 use batch_lists::ListError;
 use batch_pool::BatchError;
 use frames::{BytesError, RetimeError};
@@ -28,6 +28,7 @@ fn numbers_its_errors(rt: HostRuntime) {
         PulseError::NoMemory.code(),
         RetimeError::NoMemory.code(),
         RetimeError::NoSuchName(0).code(),
+        RetimeError::NoSuchLatch(0).code(),
         BytesError::Read(ReadError::Cycle).code(),
         BytesError::Retime(RetimeError::NoMemory).code(),
         BytesError::Write(WriteError::Device).code(),
@@ -36,7 +37,7 @@ fn numbers_its_errors(rt: HostRuntime) {
         (of_building == [1, 1, 2])
             & (of_stimuli == [1, 2, 3, 4])
             & (of_simulating == [1, 2])
-            & (of_retiming == [1, 1, 2, 1, 2, 3])
+            & (of_retiming == [1, 1, 2, 3, 1, 2, 3])
     );
 }
 
@@ -68,7 +69,15 @@ fn spells_errors_of_circuits(alloc: Global) -> bool {
             (KeepError::NoMemory, "out of memory"),
         ],
     );
-    memory & building & holding
+    let placing = spell(
+        alloc,
+        &[
+            (HoldError::NoSuchLatch(1), "position 1 is that of no latch"),
+            (HoldError::NoSuchName(2), "no latch has name 2"),
+            (HoldError::NoMemory, "out of memory"),
+        ],
+    );
+    memory & building & holding & placing
 }
 
 fn spells_errors_of_simulating(alloc: Global) -> bool {
@@ -98,6 +107,10 @@ fn spells_errors_of_retiming(alloc: Global) -> bool {
         &[
             (RetimeError::NoMemory, "out of memory"),
             (RetimeError::NoSuchName(0), "no latch has name 0"),
+            (
+                RetimeError::NoSuchLatch(2),
+                "position 2 is that of no latch",
+            ),
         ],
     );
     let bytes = spell(
@@ -120,6 +133,7 @@ fn spells_errors_of_batches(alloc: Global) -> bool {
         &[
             (ListError::BadLine(0), "BadLine at 0"),
             (ListError::TooLarge(4294967296), "TooLarge at 4294967296"),
+            (ListError::SameFile(12), "SameFile at 12"),
             (ListError::NoMemory, "out of memory"),
         ],
     );

@@ -24,6 +24,8 @@ mod failing_devices;
 #[cfg(test)]
 mod graphs;
 #[cfg(test)]
+mod held;
+#[cfg(test)]
 mod lanes;
 #[cfg(test)]
 mod map_checking;

@@ -1,12 +1,13 @@
 //! That the set of a frame doesn't rest on what is known of the last flow.
 use crate::circuits::CHAINS;
 use aag_text::read_aag;
-use aig_graph::{Circuit, Keep};
-use cut_cert::{GateFlow, greatest_least_along};
+use aig_graph::{Choice, Circuit, Keep};
+use chosen_cuts::{Records, chosen_least_along};
 use pulse::{Crew, OpenGate};
 use std::alloc::Global;
 use std::test::*;
 use std::thread::Threads;
+use unit_flows::GateFlow;
 
 /// The flow of a gate that a number spells, bit by bit.
 fn flow_of(number: u32) -> GateFlow {
@@ -27,11 +28,17 @@ fn moves_gate<R: Threads + Sync>(
     flow: GateFlow,
     count: usize,
 ) -> bool {
-    let Ok(mut flows) = vec![in alloc; flow; count] else {
+    let Ok(flows) = vec![in alloc; flow; count] else {
         return false;
     };
+    let mut records = Records::new(alloc, false);
+    records.flows = flows;
     let crew = Crew::new(1, OpenGate);
-    match greatest_least_along(rt, alloc, circuit, &Keep::none(), &crew, &mut flows) {
+    let keep = Keep::none();
+    let greatest = Choice::Greatest;
+    let set = chosen_least_along(rt, alloc, circuit, &keep, greatest, &crew, &mut records);
+    drop(records);
+    match set {
         Ok(set) => set.vars() == [7].as_slice(),
         Err(_) => false,
     }

@@ -11,7 +11,7 @@ use Rattle.retimed_circuits.specs.Certified.{IsSameRetiming}
 use Rattle.retimed_circuits.proofs.MergedRunLaws.{retiming-with-one}
 use Rattle.frames.specs.declared.options.Options.{Options}
 use Rattle.frames.specs.Bounds.{bound_in}
-use Rattle.frames.specs.Named.{names_in}
+use Rattle.frames.specs.Named.{holding_in}
 use Rattle.aig_binary.specs.Spellings.{text_in}
 use Rattle.frames.specs.Answering.{IsOneAnswer}
 use Rattle.frames.specs.Retiming.{IsRetimedBy}
@@ -35,5 +35,5 @@ one-answer bytes options certify input other old new before after r s first seco
     let spelt : p.spelt ≡ q.spelt = one-spelt bytes input other p.spelt q.spelt first second p.read q.read in
     let P : SpeltCircuit → Type 0 = λ a. IsRetimedBy options a.circuit r in
     let same : IsSameRetiming options.certify certify r s =
-    retiming-with-one options.merge (bound_in options q.spelt.circuit) options.choice q.spelt.circuit (names_in options) options.max_frames options.certify certify r s (subst P spelt p.written.answer.retimed) q.written.answer.retimed in
+    retiming-with-one options.merge (bound_in options q.spelt.circuit) options.choice q.spelt.circuit (holding_in options) options.max_frames options.certify certify r s (subst P spelt p.written.answer.retimed) q.written.answer.retimed in
     (same, ap₂ (λ (a : SpeltCircuit) (d : Netlist). text_in (unwrap_or options.spelling a.spelling) d) spelt same.circuit)

@@ -8,7 +8,6 @@ use Rattle.variable_tables.specs.declared.memory.NoMemory.{NoMemory}
 use Rattle.aig_graph.specs.Graph.{Graph, IsGraph, variables_end, free_latches}
 use Rattle.aig_graph.specs.Circuits.{Netlist, IsNetlist}
 use Rattle.aig_graph.specs.Closed.{IsClosedSet}
-use Rattle.aig_graph.specs.Keep.{held_in}
 use Rattle.aig_graph.specs.Laws.{all_free, composed}
 use Rattle.aig_graph.specs.Move.{move_of}
 use Rattle.aig_graph.specs.Streams.{SameStreams}
@@ -17,6 +16,7 @@ use Rattle.certificates.specs.declared.certificate.Certificate.{Certificate}
 use Rattle.chosen_cuts.specs.declared.records.Records.{Records}
 use Rattle.clean.specs.declared.cleaning.Cleaned.{Cleaned}
 use Rattle.clean.proofs.CleaningLaws.{composed-all}
+use Rattle.cleaned_circuits.proofs.HeldLaws.{held_after-in_range}
 use Rattle.cleaned_circuits.proofs.PassLaws.{IsCircuit}
 use Rattle.variable_tables.specs.Counting.{places}
 use Rattle.variable_tables.specs.Marking.{has}
@@ -25,16 +25,17 @@ use Rattle.variable_tables.proofs.PlacesLaws.{length-places, count-bound}
 use Rattle.rebuild.specs.Moved.{moved_of}
 use Rattle.rebuild.proofs.MovedLaws.{members-below}
 use Rattle.retimed_circuits.specs.declared.report.Retimed.{Retimed}
-use Rattle.retimed_circuits.specs.Names.{held_latches}
-use Rattle.retimed_circuits.specs.Frames.{AfterFrames, CleansIn, cleaned, frame, moved_in}
+use Rattle.retimed_circuits.specs.Names.{StayHeld}
+use Rattle.retimed_circuits.specs.Frames.{AfterFrames, CleansTo, cleaned, frame, held_over, moved_over}
 use Rattle.retimed_circuits.proofs.HeldLaws.{cleaning-keeps, moving-keeps}
 use Rattle.retimed_circuits.proofs.RunLaws.{after-length}
+use Rattle.retimed_circuits.proofs.StayLaws.{stays-same, stays-then}
+use Rattle.normalised_circuits.specs.Normalised.{IsNormalised}
 use Rattle.normalised_circuits.proofs.FrameLaws.{cleans-normalised, normalised-cleaned}
 use Rattle.frames.specs.declared.frame.Frame.{Frame}
 use Rattle.frames.specs.declared.options.Options.{Options}
 use Rattle.frames.specs.Found.{IsAfterMove, Moves}
-use Rattle.frames.specs.Named.{kept_by, names_in}
-use Rattle.frames.specs.Retiming.{IsCleanedBy, IsMovedBy, IsRetimedAsIs, IsNormalisedBy, Keeps}
+use Rattle.frames.specs.Retiming.{IsCleanedBy, IsMovedBy, IsRetimedAsIs, Keeps}
 use Rattle.frames.specs.Underway.{IsUnderway, IsRun}
 use Rattle.frames.proofs.CertificateLaws.{certified}
 
@@ -60,85 +61,100 @@ streams-through c d e kept first second =
     omega (arith, here, first.places.each, length-range_with_len 0 free) in
     subst (λ (places : List ℕ). SameStreams c e places) (composed-all free kept below) (same_streams-transitive c d e (all_free c.aig) kept first second)
 
--- cleaning keeps what names hold, and leaves nothing to clean
-cleaned-keeps : (options : Options) (c d : Netlist) (places : List ℕ) → IsCircuit c → CleansIn (names_in options) c d places → SameStreams c d places → Keeps options c d places
-cleaned-keeps options c d places valid cleans streams =
-    let names = names_in options in
-    record { streams = streams; held = cleaning-keeps names c d places valid cleans; normalised = cleans-normalised names d (held_in names c) c places cleans refl valid }
+-- cleaning keeps the held latches, and leaves nothing to clean
+cleaned-keeps : (held : List ℕ) (c d : Netlist) (left now : List ℕ) → IsCircuit c → All (λ j. j < length c.aig.latches) held → CleansTo held c d left now → SameStreams c d left → Keeps held c d left now
+cleaned-keeps held c d left now valid in_range cleans streams = record {
+  streams = streams;
+  stays = cleaning-keeps held c d left now valid in_range cleans;
+  in_range = held_after-in_range d now held c cleans.held_after in_range;
+  normalised = cleans-normalised d now held c cleans.held_after valid in_range;
+}
 
 -- a result of cleaning
-pub cleaned-by : {E : Type 0} (options : Options) (c : Netlist) (r : Result Cleaned E) → IsCircuit c → IfOk r (λ d. CleansIn (names_in options) c d.circuit d.kept_free)
-    → IfOk r (λ d. SameStreams c d.circuit d.kept_free) → IfOk r (IsCleanedBy options c)
-cleaned-by options c (Ok d) valid cleans streams = record { cleaned = cleans; keeps = cleaned-keeps options c d.circuit d.kept_free valid cleans streams }
-cleaned-by options c (Err e) valid cleans streams = tt
+pub cleaned-by : (held : List ℕ) (c : Netlist) (d : Cleaned) → IsCircuit c → All (λ j. j < length c.aig.latches) held → CleansTo held c d.circuit d.kept_free d.keep
+    → SameStreams c d.circuit d.kept_free → IsCleanedBy held c d
+cleaned-by held c d valid in_range cleans streams = record { cleaned = cleans; keeps = cleaned-keeps held c d.circuit d.kept_free d.keep valid in_range cleans streams }
 
--- a normalised circuit is its own cleaning, and so is a result that is that circuit with all its free latches
-pub own-cleaned : {E : Type 0} (options : Options) (c : Netlist) (r : Result Cleaned E) → IfOk r (λ d. d.circuit ≡ c) → IfOk r (λ d. d.kept_free ≡ all_free c.aig) → IsCircuit c
-    → IsNormalisedBy options c → IfOk r (IsCleanedBy options c)
-own-cleaned options c (Ok d) circuit places valid normalised =
-    let names = names_in options in
-    let P : Netlist → List ℕ → Type 0 = λ e js. CleansIn names c e js × Keeps options c e js in
-    let own : P c (all_free c.aig) = (normalised-cleaned names c valid normalised, record { streams = same_streams-reflexive c; held = refl; normalised = normalised }) in
-    let both = subst (λ (e : Netlist). P e d.kept_free) (sym circuit) (subst (P c) (sym places) own) in
+-- a normalised circuit is its own cleaning, and so is a result that is that circuit with all its free latches and held ones
+pub own-cleaned : (held : List ℕ) (c : Netlist) (d : Cleaned) → d.circuit ≡ c → d.keep ≡ held → d.kept_free ≡ all_free c.aig → IsCircuit c → All (λ j. j < length c.aig.latches) held
+    → IsNormalised held c → IsCleanedBy held c d
+own-cleaned held c d circuit keep free valid in_range normalised =
+    let P : Netlist → List ℕ → List ℕ → Type 0 = λ e js now. CleansTo held c e js now × Keeps held c e js now in
+    let already = normalised-cleaned held c valid in_range normalised in
+    let own : P c (all_free c.aig) held = (
+      record { cleans = already.cleans; held_after = already.held_after },
+      record { streams = same_streams-reflexive c; stays = stays-same held held c c refl refl; in_range = in_range; normalised = normalised },
+    ) in
+    let both = subst (λ (e : Netlist). P e d.kept_free d.keep) (sym circuit) (subst (λ (js : List ℕ). P c js d.keep) (sym free) (subst (P c (all_free c.aig)) (sym keep) own)) in
     record { cleaned = both.0; keeps = both.1 }
-own-cleaned options c (Err e) circuit places valid normalised = tt
 
 -- a moved circuit, cleaned
-pub moved-by : {E : Type 0} (options : Options) (c after : Netlist) (set : List ℕ) (r : Result Cleaned E) → IsNetlist c → after ≡ moved_in (names_in options) c set
-    → SameStreams c after (all_free c.aig) → IfOk r (IsCleanedBy options after) → IfOk r (IsMovedBy options c set)
-moved-by options c after set (Ok d) netlist same streams is =
-    let names = names_in options in
+pub moved-by : (held : List ℕ) (c after : Netlist) (set there : List ℕ) (d : Cleaned) → IsNetlist c → All (λ j. j < length c.aig.latches) held → after ≡ moved_over held c set → there ≡ held_over held c set
+    → SameStreams c after (all_free c.aig) → IsCleanedBy there after d → IsMovedBy held c set d
+moved-by held c after set there d netlist in_range same stand streams is =
+    let C : List ℕ → Netlist → Type 0 = λ js e. CleansTo js e d.circuit d.kept_free d.keep × StayHeld js e d.keep d.circuit in
+    let both : C (held_over held c set) (moved_over held c set) =
+    subst (λ (e : Netlist). C (held_over held c set) e) same (subst (λ (js : List ℕ). C js after) stand (is.cleaned, is.keeps.stays)) in
     record {
-      cleaned = subst (λ (e : Netlist). CleansIn names e d.circuit d.kept_free) same is.cleaned;
+      cleaned = both.0;
       keeps = record {
         streams = streams-through c after d.circuit d.kept_free streams is.keeps.streams;
-        held = is.keeps.held ∙ ap (held_latches names) same ∙ moving-keeps names c set netlist;
+        stays = stays-then held (held_over held c set) d.keep c (moved_over held c set) d.circuit (moving-keeps held c set netlist in_range) both.1;
+        in_range = is.keeps.in_range;
         normalised = is.keeps.normalised;
       };
     }
-moved-by options c after set (Err e) netlist same streams is = tt
 
 -- a cleaned circuit is what no frame makes
-pub underway-first : (options : Options) (bound : Option ℕ) (c : Netlist) (d : Cleaned) (r : Retimed) → IsCircuit c → CleansIn (names_in options) c d.circuit d.kept_free → SameStreams c d.circuit d.kept_free
-    → r.circuit ≡ d.circuit → r.kept_free ≡ d.kept_free → r.read_latches ≡ length c.aig.latches → r.merged ≡ None → r.frames ≡ [] → IsUnderway options bound c 0 r
-underway-first options bound c d r valid cleans streams circuit places latches unmerged none =
+pub underway-first : (options : Options) (bound : Option ℕ) (c : Netlist) (held : List ℕ) (d : Cleaned) (r : Retimed) (now : List ℕ) → IsCleanedBy held c d
+    → r.circuit ≡ d.circuit → r.kept_free ≡ d.kept_free → now ≡ d.keep → r.read_latches ≡ length c.aig.latches → r.merged ≡ None → r.frames ≡ [] → IsUnderway options bound c held 0 r now
+underway-first options bound c held d r now is circuit free keep latches unmerged none =
     let s : Retimed = record { circuit = d.circuit; kept_free = d.kept_free; read_latches = length c.aig.latches; merged = None; frames = []; certificates = r.certificates } in
-    let same : r ≡ s = λ i. record { circuit = circuit i; kept_free = places i; read_latches = latches i; merged = unmerged i; frames = none i; certificates = r.certificates } in
-    subst (IsUnderway options bound c 0) (sym same)
-    (record { frames = cleaned d.circuit d.kept_free cleans; read_latches = refl; none_merged = refl; keeps = cleaned-keeps options c d.circuit d.kept_free valid cleans streams })
+    let same : r ≡ s = λ i. record { circuit = circuit i; kept_free = free i; read_latches = latches i; merged = unmerged i; frames = none i; certificates = r.certificates } in
+    let first : IsUnderway options bound c held 0 s d.keep = record { frames = cleaned d.circuit d.kept_free d.keep is.cleaned; read_latches = refl; none_merged = refl; keeps = is.keeps } in
+    subst (λ (x : Retimed). IsUnderway options bound c held 0 x now) (sym same) (subst (IsUnderway options bound c held 0 s) (sym keep) first)
 
 -- whatever certificates the next state has
-pub one-more : (options : Options) (bound : Option ℕ) (c : Netlist) (n : ℕ) (r : Retimed) (taken : Frame) (certs : List Certificate) → IsUnderway options bound c n r → Moves options bound r.circuit taken → IsUnderway options bound c (suc n)
+pub one-more : (options : Options) (bound : Option ℕ) (c : Netlist) (held : List ℕ) (n : ℕ) (r : Retimed) (now : List ℕ) (taken : Frame) (certs : List Certificate)
+    → IsUnderway options bound c held n r now → Moves options bound now r.circuit taken → IsUnderway options bound c held (suc n)
     (record { circuit = taken.cleaned.circuit; kept_free = composed r.kept_free taken.cleaned.kept_free; read_latches = r.read_latches; merged = None; frames = r.frames ++ taken.report ∷ []; certificates = certs })
-one-more options bound c n r taken certs before moves = record {
-  frames = frame n r.circuit taken.cleaned.circuit r.kept_free taken.cleaned.kept_free r.frames taken.report before.frames moves.moves;
+    taken.cleaned.keep
+one-more options bound c held n r now taken certs before moves = record {
+  frames = frame n r.circuit taken.cleaned.circuit r.kept_free taken.cleaned.kept_free now taken.cleaned.keep r.frames taken.report before.frames moves.moves;
   read_latches = before.read_latches;
   none_merged = refl;
   keeps = record {
     streams = same_streams-transitive c r.circuit taken.cleaned.circuit r.kept_free taken.cleaned.kept_free before.keeps.streams moves.keeps.streams;
-    held = moves.keeps.held ∙ before.keeps.held;
+    stays = stays-then held now taken.cleaned.keep c r.circuit taken.cleaned.circuit before.keeps.stays moves.keeps.stays;
+    in_range = moves.keeps.in_range;
     normalised = moves.keeps.normalised;
   };
 }
 
+-- a run that ended, with the certificates that were collected
+abbrev pub with_certificates : Retimed → Records → Retimed
+with_certificates r records =
+    record { circuit = r.circuit; kept_free = r.kept_free; read_latches = r.read_latches; merged = r.merged; frames = r.frames; certificates = records.certificates.items }
+
 -- a run ends at the limit of frames, or where none counts less; it has the certificates that were collected
-pub ended : (options : Options) (bound : Option ℕ) (c : Netlist) (records : Records) (r : Retimed) → IsRun options bound c records r
-    → IsRetimedAsIs options bound c
-    (record { circuit = r.circuit; kept_free = r.kept_free; read_latches = r.read_latches; merged = r.merged; frames = r.frames; certificates = records.certificates.items })
-ended options bound c records r run =
-    let s : Retimed = record { circuit = r.circuit; kept_free = r.kept_free; read_latches = r.read_latches; merged = r.merged; frames = r.frames; certificates = records.certificates.items } in
+pub ended : (options : Options) (bound : Option ℕ) (c : Netlist) (held : List ℕ) (records : Records) (r : Retimed) (now : List ℕ) → IsRun options bound c held records r now
+    → (is : IsRetimedAsIs options bound c held (with_certificates r records)) × (now ≡ is.now)
+ended options bound c held records r now run =
+    let s : Retimed = with_certificates r records in
     let choice = options.choice in
-    let names = names_in options in
-    let taken : AfterFrames bound choice names c run.taken r.circuit r.kept_free r.frames = run.underway.frames in
-    let long : length r.frames ≡ run.taken = after-length bound choice names c run.taken r.circuit r.kept_free r.frames taken in
-    record {
-      frames = subst (λ (m : ℕ). AfterFrames bound choice names c m r.circuit r.kept_free r.frames) (sym long) taken;
-      within = omega (arith, long, run.within);
-      last = λ less. run.last (omega (arith, long, less));
-      read_latches = run.underway.read_latches;
-      none_merged = run.underway.none_merged;
-      streams = run.underway.keeps.streams;
-      certified = certified options bound c run.looked s records run.collected refl run.taken taken
-          (λ limit. run.limited (sym long ∙ limit) ∙ sym long) (λ less. run.ended (omega (arith, long, less)) ∙ ap suc (sym long));
-      held = run.underway.keeps.held;
-    }
+    let taken : AfterFrames bound choice held c run.taken r.circuit r.kept_free now r.frames = run.underway.frames in
+    let long : length r.frames ≡ run.taken = after-length bound choice held c run.taken r.circuit r.kept_free now r.frames taken in (
+      record {
+        now = now;
+        frames = subst (λ (m : ℕ). AfterFrames bound choice held c m r.circuit r.kept_free now r.frames) (sym long) taken;
+        within = omega (arith, long, run.within);
+        last = λ less. run.last (omega (arith, long, less));
+        read_latches = run.underway.read_latches;
+        none_merged = run.underway.none_merged;
+        streams = run.underway.keeps.streams;
+        certified = certified options bound c held run.looked s now records run.collected refl run.taken taken
+            (λ limit. run.limited (sym long ∙ limit) ∙ sym long) (λ less. run.ended (omega (arith, long, less)) ∙ ap suc (sym long));
+        stay = run.underway.keeps.stays.stay;
+      },
+      refl,
+    )

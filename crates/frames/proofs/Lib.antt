@@ -7,3 +7,4 @@ pub mod MergedLaws
 pub mod StageLaws
 pub mod FollowingLaws
 pub mod BeginningLaws
+pub mod HoldLaws

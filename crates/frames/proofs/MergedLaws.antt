@@ -1,52 +1,63 @@
 -- Runs that merge latches before the first frame.
-use Rattle.std.proofs.Common.{ℕ, Bool, true, false, Option, ◌≡◌, ◌<◌, length, arith, ap, sym, ◌∙◌, subst}
+use Rattle.std.proofs.Common.{ℕ, Bool, true, false, List, Option, ◌≡◌, ◌<◌, ◌∙◌, length, arith, ap, sym, subst}
 use Rattle.std.specs.List.{All}
 use Rattle.aig_graph.specs.Circuits.{Netlist}
 use Rattle.aig_graph.specs.Laws.{composed}
 use Rattle.aig_graph.specs.Streams.{SameStreams}
 use Rattle.aig_graph.proofs.StreamLaws.{same_streams-transitive}
 use Rattle.retimed_circuits.specs.declared.report.Retimed.{Retimed}
-use Rattle.retimed_circuits.specs.Names.{held_latches}
-use Rattle.retimed_circuits.specs.Retiming.{IsRetimedWith, since_merged}
+use Rattle.retimed_circuits.specs.Names.{Covers, StayHeld, held_latches, latches_at}
+use Rattle.retimed_circuits.specs.Retiming.{since_merged}
+use Rattle.retimed_circuits.proofs.StayLaws.{stays-then}
 use Rattle.frames.specs.declared.options.Options.{Options}
 use Rattle.frames.specs.declared.run.ReadCircuit.{ReadCircuit}
 use Rattle.frames.specs.Bounds.{bound_in}
 use Rattle.frames.specs.Merging.{IsStart, reported_of_read}
-use Rattle.frames.specs.Named.{names_in}
-use Rattle.frames.specs.Retiming.{IsRetimedAsIs, IsRetimedBy, IsRetimedMerged}
+use Rattle.frames.specs.Named.{holding_in, kept_by, names_in}
+use Rattle.frames.specs.Retiming.{IsRetimedAsIs, IsRetimedHeld, IsRetimedTo}
 
 -- the places of its free latches that stay are among those that cleaning kept
-pub places-below : (options : Options) (bound : Option ℕ) (c start : Netlist) (read : ReadCircuit) (r : Retimed) → IsStart options c start read → IsRetimedAsIs options bound start r
+pub places-below : (options : Options) (bound : Option ℕ) (c start : Netlist) (held : List ℕ) (read : ReadCircuit) (r : Retimed) → IsStart options c start held read → IsRetimedAsIs options bound start held r
     → All (λ place. place < length read.kept_free) r.kept_free
-places-below options bound c start read r is retimed = λ k a h. omega (arith, retimed.streams.places.below k a h, is.streams.places.each)
+places-below options bound c start held read r is retimed = λ k a h. omega (arith, retimed.streams.places.below k a h, is.streams.places.each)
+
+-- what the options ask for, with merging or without, under the bound that they have
+abbrev IsSo : Options → Netlist → Retimed → List ℕ → Bool → Option ℕ → Type 0
+IsSo options c r now merge most = IsRetimedTo merge most options.choice c (holding_in options) options.max_frames options.certify r now
 
 -- it retimed, reported of the circuit that was read
-pub merged-retimed : (options : Options) (bound : Option ℕ) (c start : Netlist) (read : ReadCircuit) (r s : Retimed) → IsStart options c start read → IsRetimedAsIs options bound start s → r ≡ reported_of_read read s
-    → IsRetimedMerged options bound c r
-merged-retimed options bound c start read r s is retimed same =
+pub merged-retimed : (options : Options) (bound : Option ℕ) (c start : Netlist) (held : List ℕ) (read : ReadCircuit) (r s : Retimed) (now : List ℕ) → Covers (names_in options) (kept_by options c) c
+    → options.merge ≡ true → bound ≡ bound_in options c → IsStart options c start held read → (retimed : IsRetimedAsIs options bound start held s) → now ≡ retimed.now → StayHeld held start now s.circuit
+    → r ≡ reported_of_read read s → IsRetimedHeld options c r now
+merged-retimed options bound c start held read r s now covers asked most is retimed ends stays same =
     let kept = read.kept_free in
     let streams : SameStreams c s.circuit (composed kept s.kept_free) = same_streams-transitive c start s.circuit kept s.kept_free is.streams retimed.streams in
     let P : Retimed → Type 0 = λ x. SameStreams c x.circuit x.kept_free in
-    record {
-      start = start;
-      kept = kept;
-      counts = read.counts;
-      merges = is.merges;
-      from_start = s;
-      retimed = retimed;
-      whole = same ∙ ap (λ (n : ℕ). since_merged n kept read.counts s) is.latches;
-      streams = subst P (sym same) streams;
-      held = ap (λ (x : Retimed). held_latches (names_in options) x.circuit) same ∙ retimed.held ∙ is.held;
-    }
-
--- what the options ask for
-pub as-merged : (options : Options) (bound : Option ℕ) (c : Netlist) (r : Retimed) → options.merge ≡ true → bound ≡ bound_in options c → IsRetimedMerged options bound c r → IsRetimedBy options c r
-as-merged options bound c r asked same is =
-    let P : Bool → Option ℕ → Type 0 = λ merge most. IsRetimedWith merge most options.choice c (names_in options) options.max_frames options.certify r in
-    subst (P options.merge) same (subst (λ (merge : Bool). P merge bound) (sym asked) is)
+    let L : Retimed → Type 0 = λ x. latches_at retimed.now x.circuit ≡ latches_at (kept_by options c) c in
+    let through = stays-then (kept_by options c) held now c start s.circuit is.stays stays in
+    let Q : Bool → Option ℕ → Type 0 = IsSo options c r now in
+    let merged : Q true bound = record {
+      retimed = record {
+        start = start;
+        kept = kept;
+        start_held = held;
+        counts = read.counts;
+        merges = is.merges;
+        from_start = s;
+        retimed = retimed;
+        whole = same ∙ ap (λ (n : ℕ). since_merged n kept read.counts s) is.latches;
+        streams = subst P (sym same) streams;
+        stay = subst L (sym same) (retimed.stay ∙ is.stays.stay);
+        held = ap (λ (x : Retimed). held_latches (names_in options) x.circuit) same ∙ through.named (names_in options) covers;
+      };
+      held = ends;
+    } in
+    subst (Q options.merge) most (subst (λ (merge : Bool). Q merge bound) (sym asked) merged)
 
 -- by options that ask for no merging, what is retimed without merging is retimed as the options say
-pub as-it-is : (options : Options) (bound : Option ℕ) (c : Netlist) (r : Retimed) → options.merge ≡ false → bound ≡ bound_in options c → IsRetimedAsIs options bound c r → IsRetimedBy options c r
-as-it-is options bound c r unasked same is =
-    let P : Bool → Option ℕ → Type 0 = λ merge most. IsRetimedWith merge most options.choice c (names_in options) options.max_frames options.certify r in
-    subst (P options.merge) same (subst (λ (merge : Bool). P merge bound) (sym unasked) is)
+pub as-it-is : (options : Options) (bound : Option ℕ) (c : Netlist) (r : Retimed) (now : List ℕ) → Covers (names_in options) (kept_by options c) c → options.merge ≡ false → bound ≡ bound_in options c
+    → (retimed : IsRetimedAsIs options bound c (kept_by options c) r) → now ≡ retimed.now → StayHeld (kept_by options c) c now r.circuit → IsRetimedHeld options c r now
+as-it-is options bound c r now covers unasked same retimed ends stays =
+    let Q : Bool → Option ℕ → Type 0 = IsSo options c r now in
+    let plain : Q false bound = record { retimed = record { run = retimed; held = stays.named (names_in options) covers }; held = ends } in
+    subst (Q options.merge) same (subst (λ (merge : Bool). Q merge bound) (sym unasked) plain)

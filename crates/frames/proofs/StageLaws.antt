@@ -7,7 +7,6 @@ use Rattle.aig_graph.specs.Circuits.{Netlist}
 use Rattle.aig_graph.specs.Graph.{known_latches}
 use Rattle.retimed_circuits.proofs.RunLaws.{after-length}
 use Rattle.frames.specs.declared.options.Options.{Options}
-use Rattle.frames.specs.Named.{names_in}
 use Rattle.frames.specs.Underway.{IsUnderway}
 use Rattle.frames.specs.Stages.{Looking, Moving, Notifies, Notification, frame_stages, last_look, looks_of}
 
@@ -36,16 +35,16 @@ look-never zero taken latches none = refl
 look-never (suc left) taken latches none = absurd (omega (arith, none))
 
 -- a run has as many reports as it took frames
-pub many-taken : (options : Options) (bound : Option ℕ) (c : Netlist) (n : ℕ) (r : Retimed) → IsUnderway options bound c n r → length r.frames ≡ n
-many-taken options bound c n r run = after-length bound options.choice (names_in options) c n r.circuit r.kept_free r.frames run.frames
+pub many-taken : (options : Options) (bound : Option ℕ) (c : Netlist) (held : List ℕ) (n : ℕ) (r : Retimed) (now : List ℕ) → IsUnderway options bound c held n r now → length r.frames ≡ n
+many-taken options bound c held n r now run = after-length bound options.choice held c n r.circuit r.kept_free now r.frames run.frames
 
 none-listed : (reports : List FrameReport) → length reports ≡ 0 → reports ≡ []
 none-listed [] none = refl
 none-listed (report ∷ reports) none = absurd (omega (arith, none))
 
 -- a run that took no frames yet has no reports of frames
-pub none-taken : (options : Options) (bound : Option ℕ) (c : Netlist) (r : Retimed) → IsUnderway options bound c 0 r → r.frames ≡ []
-none-taken options bound c r run = none-listed r.frames (many-taken options bound c 0 r run)
+pub none-taken : (options : Options) (bound : Option ℕ) (c : Netlist) (held : List ℕ) (r : Retimed) (now : List ℕ) → IsUnderway options bound c held 0 r now → r.frames ≡ []
+none-taken options bound c held r now run = none-listed r.frames (many-taken options bound c held 0 r now run)
 
 module _ {W : Type 0} (was_notified : W → List Notification → Type 0) where
   -- a watcher who stays the same was notified of nothing more

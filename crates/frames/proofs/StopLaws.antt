@@ -9,10 +9,10 @@ use Rattle.aig_binary.specs.Ending.{ReadsToEnd, Spells}
 use Rattle.frames.specs.declared.errors.BytesError.{BytesError}
 use Rattle.frames.specs.declared.errors.BytesError.TheVariants.{Read, Retime, Write}
 use Rattle.frames.specs.declared.errors.RetimeError.{RetimeError}
-use Rattle.frames.specs.declared.errors.RetimeError.TheVariants.{NoMemory, NoSuchName}
+use Rattle.frames.specs.declared.errors.RetimeError.TheVariants.{NoMemory, NoSuchLatch, NoSuchName}
 use Rattle.frames.specs.declared.options.Options.{Options}
 use Rattle.frames.specs.Answering.{AfterReading, AreOfCircuit, BeforeWriting, IsAnswered, IsBytesError, IsStop, KeepsLevelsOf, RetimesBytes}
-use Rattle.frames.specs.Named.{IsFirstMissingBy}
+use Rattle.frames.specs.Named.{IsFirstMissingBy, IsFirstNoLatchBy}
 
 -- what is so of an error is so of the result that has it
 pub at-error : {T E : Type 0} (r : Result T E) (e : E) (P : E → Type 0) → IsErrAnd r (λ x. x ≡ e) → P e → IfErr r P
@@ -21,9 +21,11 @@ at-error (Err x) e P h p = subst P (sym h) p
 
 -- nothing is written where the circuit isn't retimed
 pub stops-retiming : (options : Options) (spelt : SpeltCircuit) (out : Output) (e : RetimeError)
-    → ((place : ℕ) → e ≡ NoSuchName place → IsFirstMissingBy options spelt.circuit place) → IsStop options spelt out out (Retime e)
-stops-retiming options spelt out NoMemory missing = refl
-stops-retiming options spelt out (NoSuchName place) missing = (refl, missing place refl)
+    → ((place : ℕ) → e ≡ NoSuchName place → IsFirstMissingBy options spelt.circuit place) → ((place : ℕ) → e ≡ NoSuchLatch place → IsFirstNoLatchBy options spelt.circuit place)
+    → IsStop options spelt out out (Retime e)
+stops-retiming options spelt out NoMemory missing no_latch = refl
+stops-retiming options spelt out (NoSuchName place) missing no_latch = (refl, missing place refl)
+stops-retiming options spelt out (NoSuchLatch place) missing no_latch = (refl, no_latch place refl)
 
 -- what stops after the reading is why there is no answer
 pub stops-answering : (options : Options) (old new : Input) (before after : Output) (spelt : SpeltCircuit) (e : BytesError)
@@ -55,6 +57,7 @@ module _ (options : Options) (old new : Input) (before after : Output) where
   unwritten-of (Err (Read e)) why = why.1
   unwritten-of (Err (Retime NoMemory)) why = why.stop
   unwritten-of (Err (Retime (NoSuchName place))) why = why.stop.0
+  unwritten-of (Err (Retime (NoSuchLatch place))) why = why.stop.0
   unwritten-of (Err (Write e)) why = tt
 
   -- what an answer and an error mean gives each clause of what retiming bytes ensures
@@ -69,6 +72,9 @@ module _ (options : Options) (old new : Input) (before after : Output) where
     missing = λ place is.
         let at = of_error r (Retime (NoSuchName place)) (IsBytesError options old new before after) why is in
         record { spelt = at.spelt; spells = at.spells; missing = at.stop.1 };
+    no_latch = λ place is.
+        let at = of_error r (Retime (NoSuchLatch place)) (IsBytesError options old new before after) why is in
+        record { spelt = at.spelt; spells = at.spells; no_latch = at.stop.1 };
     unwritten = unwritten-of r why;
     cut_off = λ e is.
         let at = of_error r (Write e) (IsBytesError options old new before after) why is in
@@ -82,6 +88,9 @@ module _ (options : Options) (old new : Input) (before after : Output) where
   error_of (Retime (NoSuchName place)) facts =
       let at = facts.missing place refl in
       record { read = facts.read; spelt = at.spelt; spells = at.spells; stop = (facts.unwritten, at.missing) }
+  error_of (Retime (NoSuchLatch place)) facts =
+      let at = facts.no_latch place refl in
+      record { read = facts.read; spelt = at.spelt; spells = at.spells; stop = (facts.unwritten, at.no_latch) }
   error_of (Write e) facts =
       let at = facts.cut_off e refl in
       record { read = facts.read; spelt = at.spelt; spells = at.spells; stop = at.stops }

@@ -13,18 +13,19 @@ use Rattle.retimed_circuits.specs.Certified.{IsSameRetiming}
 use Rattle.level_laws.specs.Retiming.{KeepsLevels}
 use Rattle.frames.specs.declared.errors.BytesError.{BytesError}
 use Rattle.frames.specs.declared.errors.BytesError.TheVariants.{Read, Retime, Write}
-use Rattle.frames.specs.declared.errors.RetimeError.TheVariants.{NoMemory, NoSuchName}
+use Rattle.frames.specs.declared.errors.RetimeError.TheVariants.{NoMemory, NoSuchLatch, NoSuchName}
 use Rattle.frames.specs.declared.options.Options.{Options}
 use Rattle.frames.specs.Bounds.{bound_in}
-use Rattle.frames.specs.Named.{IsFirstMissingBy, NoneMissingBy}
+use Rattle.frames.specs.Named.{AreLatchesBy, IsFirstMissingBy, IsFirstNoLatchBy, NoneMissingBy}
 use Rattle.frames.specs.Retiming.{IsRetimedBy}
 
 -- the text of a retimed circuit in the chosen spelling, else in that of the circuit that was read
 abbrev pub text_for : Options → SpeltCircuit → Retimed → List ℕ
 text_for options spelt r = text_in (unwrap_or options.spelling spelt.spelling) r.circuit
 
--- the circuit that was read has latches of all names, and this is it retimed
+-- the circuit that was read has latches of all names and positions, and this is it retimed
 pub record IsAnswer (options : Options) (spelt : SpeltCircuit) (r : Retimed) : Type 0 where
+  pub latches : AreLatchesBy options spelt.circuit
   pub names : NoneMissingBy options spelt.circuit
   pub retimed : IsRetimedBy options spelt.circuit r
 
@@ -55,6 +56,7 @@ abbrev pub IsStop : Options → SpeltCircuit → Output → Output → BytesErro
 IsStop options spelt old new (Read e) = ⊥
 IsStop options spelt old new (Retime NoMemory) = new ≡ old
 IsStop options spelt old new (Retime (NoSuchName place)) = (new ≡ old) × IsFirstMissingBy options spelt.circuit place
+IsStop options spelt old new (Retime (NoSuchLatch place)) = (new ≡ old) × IsFirstNoLatchBy options spelt.circuit place
 IsStop options spelt old new (Write e) = StopsWriting options spelt old new
 
 -- the bytes that were left are those of a circuit in a spelling, its answer was written, and what was written is read as that answer
@@ -66,7 +68,7 @@ pub record IsAnswered (input : Input) (old new : Output) (options : Options) (r 
 
 -- the same options, but for whether certificates are wanted
 abbrev pub certifying : Options → Bool → Options
-certifying options certify = record { spelling = options.spelling; max_frames = options.max_frames; choice = options.choice; certify = certify; keep = options.keep; merge = options.merge; bound = options.bound }
+certifying options certify = record { spelling = options.spelling; max_frames = options.max_frames; choice = options.choice; certify = certify; keep = options.keep; keep_latches = options.keep_latches; merge = options.merge; bound = options.bound }
 
 -- of the same bytes by the same options, with certificates or without, there is one answer but for the routes of certificates, and one text of it
 abbrev pub IsOneAnswer : List ℕ → Options → Type 0
@@ -112,6 +114,12 @@ pub record IsMissingIn (options : Options) (input : Input) (place : ℕ) : Type 
   pub spells : Spells input spelt
   pub missing : IsFirstMissingBy options spelt.circuit place
 
+-- the bytes are those of a circuit that has no latch at the position at this place, the first such position
+pub record IsNoLatchIn (options : Options) (input : Input) (place : ℕ) : Type 0 where
+  pub spelt : SpeltCircuit
+  pub spells : Spells input spelt
+  pub no_latch : IsFirstNoLatchBy options spelt.circuit place
+
 -- the bytes are those of a circuit, and a beginning of the text of its answer was written
 pub record IsCutOff (options : Options) (input : Input) (old new : Output) : Type 0 where
   pub spelt : SpeltCircuit
@@ -126,5 +134,6 @@ pub record RetimesBytes (options : Options) (old new : Input) (before after : Ou
   pub levels : IfOk result (KeepsLevelsOf options old)
   pub unread : (e : ReadError) → IsErrOf result (Read e) → IsReadError old new e
   pub missing : (place : ℕ) → IsErrOf result (Retime (NoSuchName place)) → IsMissingIn options old place
+  pub no_latch : (place : ℕ) → IsErrOf result (Retime (NoSuchLatch place)) → IsNoLatchIn options old place
   pub unwritten : BeforeWriting result (after ≡ before)
   pub cut_off : (e : WriteError) → IsErrOf result (Write e) → IsCutOff options old before after

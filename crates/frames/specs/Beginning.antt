@@ -4,17 +4,19 @@ use Rattle.aig_graph.specs.Circuits.{Netlist}
 use Rattle.aig_graph.specs.Laws.{all_free}
 use Rattle.latch_merging.specs.declared.start.MergedStart.{MergedStart}
 use Rattle.retimed_circuits.specs.declared.report.Retimed.{Retimed}
+use Rattle.retimed_circuits.specs.Names.{Covers}
 use Rattle.frames.specs.declared.options.Options.{Options}
 use Rattle.frames.specs.declared.run.ReadCircuit.{ReadCircuit}
 use Rattle.frames.specs.Bounds.{bound_in}
 use Rattle.frames.specs.Following.{ComesOn, IsFollowed}
 use Rattle.frames.specs.Merging.{IsStart}
-use Rattle.frames.specs.Named.{NoneMissingBy}
+use Rattle.frames.specs.Named.{kept_by, names_in}
 use Rattle.frames.specs.Underway.{IsUnderway}
 
--- r is d cleaned, where the latches stay that the options hold, and it was followed
-pub record IsCleanedRun {F : Type 0} (has_come : F → Netlist → Netlist → List ℕ → Type 0) (options : Options) (bound : Option ℕ) (d : Netlist) (old new : F) (r : Retimed) : Type 0 where
-  pub underway : IsUnderway options bound d 0 r
+-- r is d cleaned, where the latches at these positions are held, and it was followed
+pub record IsCleanedRun {F : Type 0} (has_come : F → Netlist → Netlist → List ℕ → Type 0) (options : Options) (bound : Option ℕ) (d : Netlist) (held : List ℕ) (old new : F) (r : Retimed)
+    (now : List ℕ) : Type 0 where
+  pub underway : IsUnderway options bound d held 0 r now
   pub comes : ComesOn has_come old new d r.circuit r.kept_free
 
 -- what is reported of a circuit with so many latches that was merged so
@@ -23,29 +25,32 @@ read_before m latches = record { latches = latches; kept_free = m.kept_free; cou
 
 -- a merged circuit cleaned, and it was followed; what is reported of the circuit that was merged is beside it
 pub record IsMergedFrom {F : Type 0} (has_come : F → Netlist → Netlist → List ℕ → Type 0) (options : Options) (bound : Option ℕ) (m : MergedStart) (latches : ℕ) (old new : F) (r : Retimed)
-    (read : Option ReadCircuit) : Type 0 where
-  pub cleaned : IsCleanedRun has_come options bound m.circuit old new r
+    (now : List ℕ) (read : Option ReadCircuit) : Type 0 where
+  pub cleaned : IsCleanedRun has_come options bound m.circuit m.keep old new r now
   pub reported : read ≡ Some (read_before m latches)
 
 -- what c is cleaned and merged to, cleaned again, and the follower has come there from c
-pub record IsMergedReady {F : Type 0} (has_come : F → Netlist → Netlist → List ℕ → Type 0) (options : Options) (bound : Option ℕ) (c : Netlist) (read : ReadCircuit) (r : Retimed) (f : F) : Type 0 where
+pub record IsMergedReady {F : Type 0} (has_come : F → Netlist → Netlist → List ℕ → Type 0) (options : Options) (bound : Option ℕ) (c : Netlist) (read : ReadCircuit) (r : Retimed)
+    (now : List ℕ) (f : F) : Type 0 where
   pub asked : options.merge ≡ true
   pub start : Netlist
-  pub is : IsStart options c start read
-  pub followed : IsFollowed has_come options bound c start read.kept_free 0 r f
+  pub held : List ℕ
+  pub is : IsStart options c start held read
+  pub followed : IsFollowed has_come options bound c start held read.kept_free 0 r now f
 
 -- c cleaned, and the follower has come there from c
-pub record IsPlainReady {F : Type 0} (has_come : F → Netlist → Netlist → List ℕ → Type 0) (options : Options) (bound : Option ℕ) (c : Netlist) (r : Retimed) (f : F) : Type 0 where
+pub record IsPlainReady {F : Type 0} (has_come : F → Netlist → Netlist → List ℕ → Type 0) (options : Options) (bound : Option ℕ) (c : Netlist) (r : Retimed) (now : List ℕ) (f : F) : Type 0 where
   pub unasked : options.merge ≡ false
-  pub followed : IsFollowed has_come options bound c c (all_free c.aig) 0 r f
+  pub followed : IsFollowed has_come options bound c c (kept_by options c) (all_free c.aig) 0 r now f
 
 -- what frames of c start from, with merging where the options ask for it, as what is reported of c tells
-abbrev pub StartsFrom : {F : Type 0} → (F → Netlist → Netlist → List ℕ → Type 0) → Options → Option ℕ → Netlist → Option ReadCircuit → Retimed → F → Type 0
-StartsFrom has_come options bound c None r f = IsPlainReady has_come options bound c r f
-StartsFrom has_come options bound c (Some read) r f = IsMergedReady has_come options bound c read r f
+abbrev pub StartsFrom : {F : Type 0} → (F → Netlist → Netlist → List ℕ → Type 0) → Options → Option ℕ → Netlist → Option ReadCircuit → Retimed → List ℕ → F → Type 0
+StartsFrom has_come options bound c None r now f = IsPlainReady has_come options bound c r now f
+StartsFrom has_come options bound c (Some read) r now f = IsMergedReady has_come options bound c read r now f
 
--- c, which has latches of all names, before its first frame, under the bound that the options have for it
-pub record IsBegun {F : Type 0} (has_come : F → Netlist → Netlist → List ℕ → Type 0) (options : Options) (bound : Option ℕ) (c : Netlist) (read : Option ReadCircuit) (r : Retimed) (f : F) : Type 0 where
-  pub names : NoneMissingBy options c
+-- c, whose held latches are those that the options hold, with all of their names, before its first frame, under the bound that the options have for it
+pub record IsBegun {F : Type 0} (has_come : F → Netlist → Netlist → List ℕ → Type 0) (options : Options) (bound : Option ℕ) (c : Netlist) (read : Option ReadCircuit) (r : Retimed)
+    (now : List ℕ) (f : F) : Type 0 where
+  pub names : Covers (names_in options) (kept_by options c) c
   pub bound_is : bound ≡ bound_in options c
-  pub starts : StartsFrom has_come options bound c read r f
+  pub starts : StartsFrom has_come options bound c read r now f

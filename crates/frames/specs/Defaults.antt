@@ -12,5 +12,6 @@ pub record AreDefaults (options : Options) : Type 0 where
   pub choice : options.choice ≡ Greatest
   pub certify : options.certify ≡ false
   pub keep : options.keep.items ≡ []
+  pub keep_latches : options.keep_latches.items ≡ []
   pub merge : options.merge ≡ false
   pub bound : options.bound ≡ bounds.None

@@ -7,11 +7,11 @@ use Rattle.aig_graph.specs.Laws.{composed}
 use Rattle.chosen_cuts.specs.declared.records.Records.{Records}
 use Rattle.clean.specs.declared.cleaning.Cleaned.{Cleaned}
 use Rattle.retimed_circuits.specs.declared.report.Retimed.{Retimed}
+use Rattle.retimed_circuits.specs.Names.{StayHeld}
 use Rattle.frames.specs.declared.frame.Frame.{Frame}
 use Rattle.frames.specs.declared.options.Options.{Options}
 use Rattle.frames.specs.Found.{Moves}
-use Rattle.frames.specs.Named.{NoneMissingBy}
-use Rattle.frames.specs.Retiming.{IsCleanedBy, IsMovedBy, IsRetimedAsIs, IsRetimedBy}
+use Rattle.frames.specs.Retiming.{IsCleanedBy, IsMovedBy, IsRetimedAsIs, IsRetimedHeld}
 use Rattle.frames.specs.Underway.{IsRun, IsUnderway}
 
 -- it has come to d, from whatever circuit
@@ -26,45 +26,50 @@ ComesOn has_come old new d e more = (c : Netlist) (kept : List ℕ) → length k
 abbrev pub ComesWhole : {F : Type 0} → (F → Netlist → Netlist → List ℕ → Type 0) → F → F → Netlist → Netlist → Type 0
 ComesWhole has_come old new d e = (c : Netlist) (kept : List ℕ) → has_come old c d kept → has_come new c e kept
 
--- d is c cleaned, where the latches stay that the options hold, and it was followed
-pub record IsCleanedFollowed {F : Type 0} (has_come : F → Netlist → Netlist → List ℕ → Type 0) (options : Options) (c : Netlist) (old new : F) (d : Cleaned) : Type 0 where
-  pub cleaned : IsCleanedBy options c d
+-- d is c cleaned, where the latches at these positions are held, and it was followed
+pub record IsCleanedFollowed {F : Type 0} (has_come : F → Netlist → Netlist → List ℕ → Type 0) (held : List ℕ) (c : Netlist) (old new : F) (d : Cleaned) : Type 0 where
+  pub cleaned : IsCleanedBy held c d
   pub comes : ComesOn has_come old new c d.circuit d.kept_free
 
 -- d is c with its latches moved over the set, and cleaned, and it was followed
-pub record IsMovedFollowed {F : Type 0} (has_come : F → Netlist → Netlist → List ℕ → Type 0) (options : Options) (c : Netlist) (set : List ℕ) (old new : F) (d : Cleaned) : Type 0 where
-  pub moved : IsMovedBy options c set d
+pub record IsMovedFollowed {F : Type 0} (has_come : F → Netlist → Netlist → List ℕ → Type 0) (held : List ℕ) (c : Netlist) (set : List ℕ) (old new : F) (d : Cleaned) : Type 0 where
+  pub moved : IsMovedBy held c set d
   pub comes : ComesOn has_come old new c d.circuit d.kept_free
 
 -- a frame of c that was followed
-pub record MovesFollowed {F : Type 0} (has_come : F → Netlist → Netlist → List ℕ → Type 0) (options : Options) (bound : Option ℕ) (c : Netlist) (old new : F) (frame : Frame) : Type 0 where
-  pub moves : Moves options bound c frame
+pub record MovesFollowed {F : Type 0} (has_come : F → Netlist → Netlist → List ℕ → Type 0) (options : Options) (bound : Option ℕ) (held : List ℕ) (c : Netlist) (old new : F) (frame : Frame) : Type 0 where
+  pub moves : Moves options bound held c frame
   pub comes : ComesOn has_come old new c frame.cleaned.circuit frame.cleaned.kept_free
 
 -- r is what n frames make of d, which is cleaned first, and the follower has come there from c: that is d itself, or was merged to d; kept has
--- the places of d's free latches among c's
-pub record IsFollowed {F : Type 0} (has_come : F → Netlist → Netlist → List ℕ → Type 0) (options : Options) (bound : Option ℕ) (c d : Netlist) (kept : List ℕ) (n : ℕ) (r : Retimed) (f : F) : Type 0 where
-  pub underway : IsUnderway options bound d n r
+-- the places of d's free latches among c's. The latches held in d stand at now
+pub record IsFollowed {F : Type 0} (has_come : F → Netlist → Netlist → List ℕ → Type 0) (options : Options) (bound : Option ℕ) (c d : Netlist) (held kept : List ℕ) (n : ℕ) (r : Retimed)
+    (now : List ℕ) (f : F) : Type 0 where
+  pub underway : IsUnderway options bound d held n r now
   pub come : has_come f c r.circuit (composed kept r.kept_free)
 
--- r is some circuit that has latches of all names, cleaned, and the follower has come there from c
-pub record IsReady {F : Type 0} (has_come : F → Netlist → Netlist → List ℕ → Type 0) (options : Options) (bound : Option ℕ) (c : Netlist) (r : Retimed) (f : F) : Type 0 where
+-- r is some circuit cleaned, and the follower has come there from c
+pub record IsReady {F : Type 0} (has_come : F → Netlist → Netlist → List ℕ → Type 0) (options : Options) (bound : Option ℕ) (c : Netlist) (r : Retimed) (now : List ℕ) (f : F) : Type 0 where
   pub start : Netlist
+  pub held : List ℕ
   pub kept : List ℕ
-  pub followed : IsFollowed has_come options bound c start kept 0 r f
-  pub names : NoneMissingBy options start
+  pub followed : IsFollowed has_come options bound c start held kept 0 r now f
 
 -- a run from d that ended, and the follower has come from c to what it came to
-pub record EndsFollowed {F : Type 0} (has_come : F → Netlist → Netlist → List ℕ → Type 0) (options : Options) (bound : Option ℕ) (c d : Netlist) (kept : List ℕ) (records : Records) (r : Retimed) (f : F) : Type 0 where
-  pub run : IsRun options bound d records r
+pub record EndsFollowed {F : Type 0} (has_come : F → Netlist → Netlist → List ℕ → Type 0) (options : Options) (bound : Option ℕ) (c d : Netlist) (held kept : List ℕ) (records : Records)
+    (r : Retimed) (now : List ℕ) (f : F) : Type 0 where
+  pub run : IsRun options bound d held records r now
   pub come : has_come f c r.circuit (composed kept r.kept_free)
 
--- d retimed, and the follower has come there from c
-pub record IsRetimedFrom {F : Type 0} (has_come : F → Netlist → Netlist → List ℕ → Type 0) (options : Options) (bound : Option ℕ) (c d : Netlist) (kept : List ℕ) (r : Retimed) (f : F) : Type 0 where
-  pub retimed : IsRetimedAsIs options bound d r
+-- d retimed, whose held latches stand at now, and the follower has come there from c
+pub record IsRetimedFrom {F : Type 0} (has_come : F → Netlist → Netlist → List ℕ → Type 0) (options : Options) (bound : Option ℕ) (c d : Netlist) (held kept : List ℕ) (r : Retimed)
+    (now : List ℕ) (f : F) : Type 0 where
+  pub retimed : IsRetimedAsIs options bound d held r
+  pub ends : now ≡ retimed.now
+  pub stays : StayHeld held d now r.circuit
   pub come : has_come f c r.circuit (composed kept r.kept_free)
 
--- c retimed by the options, and the follower has come there from c
-pub record IsRetimedFollowed {F : Type 0} (has_come : F → Netlist → Netlist → List ℕ → Type 0) (options : Options) (c : Netlist) (r : Retimed) (f : F) : Type 0 where
-  pub retimed : IsRetimedBy options c r
+-- c retimed by the options, whose held latches stand at now, and the follower has come there from c
+pub record IsRetimedFollowed {F : Type 0} (has_come : F → Netlist → Netlist → List ℕ → Type 0) (options : Options) (c : Netlist) (r : Retimed) (now : List ℕ) (f : F) : Type 0 where
+  pub held : IsRetimedHeld options c r now
   pub come : has_come f c r.circuit r.kept_free

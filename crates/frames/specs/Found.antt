@@ -14,8 +14,7 @@ use Rattle.chosen_cuts.specs.declared.records.Records.{Records}
 use Rattle.path_levels.specs.Levels.{levels}
 use Rattle.rebuild.specs.Marked.{AreMarksOf}
 use Rattle.rebuild.specs.Moved.{moved_of}
-use Rattle.retimed_circuits.specs.Frames.{CleansIn, IsFrame, moved_in, report_in}
-use Rattle.retimed_circuits.specs.declared.report.FrameReport.{FrameReport}
+use Rattle.retimed_circuits.specs.Frames.{CleansTo, IsFrame, held_over, moved_over, report_over}
 use Rattle.frames.specs.declared.helping.Helping.{Helping}
 use Rattle.frames.specs.declared.helping.PreparedMove.{PreparedMove}
 use Rattle.frames.specs.declared.bounding.Judged.{Judged}
@@ -23,17 +22,12 @@ use Rattle.frames.specs.declared.bounding.Judged.TheVariants.{Decided, TooLong}
 use Rattle.frames.specs.declared.frame.Frame.{Frame}
 use Rattle.frames.specs.declared.options.Options.{Options}
 use Rattle.frames.specs.Certified.{AddsFound}
-use Rattle.frames.specs.Named.{kept_by, names_in}
 use Rattle.frames.specs.Retiming.{IsHelpingSetBy, Keeps, NoneHelpsBy}
 
 -- a closed set that counts less than c has known latches
 pub record Saves (c : Netlist) (held s : List ℕ) : Type 0 where
   pub closed : IsClosedSet c.aig held s
   pub fewer : border_size (move_of c held s) < known_latches c.aig
-
--- the known latches before, the set's count, and the number of its gates
-abbrev pub report_over : Netlist → List ℕ → List ℕ → FrameReport
-report_over c held s = record { before = known_latches c.aig; after = border_size (move_of c held s); moved = length s }
 
 -- d is c after the move over the set
 pub record IsAfterMove (c : Netlist) (held s : List ℕ) (d : Netlist) : Type 0 where
@@ -50,7 +44,7 @@ pub record IsOver (c : Netlist) (held s : List ℕ) (found : Helping) : Type 0 w
   pub same : found.set ≡ s
   pub saves : Saves c held found.set
   pub prepared : IsPrepared c held found.set found.prepared
-  pub report : found.report ≡ report_over c held found.set
+  pub report : found.report ≡ report_over held c found.set
 
 -- what is found over a set: nothing where it counts no less than c has known latches
 abbrev pub IsFoundOver : Netlist → List ℕ → List ℕ → Option Helping → Type 0
@@ -84,19 +78,19 @@ IsJudged bound c held s first (Decided found) = IsFoundOver c held s found × Ke
 IsJudged bound c held s first (TooLong most) = (bound ≡ Some most) × BreaksBound most c held first
 
 -- the set that is found, which counts less than the known latches, the move over it, and the frame's report
-pub record Helps (options : Options) (bound : Option ℕ) (c : Netlist) (found : Helping) : Type 0 where
-  pub set : IsHelpingSetBy options bound c found.set
-  pub prepared : IsPrepared c (kept_by options c) found.set found.prepared
-  pub report : found.report ≡ report_in (names_in options) c found.set
+pub record Helps (options : Options) (bound : Option ℕ) (held : List ℕ) (c : Netlist) (found : Helping) : Type 0 where
+  pub set : IsHelpingSetBy options bound held c found.set
+  pub prepared : IsPrepared c held found.set found.prepared
+  pub report : found.report ≡ report_over held c found.set
 
 -- what is found in c, if anything helps; a certificate of the set is added where certificates are wanted
-pub record Finds (options : Options) (bound : Option ℕ) (c : Netlist) (old new : Records) (result : Option Helping) : Type 0 where
-  pub found : MatchOption result (NoneHelpsBy options bound c) (Helps options bound c)
-  pub adds : AddsFound options bound c old new
+pub record Finds (options : Options) (bound : Option ℕ) (held : List ℕ) (c : Netlist) (old new : Records) (result : Option Helping) : Type 0 where
+  pub found : MatchOption result (NoneHelpsBy options bound held c) (Helps options bound held c)
+  pub adds : AddsFound options bound held c old new
 
--- a frame over its set, which keeps the streams, and the latches that the names hold, and leaves nothing to clean
-pub record Moves (options : Options) (bound : Option ℕ) (c : Netlist) (frame : Frame) : Type 0 where
-  pub set : IsHelpingSetBy options bound c frame.set
-  pub cleaned : CleansIn (names_in options) (moved_in (names_in options) c frame.set) frame.cleaned.circuit frame.cleaned.kept_free
-  pub moves : IsFrame bound options.choice (names_in options) c frame.cleaned.circuit frame.cleaned.kept_free frame.report
-  pub keeps : Keeps options c frame.cleaned.circuit frame.cleaned.kept_free
+-- a frame over its set, which keeps the streams, says where the held latches stand then, and leaves nothing to clean
+pub record Moves (options : Options) (bound : Option ℕ) (held : List ℕ) (c : Netlist) (frame : Frame) : Type 0 where
+  pub set : IsHelpingSetBy options bound held c frame.set
+  pub cleaned : CleansTo (held_over held c frame.set) (moved_over held c frame.set) frame.cleaned.circuit frame.cleaned.kept_free frame.cleaned.keep
+  pub moves : IsFrame bound options.choice held c frame.cleaned.circuit frame.cleaned.kept_free frame.cleaned.keep frame.report
+  pub keeps : Keeps held c frame.cleaned.circuit frame.cleaned.kept_free frame.cleaned.keep

@@ -1,22 +1,21 @@
 -- Runs that merge latches which always agree before the first frame.
-use Rattle.std.specs.Prelude.{◌≡◌, length}
+use Rattle.std.specs.Prelude.{ℕ, ◌≡◌, List, length}
 use Rattle.aig_graph.specs.Circuits.{Netlist}
 use Rattle.aig_graph.specs.Streams.{SameStreams}
 use Rattle.retimed_circuits.specs.declared.report.Retimed.{Retimed}
 use Rattle.retimed_circuits.specs.Merging.{MergesIn}
-use Rattle.retimed_circuits.specs.Names.{held_latches}
+use Rattle.retimed_circuits.specs.Names.{StayHeld}
 use Rattle.retimed_circuits.specs.Retiming.{since_merged}
 use Rattle.frames.specs.declared.run.ReadCircuit.{ReadCircuit}
 use Rattle.frames.specs.declared.options.Options.{Options}
-use Rattle.frames.specs.Named.{NoneMissingBy, names_in}
+use Rattle.frames.specs.Named.{kept_by}
 
--- c cleaned and merged, and what is reported of c
-pub record IsStart (options : Options) (c start : Netlist) (read : ReadCircuit) : Type 0 where
+-- c cleaned and merged, where its held latches stand then, and what is reported of c
+pub record IsStart (options : Options) (c start : Netlist) (held : List ℕ) (read : ReadCircuit) : Type 0 where
   pub latches : read.latches ≡ length c.aig.latches
-  pub merges : MergesIn (names_in options) c start read.kept_free read.counts
+  pub merges : MergesIn (kept_by options c) c start read.kept_free held read.counts
   pub streams : SameStreams c start read.kept_free
-  pub held : held_latches (names_in options) start ≡ held_latches (names_in options) c
-  pub names : NoneMissingBy options start
+  pub stays : StayHeld (kept_by options c) c held start
 
 -- what is reported of the circuit that was read, where this is what frames start from retimed
 abbrev pub reported_of_read : ReadCircuit → Retimed → Retimed

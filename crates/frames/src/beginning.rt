@@ -1,45 +1,60 @@
 //! What frames start from: a circuit cleaned, or, where the options ask for it, cleaned, merged and cleaned again. After that nobody needs
 //! the circuit that was read, so whoever owns it may drop it.
-ghost use Rattle.std.specs.Prelude.{◌≡◌, false, IfOk, [], None, true};
+ghost use Rattle.std.specs.Prelude.{ℕ, ◌≡◌, ◌<◌, false, All, IfOk, [], List, None, length, true};
 ghost use Rattle.aig_graph.specs.Laws.{all_free};
 ghost use Rattle.frames.specs.Beginning.{IsBegun, IsCleanedRun, IsMergedFrom};
 ghost use Rattle.frames.specs.Bounds.{bound_in};
 ghost use Rattle.frames.specs.Following.{HasComeTo};
-ghost use Rattle.frames.specs.Named.{NoneMissingBy, kept_by};
+ghost use Rattle.frames.specs.Named.{kept_by};
 
 use crate::follower::RunFollower;
 use crate::options::Options;
 use crate::run::{Begun, ReadCircuit, Run};
-use aig_graph::{Circuit, Keep, Sequence, keep_by_names};
+use aig_graph::{Circuit, Keep, Sequence};
 use clean::Cleaned;
 use latch_merging::MergedStart;
 use retimed_circuits::Retimed;
 use std::alloc::Global;
 
-/// A cleaned circuit before any frame. Of the circuit that was read, so many latches are reported.
-fn begun(alloc: Global, start: Cleaned, read_latches: u32) -> Retimed
-    ensures circuit { result.circuit ≡ start.circuit }
-    ensures kept_free { result.kept_free ≡ start.kept_free }
-    ensures read_latches { result.read_latches ≡ read_latches }
-    ensures merged { result.merged ≡ None }
-    ensures frames { result.frames ≡ [] }
+/// A cleaned circuit before any frame, followed to it under this bound. Of the circuit that was read, so many latches are reported.
+fn begun<F>(
+    alloc: Global,
+    start: Cleaned,
+    read_latches: u32,
+    follower: F,
+    bound: Option<u32>,
+) -> Run<F>
+    ensures circuit { result.retimed.circuit ≡ start.circuit }
+    ensures kept_free { result.retimed.kept_free ≡ start.kept_free }
+    ensures read_latches { result.retimed.read_latches ≡ read_latches }
+    ensures merged { result.retimed.merged ≡ None }
+    ensures frames { result.retimed.frames ≡ [] }
+    ensures keep { result.keep ≡ start.keep }
+    ensures follower { result.follower ≡ follower }
+    ensures bound { result.bound ≡ bound }
 {
     let Cleaned {
         circuit,
+        keep,
         kept_free,
         ..
     } = start;
-    Retimed {
-        circuit,
-        kept_free,
-        read_latches,
-        merged: None,
-        frames: Sequence::empty(alloc),
-        certificates: Sequence::empty(alloc),
+    Run {
+        retimed: Retimed {
+            circuit,
+            kept_free,
+            read_latches,
+            merged: None,
+            frames: Sequence::empty(alloc),
+            certificates: Sequence::empty(alloc),
+        },
+        keep,
+        follower,
+        bound,
     }
 }
 
-/// The circuit cleaned, where these latches stay that the options hold, by a follower that has come to it.
+/// The circuit cleaned, where these latches are held, by a follower that has come to it.
 fn cleaned_run<F: RunFollower + Drop>(
     alloc: Global,
     follower: F,
@@ -49,20 +64,16 @@ fn cleaned_run<F: RunFollower + Drop>(
     options: &Options,
 ) -> Result<Run<F>, F::Stop>
     requires there { HasComeTo F.has_come follower circuit.now }
-    requires keep { keep.now ≡ kept_by options.now circuit.now }
-    ensures { IfOk result (λ run. IsCleanedRun F.has_come options.now bound circuit.now follower
-        run.follower run.retimed × (run.bound ≡ bound)) }
+    requires in_range { All (λ j. j < length circuit.now.aig.latches) keep.now }
+    ensures { IfOk result (λ run. IsCleanedRun F.has_come options.now bound circuit.now keep.now
+        follower run.follower run.retimed run.keep × (run.bound ≡ bound)) }
 {
     let _options = options;
     circuit.known();
     let mut follower = follower;
     let read_latches = circuit.aig().latches().len() as u32;
     match follower.clean(alloc, circuit, keep) {
-        Ok(cleaned) => Ok(Run {
-            retimed: begun(alloc, cleaned, read_latches),
-            follower,
-            bound,
-        }),
+        Ok(cleaned) => Ok(begun(alloc, cleaned, read_latches, follower, bound)),
         Err(error) => {
             drop(follower);
             Err(error)
@@ -81,31 +92,14 @@ fn begun_as_is<F: RunFollower + Drop>(
 ) -> Result<Begun<F>, F::Stop>
     requires there { F.has_come follower circuit.now circuit.now (all_free circuit.now.aig) }
     requires keep { keep.now ≡ kept_by options.now circuit.now }
-    requires names { NoneMissingBy options.now circuit.now }
     requires bound { bound ≡ bound_in options.now circuit.now }
     requires merge { options.now.merge ≡ false }
     ensures { IfOk result (λ begun. IsBegun F.has_come options.now begun.run.bound circuit.now
-        begun.read begun.run.retimed begun.run.follower) }
+        begun.read begun.run.retimed begun.run.keep begun.run.follower) }
 {
+    circuit.known();
     let run = cleaned_run(alloc, follower, circuit, keep, bound, options)?;
     Ok(Begun { run, read: None })
-}
-
-/// The merged circuit, which has latches of all names, cleaned.
-fn cleaned_by_names<F: RunFollower + Drop>(
-    alloc: Global,
-    follower: F,
-    circuit: &Circuit,
-    bound: Option<u32>,
-    options: &Options,
-) -> Result<Run<F>, F::Stop>
-    requires there { HasComeTo F.has_come follower circuit.now }
-    requires names { NoneMissingBy options.now circuit.now }
-    ensures { IfOk result (λ run. IsCleanedRun F.has_come options.now bound circuit.now follower
-        run.follower run.retimed × (run.bound ≡ bound)) }
-{
-    let keep = keep_by_names(alloc, circuit, options.keep.as_slice())?;
-    cleaned_run(alloc, follower, circuit, &keep, bound, options)
 }
 
 /// The merged circuit, of a circuit with so many latches, cleaned, and dropped.
@@ -118,16 +112,18 @@ fn merged_run<F: RunFollower + Drop>(
     options: &Options,
 ) -> Result<Begun<F>, F::Stop>
     requires there { HasComeTo F.has_come follower start.circuit }
-    requires names { NoneMissingBy options.now start.circuit }
+    requires in_range { All (λ j. j < length start.circuit.aig.latches) start.keep }
     ensures { IfOk result (λ begun. IsMergedFrom F.has_come options.now bound start latches
-        follower begun.run.follower begun.run.retimed begun.read × (begun.run.bound ≡ bound)) }
+        follower begun.run.follower begun.run.retimed begun.run.keep begun.read
+        × (begun.run.bound ≡ bound)) }
 {
     let MergedStart {
         circuit,
+        keep,
         kept_free,
         counts,
     } = start;
-    let run = cleaned_by_names(alloc, follower, &circuit, bound, options)?;
+    let run = cleaned_run(alloc, follower, &circuit, &keep, bound, options)?;
     drop(circuit);
     Ok(Begun {
         run,
@@ -144,19 +140,21 @@ fn begun_merged<F: RunFollower + Drop>(
     alloc: Global,
     follower: F,
     circuit: &Circuit,
+    keep: &Keep,
     bound: Option<u32>,
     options: &Options,
 ) -> Result<Begun<F>, F::Stop>
     requires there { F.has_come follower circuit.now circuit.now (all_free circuit.now.aig) }
-    requires names { NoneMissingBy options.now circuit.now }
+    requires keep { keep.now ≡ kept_by options.now circuit.now }
     requires bound { bound ≡ bound_in options.now circuit.now }
     requires merge { options.now.merge ≡ true }
     ensures { IfOk result (λ begun. IsBegun F.has_come options.now begun.run.bound circuit.now
-        begun.read begun.run.retimed begun.run.follower) }
+        begun.read begun.run.retimed begun.run.keep begun.run.follower) }
 {
+    circuit.known();
     let latches = circuit.aig().latches().len() as u32;
     let mut follower = follower;
-    match follower.clean_and_merge(alloc, circuit, options.keep.as_slice()) {
+    match follower.clean_and_merge(alloc, circuit, keep) {
         Ok(start) => merged_run(alloc, follower, start, latches, bound, options),
         Err(error) => {
             drop(follower);
@@ -176,20 +174,19 @@ fn begun_under<F: RunFollower + Drop>(
 ) -> Result<Begun<F>, F::Stop>
     requires there { F.has_come follower circuit.now circuit.now (all_free circuit.now.aig) }
     requires keep { keep.now ≡ kept_by options.now circuit.now }
-    requires names { NoneMissingBy options.now circuit.now }
     requires bound { bound ≡ bound_in options.now circuit.now }
     ensures { IfOk result (λ begun. IsBegun F.has_come options.now begun.run.bound circuit.now
-        begun.read begun.run.retimed begun.run.follower) }
+        begun.read begun.run.retimed begun.run.keep begun.run.follower) }
 {
     if options.merge {
-        begun_merged(alloc, follower, circuit, bound, options)
+        begun_merged(alloc, follower, circuit, keep, bound, options)
     } else {
         begun_as_is(alloc, follower, circuit, keep, bound, options)
     }
 }
 
 /// Begins a run of a circuit: what its frames start from. The follower has come to the circuit, and these latches of it are held, which
-/// are those that the options name. [`finish`](crate::finish) takes the frames.
+/// are those that the options hold ([`hold_by`](crate::hold_by)). [`finish`](crate::finish) takes the frames.
 ///
 /// # Errors
 ///
@@ -203,9 +200,8 @@ pub fn begin<F: RunFollower + Drop>(
 ) -> Result<Begun<F>, F::Stop>
     requires there { F.has_come follower circuit.now circuit.now (all_free circuit.now.aig) }
     requires keep { keep.now ≡ kept_by options.now circuit.now }
-    requires names { NoneMissingBy options.now circuit.now }
     ensures { IfOk result (λ begun. IsBegun F.has_come options.now begun.run.bound circuit.now
-        begun.read begun.run.retimed begun.run.follower) }
+        begun.read begun.run.retimed begun.run.keep begun.run.follower) }
 {
     match options.bound.for_circuit(alloc, circuit) {
         Ok(bound) => begun_under(alloc, follower, circuit, keep, bound, options),

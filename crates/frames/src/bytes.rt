@@ -5,15 +5,18 @@ ghost use Rattle.counted_io.specs.Output.{Writes};
 ghost use Rattle.aig_graph.specs.Circuits.{IsNetlist};
 ghost use Rattle.aig_graph.specs.Graph.{IsGraph};
 ghost use Rattle.aig_binary.specs.Spellings.{text_in};
-ghost use Rattle.frames.specs.Answering.{AfterReading, AreOfCircuit, BeforeWriting, IsAnswered, IsCutOff, IsMissingIn, IsStop, IsWritten, KeepsLevelsOf, RetimesBytes};
+ghost use Rattle.frames.specs.Answering.{AfterReading, AreOfCircuit, BeforeWriting, IsAnswered, IsCutOff, IsMissingIn, IsNoLatchIn, IsStop, IsWritten, KeepsLevelsOf, RetimesBytes};
 ghost use Rattle.frames.specs.Bounds.{bound_in};
+ghost use Rattle.frames.specs.Retiming.{IsRetimedHeld};
 ghost use Rattle.frames.specs.Stages.{Notifies, Writing, stages_of};
 ghost use Rattle.level_laws.specs.Retiming.{KeepsLevels};
-ghost use Rattle.frames.specs.declared.errors.RetimeError.TheVariants.{NoSuchName};
+ghost use Rattle.frames.specs.declared.errors.RetimeError.TheVariants.{NoSuchLatch, NoSuchName};
 
 use crate::errors::BytesError;
+use crate::follower::NoFollower;
 use crate::options::Options;
-use crate::runs::retime_over;
+use crate::run::Run;
+use crate::runs::{retimed_of, run_over};
 use crate::watcher::{FrameWatcher, NoWatcher, Stage};
 use aig_binary::{AnyReader, CircuitReader, Spelling, SpeltCircuit, read_circuit, write};
 use aig_graph::Circuit;
@@ -70,14 +73,45 @@ pub fn retime_spelt<W: CountedWrite, G: PhaseGate, V: FrameWatcher>(
     ensures notified { IfOk result (λ r. Notifies V.was_notified watcher.old watcher.new
         (stages_of options.now.max_frames r ++ Writing ∷ [])) }
 {
+    match run_spelt(rt, alloc, spelt, writer, options, crew, watcher) {
+        Ok(run) => Ok(retimed_of(run)),
+        Err(error) => Err(error),
+    }
+}
+
+/// [`retime_spelt`], with where the held latches stand in the circuit that is written.
+///
+/// # Errors
+///
+/// Those of [`retime_spelt`].
+pub fn run_spelt<W: CountedWrite, G: PhaseGate, V: FrameWatcher>(
+    rt: &(impl Threads + Sync),
+    alloc: Global,
+    spelt: SpeltCircuit,
+    writer: &mut W,
+    options: &Options,
+    crew: &Crew<G>,
+    watcher: &mut V,
+) -> Result<Run<NoFollower>, BytesError>
+    ensures ok { IfOk result (λ run. IsWritten options.now spelt (W.output writer.old)
+        (W.output writer.new) run.retimed) }
+    ensures held { IfOk result (λ run. IsRetimedHeld options.now spelt.circuit run.retimed
+        run.keep) }
+    ensures levels { IfOk result (λ run. KeepsLevels (bound_in options.now spelt.circuit)
+        spelt.circuit run.retimed.circuit) }
+    ensures err { IfErr result (IsStop options.now spelt (W.output writer.old)
+        (W.output writer.new)) }
+    ensures notified { IfOk result (λ run. Notifies V.was_notified watcher.old watcher.new
+        (stages_of options.now.max_frames run.retimed ++ Writing ∷ [])) }
+{
     let SpeltCircuit { circuit, spelling } = spelt;
-    let retimed = retime_over(rt, alloc, circuit, options, crew, watcher)?;
-    in_range(&retimed.circuit);
+    let run = run_over(rt, alloc, circuit, options, crew, watcher)?;
+    in_range(&run.retimed.circuit);
     watcher.enter(Stage::Writing);
-    match write_answer(&retimed, spelling, writer, options) {
-        Ok(()) => Ok(retimed),
+    match write_answer(&run.retimed, spelling, writer, options) {
+        Ok(()) => Ok(run),
         Err(error) => {
-            drop(retimed);
+            drop(run);
             Err(BytesError::Write(error))
         }
     }
@@ -94,7 +128,7 @@ pub fn retime_spelt<W: CountedWrite, G: PhaseGate, V: FrameWatcher>(
 /// # Errors
 ///
 /// `Read` where a read failed, where memory ran out before there was a circuit, and where the bytes are none; `Retime` where a
-/// name is that of no latch of the circuit, or memory ran out after that; `Write` where a write failed: a beginning of the text
+/// name or a position is that of no latch of the circuit, or memory ran out after that; `Write` where a write failed: a beginning of the text
 /// was written then.
 pub fn retime_bytes<R: CountedRead, W: CountedWrite, G: PhaseGate>(
     rt: &(impl Threads + Sync),
@@ -113,6 +147,8 @@ pub fn retime_bytes<R: CountedRead, W: CountedWrite, G: PhaseGate>(
         → IsReadError (R.input reader.old) (R.input reader.new) e }
     ensures missing { (place : ℕ) → IsErrOf result (BytesError.Retime (NoSuchName place))
         → IsMissingIn options.now (R.input reader.old) place }
+    ensures no_latch { (place : ℕ) → IsErrOf result (BytesError.Retime (NoSuchLatch place))
+        → IsNoLatchIn options.now (R.input reader.old) place }
     ensures unwritten { BeforeWriting result (W.output writer.new ≡ W.output writer.old) }
     ensures cut_off { (e : WriteError) → IsErrOf result (BytesError.Write e)
         → IsCutOff options.now (R.input reader.old) (W.output writer.old) (W.output writer.new) }

@@ -2,7 +2,7 @@
 //! from a device that failed by the variant, and never by a text.
 ghost use Rattle.std.specs.Prelude.{◌≡◌};
 
-use aig_graph::{KeepError, NoMemory};
+use aig_graph::{HoldError, NoMemory};
 use counted_io::WriteError;
 use file_words::ReadError;
 use thiserror::Error;
@@ -16,6 +16,9 @@ pub enum RetimeError {
     /// The name at this place, from 0, of those whose latches are to be held is the first that no latch has.
     #[error("no latch has name {0}")]
     NoSuchName(usize),
+    /// The position at this place, from 0, of those whose latches are to be held is the first that is that of no latch.
+    #[error("position {0} is that of no latch")]
+    NoSuchLatch(usize),
 }
 
 impl RetimeError {
@@ -28,6 +31,7 @@ impl RetimeError {
         match self {
             RetimeError::NoMemory => 1,
             RetimeError::NoSuchName(_) => 2,
+            RetimeError::NoSuchLatch(_) => 3,
         }
     }
 }
@@ -42,15 +46,16 @@ impl From<NoMemory> for RetimeError {
     }
 }
 
-impl From<KeepError> for RetimeError {
-    ghost use Rattle.frames.specs.Codes.{of_keep_error};
+impl From<HoldError> for RetimeError {
+    ghost use Rattle.frames.specs.Codes.{of_hold_error};
 
-    ghost from_gives = { λ error e. e ≡ of_keep_error error };
+    ghost from_gives = { λ error e. e ≡ of_hold_error error };
 
-    fn from(error: KeepError) -> RetimeError {
+    fn from(error: HoldError) -> RetimeError {
         match error {
-            KeepError::NoMemory => RetimeError::NoMemory,
-            KeepError::NoSuchName(place) => RetimeError::NoSuchName(place),
+            HoldError::NoMemory => RetimeError::NoMemory,
+            HoldError::NoSuchName(place) => RetimeError::NoSuchName(place),
+            HoldError::NoSuchLatch(place) => RetimeError::NoSuchLatch(place),
         }
     }
 }

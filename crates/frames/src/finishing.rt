@@ -55,20 +55,23 @@ fn run_of_read<F: RunFollower + Drop>(
 ) -> Result<Run<F>, F::Stop>
     requires { All (λ place. place < length read.kept_free) run.retimed.kept_free }
     ensures { IfOk result (λ end. (end.retimed ≡ reported_of_read read run.retimed)
-        × (end.follower ≡ run.follower)) }
+        × (end.keep ≡ run.keep) × (end.follower ≡ run.follower)) }
 {
     let Run {
         retimed,
+        keep,
         follower,
         bound,
     } = run;
     match reported_of_read(alloc, retimed, read) {
         Ok(retimed) => Ok(Run {
             retimed,
+            keep,
             follower,
             bound,
         }),
         Err(error) => {
+            drop(keep);
             drop(follower);
             Err(F::Stop::from(error))
         }
@@ -90,11 +93,11 @@ pub fn finish<F: RunFollower + Drop, G: PhaseGate, V: FrameWatcher>(
     watcher: &mut V,
 ) -> Result<Run<F>, F::Stop>
     requires { (c : Netlist) × IsBegun F.has_come options.now begun.run.bound c begun.read
-        begun.run.retimed begun.run.follower }
+        begun.run.retimed begun.run.keep begun.run.follower }
     ensures retimed { IfOk result (λ end. (c : Netlist)
         → IsBegun F.has_come options.now begun.run.bound c begun.read begun.run.retimed
-        begun.run.follower
-        → IsRetimedFollowed F.has_come options.now c end.retimed end.follower) }
+        begun.run.keep begun.run.follower
+        → IsRetimedFollowed F.has_come options.now c end.retimed end.keep end.follower) }
     ensures notified { IfOk result (λ end. Notifies V.was_notified watcher.old watcher.new
         (looks_of options.now.max_frames end.retimed)) }
 {

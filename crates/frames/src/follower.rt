@@ -4,15 +4,15 @@
 ghost use Rattle.std.specs.Prelude.{ℕ, ◌≡◌, ◌<◌, ◌≤◌, ⊤, All, IfOk, List, OnOk, length};
 ghost use Rattle.aig_graph.specs.Circuits.{Netlist};
 ghost use Rattle.aig_graph.specs.Closed.{IsClosedSet};
-ghost use Rattle.aig_graph.specs.Keep.{NoneMissing, names_of};
 ghost use Rattle.aig_graph.specs.Move.{move_of};
 ghost use Rattle.aig_graph.specs.Streams.{SameStreams};
 ghost use Rattle.aig_graph.specs.declared.literal.TheConstants.{MAX_VARIABLES};
 ghost use Rattle.cleaned_circuits.specs.Cleaned.{Cleans};
+ghost use Rattle.cleaned_circuits.specs.Held.{HeldAfter};
 ghost use Rattle.rebuild.specs.Marked.{AreMarksOf};
 ghost use Rattle.rebuild.specs.Moved.{moved_of, moved_size};
 ghost use Rattle.retimed_circuits.specs.Merging.{MergesIn};
-ghost use Rattle.retimed_circuits.specs.Names.{held_latches};
+ghost use Rattle.retimed_circuits.specs.Names.{StayHeld};
 ghost use Rattle.frames.specs.Following.{ComesOn, ComesWhole, HasComeTo};
 
 use aig_graph::{Circuit, ClosedSet, Keep, NoMemory};
@@ -39,6 +39,7 @@ pub trait RunFollower {
         requires there { HasComeTo has_come self.old circuit.now }
         requires in_range { All (λ j. j < length circuit.now.aig.latches) keep.now }
         ensures cleaned { IfOk result (λ d. Cleans d.circuit keep.now circuit.now d.kept_free) }
+        ensures held { IfOk result (λ d. HeldAfter d.circuit d.keep keep.now circuit.now) }
         ensures comes { IfOk result (λ d. ComesOn has_come self.old self.new circuit.now d.circuit
             d.kept_free) };
 
@@ -47,15 +48,15 @@ pub trait RunFollower {
         &mut self,
         alloc: Global,
         circuit: &Circuit,
-        names: &[Vec<u8>],
+        keep: &Keep,
     ) -> Result<MergedStart, Self::Stop>
         requires there { HasComeTo has_come self.old circuit.now }
-        requires names { NoneMissing (names_of names.now) circuit.now }
-        ensures merges { IfOk result (λ m. MergesIn (names_of names.now) circuit.now m.circuit
-            m.kept_free m.counts) }
+        requires in_range { All (λ j. j < length circuit.now.aig.latches) keep.now }
+        ensures merges { IfOk result (λ m. MergesIn keep.now circuit.now m.circuit m.kept_free
+            m.keep m.counts) }
+        ensures in_range { IfOk result (λ m. All (λ j. j < length m.circuit.aig.latches) m.keep) }
         ensures streams { IfOk result (λ m. SameStreams circuit.now m.circuit m.kept_free) }
-        ensures held { IfOk result (λ m. held_latches (names_of names.now) m.circuit
-            ≡ held_latches (names_of names.now) circuit.now) }
+        ensures stay { IfOk result (λ m. StayHeld keep.now circuit.now m.keep m.circuit) }
         ensures comes { IfOk result (λ m. ComesOn has_come self.old self.new circuit.now m.circuit
             m.kept_free) };
 
@@ -98,9 +99,9 @@ impl RunFollower for NoFollower {
         &mut self,
         alloc: Global,
         circuit: &Circuit,
-        names: &[Vec<u8>],
+        keep: &Keep,
     ) -> Result<MergedStart, NoMemory> {
-        merged_start(alloc, circuit, names)
+        merged_start(alloc, circuit, keep)
     }
 
     fn see_move(

@@ -1,11 +1,11 @@
 //! One frame: the latches of a cleaned circuit move over the set that is found, and the circuit is cleaned again.
-ghost use Rattle.std.specs.Prelude.{◌≡◌, [], ◌∷◌, IfOk, OnOk, MatchOption};
+ghost use Rattle.std.specs.Prelude.{ℕ, ◌≡◌, ◌<◌, [], ◌∷◌, All, IfOk, List, OnOk, MatchOption, length};
 ghost use Rattle.frames.specs.Certified.{AddsFound};
 ghost use Rattle.frames.specs.Following.{HasComeTo, IsMovedFollowed, MovesFollowed};
 ghost use Rattle.frames.specs.Found.{IsAfterMove, IsPrepared, Saves};
-ghost use Rattle.frames.specs.Named.{NoneMissingBy, kept_by};
-ghost use Rattle.frames.specs.Retiming.{IsNormalisedBy, NoneHelpsBy};
+ghost use Rattle.frames.specs.Retiming.{NoneHelpsBy};
 ghost use Rattle.frames.specs.Stages.{Moving, Notifies};
+ghost use Rattle.normalised_circuits.specs.Normalised.{IsNormalised};
 
 use crate::follower::RunFollower;
 use crate::helping::{PreparedMove, helping_set};
@@ -13,20 +13,20 @@ use crate::options::Options;
 use crate::run::Run;
 use crate::settling::settled;
 use crate::watcher::{FrameWatcher, Stage};
-use aig_graph::{Circuit, ClosedSet, Keep, NoMemory, keep_by_names};
+use aig_graph::{Circuit, ClosedSet, Keep, NoMemory};
 use chosen_cuts::Records;
 use clean::Cleaned;
-use cut_cert::{GateFlow, after_cleaning, after_move};
 use pulse::{Crew, PhaseGate};
 use rebuild::moved_by;
 use retimed_circuits::FrameReport;
 use std::alloc::Global;
 use std::thread::Threads;
+use unit_flows::{GateFlow, after_cleaning, after_move};
 
 /// The circuit that a frame makes, its report, and the set that latches moved over.
 #[derive(Drop)]
 pub(crate) struct Frame {
-    /// The circuit with its latches moved, cleaned.
+    /// The circuit with its latches moved, cleaned, and its held latches.
     pub cleaned: Cleaned,
     /// What the frame is reported as.
     pub report: FrameReport,
@@ -65,22 +65,21 @@ fn moved_over<F: RunFollower>(
     keep: &Keep,
     set: &ClosedSet,
     prepared: PreparedMove,
-    options: &Options,
 ) -> Result<Cleaned, F::Stop>
     requires there { HasComeTo F.has_come follower.old circuit.now }
-    requires keep { keep.now ≡ kept_by options.now circuit.now }
-    requires names { NoneMissingBy options.now circuit.now }
-    requires normalised { IsNormalisedBy options.now circuit.now }
+    requires in_range { All (λ j. j < length circuit.now.aig.latches) keep.now }
+    requires normalised { IsNormalised keep.now circuit.now }
     requires saves { Saves circuit.now keep.now set.now }
     requires prepared { IsPrepared circuit.now keep.now set.now prepared }
-    ensures { IfOk result (IsMovedFollowed F.has_come options.now circuit.now set.now follower.old
+    ensures { IfOk result (IsMovedFollowed F.has_come keep.now circuit.now set.now follower.old
         follower.new) }
 {
     circuit.known();
     let copies = set.vars().len();
     follower.see_move(circuit, set, keep, &prepared.marks)?;
+    let held = prepared.marks.held_after(alloc, circuit, set, keep)?;
     let after = finished_move(alloc, circuit, keep, set, prepared)?;
-    settled(alloc, follower, after, copies, options)
+    settled(alloc, follower, after, held, copies)
 }
 
 /// What the flow did at each gate, by the gates after a move over the set and a cleaning that keeps gates at these places; none are
@@ -112,31 +111,32 @@ pub(crate) fn next_frame<F: RunFollower, G: PhaseGate, V: FrameWatcher>(
     watcher: &mut V,
 ) -> Result<Option<Frame>, F::Stop>
     requires there { HasComeTo F.has_come run.old.follower run.old.retimed.circuit }
-    requires names { NoneMissingBy options.now run.old.retimed.circuit }
-    requires normalised { IsNormalisedBy options.now run.old.retimed.circuit }
+    requires in_range { All (λ j. j < length run.old.retimed.circuit.aig.latches) run.old.keep }
+    requires normalised { IsNormalised run.old.keep run.old.retimed.circuit }
     ensures same { OnOk result (run.new.retimed ≡ run.old.retimed) }
+    ensures keep { OnOk result (run.new.keep ≡ run.old.keep) }
     ensures bound { OnOk result (run.new.bound ≡ run.old.bound) }
     ensures found { IfOk result (λ found. MatchOption found
-        (NoneHelpsBy options.now run.old.bound run.old.retimed.circuit
+        (NoneHelpsBy options.now run.old.bound run.old.keep run.old.retimed.circuit
         × (run.new.follower ≡ run.old.follower))
-        (MovesFollowed F.has_come options.now run.old.bound run.old.retimed.circuit
+        (MovesFollowed F.has_come options.now run.old.bound run.old.keep run.old.retimed.circuit
         run.old.follower run.new.follower)) }
-    ensures certificate { OnOk result
-        (AddsFound options.now run.old.bound run.old.retimed.circuit records.old records.new) }
+    ensures certificate { OnOk result (AddsFound options.now run.old.bound run.old.keep
+        run.old.retimed.circuit records.old records.new) }
     ensures notified { IfOk result (λ found. MatchOption found
         (Notifies V.was_notified watcher.old watcher.new [])
         (λ _. Notifies V.was_notified watcher.old watcher.new (Moving ∷ []))) }
 {
     run.retimed.circuit.known();
-    let keep = keep_by_names(alloc, &run.retimed.circuit, options.keep.as_slice())?;
-    match helping_set(rt, alloc, &*run, &keep, options, crew, records)? {
+    match helping_set(rt, alloc, &*run, options, crew, records)? {
         Some(found) => {
             watcher.enter(Stage::Moving);
             let circuit = &run.retimed.circuit;
+            let keep = &run.keep;
             let prepared = found.prepared;
             let set = &found.set;
             let follower = &mut run.follower;
-            let cleaned = moved_over(alloc, follower, circuit, &keep, set, prepared, options)?;
+            let cleaned = moved_over(alloc, follower, circuit, keep, set, prepared)?;
             let kept_gates = cleaned.kept_gates.as_slice();
             records.flows = carried(alloc, circuit, set, kept_gates, records.flows.as_slice())?;
             Ok(Some(Frame {

@@ -2,7 +2,6 @@
 ghost use Rattle.std.specs.Prelude.{◌≡◌, IfOk};
 ghost use Rattle.aig_graph.specs.Closed.{IsClosedSet};
 ghost use Rattle.frames.specs.Found.{Finds, IsFoundOver, IsLook};
-ghost use Rattle.frames.specs.Named.{kept_by};
 
 use crate::bounding::{Judged, chosen_over, judge};
 use crate::options::Options;
@@ -88,16 +87,15 @@ pub(crate) fn helping_set<F, G: PhaseGate>(
     rt: &(impl Threads + Sync),
     alloc: Global,
     run: &Run<F>,
-    keep: &Keep,
     options: &Options,
     crew: &Crew<G>,
     records: &mut Records,
 ) -> Result<Option<Helping>, NoMemory>
-    requires { keep.now ≡ kept_by options.now run.now.retimed.circuit }
-    ensures { IfOk result (Finds options.now run.now.bound run.now.retimed.circuit records.old
-        records.new) }
+    ensures { IfOk result (Finds options.now run.now.bound run.now.keep run.now.retimed.circuit
+        records.old records.new) }
 {
     let circuit = &run.retimed.circuit;
+    let keep = &run.keep;
     // That it is a circuit is what its readers ensure.
     circuit.known();
     let first = least_helping(rt, alloc, circuit, keep, options.choice, crew, records)?;

@@ -18,6 +18,8 @@ pub struct Options {
     pub certify: bool,
     /// The latches whose symbol has one of these names are held: they stay, with their resets and names.
     pub keep: Vec<Vec<u8>>,
+    /// So are the latches at these positions of the circuit that is read, from 0, in any order. One may stand there more than once.
+    pub keep_latches: Vec<u32>,
     /// Whether latches that always agree are merged before the first frame: the circuit is cleaned, merged, and retimed as any circuit is.
     pub merge: bool,
     /// How long paths may get. A frame whose set would make a longer one takes a set of gates that keep the bound, or none.
@@ -36,6 +38,7 @@ impl Options {
             choice: Choice::Greatest,
             certify: false,
             keep: Vec::new(alloc),
+            keep_latches: Vec::new(alloc),
             merge: false,
             bound: PathBound::None,
         }

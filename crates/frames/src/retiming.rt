@@ -14,28 +14,30 @@ use crate::history::{history_of, with_frame};
 use crate::options::Options;
 use crate::run::Run;
 use crate::watcher::{FrameWatcher, Stage};
-use aig_graph::{NoMemory, Sequence};
+use aig_graph::{Keep, NoMemory, Sequence};
 use chosen_cuts::Records;
 use pulse::{Crew, PhaseGate};
 use retimed_circuits::Retimed;
 use std::alloc::Global;
 use std::thread::Threads;
 
-/// What one more frame makes of a retimed circuit, which is dropped, and with it the frame's set.
+/// What one more frame makes of a retimed circuit, and its held latches. The circuit is dropped, and with it the frame's set.
 fn after_frame(
     alloc: Global,
     retimed: Retimed,
     frame: Frame,
     options: &Options,
-) -> Result<Retimed, NoMemory>
-    requires { (bound : Option ℕ) × (c : Netlist) × (n : ℕ)
-        × IsUnderway options.now bound c n retimed
-        × Moves options.now bound retimed.circuit frame }
-    ensures underway { IfOk result (λ after. (bound : Option ℕ) (c : Netlist) (n : ℕ)
-        → IsUnderway options.now bound c n retimed
-        → Moves options.now bound retimed.circuit frame
-        → IsUnderway options.now bound c (suc n) after) }
-    ensures frames { IfOk result (λ after. after.frames ≡ retimed.frames ++ frame.report ∷ []) }
+) -> Result<(Retimed, Keep), NoMemory>
+    requires { (bound : Option ℕ) × (c : Netlist) × (held : List ℕ) × (n : ℕ) × (now : List ℕ)
+        × IsUnderway options.now bound c held n retimed now
+        × Moves options.now bound now retimed.circuit frame }
+    ensures underway { IfOk result (λ after. (bound : Option ℕ) (c : Netlist) (held : List ℕ)
+        (n : ℕ) (now : List ℕ)
+        → IsUnderway options.now bound c held n retimed now
+        → Moves options.now bound now retimed.circuit frame
+        → IsUnderway options.now bound c held (suc n) after.0 after.1) }
+    ensures frames { IfOk result (λ after. after.0.frames
+        ≡ retimed.frames ++ frame.report ∷ []) }
 {
     let Frame {
         cleaned,
@@ -45,14 +47,17 @@ fn after_frame(
     drop(set);
     let places = cleaned.kept_free.as_slice();
     match with_frame(alloc, history_of(retimed), places, report) {
-        Ok(after) => Ok(Retimed {
-            circuit: cleaned.circuit,
-            kept_free: after.kept_free,
-            read_latches: after.read_latches,
-            merged: None,
-            frames: after.frames,
-            certificates: Sequence::empty(alloc),
-        }),
+        Ok(after) => {
+            let retimed = Retimed {
+                circuit: cleaned.circuit,
+                kept_free: after.kept_free,
+                read_latches: after.read_latches,
+                merged: None,
+                frames: after.frames,
+                certificates: Sequence::empty(alloc),
+            };
+            Ok((retimed, cleaned.keep))
+        }
         Err(error) => {
             drop(cleaned);
             Err(error)
@@ -67,27 +72,30 @@ fn taken<F: RunFollower + Drop>(
     frame: Frame,
     options: &Options,
 ) -> Result<Run<F>, F::Stop>
-    requires underway { (d : Netlist) × (n : ℕ)
-        × IsUnderway options.now run.bound d n run.retimed }
-    requires moves { Moves options.now run.bound run.retimed.circuit frame }
-    ensures followed { IfOk result (λ after. (c d : Netlist) (kept : List ℕ) (n : ℕ)
-        → IsUnderway options.now run.bound d n run.retimed
+    requires underway { (d : Netlist) × (held : List ℕ) × (n : ℕ)
+        × IsUnderway options.now run.bound d held n run.retimed run.keep }
+    requires moves { Moves options.now run.bound run.keep run.retimed.circuit frame }
+    ensures followed { IfOk result (λ after. (c d : Netlist) (held kept : List ℕ) (n : ℕ)
+        → IsUnderway options.now run.bound d held n run.retimed run.keep
         → F.has_come run.follower c frame.cleaned.circuit
         (composed (composed kept run.retimed.kept_free) frame.cleaned.kept_free)
-        → IsFollowed F.has_come options.now run.bound c d kept (suc n) after.retimed
-        after.follower) }
+        → IsFollowed F.has_come options.now run.bound c d held kept (suc n) after.retimed
+        after.keep after.follower) }
     ensures frames { IfOk result (λ after. after.retimed.frames
         ≡ run.retimed.frames ++ frame.report ∷ []) }
     ensures bound { IfOk result (λ after. after.bound ≡ run.bound) }
 {
     let Run {
         retimed,
+        keep,
         follower,
         bound,
     } = run;
+    drop(keep);
     match after_frame(alloc, retimed, frame, options) {
-        Ok(retimed) => Ok(Run {
+        Ok((retimed, keep)) => Ok(Run {
             retimed,
+            keep,
             follower,
             bound,
         }),
@@ -121,13 +129,14 @@ fn all_frames<F: RunFollower + Drop, G: PhaseGate, V: FrameWatcher>(
     watcher: &mut V,
 ) -> Result<Run<F>, F::Stop>
     requires begun { (c : Netlist)
-        × IsReady F.has_come options.now start.bound c start.retimed start.follower }
+        × IsReady F.has_come options.now start.bound c start.retimed start.keep start.follower }
     requires wanted { records.old.certify ≡ options.now.certify }
     requires none_yet { records.old.certificates.items ≡ [] }
-    ensures run { IfOk result (λ end. (c d : Netlist) (kept : List ℕ)
-        → IsFollowed F.has_come options.now start.bound c d kept 0 start.retimed start.follower
-        → EndsFollowed F.has_come options.now start.bound c d kept records.new end.retimed
-        end.follower) }
+    ensures run { IfOk result (λ end. (c d : Netlist) (held kept : List ℕ)
+        → IsFollowed F.has_come options.now start.bound c d held kept 0 start.retimed start.keep
+        start.follower
+        → EndsFollowed F.has_come options.now start.bound c d held kept records.new end.retimed
+        end.keep end.follower) }
     ensures notified { IfOk result (λ end. Notifies V.was_notified watcher.old watcher.new
         (looks_of options.now.max_frames end.retimed)) }
 {
@@ -153,11 +162,13 @@ fn certified<F>(run: Run<F>, records: Records) -> Run<F>
     ensures read_latches { result.retimed.read_latches ≡ run.retimed.read_latches }
     ensures merged { result.retimed.merged ≡ run.retimed.merged }
     ensures frames { result.retimed.frames ≡ run.retimed.frames }
+    ensures keep { result.keep ≡ run.keep }
     ensures certificates { result.retimed.certificates ≡ records.certificates.items }
     ensures follower { result.follower ≡ run.follower }
 {
     let Run {
         retimed,
+        keep,
         follower,
         bound,
     } = run;
@@ -179,6 +190,7 @@ fn certified<F>(run: Run<F>, records: Records) -> Run<F>
             frames,
             certificates: Sequence::from_vec(certificates),
         },
+        keep,
         follower,
         bound,
     }
@@ -194,10 +206,12 @@ pub(crate) fn run_to_end<F: RunFollower + Drop, G: PhaseGate, V: FrameWatcher>(
     watcher: &mut V,
 ) -> Result<Run<F>, F::Stop>
     requires { (c : Netlist)
-        × IsReady F.has_come options.now start.bound c start.retimed start.follower }
-    ensures retimed { IfOk result (λ end. (c d : Netlist) (kept : List ℕ)
-        → IsFollowed F.has_come options.now start.bound c d kept 0 start.retimed start.follower
-        → IsRetimedFrom F.has_come options.now start.bound c d kept end.retimed end.follower) }
+        × IsReady F.has_come options.now start.bound c start.retimed start.keep start.follower }
+    ensures retimed { IfOk result (λ end. (c d : Netlist) (held kept : List ℕ)
+        → IsFollowed F.has_come options.now start.bound c d held kept 0 start.retimed start.keep
+        start.follower
+        → IsRetimedFrom F.has_come options.now start.bound c d held kept end.retimed end.keep
+        end.follower) }
     ensures notified { IfOk result (λ end. Notifies V.was_notified watcher.old watcher.new
         (looks_of options.now.max_frames end.retimed)) }
 {

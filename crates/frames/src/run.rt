@@ -1,4 +1,4 @@
-use aig_graph::Sequence;
+use aig_graph::{Keep, Sequence};
 use merged_latches::MergeCounts;
 use retimed_circuits::Retimed;
 
@@ -7,6 +7,8 @@ use retimed_circuits::Retimed;
 pub struct Run<F> {
     /// The circuit that the run has come to, and what is reported of it so far.
     pub retimed: Retimed,
+    /// Its held latches.
+    pub keep: Keep,
     /// What has followed it.
     pub follower: F,
     /// How many gates may be on a path, where there is a bound: that of the options for the circuit that was read.

@@ -1,39 +1,65 @@
 //! Whole runs that nothing follows.
-ghost use Rattle.std.specs.Prelude.{ℕ, IfOk, OnOk, IsErrOf};
+ghost use Rattle.std.specs.Prelude.{ℕ, ◌≡◌, ◌<◌, All, IfOk, List, OnOk, IsErrOf, length};
 ghost use Rattle.aig_graph.specs.Circuits.{Netlist};
 ghost use Rattle.frames.specs.Beginning.{IsBegun};
 ghost use Rattle.frames.specs.Bounds.{bound_in};
-ghost use Rattle.frames.specs.Named.{IsFirstMissingBy, NoneMissingBy};
-ghost use Rattle.frames.specs.Retiming.{IsRetimedBy};
+ghost use Rattle.frames.specs.Named.{AreLatchesBy, IsFirstMissingBy, IsFirstNoLatchBy, NoneMissingBy, kept_by};
+ghost use Rattle.frames.specs.Retiming.{IsRetimedBy, IsRetimedHeld};
 ghost use Rattle.frames.specs.Stages.{Notifies, looks_of, stages_of};
 ghost use Rattle.level_laws.specs.Retiming.{KeepsLevels};
-ghost use Rattle.frames.specs.declared.errors.RetimeError.TheVariants.{NoSuchName};
+ghost use Rattle.frames.specs.declared.errors.RetimeError.TheVariants.{NoSuchLatch, NoSuchName};
 
 use crate::beginning::begin;
 use crate::errors::RetimeError;
 use crate::finishing::finish;
 use crate::follower::{NoFollower, RunFollower};
 use crate::options::Options;
-use crate::run::Begun;
+use crate::run::{Begun, Run};
 use crate::watcher::{FrameWatcher, NoWatcher, Stage};
-use aig_graph::{Circuit, NoMemory, keep_of};
+use aig_graph::{Circuit, Keep, NoMemory, hold};
 use pulse::{Crew, PhaseGate};
 use retimed_circuits::Retimed;
 use std::alloc::Global;
 use std::thread::Threads;
 
-/// Begins a run that nothing follows, where a latch has each of the names.
+/// The latches of a circuit that the options hold: by their names, and by their positions. Looked up once, where a run begins; each step of
+/// it says where they stand then.
+///
+/// # Errors
+///
+/// `NoSuchLatch` where a position is that of no latch of the circuit, which is found first; `NoSuchName` where a name is; `NoMemory` where
+/// memory is refused.
+pub fn hold_by(alloc: Global, circuit: &Circuit, options: &Options) -> Result<Keep, RetimeError>
+    ensures keep { IfOk result (λ keep. keep ≡ kept_by options.now circuit.now) }
+    ensures latches { OnOk result (AreLatchesBy options.now circuit.now) }
+    ensures none_missing { OnOk result (NoneMissingBy options.now circuit.now) }
+    ensures no_latch { (place : ℕ) → IsErrOf result (NoSuchLatch place)
+        → IsFirstNoLatchBy options.now circuit.now place }
+    ensures missing { (place : ℕ) → IsErrOf result (NoSuchName place)
+        → IsFirstMissingBy options.now circuit.now place }
+{
+    let names = options.keep.as_slice();
+    let keep = hold(alloc, circuit, names, options.keep_latches.as_slice())?;
+    Ok(keep)
+}
+
+/// Begins a run that nothing follows, where the latches can be held.
 fn begin_plain(
     alloc: Global,
     circuit: &Circuit,
     options: &Options,
 ) -> Result<Begun<NoFollower>, RetimeError>
     ensures begun { IfOk result (λ begun. IsBegun ⟦<NoFollower as RunFollower>⟧.has_come options.now
-        begun.run.bound circuit.now begun.read begun.run.retimed begun.run.follower) }
+        begun.run.bound circuit.now begun.read begun.run.retimed begun.run.keep
+        begun.run.follower) }
+    ensures latches { OnOk result (AreLatchesBy options.now circuit.now) }
+    ensures none_missing { OnOk result (NoneMissingBy options.now circuit.now) }
+    ensures no_latch { (place : ℕ) → IsErrOf result (NoSuchLatch place)
+        → IsFirstNoLatchBy options.now circuit.now place }
     ensures missing { (place : ℕ) → IsErrOf result (NoSuchName place)
         → IsFirstMissingBy options.now circuit.now place }
 {
-    let keep = keep_of(alloc, circuit, options.keep.as_slice())?;
+    let keep = hold_by(alloc, circuit, options)?;
     let begun = begin(alloc, circuit, &keep, options, NoFollower)?;
     Ok(begun)
 }
@@ -46,33 +72,43 @@ fn finish_plain<G: PhaseGate, V: FrameWatcher>(
     options: &Options,
     crew: &Crew<G>,
     watcher: &mut V,
-) -> Result<Retimed, NoMemory>
+) -> Result<Run<NoFollower>, NoMemory>
     requires { (c : Netlist) × IsBegun ⟦<NoFollower as RunFollower>⟧.has_come options.now
-        begun.run.bound c begun.read begun.run.retimed begun.run.follower }
-    ensures retimed { IfOk result (λ r. (c : Netlist)
+        begun.run.bound c begun.read begun.run.retimed begun.run.keep begun.run.follower }
+    ensures retimed { IfOk result (λ run. (c : Netlist)
         → IsBegun ⟦<NoFollower as RunFollower>⟧.has_come options.now
-        begun.run.bound c begun.read begun.run.retimed begun.run.follower → IsRetimedBy options.now c r) }
-    ensures notified { IfOk result (λ r. Notifies V.was_notified watcher.old watcher.new
-        (looks_of options.now.max_frames r)) }
+        begun.run.bound c begun.read begun.run.retimed begun.run.keep begun.run.follower
+        → IsRetimedHeld options.now c run.retimed run.keep) }
+    ensures notified { IfOk result (λ run. Notifies V.was_notified watcher.old watcher.new
+        (looks_of options.now.max_frames run.retimed)) }
 {
     let end = finish(rt, alloc, begun, options, crew, watcher)?;
-    Ok(end.retimed)
+    Ok(end)
+}
+
+/// The retiming of a run that ended; where its held latches stand is let go.
+pub(crate) fn retimed_of(run: Run<NoFollower>) -> Retimed
+    ensures { result ≡ run.retimed }
+{
+    let Run { retimed, keep, .. } = run;
+    drop(keep);
+    retimed
 }
 
 /// Cleans a circuit and retimes it forward, frame by frame: the latches move over the chosen least set of the circuit, and the
 /// circuit is cleaned again. It ends where no closed set needs fewer latches than there are, or at the limit of frames. Under a
 /// bound on path length a frame whose set would make a longer path takes the chosen one of those sets whose gates arrive within
 /// the bound, and the run ends where that doesn't help either. The
-/// latches whose names the options have stay. Where the options ask for it, latches that always agree are merged before the first
-/// frame. The answer is the same for every crew, but for the routes of certificates.
+/// latches whose names or positions the options have stay. Where the options ask for it, latches that always agree are merged before the
+/// first frame. The answer is the same for every crew, but for the routes of certificates.
 ///
 /// A frame costs what its maximum flow costs, and is linear in the circuit but for that; what it made is dropped before the next
 /// one begins.
 ///
 /// # Errors
 ///
-/// `NoSuchName` where a name that the options have is that of no latch of the circuit, which is found first; `NoMemory` where
-/// memory is refused.
+/// `NoSuchLatch` where a position that the options have is that of no latch of the circuit, and `NoSuchName` where a name is, which are
+/// found first; `NoMemory` where memory is refused.
 pub fn retime<G: PhaseGate>(
     rt: &(impl Threads + Sync),
     alloc: Global,
@@ -83,7 +119,10 @@ pub fn retime<G: PhaseGate>(
     ensures retimed { IfOk result (IsRetimedBy options.now circuit.now) }
     ensures levels { IfOk result (λ r. KeepsLevels (bound_in options.now circuit.now) circuit.now
         r.circuit) }
+    ensures latches { OnOk result (AreLatchesBy options.now circuit.now) }
     ensures none_missing { OnOk result (NoneMissingBy options.now circuit.now) }
+    ensures no_latch { (place : ℕ) → IsErrOf result (NoSuchLatch place)
+        → IsFirstNoLatchBy options.now circuit.now place }
     ensures missing { (place : ℕ) → IsErrOf result (NoSuchName place)
         → IsFirstMissingBy options.now circuit.now place }
 {
@@ -107,47 +146,86 @@ pub fn retime_watched<G: PhaseGate, V: FrameWatcher>(
     ensures retimed { IfOk result (IsRetimedBy options.now circuit.now) }
     ensures levels { IfOk result (λ r. KeepsLevels (bound_in options.now circuit.now) circuit.now
         r.circuit) }
+    ensures latches { OnOk result (AreLatchesBy options.now circuit.now) }
     ensures none_missing { OnOk result (NoneMissingBy options.now circuit.now) }
+    ensures no_latch { (place : ℕ) → IsErrOf result (NoSuchLatch place)
+        → IsFirstNoLatchBy options.now circuit.now place }
     ensures missing { (place : ℕ) → IsErrOf result (NoSuchName place)
         → IsFirstMissingBy options.now circuit.now place }
     ensures notified { IfOk result (λ r. Notifies V.was_notified watcher.old watcher.new
         (stages_of options.now.max_frames r)) }
 {
-    // That it is a circuit is what its readers ensure.
-    circuit.known();
-    watcher.enter(Stage::Cleaning);
-    let begun = begin_plain(alloc, circuit, options)?;
-    let retimed = finish_plain(rt, alloc, begun, options, crew, watcher)?;
-    Ok(retimed)
+    match run_watched(rt, alloc, circuit, options, crew, watcher) {
+        Ok(run) => Ok(retimed_of(run)),
+        Err(error) => Err(error),
+    }
 }
 
-/// [`retime_watched`] of a circuit that nobody needs once it is cleaned: it is dropped then, before the first frame.
+/// [`retime_watched`], with where the held latches stand in the retimed circuit.
 ///
 /// # Errors
 ///
 /// Those of [`retime`].
-pub(crate) fn retime_over<G: PhaseGate, V: FrameWatcher>(
+pub fn run_watched<G: PhaseGate, V: FrameWatcher>(
+    rt: &(impl Threads + Sync),
+    alloc: Global,
+    circuit: &Circuit,
+    options: &Options,
+    crew: &Crew<G>,
+    watcher: &mut V,
+) -> Result<Run<NoFollower>, RetimeError>
+    ensures retimed { IfOk result (λ run. IsRetimedHeld options.now circuit.now run.retimed
+        run.keep) }
+    ensures levels { IfOk result (λ run. KeepsLevels (bound_in options.now circuit.now) circuit.now
+        run.retimed.circuit) }
+    ensures latches { OnOk result (AreLatchesBy options.now circuit.now) }
+    ensures none_missing { OnOk result (NoneMissingBy options.now circuit.now) }
+    ensures no_latch { (place : ℕ) → IsErrOf result (NoSuchLatch place)
+        → IsFirstNoLatchBy options.now circuit.now place }
+    ensures missing { (place : ℕ) → IsErrOf result (NoSuchName place)
+        → IsFirstMissingBy options.now circuit.now place }
+    ensures notified { IfOk result (λ run. Notifies V.was_notified watcher.old watcher.new
+        (stages_of options.now.max_frames run.retimed)) }
+{
+    // That it is a circuit is what its readers ensure.
+    circuit.known();
+    watcher.enter(Stage::Cleaning);
+    let begun = begin_plain(alloc, circuit, options)?;
+    let run = finish_plain(rt, alloc, begun, options, crew, watcher)?;
+    Ok(run)
+}
+
+/// [`run_watched`] of a circuit that nobody needs once it is cleaned: it is dropped then, before the first frame.
+///
+/// # Errors
+///
+/// Those of [`retime`].
+pub(crate) fn run_over<G: PhaseGate, V: FrameWatcher>(
     rt: &(impl Threads + Sync),
     alloc: Global,
     circuit: Circuit,
     options: &Options,
     crew: &Crew<G>,
     watcher: &mut V,
-) -> Result<Retimed, RetimeError>
-    ensures retimed { IfOk result (IsRetimedBy options.now circuit) }
-    ensures levels { IfOk result (λ r. KeepsLevels (bound_in options.now circuit) circuit
-        r.circuit) }
+) -> Result<Run<NoFollower>, RetimeError>
+    ensures retimed { IfOk result (λ run. IsRetimedHeld options.now circuit run.retimed
+        run.keep) }
+    ensures levels { IfOk result (λ run. KeepsLevels (bound_in options.now circuit) circuit
+        run.retimed.circuit) }
+    ensures latches { OnOk result (AreLatchesBy options.now circuit) }
     ensures none_missing { OnOk result (NoneMissingBy options.now circuit) }
+    ensures no_latch { (place : ℕ) → IsErrOf result (NoSuchLatch place)
+        → IsFirstNoLatchBy options.now circuit place }
     ensures missing { (place : ℕ) → IsErrOf result (NoSuchName place)
         → IsFirstMissingBy options.now circuit place }
-    ensures notified { IfOk result (λ r. Notifies V.was_notified watcher.old watcher.new
-        (stages_of options.now.max_frames r)) }
+    ensures notified { IfOk result (λ run. Notifies V.was_notified watcher.old watcher.new
+        (stages_of options.now.max_frames run.retimed)) }
 {
     // That it is a circuit is what its readers ensure.
     circuit.known();
     watcher.enter(Stage::Cleaning);
     let begun = begin_plain(alloc, &circuit, options);
     drop(circuit);
-    let retimed = finish_plain(rt, alloc, begun?, options, crew, watcher)?;
-    Ok(retimed)
+    let run = finish_plain(rt, alloc, begun?, options, crew, watcher)?;
+    Ok(run)
 }

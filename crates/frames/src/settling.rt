@@ -1,34 +1,34 @@
 //! A moved circuit, cleaned where there is something to clean: mostly there is nothing, and a look at its low copies, which costs a
 //! fraction of a cleaning, tells.
-ghost use Rattle.std.specs.Prelude.{◌≡◌, ◌≤◌, ◌-◌, IfOk, length, true};
+ghost use Rattle.std.specs.Prelude.{ℕ, ◌≡◌, ◌<◌, ◌≤◌, ◌-◌, All, IfOk, List, length, true};
 ghost use Rattle.aig_graph.specs.Circuits.{IsNetlist};
 ghost use Rattle.aig_graph.specs.Graph.{IsGraph};
 ghost use Rattle.aig_graph.specs.Laws.{all_free};
 ghost use Rattle.frames.specs.Following.{HasComeTo, IsCleanedFollowed};
-ghost use Rattle.frames.specs.Named.{NoneMissingBy};
-ghost use Rattle.frames.specs.Retiming.{IsNormalisedBy};
-ghost use Rattle.normalised_circuits.specs.Normalised.{AreLowNormalised};
+ghost use Rattle.normalised_circuits.specs.Normalised.{AreLowNormalised, IsNormalised};
 
 use crate::follower::RunFollower;
-use crate::options::Options;
-use aig_graph::{Circuit, NoMemory, keep_by_names};
+use aig_graph::{Circuit, Keep, NoMemory};
 use clean::Cleaned;
 use normalised_circuits::{all_places, are_low_normalised};
 use std::alloc::Global;
 
 /// A circuit as what it is cleaned to, which it is if it is normalised. The gates that stay aren't listed, since they all do.
-fn as_cleaned<E: From<NoMemory>>(alloc: Global, circuit: Circuit) -> Result<Cleaned, E>
+fn as_cleaned<E: From<NoMemory>>(alloc: Global, circuit: Circuit, keep: Keep) -> Result<Cleaned, E>
     ensures circuit { IfOk result (λ d. d.circuit ≡ circuit) }
+    ensures keep { IfOk result (λ d. d.keep ≡ keep) }
     ensures kept_free { IfOk result (λ d. d.kept_free ≡ all_free circuit.aig) }
 {
     match all_places(alloc, circuit.aig()) {
         Ok(kept_free) => Ok(Cleaned {
             circuit,
+            keep,
             kept_free,
             kept_gates: Vec::new(alloc),
         }),
         Err(error) => {
             drop(circuit);
+            drop(keep);
             Err(E::from(error))
         }
     }
@@ -39,17 +39,16 @@ fn cleaned<F: RunFollower>(
     alloc: Global,
     follower: &mut F,
     circuit: &Circuit,
-    options: &Options,
+    keep: &Keep,
 ) -> Result<Cleaned, F::Stop>
     requires there { HasComeTo F.has_come follower.old circuit.now }
-    requires names { NoneMissingBy options.now circuit.now }
-    ensures { IfOk result (IsCleanedFollowed F.has_come options.now circuit.now follower.old
+    requires in_range { All (λ j. j < length circuit.now.aig.latches) keep.now }
+    ensures { IfOk result (IsCleanedFollowed F.has_come keep.now circuit.now follower.old
         follower.new) }
 {
     // That it is a circuit is what its readers ensure.
     circuit.known();
-    let keep = keep_by_names(alloc, circuit, options.keep.as_slice())?;
-    follower.clean(alloc, circuit, &keep)
+    follower.clean(alloc, circuit, keep)
 }
 
 /// A circuit cleaned, which is followed, and dropped.
@@ -57,15 +56,15 @@ fn cleaned_over<F: RunFollower>(
     alloc: Global,
     follower: &mut F,
     circuit: Circuit,
-    options: &Options,
+    keep: Keep,
 ) -> Result<Cleaned, F::Stop>
     requires there { HasComeTo F.has_come follower.old circuit }
-    requires names { NoneMissingBy options.now circuit }
-    ensures { IfOk result (IsCleanedFollowed F.has_come options.now circuit follower.old
-        follower.new) }
+    requires in_range { All (λ j. j < length circuit.aig.latches) keep }
+    ensures { IfOk result (IsCleanedFollowed F.has_come keep circuit follower.old follower.new) }
 {
-    let cleaned = cleaned(alloc, follower, &circuit, options);
+    let cleaned = cleaned(alloc, follower, &circuit, &keep);
     drop(circuit);
+    drop(keep);
     cleaned
 }
 
@@ -80,27 +79,28 @@ fn is_settled(alloc: Global, circuit: &Circuit, copies: usize) -> Result<bool, N
     are_low_normalised(alloc, circuit.aig(), copies)
 }
 
-/// A moved circuit, whose last gates are so many copies, cleaned, which is followed. It is its own cleaning where its low copies are normalised.
+/// A moved circuit with its held latches, whose last gates are so many copies, cleaned, which is followed. It is its own cleaning where its
+/// low copies are normalised.
 pub(crate) fn settled<F: RunFollower>(
     alloc: Global,
     follower: &mut F,
     circuit: Circuit,
+    keep: Keep,
     copies: usize,
-    options: &Options,
 ) -> Result<Cleaned, F::Stop>
     requires there { HasComeTo F.has_come follower.old circuit }
+    requires in_range { All (λ j. j < length circuit.aig.latches) keep }
     requires copies { copies ≤ length circuit.aig.gates }
-    requires names { NoneMissingBy options.now circuit }
     requires normalised { AreLowNormalised circuit.aig (length circuit.aig.gates - copies)
-        → IsNormalisedBy options.now circuit }
-    ensures { IfOk result (IsCleanedFollowed F.has_come options.now circuit follower.old
-        follower.new) }
+        → IsNormalised keep circuit }
+    ensures { IfOk result (IsCleanedFollowed F.has_come keep circuit follower.old follower.new) }
 {
     match is_settled(alloc, &circuit, copies) {
-        Ok(true) => as_cleaned(alloc, circuit),
-        Ok(false) => cleaned_over(alloc, follower, circuit, options),
+        Ok(true) => as_cleaned(alloc, circuit, keep),
+        Ok(false) => cleaned_over(alloc, follower, circuit, keep),
         Err(error) => {
             drop(circuit);
+            drop(keep);
             Err(F::Stop::from(error))
         }
     }

@@ -27,6 +27,7 @@ after_one Done (reports.Done before left) is = tt
 after_one Done (reports.Refused fault) is = tt
 after_one Done reports.NoMemory is = tt
 after_one Done reports.NoSuchName is = tt
+after_one Done reports.NoSuchLatch is = tt
 after_one Refused r is = tt
 after_one Memory r is = tt
 after_one ShapesDiffer r is = is

@@ -32,6 +32,7 @@ IsWritten contents (jobs.Done text before after frames) = IsGiven contents text.
 IsWritten contents (jobs.Refused fault) = Unit {0}
 IsWritten contents jobs.NoMemory = Unit {0}
 IsWritten contents (jobs.NoSuchName place) = Unit {0}
+IsWritten contents (jobs.NoSuchLatch place) = Unit {0}
 
 -- this is so of one of them
 pub record IsOfOne {X : Type 0} (Is : X → Type 0) (xs : List X) : Type 0 where

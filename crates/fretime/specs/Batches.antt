@@ -26,6 +26,7 @@ pub record AreBatchOptions (task : Batch) (options : Options) : Type 0 where
   pub merge : options.merge ≡ task.merge
   pub bound : options.bound ≡ task.bound
   pub keep : options.keep.items ≡ []
+  pub keep_latches : options.keep_latches.items ≡ []
 
 -- each outcome is that of its job, by the options of the task
 pub record AreOutcomesFor (task : Batch) (jobs : List Job) (outcomes : List JobOutcome) : Type 0 where
@@ -39,6 +40,7 @@ report_of (jobs.Done text before after frames) = reports.Done before after
 report_of (jobs.Refused fault) = reports.Refused fault
 report_of jobs.NoMemory = reports.NoMemory
 report_of (jobs.NoSuchName place) = reports.NoSuchName
+report_of (jobs.NoSuchLatch place) = reports.NoSuchLatch
 
 -- how a batch of one file ends
 abbrev pub end_of : JobReport → Outcome
@@ -46,6 +48,7 @@ end_of (reports.Done before after) = Done
 end_of (reports.Refused fault) = Refused
 end_of reports.NoMemory = Memory
 end_of reports.NoSuchName = Refused
+end_of reports.NoSuchLatch = Refused
 
 -- how a batch ends after one more file: the first that isn't done decides
 abbrev pub after : Outcome → JobReport → Outcome

@@ -65,7 +65,10 @@ pub fn write_answer<'a, R: Files>(rt: &R, answer: &Answer<'a>) -> Result<(), Fai
 {
     match answer.outcome {
         Outcome::Done { bytes, .. } => write_file(rt, answer.output, bytes.as_slice()),
-        Outcome::Refused(_) | Outcome::NoMemory | Outcome::NoSuchName(_) => Ok(()),
+        Outcome::Refused(_)
+        | Outcome::NoMemory
+        | Outcome::NoSuchName(_)
+        | Outcome::NoSuchLatch(_) => Ok(()),
     }
 }
 

@@ -8,16 +8,18 @@ ghost use Rattle.fretime.specs.Answers.{FailsAt, IsOfInput, IsOfOutputs, IsWritt
 ghost use Rattle.fretime.specs.Reporting.{PrintsFailure, SaysFailureBy};
 ghost use Rattle.fretime.specs.Batches.{AreBatchOptions, AreOutcomesFor, Printed, PrintsList};
 ghost use Rattle.fretime.specs.Batches as wanted;
+ghost use Rattle.file_identities.specs.Outputs.{HaveOwnFiles};
 
 use crate::answers::{Answer, answers_of, write_answer};
 use crate::batch_object::finish_as_object;
 use crate::reporting::{report_failure_as, told_of};
-use batch_lists::{Entry, read_list};
+use batch_lists::{Entry, ListError, read_list};
 use batch_pool::{Job, run_batch};
 use circuit_files::{Failure, Outcome, bytes_at, bytes_of_file};
 use command_line::Batch;
 use counted_io::{CountedRead, CountedWrite};
 use fault_pages::give_hint;
+use file_identities::check_outputs;
 use frames::Options;
 use pulse::{Crew, OpenGate};
 use reports::{JobReport, print_job};
@@ -131,6 +133,7 @@ pub(crate) fn report_of(outcome: &batch_pool::Outcome) -> JobReport
         batch_pool::Outcome::Refused(fault) => JobReport::Refused(*fault),
         batch_pool::Outcome::NoMemory => JobReport::NoMemory,
         batch_pool::Outcome::NoSuchName(_) => JobReport::NoSuchName,
+        batch_pool::Outcome::NoSuchLatch(_) => JobReport::NoSuchLatch,
     }
 }
 
@@ -176,7 +179,9 @@ pub(crate) fn after(ended: Outcome, report: JobReport) -> Outcome
     match ended {
         Outcome::Done => match report {
             JobReport::Done(_, _) => Outcome::Done,
-            JobReport::Refused(_) | JobReport::NoSuchName => Outcome::Refused,
+            JobReport::Refused(_) | JobReport::NoSuchName | JobReport::NoSuchLatch => {
+                Outcome::Refused
+            }
             JobReport::NoMemory => Outcome::Memory,
         },
         ended => ended,
@@ -234,7 +239,8 @@ fn finish_entries<'a, R: Files, O: CountedWrite>(
     json: bool,
     out: &mut O,
 ) -> Result<Outcome, Failure<'a>>
-    requires { length outcomes.now ≡ length entries.now }
+    requires each { length outcomes.now ≡ length entries.now }
+    requires own { HaveOwnFiles entries.now }
     ensures ok { IfOk result (λ ended. Printed json (map wanted.report_of outcomes.now) ended
         (O.output out.old) (O.output out.new)) }
     ensures written { OnOk result (All (IsWritten R.File.contents) outcomes.now) }
@@ -299,7 +305,8 @@ fn finish_or_refuse<R: Files, O: CountedWrite, E: CountedWrite>(
     out: &mut O,
     err: &mut E,
 ) -> Outcome
-    requires { length outcomes.now ≡ length entries.now }
+    requires each { length outcomes.now ≡ length entries.now }
+    requires own { HaveOwnFiles entries.now }
     ensures { PrintsList run.now.task.now.json result (O.output out.old) (O.output out.new) }
 {
     match finish_entries(rt, alloc, entries, outcomes, run.task.json, out) {
@@ -308,7 +315,7 @@ fn finish_or_refuse<R: Files, O: CountedWrite, E: CountedWrite>(
     }
 }
 
-/// Does the jobs of the entries.
+/// Does the jobs of the entries, each of which writes a file of its own.
 fn retime_entries<R: Files + Threads + Sync, O: CountedWrite, E: CountedWrite>(
     rt: &R,
     alloc: Global,
@@ -317,6 +324,7 @@ fn retime_entries<R: Files + Threads + Sync, O: CountedWrite, E: CountedWrite>(
     out: &mut O,
     err: &mut E,
 ) -> Outcome
+    requires { HaveOwnFiles entries.now }
     ensures { PrintsList run.now.task.now.json result (O.output out.old) (O.output out.new) }
 {
     match outcomes(rt, alloc, entries, run.task) {
@@ -326,6 +334,38 @@ fn retime_entries<R: Files + Threads + Sync, O: CountedWrite, E: CountedWrite>(
             ended
         }
         Err(failure) => refuse(rt, alloc, run, failure, false, out, err),
+    }
+}
+
+/// Refuses a list: nothing was written.
+fn refuse_list<R: Files, O: CountedWrite, E: CountedWrite>(
+    rt: &R,
+    alloc: Global,
+    error: ListError,
+    run: &Run<'_>,
+    out: &mut O,
+    err: &mut E,
+) -> Outcome
+    ensures { PrintsList run.now.task.now.json result (O.output out.old) (O.output out.new) }
+{
+    let failure = Failure::of_list(error, run.task.list.name());
+    refuse(rt, alloc, run, failure, false, out, err)
+}
+
+/// Does the jobs of the entries, unless two of them write one file.
+fn retime_apart<R: Files + Threads + Sync, O: CountedWrite, E: CountedWrite>(
+    rt: &R,
+    alloc: Global,
+    entries: &[Entry<'_>],
+    run: &Run<'_>,
+    out: &mut O,
+    err: &mut E,
+) -> Outcome
+    ensures { PrintsList run.now.task.now.json result (O.output out.old) (O.output out.new) }
+{
+    match check_outputs(rt, alloc, entries) {
+        Ok(()) => retime_entries(rt, alloc, entries, run, out, err),
+        Err(error) => refuse_list(rt, alloc, error, run, out, err),
     }
 }
 
@@ -342,18 +382,15 @@ fn retime_lines<R: Files + Threads + Sync, O: CountedWrite, E: CountedWrite>(
 {
     match read_list(alloc, bytes) {
         Ok(entries) => {
-            let ended = retime_entries(rt, alloc, entries.as_slice(), run, out, err);
+            let ended = retime_apart(rt, alloc, entries.as_slice(), run, out, err);
             drop(entries);
             ended
         }
-        Err(error) => {
-            let failure = Failure::of_list(error, run.task.list.name());
-            refuse(rt, alloc, run, failure, false, out, err)
-        }
+        Err(error) => refuse_list(rt, alloc, error, run, out, err),
     }
 }
 
-/// Reads a list and all its files, of which `-` is one as any other, and retimes them; then, job by job, writes its circuit and
+/// Reads a list, of which no two lines may write one file, and all its files, of which `-` is one as any other, and retimes them; then, job by job, writes its circuit and
 /// prints its line, or writes all and prints one object. Reports why it ended before that, and returns how the run ends.
 pub fn retime_list<R: Files + Threads + Sync, I: CountedRead, O: CountedWrite, E: CountedWrite>(
     rt: &R,

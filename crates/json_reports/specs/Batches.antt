@@ -2,7 +2,7 @@
 use Rattle.std.specs.Prelude.{ℕ, List, codes}
 use Rattle.file_words.specs.declared.fault.ReadError.TheVariants as files
 use Rattle.reports.specs.declared.batch.JobReport.{JobReport}
-use Rattle.reports.specs.declared.batch.JobReport.TheVariants.{Done, Refused, NoMemory, NoSuchName}
+use Rattle.reports.specs.declared.batch.JobReport.TheVariants.{Done, Refused, NoMemory, NoSuchLatch, NoSuchName}
 use Rattle.serde_json.specs.Data.{Data, null, string, object, member, no_members}
 use Rattle.json_reports.specs.Faults.{fault_data}
 use Rattle.json_reports.specs.Members.{count, array_of}
@@ -20,6 +20,7 @@ job_data (Done before after) = file_data null (latches_data before after)
 job_data (Refused fault) = file_data (fault_data (faults.Circuit fault)) null
 job_data NoMemory = file_data (fault_data (faults.Circuit files.NoMemory)) null
 job_data NoSuchName = file_data (fault_data faults.NoSuchName) null
+job_data NoSuchLatch = file_data (fault_data faults.NoSuchLatch) null
 
 -- the files in the order of the list
 abbrev pub batch_data : List JobReport → ℕ → Data

@@ -49,6 +49,7 @@ fn job_object(alloc: Global, report: JobReport) -> Result<Value, AllocError>
         JobReport::Refused(fault) => refused_object(alloc, Fault::Circuit(fault)),
         JobReport::NoMemory => refused_object(alloc, Fault::Circuit(ReadError::NoMemory)),
         JobReport::NoSuchName => refused_object(alloc, Fault::NoSuchName),
+        JobReport::NoSuchLatch => refused_object(alloc, Fault::NoSuchLatch),
     }
 }
 

@@ -1,3 +1,4 @@
+mod BackLiftLaws
 mod CheckLaws
 mod LiftLaws
 mod MiterLaws

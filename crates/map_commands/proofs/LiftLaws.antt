@@ -48,7 +48,7 @@ lifted-of c d m w k result shared by = IfOk-weaker result _ _ (λ r is. record {
 
 -- what is made of what was read is written, in the spelling that is chosen
 pub prints-lift : {before after : Input} (FileGiven : List ℕ → List ℕ → Type 0) (old new : Output) (task : Lifting) (given : Given) (lifted : Made) (spelling : Spelling) (result : Result Outcome Failure)
-    → AreGiven task before after given → IsLiftedOf given lifted → spelling ≡ unwrap_or task.spelling given.witness.spelling
+    → AreGiven task before after given → IsLiftedOf task.back given lifted → spelling ≡ unwrap_or task.spelling given.witness.spelling
     → IfOk result (EndsMaking FileGiven lifted spelling task.output old new) → IfOk result (PrintsLift FileGiven task before after old new)
 prints-lift {before} {after} FileGiven old new task given lifted spelling result read is chosen printed =
     let P : Spelling → Type 0 = λ s. IfOk result (EndsMaking FileGiven lifted s task.output old new) in

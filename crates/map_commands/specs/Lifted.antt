@@ -1,12 +1,14 @@
 -- What `lift` makes of a witness circuit, and what is written.
-use Rattle.std.specs.Prelude.{ℕ, ◌≡◌, List, unwrap_or}
+use Rattle.std.specs.Prelude.{ℕ, ◌≡◌, Bool, true, false, List, unwrap_or}
 use Rattle.aig_graph.specs.Circuits.{Netlist}
+use Rattle.aig_graph.specs.Graph.{free_latches}
 use Rattle.state_maps.specs.MapCircuits.{IsMapCircuit}
 use Rattle.witness_circuits.specs.declared.sharing.Sharing.{Sharing}
 use Rattle.witness_circuits.specs.Witnesses.{IsSharing, IsWitness}
 use Rattle.witness_circuits.specs.Naming.{IsSharedBy}
 use Rattle.witness_circuits.specs.LiftedLaws.{first_shared}
 use Rattle.witness_circuits.specs.Lifting.{IsLifted}
+use Rattle.backward_witnesses.specs.Lifting.{IsLiftedBack}
 use Rattle.map_checks.specs.Answers.{AreFitting, IsMap}
 use Rattle.file_words.specs.declared.fault.ReadError.TheVariants.{TooLarge}
 use Rattle.counted_io.specs.Input.{Input}
@@ -35,11 +37,33 @@ pub record IsLiftOf (c d m w r : Netlist) : Type 0 where
   pub shared : IsSharedBy d w sharing
   pub lifted : IsLiftedBy c d m w sharing r
 
+-- r is the witness circuit for c that is made of w, where m maps the states of d to those of c: where w passes the five checks for d, r passes
+-- them for c
+pub record IsLiftedBackBy (c d m w : Netlist) (k : Sharing) (r : Netlist) : Type 0 where
+  pub lifted : IsLiftedBack c d m w k r
+  pub shows : (kept : List ℕ) → IsMapCircuit d c kept m → IsWitness d w k → IsSharing c r (first_shared c r) × IsWitness c r (first_shared c r)
+
+-- the same by what w's names say
+pub record IsBackLiftOf (c d m w r : Netlist) : Type 0 where
+  pub sharing : Sharing
+  pub shared : IsSharedBy d w sharing
+  pub lifted : IsLiftedBackBy c d m w sharing r
+
+-- circuits and a map fit together, where the map leads from the first to the second, or back to a first one that has no free latch
+abbrev pub AreLiftable : Bool → Netlist → Netlist → Netlist → Type 0
+AreLiftable false c d m = AreFitting c d m
+AreLiftable true c d m = AreFitting d c m × (free_latches c.aig ≡ 0)
+
+-- r is what is lifted forth, or with true back
+abbrev pub IsLiftBy : Bool → Netlist → Netlist → Netlist → Netlist → Netlist → Type 0
+IsLiftBy false c d m w r = IsLiftOf c d m w r
+IsLiftBy true c d m w r = IsBackLiftOf c d m w r
+
 -- what is made of the circuits, the map and the witness circuit that are read
-abbrev pub IsLiftedOf : Given → Made → Type 0
-IsLiftedOf given (Circuit r) = IsMap given.map.circuit × AreFitting given.pair.first.circuit given.pair.second.circuit given.map.circuit
-    × IsLiftOf given.pair.first.circuit given.pair.second.circuit given.map.circuit given.witness.circuit r
-IsLiftedOf given ShapesDiffer = IsMap given.map.circuit × (AreFitting given.pair.first.circuit given.pair.second.circuit given.map.circuit → ⊥)
+abbrev pub IsLiftedOf : Bool → Given → Made → Type 0
+IsLiftedOf back given (Circuit r) = IsMap given.map.circuit × AreLiftable back given.pair.first.circuit given.pair.second.circuit given.map.circuit
+    × IsLiftBy back given.pair.first.circuit given.pair.second.circuit given.map.circuit given.witness.circuit r
+IsLiftedOf back given ShapesDiffer = IsMap given.map.circuit × (AreLiftable back given.pair.first.circuit given.pair.second.circuit given.map.circuit → ⊥)
 
 -- why nothing is made of them: the map isn't one, no inputs and latches of OUT are those that the names say, or what would be made has too many
 -- variables; memory may run out
@@ -63,5 +87,5 @@ pub record PrintsLift (FileGiven : List ℕ → List ℕ → Type 0) (task : Lif
   pub given : Given
   pub read : AreGiven task before after given
   pub lifted : Made
-  pub is : IsLiftedOf given lifted
+  pub is : IsLiftedOf task.back given lifted
   pub printed : EndsMaking FileGiven lifted (unwrap_or task.spelling given.witness.spelling) task.output old new ended

@@ -2,6 +2,7 @@
 //! to meet as a circuit, and `lift` reads a witness circuit through a map.
 #![tactic(auto)]
 
+mod back_lift;
 mod check;
 mod given;
 mod lift;

@@ -1,5 +1,5 @@
 //! The command `lift`.
-ghost use Rattle.std.specs.Prelude.{◌≡◌, IfErr, IfOk, Err};
+ghost use Rattle.std.specs.Prelude.{◌≡◌, IfErr, IfOk, Err, false};
 ghost use Rattle.witness_circuits.specs.Parts.{IsLiftable};
 ghost use Rattle.witness_circuits.specs.Witnesses.{IsSharing};
 ghost use Rattle.witness_circuits.specs.Naming.{IsSharedBy};
@@ -10,6 +10,7 @@ ghost use Rattle.command_endings.specs.HeldNames.{OfSource};
 ghost use Rattle.command_endings.specs.Printing.{Prints, ending};
 ghost use Rattle.map_commands.specs.Lifted.{IsFailureToLift, IsLiftOf, IsLiftedBy, IsLiftedOf, PrintsLift};
 
+use crate::back_lift::lifted_back;
 use crate::given::{Given, given_for};
 use crate::made::{Made, write_made};
 use aig_graph::Circuit;
@@ -80,23 +81,39 @@ fn lifted_of<'a>(alloc: Global, given: &Given, task: &Lifting<'a>) -> Result<Cir
     }
 }
 
-/// What is made of the witness circuit that is read. That the map isn't one is found first, then that it doesn't fit the circuits.
-fn lifted_for<'a>(alloc: Global, given: &Given, task: &Lifting<'a>) -> Result<Made, Failure<'a>>
-    ensures lifted { IfOk result (IsLiftedOf given.now) }
+/// What is made of the witness circuit that is read, by a map from the first circuit to the second.
+fn lifted_forth<'a>(alloc: Global, given: &Given, task: &Lifting<'a>) -> Result<Made, Failure<'a>>
+    requires { IsMap given.now.map.circuit }
+    ensures lifted { IfOk result (IsLiftedOf false given.now) }
     ensures failed { IfErr result (IsFailureToLift task.now given.now) }
-    ensures not_a_map { (IsMap given.now.map.circuit → ⊥) → OfSource task.now.map
-        (λ path. result ≡ Err (NotAMap path)) }
 {
-    let map = &given.map.circuit;
-    if !is_map(map) {
-        return Err(Failure::NotAMap(task.map.name()));
-    }
-    if !are_fitting(&given.pair.first.circuit, &given.pair.second.circuit, map) {
+    if !are_fitting(
+        &given.pair.first.circuit,
+        &given.pair.second.circuit,
+        &given.map.circuit,
+    ) {
         return Ok(Made::ShapesDiffer);
     }
     match lifted_of(alloc, given, task) {
         Ok(circuit) => Ok(Made::Circuit(circuit)),
         Err(failure) => Err(failure),
+    }
+}
+
+/// What is made of the witness circuit that is read. That the map isn't one is found first, then that it doesn't fit the circuits.
+fn lifted_for<'a>(alloc: Global, given: &Given, task: &Lifting<'a>) -> Result<Made, Failure<'a>>
+    ensures lifted { IfOk result (IsLiftedOf task.now.back given.now) }
+    ensures failed { IfErr result (IsFailureToLift task.now given.now) }
+    ensures not_a_map { (IsMap given.now.map.circuit → ⊥) → OfSource task.now.map
+        (λ path. result ≡ Err (NotAMap path)) }
+{
+    if !is_map(&given.map.circuit) {
+        return Err(Failure::NotAMap(task.map.name()));
+    }
+    if task.back {
+        lifted_back(alloc, given, task)
+    } else {
+        lifted_forth(alloc, given, task)
     }
 }
 

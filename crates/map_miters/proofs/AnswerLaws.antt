@@ -63,7 +63,7 @@ free-many (l ∷ ls) (x ∷ xs) long =
     ∙ sym (count_by-cons is_free l ls)
 
 -- fewer free latches come before a free one than before a later latch
-free-fewer : (g : Graph) (j n : ℕ) → is_free_latch (slice_get g.latches j) ≡ true → j < n → n ≤ length g.latches → free_before g j < free_before g n
+pub free-fewer : (g : Graph) (j n : ℕ) → is_free_latch (slice_get g.latches j) ≡ true → j < n → n ≤ length g.latches → free_before g j < free_before g n
 free-fewer g j n free less within =
     let here : is_free_at g (first_latch g + j) ≡ true = ap is_free_latch (latch_at-first_latch g j) ∙ free in
     omega (arith, count-lt (is_free_at g) (first_latch g + j) (first_latch g + n) (omega (arith, less)) here, free-count g j (omega (arith, less, within)), free-count g n within)

@@ -10,12 +10,12 @@ use Rattle.state_maps.specs.States.{Digits, State}
 use Rattle.map_circuits.specs.Growing.{Extends, IsConjunction}
 use Rattle.map_miters.specs.declared.images.Image.{Image}
 use Rattle.map_miters.specs.Comparing.{AreEqualIn, SaysThat}
-use Rattle.map_miters.specs.Holding.{HoldAs, IsImage}
+use Rattle.map_miters.specs.Holding.{Held, HoldAs, IsImage}
 use Rattle.map_miters.proofs.ComparingLaws.{says-same}
 use Rattle.map_miters.proofs.HoldingLaws.{holds-grow, step-grows}
 use Rattle.map_miters.proofs.SideLaws.{as-many}
 use Rattle.map_miters.specs.declared.sides.Sides.{Sides}
-use Rattle.map_miters.specs.Products.{AgreeIn, HoldsMapped, second_state}
+use Rattle.map_miters.specs.Products.{AgreeIn, GivesState, HoldsMapped, second_state}
 use Rattle.map_miters.specs.Sides.{AreSides, beside_digits, beside_first, beside_second}
 
 -- the steps of both stay such as the graph grows
@@ -61,23 +61,22 @@ true-both : (a b : Bool) → a ≡ true → b ≡ true → (a && b) ≡ true
 true-both true b h i = i
 true-both false b h i = absurd (cc)
 
--- what says that the constraints of a map are 1, and that its outputs are what literals hold
-module _ (c d m : Netlist) (image : Image) (g h i : Graph) (own : List ℕ) (outputs : length m.props.outputs ≡ length d.aig.latches) (long : length own ≡ length d.aig.latches)
-    (is : IsImage g m beside_first image) (held : HoldAs g own (beside_second c.aig)) where
-  latches-same : (z : Digits) (u : State) → AreEqualIn g image.outputs.items own z u ↔ ((j : ℕ) → j < length d.aig.latches → mapped m u j ≡ second_state c.aig u j)
-  latches-same z u = (
+-- what says that the constraints of a map are 1 for a state, and that its outputs are what literals hold
+module _ (m : Netlist) (image : Image) (g h i : Graph) (given : List ℕ) (s t : Held) (long : length given ≡ length m.props.outputs) (is : IsImage g m s image) (held : HoldAs g given t) where
+  outputs-same : (z : Digits) (u : State) → AreEqualIn g image.outputs.items given z u ↔ ((j : ℕ) → j < length m.props.outputs → mapped m (s z u) j ≡ t z u j)
+  outputs-same z u = (
     λ equal j less.
-        let short : j < length image.outputs.items = omega (arith, less, is.many, outputs) in
+        let short : j < length image.outputs.items = omega (arith, less, is.many) in
         sym (is.outputs.values z u j short) ∙ equal j short ∙ held.values z u j (omega (arith, less, long)),
     λ same k less.
-        let short : k < length d.aig.latches = omega (arith, less, is.many, outputs) in
+        let short : k < length m.props.outputs = omega (arith, less, is.many) in
         is.outputs.values z u k less ∙ same k short ∙ sym (held.values z u k (omega (arith, short, long))),
   )
 
-  -- says that the map holds
-  pub mapped-says : (equal both : ℕ) → Extends g h → SaysThat h equal (AreEqualIn g image.outputs.items own) → Extends h i → IsConjunction i image.kept equal both
-      → SaysThat i both (λ z u. HoldsMapped c d m u)
-  mapped-says equal both one says two conjunction = record {
+  -- says that the map gives the state that these hold
+  pub given-says : (equal both : ℕ) → Extends g h → SaysThat h equal (AreEqualIn g image.outputs.items given) → Extends h i → IsConjunction i image.kept equal both
+      → SaysThat i both (λ z u. GivesState m (s z u) (t z u))
+  given-says equal both one says two conjunction = record {
     within = conjunction.within;
     is = λ z u.
         let kept : value_within i z u image.kept ≡ value_within g z u image.kept =
@@ -87,7 +86,15 @@ module _ (c d m : Netlist) (image : Image) (g h i : Graph) (own : List ℕ) (out
         conjunction.is z u ∙ ap (λ (b : Bool). b && value_within i z u equal) kept ∙ ap (λ (b : Bool). value_within g z u image.kept && b) same in (
           λ e.
               let parts = both-true (value_within g z u image.kept) (value_within h z u equal) (sym value ∙ e) in
-              ((is.kept z u).0 parts.0, (latches-same z u).0 ((says.is z u).0 parts.1)),
-          λ holds. value ∙ true-both (value_within g z u image.kept) (value_within h z u equal) ((is.kept z u).1 holds.0) ((says.is z u).1 ((latches-same z u).1 holds.1)),
+              ((is.kept z u).0 parts.0, (outputs-same z u).0 ((says.is z u).0 parts.1)),
+          λ holds. value ∙ true-both (value_within g z u image.kept) (value_within h z u equal) ((is.kept z u).1 holds.0) ((says.is z u).1 ((outputs-same z u).1 holds.1)),
         );
   }
+
+-- that the map gives what the latches of d hold says that they are mapped
+pub mapped-says : (c d m : Netlist) (h : Graph) (lit : ℕ) → length m.props.outputs ≡ length d.aig.latches → SaysThat h lit (λ z u. GivesState m u (second_state c.aig u))
+    → SaysThat h lit (λ z u. HoldsMapped c d m u)
+mapped-says c d m h lit outputs says = says-same h lit (λ z u. GivesState m u (second_state c.aig u)) (λ z u. HoldsMapped c d m u) (λ z u. (
+  λ gives. (gives.0, λ j less. gives.1 j (omega (arith, less, outputs))),
+  λ holds. (holds.0, λ j less. holds.1 j (omega (arith, less, outputs))),
+)) says

@@ -10,5 +10,5 @@ mod GoalLaws
 mod TieLaws
 mod EndLaws
 mod WitnessLaws
-mod AnswerLaws
+pub mod AnswerLaws
 mod AskedLaws

@@ -21,7 +21,7 @@ use Rattle.witness_circuits.specs.Witnesses.{AreJoint, GoesOn, HasResets, IsGood
 use Rattle.witness_circuits.proofs.OpeningLaws.{opening-known, opening-twice}
 use Rattle.witness_circuits.specs.LiftedLaws.{first_places, first_shared}
 use Rattle.witness_circuits.proofs.AgreeLaws.{HaveSame, after_step-alike, alike-itself, literals-alike}
-use Rattle.witness_circuits.proofs.LiftLaws.{bad-within}
+use Rattle.witness_circuits.proofs.CarrierLaws.{bad-within}
 use Rattle.witness_circuits.proofs.PlaceLaws.{first-place, length-first_places, place-first}
 use Rattle.map_miters.specs.Holding.{reset_at, reset_state}
 use Rattle.map_miters.specs.Questions.{Begins, IsAskable}

@@ -53,6 +53,10 @@ pub record GoesBeside (c d : Graph) (tied : Bool) (r : Graph) : Type 0 where
 abbrev pub AgreeIn : Netlist → Netlist → Digits → State → Type 0
 AgreeIn c d z u = map (value_within d.aig z (second_state c.aig u)) (property_literals d.props) ≡ map (value_within c.aig z u) (property_literals c.props)
 
+-- the map's constraints are 1 in s, and it gives t
+abbrev pub GivesState : Netlist → State → State → Type 0
+GivesState m s t = is_kept m s × ((j : ℕ) → j < length m.props.outputs → mapped m s j ≡ t j)
+
 -- the map's constraints are 1, and the latches of d hold what it gives
 abbrev pub HoldsMapped : Netlist → Netlist → Netlist → State → Type 0
 HoldsMapped c d m u = is_kept m u × ((j : ℕ) → j < length d.aig.latches → mapped m u j ≡ second_state c.aig u j)

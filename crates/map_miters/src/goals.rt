@@ -1,10 +1,12 @@
 //! What is good in a product machine.
-ghost use Rattle.std.specs.Prelude.{◌≡◌, IfOk, OnOk};
+ghost use Rattle.std.specs.Prelude.{◌≡◌, [], IfOk, OnOk, length};
+ghost use Rattle.aig_graph.specs.Circuits.{AreLiteralsOf};
 ghost use Rattle.aig_graph.specs.Graph.{IsGraph};
 ghost use Rattle.map_circuits.specs.Growing.{Extends};
 ghost use Rattle.map_miters.specs.Comparing.{SaysThat};
+ghost use Rattle.map_miters.specs.Holding.{Held, HoldAs};
 ghost use Rattle.map_miters.specs.Questions.{IsAskable};
-ghost use Rattle.map_miters.specs.Products.{AgreeIn, HoldsMapped, good_of};
+ghost use Rattle.map_miters.specs.Products.{AgreeIn, GivesState, HoldsMapped, good_of};
 ghost use Rattle.map_miters.specs.Sides.{AreSides};
 
 use crate::comparing::add_each_equal;
@@ -46,6 +48,35 @@ fn add_agreement(
     add_each_equal(alloc, gates, sides.second.props.as_slice(), props)
 }
 
+/// What says that for the state that literals hold the map's constraints are 1, and that it gives the state that other literals hold.
+///
+/// # Errors
+///
+/// `NoMemory` where memory is refused, `TooLarge` where the graph has as many variables as it may; some gates may have been added then.
+pub fn add_given(
+    alloc: Global,
+    gates: &mut AigBuilder,
+    map: &Circuit,
+    state: &[Lit],
+    given: &[Lit],
+) -> Result<Lit, MiterError>
+    requires graph { IsGraph gates.old }
+    requires wide { length state.now ≡ map.now.aig.inputs }
+    requires latches { map.now.aig.latches ≡ [] }
+    requires long { length given.now ≡ length map.now.props.outputs }
+    requires state { AreLiteralsOf gates.old state.now }
+    requires given { AreLiteralsOf gates.old given.now }
+    ensures extends { OnOk result (Extends gates.old gates.new) }
+    ensures says { IfOk result (λ lit. (s t : Held) → HoldAs gates.old state.now s
+        → HoldAs gates.old given.now t
+        → SaysThat gates.new lit (λ z u. GivesState map.now (s z u) (t z u))) }
+{
+    let image = add_image(alloc, gates, map, state)?;
+    let equal = add_each_equal(alloc, gates, image.outputs.as_slice(), given)?;
+    let both = add_conjunction(gates, image.kept, equal)?;
+    Ok(both)
+}
+
 /// What says that the map's constraints are 1, and the second circuit's latches hold what it gives.
 fn add_mapped(
     alloc: Global,
@@ -64,11 +95,14 @@ fn add_mapped(
 {
     let _first = first;
     let _second = second;
-    let image = add_image(alloc, gates, map, sides.leaves.first.as_slice())?;
-    let outputs = image.outputs.as_slice();
-    let equal = add_each_equal(alloc, gates, outputs, sides.leaves.second.as_slice())?;
-    let both = add_conjunction(gates, image.kept, equal)?;
-    Ok(both)
+    let leaves = &sides.leaves;
+    add_given(
+        alloc,
+        gates,
+        map,
+        leaves.first.as_slice(),
+        leaves.second.as_slice(),
+    )
 }
 
 /// What says that a state is good.

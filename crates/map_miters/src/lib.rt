@@ -24,7 +24,7 @@ pub use assembling::miter;
 pub use comparing::{add_each_equal, add_failure};
 pub use errors::MiterError;
 pub use free::free_stay;
-pub use goals::Goal;
+pub use goals::{Goal, add_given};
 pub use images::{Image, add_image};
 pub use laws::{agreement_law, answers_law};
 pub use products::product_machine;

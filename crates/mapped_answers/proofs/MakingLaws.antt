@@ -2,17 +2,16 @@
 use Rattle.std.proofs.Common.{ℕ, ◌≡◌, ◌∙◌, ◌++◌, ◌∷◌, [], List, inl, inr, refl, sym, subst, Result, Ok, Err}
 use Rattle.std.specs.Result.{IfOk}
 use Rattle.aig_graph.specs.Circuits.{Netlist}
-use Rattle.aig_graph.specs.declared.holding.KeepError.{KeepError}
-use Rattle.aig_graph.specs.declared.holding.KeepError.TheVariants as keeping
 use Rattle.counted_io.specs.Output.{Output, WritesAll, WritesPart}
 use Rattle.aig_binary.specs.declared.reading.SpeltCircuit.{SpeltCircuit}
 use Rattle.frames.specs.declared.errors.BytesError.TheVariants.{Read, Retime, Write}
-use Rattle.frames.specs.declared.errors.RetimeError.TheVariants.{NoMemory, NoSuchName}
+use Rattle.frames.specs.declared.errors.RetimeError.{RetimeError}
+use Rattle.frames.specs.declared.errors.RetimeError.TheVariants.{NoMemory, NoSuchLatch, NoSuchName}
 use Rattle.frames.specs.declared.options.Options.{Options}
 use Rattle.frames.specs.Answering.{IsWritten}
 use Rattle.frames.specs.Bounds.{bound_in}
-use Rattle.frames.specs.Codes.{of_keep_error}
-use Rattle.frames.specs.Named.{IsFirstMissingBy, NoneMissingBy, names_in}
+use Rattle.frames.specs.Named.{AreLatchesBy, IsFirstMissingBy, IsFirstNoLatchBy, NoneMissingBy, holding_in}
+use Rattle.frames.specs.Retiming.{IsRetimedHeld}
 use Rattle.frames.specs.Stages.{Notifies, Notification, Writing, looks_of, stages_of}
 use Rattle.frames.proofs.StageLaws.{notifies-then}
 use Rattle.std.specs.Option.{unwrap_or}
@@ -26,7 +25,7 @@ use Rattle.state_maps.specs.MapCircuits.{IsMapCircuit}
 use Rattle.mapped_answers.specs.declared.making.Made.{Made}
 use Rattle.mapped_answers.specs.declared.mapped.Mapped.{Mapped}
 use Rattle.mapped_answers.specs.declared.errors.AnswerError.{AnswerError}
-use Rattle.mapped_answers.specs.declared.errors.AnswerError.TheVariants.{Bytes, MapTooLarge, NoSuchLatch}
+use Rattle.mapped_answers.specs.declared.errors.AnswerError.TheVariants.{Bytes, MapTooLarge}
 use Rattle.mapped_answers.specs.Mapping.{IsMade, IsMadeCutOff, IsMadeWritten, IsMakingError, IsMapError, IsMappedOf, IsMappingStop, IsRetimedMapped}
 
 -- no map
@@ -34,14 +33,16 @@ pub unmapped : (options : Options) (c : Netlist) (e : AnswerError) → IsMapErro
 unmapped options c e (inl memory) = subst (IsMakingError options c) (sym memory) tt
 unmapped options c e (inr large) = subst (IsMakingError options c) (sym large) tt
 
--- a name that no latch has
-pub unnamed : (options : Options) (c : Netlist) (e : KeepError) → ((place : ℕ) → e ≡ keeping.NoSuchName place → IsFirstMissingBy options c place) → IsMakingError options c (Bytes (Retime (of_keep_error e)))
-unnamed options c keeping.NoMemory missing = tt
-unnamed options c (keeping.NoSuchName place) missing = missing place refl
+-- a name or a position that no latch has
+pub unheld : (options : Options) (c : Netlist) (e : RetimeError) → ((place : ℕ) → e ≡ NoSuchName place → IsFirstMissingBy options c place) → ((place : ℕ) → e ≡ NoSuchLatch place → IsFirstNoLatchBy options c place)
+    → IsMakingError options c (Bytes (Retime e))
+unheld options c NoMemory missing no_latch = tt
+unheld options c (NoSuchName place) missing no_latch = missing place refl
+unheld options c (NoSuchLatch place) missing no_latch = no_latch place refl
 
--- what was made of a circuit that has latches of all names is what is asked for
-pub is-made : (options : Options) (c : Netlist) (m : Made) → NoneMissingBy options c → IsRetimedMapped options c m → IsMade options c m
-is-made options c m none is = record { names = none; retimed = is.retimed; map = is.map }
+-- what was made of a circuit that has latches of all names and positions is what is asked for
+pub is-made : (options : Options) (c : Netlist) (m : Made) → AreLatchesBy options c → NoneMissingBy options c → IsRetimedMapped options c m → IsMade options c m
+is-made options c m latches none is = record { latches = latches; names = none; held = is.held; map = is.map }
 
 -- of the same retiming the same is notified
 pub same-notified : {W E : Type 0} (was_notified : W → List Notification → Type 0) (limit : ℕ) (a b : W) (r : Retimed) (result : Result Made E) → Notifies was_notified a b (looks_of limit r)
@@ -52,10 +53,10 @@ same-notified was_notified limit a b r (Err e) notified same = tt
 -- nothing is written then
 pub makes-nothing : (options : Options) (spelt : SpeltCircuit) (out : Output) (e : AnswerError) → IsMakingError options spelt.circuit e → IsMappingStop options spelt out out e
 makes-nothing options spelt out MapTooLarge is = refl
-makes-nothing options spelt out (NoSuchLatch place) is = absurd is
 makes-nothing options spelt out (Bytes (Read e)) is = absurd is
 makes-nothing options spelt out (Bytes (Retime NoMemory)) is = refl
 makes-nothing options spelt out (Bytes (Retime (NoSuchName place))) is = (refl, is)
+makes-nothing options spelt out (Bytes (Retime (NoSuchLatch place))) is = (refl, is)
 makes-nothing options spelt out (Bytes (Write e)) is = absurd is
 
 -- what was made is written as the answer
@@ -66,13 +67,14 @@ written-answer options spelt made spelling old new m same is written =
     let P : Retimed → Type 0 = λ r. IsWritten options spelt old new r in
     let Q : Retimed → Netlist → Type 0 = λ r map. IsMapCircuit spelt.circuit r.circuit r.kept_free map in
     let whole : P made.retimed = record {
-      answer = record { names = is.names; retimed = is.retimed };
+      answer = record { latches = is.latches; names = is.names; retimed = is.held.retimed };
       writes = subst (λ (s : Spelling). WritesAll old new (text_in s made.retimed.circuit)) same written.writes;
       reads_back = λ within. (the_spelling_law text made.retimed.circuit).read written.graph written.netlist
-          (stays-within options.merge (bound_in options spelt.circuit) options.choice spelt.circuit (names_in options) options.max_frames options.certify made.retimed is.retimed within);
+          (stays-within options.merge (bound_in options spelt.circuit) options.choice spelt.circuit (holding_in options) options.max_frames options.certify made.retimed is.held.retimed within);
     } in
     record {
       written = subst P (sym written.same) whole;
+      held = subst (λ (r : Retimed). IsRetimedHeld options spelt.circuit r m.keep) (sym written.same) (subst (IsRetimedHeld options spelt.circuit made.retimed) (sym written.keep) is.held);
       map = subst (λ (r : Retimed). Q r m.map.circuit) (sym written.same) (subst (λ (map : Netlist). Q made.retimed map) (sym written.map) is.map);
       spelling = written.spelt ∙ same;
     }
@@ -81,12 +83,11 @@ written-answer options spelt made spelling old new m same is written =
 pub cut_off-answer : (options : Options) (spelt : SpeltCircuit) (made : Made) (spelling : Spelling) (old new : Output) (e : AnswerError) → spelling ≡ unwrap_or options.spelling spelt.spelling
     → IsMade options spelt.circuit made → IsMadeCutOff made spelling old new e → IsMappingStop options spelt old new e
 cut_off-answer options spelt made spelling old new MapTooLarge same is none = absurd none
-cut_off-answer options spelt made spelling old new (NoSuchLatch place) same is none = absurd none
 cut_off-answer options spelt made spelling old new (Bytes (Read e)) same is none = absurd none
 cut_off-answer options spelt made spelling old new (Bytes (Retime e)) same is none = absurd none
 cut_off-answer options spelt made spelling old new (Bytes (Write e)) same is part = record {
   retimed = made.retimed;
-  answer = record { names = is.names; retimed = is.retimed };
+  answer = record { latches = is.latches; names = is.names; retimed = is.held.retimed };
   writes = subst (λ (s : Spelling). WritesPart old new (text_in s made.retimed.circuit)) same part;
 }
 

@@ -8,25 +8,26 @@ use Rattle.aig_binary.specs.declared.reading.SpeltCircuit.{SpeltCircuit}
 use Rattle.aig_binary.specs.Spellings.{text_in}
 use Rattle.state_maps.specs.MapCircuits.{IsMapCircuit}
 use Rattle.frames.specs.Answering.{IsStop, IsWritten}
-use Rattle.frames.specs.Named.{IsFirstMissingBy, NoneMissingBy}
-use Rattle.frames.specs.Retiming.{IsRetimedBy}
+use Rattle.frames.specs.Named.{AreLatchesBy, IsFirstMissingBy, IsFirstNoLatchBy, NoneMissingBy}
+use Rattle.frames.specs.Retiming.{IsRetimedHeld}
 use Rattle.frames.specs.declared.errors.BytesError.TheVariants.{Read, Retime, Write}
-use Rattle.frames.specs.declared.errors.RetimeError.TheVariants.{NoMemory, NoSuchName}
+use Rattle.frames.specs.declared.errors.RetimeError.TheVariants.{NoMemory, NoSuchLatch, NoSuchName}
 use Rattle.frames.specs.declared.options.Options.{Options}
 use Rattle.mapped_answers.specs.declared.making.Made.{Made}
 use Rattle.mapped_answers.specs.declared.mapped.Mapped.{Mapped}
 use Rattle.mapped_answers.specs.declared.errors.AnswerError.{AnswerError}
-use Rattle.mapped_answers.specs.declared.errors.AnswerError.TheVariants.{Bytes, MapTooLarge, NoSuchLatch}
+use Rattle.mapped_answers.specs.declared.errors.AnswerError.TheVariants.{Bytes, MapTooLarge}
 
--- the circuit retimed by the options, and its map
+-- the circuit retimed by the options, where its held latches stand then, and its map
 pub record IsMade (options : Options) (c : Netlist) (m : Made) : Type 0 where
+  pub latches : AreLatchesBy options c
   pub names : NoneMissingBy options c
-  pub retimed : IsRetimedBy options c m.retimed
+  pub held : IsRetimedHeld options c m.retimed m.keep
   pub map : IsMapCircuit c m.retimed.circuit m.retimed.kept_free m.map
 
--- c retimed by the options, and its map
+-- the same, whether the latches can be held or not
 pub record IsRetimedMapped (options : Options) (c : Netlist) (m : Made) : Type 0 where
-  pub retimed : IsRetimedBy options c m.retimed
+  pub held : IsRetimedHeld options c m.retimed m.keep
   pub map : IsMapCircuit c m.retimed.circuit m.retimed.kept_free m.map
 
 -- why there is no map of a retiming
@@ -36,15 +37,16 @@ IsMapError e = (e ≡ Bytes (Retime NoMemory)) ⊎ (e ≡ MapTooLarge)
 -- why there is no retiming with a map
 abbrev pub IsMakingError : Options → Netlist → AnswerError → Type 0
 IsMakingError options c MapTooLarge = Unit {0}
-IsMakingError options c (NoSuchLatch place) = ⊥
 IsMakingError options c (Bytes (Read e)) = ⊥
 IsMakingError options c (Bytes (Retime NoMemory)) = Unit {0}
 IsMakingError options c (Bytes (Retime (NoSuchName place))) = IsFirstMissingBy options c place
+IsMakingError options c (Bytes (Retime (NoSuchLatch place))) = IsFirstNoLatchBy options c place
 IsMakingError options c (Bytes (Write e)) = ⊥
 
 -- what was made is written, and its map is in that spelling
 pub record IsMadeWritten (made : Made) (spelling : Spelling) (old new : Output) (m : Mapped) : Type 0 where
   pub same : m.retimed ≡ made.retimed
+  pub keep : m.keep ≡ made.keep
   pub map : m.map.circuit ≡ made.map
   pub spelt : m.map.spelling ≡ spelling
   pub graph : IsGraph made.retimed.circuit.aig
@@ -54,14 +56,14 @@ pub record IsMadeWritten (made : Made) (spelling : Spelling) (old new : Output) 
 -- a write failed after a beginning
 abbrev pub IsMadeCutOff : Made → Spelling → Output → Output → AnswerError → Type 0
 IsMadeCutOff made spelling old new MapTooLarge = ⊥
-IsMadeCutOff made spelling old new (NoSuchLatch place) = ⊥
 IsMadeCutOff made spelling old new (Bytes (Read e)) = ⊥
 IsMadeCutOff made spelling old new (Bytes (Retime e)) = ⊥
 IsMadeCutOff made spelling old new (Bytes (Write e)) = WritesPart old new (text_in spelling made.retimed.circuit)
 
--- the answer was written, and the map is that of its circuit, in its spelling
+-- the answer was written, the held latches stand where it is said, and the map is that of its circuit, in its spelling
 pub record IsMappedOf (options : Options) (spelt : SpeltCircuit) (old new : Output) (m : Mapped) : Type 0 where
   pub written : IsWritten options spelt old new m.retimed
+  pub held : IsRetimedHeld options spelt.circuit m.retimed m.keep
   pub map : IsMapCircuit spelt.circuit m.retimed.circuit m.retimed.kept_free m.map.circuit
   pub spelling : m.map.spelling ≡ unwrap_or options.spelling spelt.spelling
 
@@ -69,4 +71,3 @@ pub record IsMappedOf (options : Options) (spelt : SpeltCircuit) (old new : Outp
 abbrev pub IsMappingStop : Options → SpeltCircuit → Output → Output → AnswerError → Type 0
 IsMappingStop options spelt old new (Bytes e) = IsStop options spelt old new e
 IsMappingStop options spelt old new MapTooLarge = new ≡ old
-IsMappingStop options spelt old new (NoSuchLatch place) = ⊥

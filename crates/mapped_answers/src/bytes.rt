@@ -47,9 +47,10 @@ fn write_made<W: CountedWrite>(
 {
     match write_in(&made.retimed.circuit, spelling, writer) {
         Ok(()) => {
-            let Made { retimed, map } = made;
+            let Made { retimed, keep, map } = made;
             Ok(Mapped {
                 retimed,
+                keep,
                 map: SpeltMap {
                     circuit: map,
                     spelling,

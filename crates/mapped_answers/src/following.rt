@@ -33,9 +33,9 @@ impl RunFollower for GrowingMap {
         &mut self,
         alloc: Global,
         circuit: &Circuit,
-        names: &[Vec<u8>],
+        keep: &Keep,
     ) -> Result<MergedStart, MapError> {
-        start_along(alloc, &mut self.parts, circuit, names)
+        start_along(alloc, &mut self.parts, circuit, keep)
     }
 
     fn see_move(

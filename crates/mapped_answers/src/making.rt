@@ -1,8 +1,7 @@
 //! A circuit retimed, with its map.
 ghost use Rattle.std.specs.Prelude.{◌≡◌, IfErr, IfOk};
-ghost use Rattle.frames.specs.Codes.{of_keep_error};
 ghost use Rattle.frames.specs.Following.{IsRetimedFollowed};
-ghost use Rattle.frames.specs.Named.{NoneMissingBy, kept_by};
+ghost use Rattle.frames.specs.Named.{AreLatchesBy, NoneMissingBy, kept_by};
 ghost use Rattle.frames.specs.Stages.{Notifies, looks_of, stages_of};
 ghost use Rattle.frames.specs.declared.errors.BytesError.TheVariants.{Retime};
 ghost use Rattle.mapped_answers.specs.Mapping.{IsMade, IsMakingError, IsMapError, IsRetimedMapped};
@@ -11,19 +10,21 @@ ghost use Rattle.mapped_answers.specs.declared.errors.AnswerError.TheVariants.{B
 use crate::errors::AnswerError;
 use crate::following::GrowingMap;
 use crate::mapped::map_error;
-use aig_graph::{Circuit, Keep, KeepError, NoMemory, keep_of};
+use aig_graph::{Circuit, Keep, NoMemory};
 use frames::{
-    BytesError, FrameWatcher, Options, RetimeError, Retimed, Run, RunFollower, Stage, begin, finish,
+    BytesError, FrameWatcher, Options, RetimeError, Retimed, Run, RunFollower, Stage, begin,
+    finish, hold_by,
 };
 use pulse::{Crew, PhaseGate};
 use retiming_maps::{MapError, StateMap, identity, state_map};
 use std::alloc::Global;
 use std::thread::Threads;
 
-/// A retiming and its map.
+/// A retiming, where its held latches stand, and its map.
 #[derive(Drop)]
 pub struct Made {
     pub retimed: Retimed,
+    pub keep: Keep,
     pub map: StateMap,
 }
 
@@ -35,26 +36,28 @@ fn with_map(
     options: &Options,
 ) -> Result<Made, MapError>
     requires { IsRetimedFollowed ⟦<GrowingMap as RunFollower>⟧.has_come options.now circuit.now
-        end.retimed end.follower }
+        end.retimed end.keep end.follower }
     ensures made { IfOk result (IsRetimedMapped options.now circuit.now) }
     ensures same { IfOk result (λ made. made.retimed ≡ end.retimed) }
 {
     let _options = options;
     let Run {
         retimed,
+        keep,
         follower,
         ..
     } = end;
     match state_map(alloc, follower.parts, circuit, &retimed.circuit) {
-        Ok(map) => Ok(Made { retimed, map }),
+        Ok(map) => Ok(Made { retimed, keep, map }),
         Err(NoMemory) => {
             drop(retimed);
+            drop(keep);
             Err(MapError::NoMemory)
         }
     }
 }
 
-/// The circuit retimed, where these latches are held that the options name, with its map.
+/// The circuit retimed, where these latches are held, which are those that the options hold, with its map.
 fn made_kept<G: PhaseGate, V: FrameWatcher>(
     rt: &(impl Threads + Sync),
     alloc: Global,
@@ -64,8 +67,7 @@ fn made_kept<G: PhaseGate, V: FrameWatcher>(
     crew: &Crew<G>,
     watcher: &mut V,
 ) -> Result<Made, MapError>
-    requires keep { keep.now ≡ kept_by options.now circuit.now }
-    requires names { NoneMissingBy options.now circuit.now }
+    requires { keep.now ≡ kept_by options.now circuit.now }
     ensures made { IfOk result (IsRetimedMapped options.now circuit.now) }
     ensures notified { IfOk result (λ made. Notifies V.was_notified watcher.old watcher.new
         (looks_of options.now.max_frames made.retimed)) }
@@ -89,6 +91,7 @@ fn made_mapped<G: PhaseGate, V: FrameWatcher>(
     watcher: &mut V,
 ) -> Result<Made, AnswerError>
     requires keep { keep.now ≡ kept_by options.now circuit.now }
+    requires latches { AreLatchesBy options.now circuit.now }
     requires names { NoneMissingBy options.now circuit.now }
     ensures ok { IfOk result (IsMade options.now circuit.now) }
     ensures err { IfErr result IsMapError }
@@ -102,10 +105,10 @@ fn made_mapped<G: PhaseGate, V: FrameWatcher>(
 }
 
 /// The error that one of holding latches is.
-fn unnamed(error: KeepError) -> AnswerError
-    ensures { result ≡ Bytes (Retime (of_keep_error error)) }
+fn unheld(error: RetimeError) -> AnswerError
+    ensures { result ≡ Bytes (Retime error) }
 {
-    AnswerError::Bytes(BytesError::Retime(RetimeError::from(error)))
+    AnswerError::Bytes(BytesError::Retime(error))
 }
 
 /// The circuit retimed, with its map, after its latches that always agree are merged where the options ask for it.
@@ -123,9 +126,9 @@ fn made_of<G: PhaseGate, V: FrameWatcher>(
         (stages_of options.now.max_frames made.retimed)) }
 {
     watcher.enter(Stage::Cleaning);
-    match keep_of(alloc, circuit, options.keep.as_slice()) {
+    match hold_by(alloc, circuit, options) {
         Ok(keep) => made_mapped(rt, alloc, circuit, &keep, options, crew, watcher),
-        Err(error) => Err(unnamed(error)),
+        Err(error) => Err(unheld(error)),
     }
 }
 

@@ -2,6 +2,7 @@ ghost use Rattle.mapped_answers.specs.Mapping.{IsMapError};
 
 use crate::errors::AnswerError;
 use aig_binary::Spelling;
+use aig_graph::Keep;
 use frames::{BytesError, RetimeError, Retimed};
 use retiming_maps::{MapError, StateMap};
 
@@ -17,6 +18,8 @@ pub struct SpeltMap {
 pub struct Mapped {
     /// The retiming, whose circuit was written.
     pub retimed: Retimed,
+    /// Where the held latches stand in that circuit.
+    pub keep: Keep,
     /// The map of the states of the circuit that was read to those of the one that was written.
     pub map: SpeltMap,
 }

@@ -15,10 +15,10 @@ use Rattle.variable_tables.specs.Marking.{has}
 use Rattle.variable_tables.proofs.PlacesLaws.{Ranks, count-le, count-lt}
 use Rattle.cleaned_circuits.specs.Latches.{constant_of, is_constant_latch}
 use Rattle.cleaned_circuits.proofs.LatchLaws.{constant-even}
-use Rattle.rebuild.specs.Moved.{copies_start, copy_variable, is_latched, latch_for, latch_from, moved_graph, moved_literal, new_variable}
+use Rattle.rebuild.specs.Moved.{copies_start, copy_variable, is_latched, latch_for, latch_from, moved_graph, moved_held, moved_literal, new_variable}
 use Rattle.rebuild.proofs.BorderLaws.{latched-cases, read-next}
 use Rattle.rebuild.proofs.MovedLaws.{copies_start-is, copy_variable-is, gates_start-is, latch_source, moved-first_latch}
-use Rattle.normalised_circuits.specs.Normalised.{IsNormalised, moved_held}
+use Rattle.normalised_circuits.specs.Normalised.{IsNormalised}
 use Rattle.normalised_circuits.proofs.SpotLaws.{Spot, latched-spot, literal-one, read-spot, same-rank, spot-below, spot-constant}
 use Rattle.rebuild.proofs.BorderLaws.{closed-passable, new_variable-latched}
 
@@ -64,7 +64,6 @@ latch-is a b next reset =
 
 -- a latch that is held is held where it moved
 pub held-moved : (m : Move) (j : ℕ) → has m.held j ≡ true → has (moved_held m) (count_below (is_latched m) (first_latch m.circuit.aig + j)) ≡ true
-unfolding moved_held
 held-moved m j e =
     let f : ℕ → ℕ = λ i. count_below (is_latched m) (first_latch m.circuit.aig + i) in
     let member = (has_iff_contains m.held j).0 e in

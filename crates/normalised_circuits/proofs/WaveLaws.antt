@@ -25,11 +25,11 @@ use Rattle.variable_tables.specs.Marking.{has}
 use Rattle.variable_tables.proofs.PlacesLaws.{Ranks}
 use Rattle.cleaned_circuits.specs.Reached.{stays, HoldsReads}
 use Rattle.cleaned_circuits.proofs.TrimmedLaws.{stays-past, stays-low, stays-reached}
-use Rattle.rebuild.specs.Moved.{advanced, advanced_literal, copy_for, copy_variable, gate_between, gate_for, is_latched, is_outside, latch_for, latch_from, moved_graph, moved_literal, moved_props, new_variable, next_of}
+use Rattle.rebuild.specs.Moved.{advanced, advanced_literal, copy_for, copy_variable, gate_between, gate_for, is_latched, is_outside, latch_for, latch_from, moved_graph, moved_held, moved_literal, moved_props, new_variable, next_of}
 use Rattle.rebuild.proofs.BorderLaws.{closed-passable, latched-latch, latched-member, latched_where_free, member-gate, new_variable-latched, new_variable-outside, outside_parts, outside_where, read-first, read-next, read-property, read-second}
 use Rattle.rebuild.proofs.MovedLaws.{copies_start-is, copy_in, copy_variable-is, from_member, from_outside, gate_in, gate_source, gates_start-is, latch_in, latch_source, moved-first_gate, moved-first_latch}
 use Rattle.rebuild.proofs.ReadLaws.{moved-literals}
-use Rattle.normalised_circuits.specs.Normalised.{IsNormalised, moved_held}
+use Rattle.normalised_circuits.specs.Normalised.{IsNormalised}
 use Rattle.normalised_circuits.proofs.ReachLaws.{by_latch, by_outside, by_property, reader_of}
 
 of_member : (P : ℕ → Type 0) (f : ℕ → ℕ) (xs : List ℕ) → All P (map f xs) → (x : ℕ) → Contains xs x → P (f x)
@@ -176,7 +176,6 @@ module _ (m : Move) (valid : IsGraph m.circuit.aig) (netlist : IsNetlist m.circu
 
   -- and is reached
   held-reached : (j : ℕ) → Contains m.held j → is_latched m (first_latch m.circuit.aig + j) ≡ true → r (new_variable m (first_latch m.circuit.aig + j)) ≡ true
-  unfolding moved_held
   held-reached j member kept =
       let v : ℕ = first_latch m.circuit.aig + j in
       let place : first_latch (moved_graph m) + count_below (is_latched m) v ≡ new_variable m v =

@@ -1,16 +1,12 @@
 -- Circuits in which nothing is left to clean.
-use Rattle.std.specs.Prelude.{ℕ, ◌+◌, ◌<◌, ◌≤◌, ◌≡◌, Bool, true, false, List, map, Some, slice_get}
+use Rattle.std.specs.Prelude.{ℕ, ◌+◌, ◌<◌, ◌≤◌, ◌≡◌, Bool, true, false, List, Some, slice_get}
 use Rattle.aig_graph.specs.declared.graph.Gate.{Gate}
 use Rattle.aig_graph.specs.declared.graph.Latch.{Latch}
 use Rattle.aig_graph.specs.Graph.{Graph, variable, first_latch, first_gate, variables_end, is_free}
 use Rattle.aig_graph.specs.Circuits.{Netlist}
-use Rattle.aig_graph.specs.Move.{Move}
-use Rattle.variable_tables.specs.Counting.{count_below}
 use Rattle.variable_tables.specs.Marking.{has}
 use Rattle.cleaned_circuits.specs.Latches.{is_constant_latch}
 use Rattle.cleaned_circuits.specs.Reached.{HoldsReads}
-use Rattle.rebuild.specs.Moved.{is_latched}
-use Rattle.aig_graph.specs.Keep.{held_in}
 
 -- two variables, neither the constant; the larger literal is first
 pub record IsPlain (gate : Gate) : Type 0 where
@@ -25,15 +21,7 @@ pub record IsNormalised (held : List ℕ) (c : Netlist) : Type 0 where
   pub plain : (k : ℕ) (gate : Gate) → slice_get c.aig.gates k ≡ Some gate → IsPlain gate
   pub pairs : (i j : ℕ) (gate : Gate) → slice_get c.aig.gates i ≡ Some gate → slice_get c.aig.gates j ≡ Some gate → i ≡ j
 
--- nothing is left to clean in a circuit where the latches stay that the names hold
-abbrev pub IsNormalisedIn : List (List ℕ) → Netlist → Type 0
-IsNormalisedIn names c = IsNormalised (held_in names c) c
-
 -- the gates from number first on are copies; a low one reads a variable that is no copy. Each low copy is plain, and its pair is its own
 pub record AreLowNormalised (g : Graph) (first : ℕ) : Type 0 where
   pub plain : (k : ℕ) (gate : Gate) → first ≤ k → slice_get g.gates k ≡ Some gate → variable gate.rhs1 < first_gate g + first → IsPlain gate
   pub pairs : (i k : ℕ) (gate : Gate) → first ≤ k → slice_get g.gates i ≡ Some gate → slice_get g.gates k ≡ Some gate → variable gate.rhs1 < first_gate g + first → i ≡ k
-
--- the positions of the held latches in the moved circuit
-unfoldable pub moved_held : Move → List ℕ
-moved_held m = map (λ j. count_below (is_latched m) (first_latch m.circuit.aig + j)) m.held

@@ -13,6 +13,6 @@ pub fn normalised_laws()
 
 /// After a frame's move nothing is to clean, if the low copies are normalised.
 pub fn frame_law()
-    ensures { (names : List (List ℕ)) (c d : Netlist) (kept s : List ℕ) (first : ℕ)
-        → NothingToClean names c d kept s first }
+    ensures { (held : List ℕ) (c d : Netlist) (now s : List ℕ) (first : ℕ)
+        → NothingToClean held c d now s first }
 {}

@@ -60,7 +60,3 @@ flow_spent net f qs ls fits labelled = record {
 -- parts that hold the network's rows, end to end, are pushes of it
 pub pushes_with : (net : FlowNet) (ps : List PushPart) → IsFlowNet net → ArePushParts net 0 ps → ArePushesOf net (push_state ps false)
 pushes_with net ps ok cut = record { ranges = λ h. push_ranges net 0 ps cut; sized = λ h. push_size net ps ok cut }
-
--- spent pushes are pushes of any network
-pub pushes_spent : (net : FlowNet) (ps : List PushPart) → ArePushesOf net (push_state ps true)
-pushes_spent net ps = record { ranges = λ h. absurd (false≢true (sym h)); sized = λ h. absurd (false≢true (sym h)) }

@@ -8,4 +8,3 @@ pub mod PhaseLaws
 pub mod RelabelLaws
 pub mod StepLaws
 pub mod PartLaws
-pub mod WishLaws

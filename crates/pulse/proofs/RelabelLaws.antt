@@ -1,7 +1,7 @@
 -- A flow whose labels become exact, and when that is due.
-use Rattle.std.proofs.Common.{◌≡◌, ℕ, ◌<◌, ◌≤◌, ◌%◌, ◌==◌, Bool, true, false, List, length, slice_index, refl, arith, sym, ap, ◌∙◌, subst}
+use Rattle.std.proofs.Common.{◌≡◌, ℕ, ◌<◌, ◌≤◌, ◌%◌, ◌==◌, Bool, true, false, List, length, slice_index, refl, sym, ap, ◌∙◌, subst}
 use Rattle.std.proofs.lemmas.Bool.{eq-eqb, ne_eqb, and_from, and_left, and_right}
-use Rattle.flow_theory.specs.Flow.{State, Walk}
+use Rattle.flow_theory.specs.Flow.{State}
 use Rattle.flow_theory.specs.Laws.{IsDistance}
 use Rattle.flow_theory.proofs.ExactLabelLaws.{exact-rises}
 use Rattle.frame_net.specs.FlowNet.{FlowNet, node_count, IsFlowNet}
@@ -13,9 +13,9 @@ use Rattle.flow_whole.specs.Runs.{any_active}
 use Rattle.flow_whole.proofs.AgreeingStateLaws.{agree_self, sound_same}
 use Rattle.flow_whole.proofs.HoldingLaws.{held_cut, held_lists, held_state}
 use Rattle.flow_whole.proofs.LabelLaws.{labelled_parts}
-use Rattle.flow_whole.specs.Distances.{distance, exact}
+use Rattle.flow_whole.specs.Distances.{exact}
 use Rattle.flow_whole.specs.ExactRuns.{after_pulse}
-use Rattle.flow_whole.proofs.DistanceLaws.{distance_is, distance_same, exact_is}
+use Rattle.flow_whole.proofs.DistanceLaws.{exact_is}
 use Rattle.flow_whole.proofs.RunLaws.{exact_sound, after-due, after-not}
 use Rattle.pulse.specs.Values.{FlowState, flow_state}
 use Rattle.pulse.specs.Conditions.{IsBetween, IsFlowOf, state_of}
@@ -59,20 +59,6 @@ relabelled net f qs seen ls lseen next lnow ds cs b ok ef es el en size between 
     subst (λ (g : FlowState). IsRelabelled net g (flow_state qs lnow ds cs b)) here
     (subst (λ (x : Bool). IsRelabelled net (flow_state qs ls ds cs false) (flow_state qs lnow ds cs x)) (sym eb)
     (subst (λ (x : List ℕ). IsRelabelled net (flow_state qs ls ds cs false) (flow_state qs x ds cs false)) (sym en) done))
-
--- labels that have become exact are the distances of the state that they are of
-pub labels_exact : (n : ℕ) (s t : State) → Agree n (exact n s) t → IsDistance n t t.label
-labels_exact n s t agree = record {
-  small = λ v h. omega (arith, same v h, far.small v h);
-  walk = λ v h near. subst (λ (k : ℕ). Walk n t k v) (same v h) (far.walk v h (omega (arith, same v h, near)));
-  least = λ v k h way. omega (arith, same v h, far.least v k h way);
-}
-  where
-    same : (v : ℕ) → v < n → distance n s v ≡ t.label v
-    same v h = agree.label v h
-
-    far : IsDistance n t (distance n s)
-    far = distance_same n s t agree.res (distance n s) (distance_is n s)
 
 -- ---- whether exact labels are due
 

@@ -1,7 +1,7 @@
 -- What it means that a flow and pushes are of a network.
-use Rattle.std.specs.Prelude.{◌≡◌, ℕ, ◌<◌, true, false, cond, length, slice_index, slice_index_or, Bool}
+use Rattle.std.specs.Prelude.{◌≡◌, ℕ, ◌<◌, false, cond, length, slice_index, slice_index_or, Bool}
 use Rattle.flow_theory.specs.Flow.{State, IsPreflow, IsValid, is_active, sum_below}
-use Rattle.flow_theory.specs.Laws.{IsDistance, started}
+use Rattle.flow_theory.specs.Laws.{started}
 use Rattle.frame_net.specs.FlowNet.{FlowNet, node_count, cap_at, IsFlowNet}
 use Rattle.flow_part.specs.Parts.{Cells, LabelsFit, IsSound, Agree, pair, pairs}
 use Rattle.flow_whole.specs.Marks.{AllMarked}
@@ -66,18 +66,13 @@ NoneActive net f = (v : ℕ) → v < node_count net → is_active (node_count ne
 abbrev pub active_count : FlowNet → FlowState → ℕ
 active_count net f = sum_below (node_count net) (λ v. cond (is_active (node_count net) (state_of net f) v) 1 0)
 
--- the labels are the residual distances to the sink
-abbrev pub HasExactLabels : FlowNet → FlowState → Type 0
-HasExactLabels net f = IsDistance (node_count net) (state_of net f) (slice_index f.labels)
-
--- a greatest flow of the network, as a preflow: excess that can't reach the sink stays where it is; with exact labels where they are said to be
+-- a greatest flow of the network, as a preflow: excess that can't reach the sink stays where it is
 pub record IsMaxPreflow (net : FlowNet) (m : RunEnd) : Type 0 where
   pub fits : IsFlowOf net m.flow
   pub unspent : m.flow.spent ≡ false
   pub preflow : IsPreflow (node_count net) (pair net net.caps) (state_of net m.flow)
   pub valid : IsValid (node_count net) (state_of net m.flow)
   pub none_active : NoneActive net m.flow
-  pub exact : m.exact ≡ true → HasExactLabels net m.flow
 
 -- the end of the run from the start, pulse by pulse, with exact labels after every N-th pulse that leaves a node active
 abbrev pub IsRunEnd : FlowNet → RunEnd → Type 0

@@ -96,8 +96,7 @@ pub record PushState : Type 0 where
 abbrev pub push_state : List PushPart → Bool → PushState
 push_state parts spent = record { ranges = map push_range parts; values = values_of parts; spent = spent; walked = min (rows_walked parts) (2 ^ 32 - 1) }
 
--- the flow at the end of a run, the number of its pulses, and whether its labels are known to be exact
+-- the flow at the end of a run, and the number of its pulses
 pub record RunEnd : Type 0 where
   pub flow : FlowState
   pub pulses : ℕ
-  pub exact : Bool

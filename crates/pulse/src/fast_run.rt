@@ -1,11 +1,11 @@
 //! Pulses from the start until no node is active, with exact labels whenever they are worth their walk: the global relabeling of
 //! Cherkassky and Goldberg (1997). A walk goes over all arcs; it is made at the start, and again once the rows walked since hold more
 //! than a quarter of the arcs.
-ghost use Rattle.std.specs.Prelude.{◌≡◌, ◌*◌, ◌<◌, ◌≤◌, ◌⊎◌, IfOk, OnOk, false, length, true};
+ghost use Rattle.std.specs.Prelude.{◌≡◌, ◌*◌, ◌<◌, ◌≤◌, ◌⊎◌, IfOk, OnOk, false, length};
 ghost use Rattle.frame_net.specs.FlowNet.{node_count};
 ghost use Rattle.flow_part.specs.Parts.{Agree};
 ghost use Rattle.flow_whole.specs.Distances.{exact};
-ghost use Rattle.pulse.specs.Conditions.{ArePushesOf, HasExactLabels, IsBetween, IsMaxPreflow, NoneActive, active_count, state_of};
+ghost use Rattle.pulse.specs.Conditions.{ArePushesOf, IsBetween, IsMaxPreflow, NoneActive, active_count, state_of};
 ghost use Rattle.pulse.specs.Phases.{AfterPulse};
 ghost use Rattle.pulse.specs.Sharing.{first_share};
 
@@ -13,16 +13,13 @@ use crate::active::{active_nodes, is_active};
 use crate::crew::Crew;
 use crate::error::PulseError;
 use crate::flow::Flow;
-use crate::flow_tables::{FlowTables, MOST_ARCS_KEPT};
 use crate::gate::PhaseGate;
 use crate::max_preflow::MaxPreflow;
 use crate::phases::{deliver_by, read_by};
 use crate::pushes::Pushes;
 use crate::relabel::{queue_for, relabel};
 use crate::sharing::Share;
-use crate::wishes::send_along;
 use crate::workers::part_flow;
-use aig_graph::NoMemory;
 use frame_net::Net;
 use std::alloc::Global;
 use std::thread::Threads;
@@ -48,71 +45,10 @@ pub fn run_with_global_relabeling<G: PhaseGate>(
     net.known();
     // At the start no nodes are active but those that the source has an arc to, and of these the ones from which the sink is reached.
     let first = Share::among(1).next(net, net.start(1), false, crew.workers());
-    let mut flow = Flow::start_for(alloc, net, first.parts, Vec::new(alloc))?;
-    let mut pushes = Pushes::new_for(alloc, net, first.parts, Vec::new(alloc))?;
-    let ended = run(rt, alloc, net, &mut flow, &mut pushes, crew, first)?;
-    Ok(MaxPreflow {
-        flow,
-        pulses: ended.pulses,
-        exact: ended.exact,
-    })
-}
-
-/// The flow from which a run along wishes begins, with its residuals in such memory.
-fn start_along(
-    alloc: Global,
-    net: &Net,
-    wishes: &mut [u32],
-    memory: Vec<u32>,
-) -> Result<Flow, NoMemory>
-    ensures { IfOk result (IsBetween net.now) }
-{
-    net.known();
-    let mut flow = Flow::start_for(alloc, net, 1, memory)?;
-    send_along(net, &mut flow, wishes);
-    Ok(flow)
-}
-
-/// The memory of the pushes, or none where the network is large.
-fn memory_of(alloc: Global, net: &Net, pushes: Pushes) -> Vec<u32> {
-    if net.arcs() > MOST_ARCS_KEPT {
-        drop(pushes);
-        return Vec::new(alloc);
-    }
-    pushes.into_memory(alloc)
-}
-
-/// The same run from another start: after the source's arcs are filled, units go along wishes. A wish is a number of units for an arc, as the
-/// flow of a network like this one that the arc had there. Before the first pulse the wishes' memory becomes that of the pushes.
-///
-/// The residuals stand in the memory of `tables`; that of a small network's pushes is put there once they are done with, and that of the
-/// residuals is the preflow's (`MaxPreflow::into_residuals`).
-///
-/// It ends with a maximum preflow whatever is wished, after at most `2 * N * N` pulses. With a wish for each arc the start is made in one part,
-/// by the calling thread; with any other number of them nothing is sent.
-pub fn run_along_wishes<G: PhaseGate>(
-    rt: &(impl Threads + Sync),
-    alloc: Global,
-    net: &Net,
-    crew: &Crew<G>,
-    mut wishes: Vec<u32>,
-    tables: &mut FlowTables,
-) -> Result<MaxPreflow, PulseError>
-    ensures greatest { IfOk result (λ m. IsMaxPreflow net.now m) }
-    ensures bounded { IfOk result (λ m. m.pulses ≤ 2 * (node_count net.now * node_count net.now)) }
-{
-    net.known();
-    let first = Share::among(1);
-    let memory = tables.take_residuals(alloc);
-    let mut flow = start_along(alloc, net, wishes.as_mut_slice(), memory)?;
-    let mut pushes = Pushes::new_for(alloc, net, 1, wishes)?;
-    let ended = run(rt, alloc, net, &mut flow, &mut pushes, crew, first)?;
-    tables.pushes = memory_of(alloc, net, pushes);
-    Ok(MaxPreflow {
-        flow,
-        pulses: ended.pulses,
-        exact: ended.exact,
-    })
+    let mut flow = Flow::start_for(alloc, net, first.parts)?;
+    let mut pushes = Pushes::new_for(alloc, net, first.parts)?;
+    let pulses = run(rt, alloc, net, &mut flow, &mut pushes, crew, first)?;
+    Ok(MaxPreflow { flow, pulses })
 }
 
 /// Parts the flow for the next pulse, so that both its phases find the lists of the last one in their parts.
@@ -156,22 +92,19 @@ fn is_due(net: &Net, walked: usize) -> bool {
     walked > net.arcs() / 4
 }
 
-/// Makes the labels exact where they are due, and then begins anew to count the arcs that are walked; returns whether it did so.
-fn relabel_after_walks(net: &Net, flow: &mut Flow, queue: &mut [u32], walked: &mut usize) -> bool
+/// Makes the labels exact where they are due, and then begins anew to count the arcs that are walked.
+fn relabel_after_walks(net: &Net, flow: &mut Flow, queue: &mut [u32], walked: &mut usize)
     requires flow { IsBetween net.now flow.old }
     requires queue { length queue.old ≡ node_count net.now }
     ensures flow { IsBetween net.now flow.new }
     ensures labels { (flow.new ≡ flow.old)
         ⊎ Agree (node_count net.now) (exact (node_count net.now) (state_of net.now flow.old))
         (state_of net.now flow.new) }
-    ensures exact { result ≡ true → HasExactLabels net.now flow.new }
 {
-    if !is_due(net, *walked) {
-        return false;
+    if is_due(net, *walked) {
+        relabel(net, flow, queue);
+        *walked = 0;
     }
-    relabel(net, flow, queue);
-    *walked = 0;
-    true
 }
 
 /// How the first pulse is shared out, once the labels are exact.
@@ -189,14 +122,7 @@ fn first_share(net: &Net, flow: &Flow, begun: Share, crew: u32) -> Share
     begun.next(net, active_nodes(net, flow), false, crew)
 }
 
-/// How many pulses a run made, and whether the labels are exact at its end: they are where no pulse came after they were made so.
-#[derive(Clone, Copy)]
-struct Ended {
-    pulses: u64,
-    exact: bool,
-}
-
-/// Pulses until no node is active, from a flow that was parted so.
+/// Pulses until no node is active, from a flow that was parted so; returns their number.
 fn run<R: Threads + Sync, G: PhaseGate>(
     rt: &R,
     alloc: Global,
@@ -205,21 +131,19 @@ fn run<R: Threads + Sync, G: PhaseGate>(
     pushes: &mut Pushes,
     crew: &Crew<G>,
     begun: Share,
-) -> Result<Ended, PulseError>
+) -> Result<u64, PulseError>
     requires some { 0 < begun.parts }
     requires flow { IsBetween net.now flow.old }
     requires pushes { ArePushesOf net.now pushes.old }
     requires usable { pushes.old.spent ≡ false }
-    ensures flow { IfOk result (λ e. IsBetween net.now flow.new) }
-    ensures ended { IfOk result (λ e. NoneActive net.now flow.new) }
-    ensures bounded { IfOk result (λ e. e.pulses ≤ 2 * (node_count net.now * node_count net.now)) }
-    ensures exact { IfOk result (λ e. e.exact ≡ true → HasExactLabels net.now flow.new) }
+    ensures flow { IfOk result (λ k. IsBetween net.now flow.new) }
+    ensures ended { IfOk result (λ k. NoneActive net.now flow.new) }
+    ensures bounded { IfOk result (λ k. k ≤ 2 * (node_count net.now * node_count net.now)) }
 {
     net.known();
     let mut room = queue_for(alloc, net)?;
     let queue = room.as_mut_slice();
     relabel(net, flow, queue);
-    let mut exact = true;
     let mut share = first_share(net, flow, begun, crew.workers());
     let mut count = 0;
     let mut walked: usize = 0;
@@ -230,10 +154,7 @@ fn run<R: Threads + Sync, G: PhaseGate>(
         let active = pushes.walked() as usize;
         share = share.next(net, active, is_due(net, walked), crew.workers());
         part_ahead(alloc, net, flow, share.parts)?;
-        exact = relabel_after_walks(net, flow, queue, &mut walked);
+        relabel_after_walks(net, flow, queue, &mut walked);
     }
-    Ok(Ended {
-        pulses: count,
-        exact,
-    })
+    Ok(count)
 }

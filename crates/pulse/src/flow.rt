@@ -62,16 +62,11 @@ impl Flow {
     pub fn start(alloc: Global, net: &Net) -> Result<Flow, NoMemory>
         ensures { IfOk result (λ f. IsStart net.now f) }
     {
-        Flow::start_for(alloc, net, 1, Vec::new(alloc))
+        Flow::start_for(alloc, net, 1)
     }
 
-    /// The flow at the start, in parts for so many workers, with its residuals in the memory of a table whose values don't matter.
-    pub(crate) fn start_for(
-        alloc: Global,
-        net: &Net,
-        workers: u32,
-        memory: Vec<u32>,
-    ) -> Result<Flow, NoMemory>
+    /// The flow at the start, in parts for so many workers.
+    pub(crate) fn start_for(alloc: Global, net: &Net, workers: u32) -> Result<Flow, NoMemory>
         requires { 0 < workers }
         ensures start { IfOk result (λ f. IsStart net.now f) }
         ensures shares { IfOk result (λ f. AreFlowRangesOf (node_count net.now) workers f.ranges) }
@@ -82,7 +77,7 @@ impl Flow {
         let labels = start_labels(alloc, net)?;
         let caps = net.capacities().share()?;
         let delivered = no_marks(alloc, nodes)?;
-        let parts = start_parts(alloc, net, workers, memory)?;
+        let parts = start_parts(alloc, net, workers)?;
         Ok(Flow {
             labels,
             delivered,
@@ -145,22 +140,5 @@ impl Flow {
         turn(self.labels.as_mut_slice(), self.parts.as_slice(), false);
         unmark(self.delivered.as_mut_slice());
         self.phase = self.phase.wrapping_add(2);
-    }
-
-    /// The memory of the residuals of the last part, which is the only one where one thread made the last pulse.
-    pub(crate) fn into_residuals(self, alloc: Global) -> Vec<u32> {
-        let Flow {
-            labels: _labels,
-            delivered: _delivered,
-            caps: _caps,
-            mut parts,
-            phase: _phase,
-            spent: _spent,
-            listed: _listed,
-        } = self;
-        match parts.pop() {
-            Some(part) => part.residuals,
-            None => Vec::new(alloc),
-        }
     }
 }

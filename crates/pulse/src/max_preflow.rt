@@ -3,7 +3,6 @@ ghost use Rattle.std.specs.Prelude.{◌≡◌, ◌<◌, length, pos, slice_index
 
 use crate::flow::Flow;
 use flow_part::residual_at;
-use std::alloc::Global;
 use std::marker::Model;
 
 /// The preflow at the end of a run: no node is active, so that as much reaches the sink as can. Excess that can't reach the sink
@@ -12,7 +11,6 @@ use std::marker::Model;
 pub struct MaxPreflow {
     pub(crate) flow: Flow,
     pub(crate) pulses: u64,
-    pub(crate) exact: bool,
 }
 
 impl Model for MaxPreflow {
@@ -20,7 +18,7 @@ impl Model for MaxPreflow {
 
     ghost Value = { RunEnd };
 
-    ghost view = { λ m. record { flow = m.flow; pulses = m.pulses; exact = m.exact } };
+    ghost view = { λ m. record { flow = m.flow; pulses = m.pulses } };
 }
 
 impl MaxPreflow {
@@ -55,19 +53,5 @@ impl MaxPreflow {
         ensures { result ≡ slice_index self.now.flow.labels v }
     {
         self.flow.label(v)
-    }
-
-    /// Whether the labels are known to be exact: each the residual distance to the sink, or the number of nodes where there is none. So they
-    /// are where no pulse came after they were made exact.
-    pub fn has_exact_labels(&self) -> bool
-        ensures { result ≡ self.now.exact }
-    {
-        self.exact
-    }
-
-    /// The memory of the residuals, for a flow to come (`FlowTables`).
-    pub fn into_residuals(self, alloc: Global) -> Vec<u32> {
-        let MaxPreflow { flow, .. } = self;
-        flow.into_residuals(alloc)
     }
 }

@@ -43,23 +43,18 @@ impl Pushes {
         ensures fits { IfOk result (λ p. ArePushesOf net.now p) }
         ensures unspent { IfOk result (λ p. p.spent ≡ false) }
     {
-        Pushes::new_for(alloc, net, 1, Vec::new(alloc))
+        Pushes::new_for(alloc, net, 1)
     }
 
-    /// Room for the pushes, in parts for so many workers, in the memory of a table whose values don't matter.
-    pub(crate) fn new_for(
-        alloc: Global,
-        net: &Net,
-        workers: u32,
-        memory: Vec<u32>,
-    ) -> Result<Pushes, NoMemory>
+    /// Room for the pushes, in parts for so many workers.
+    pub(crate) fn new_for(alloc: Global, net: &Net, workers: u32) -> Result<Pushes, NoMemory>
         requires { 0 < workers }
         ensures fits { IfOk result (λ p. ArePushesOf net.now p) }
         ensures unspent { IfOk result (λ p. p.spent ≡ false) }
         ensures shares { IfOk result (λ p. ArePushRangesOf (node_count net.now) workers p.ranges) }
     {
         net.known();
-        let parts = push_parts(alloc, net, workers, memory)?;
+        let parts = push_parts(alloc, net, workers)?;
         Ok(Pushes {
             parts,
             spent: false,
@@ -88,15 +83,6 @@ impl Pushes {
         requires usable { self.now.spent ≡ false }
     {
         arcs_over(net, self.parts.as_slice())
-    }
-
-    /// The memory of the pushes of the last part, which is the only one where one thread made the last pulse.
-    pub(crate) fn into_memory(self, alloc: Global) -> Vec<u32> {
-        let Pushes { mut parts, .. } = self;
-        match parts.pop() {
-            Some(part) => part.values,
-            None => Vec::new(alloc),
-        }
     }
 
     /// Whether a read phase was refused.

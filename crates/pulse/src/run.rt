@@ -30,8 +30,8 @@ pub fn run_to_end<G: PhaseGate>(
     ensures greatest { IfOk result (λ m. IsMaxPreflow net.now m) }
     ensures run { IfOk result (λ m. IsRunEnd net.now m) }
 {
-    let mut flow = Flow::start_for(alloc, net, crew.workers(), Vec::new(alloc))?;
-    let mut pushes = Pushes::new_for(alloc, net, crew.workers(), Vec::new(alloc))?;
+    let mut flow = Flow::start_for(alloc, net, crew.workers())?;
+    let mut pushes = Pushes::new_for(alloc, net, crew.workers())?;
     let mut queue = queue_for(alloc, net)?;
     let pulses = run(
         rt,
@@ -42,11 +42,7 @@ pub fn run_to_end<G: PhaseGate>(
         queue.as_mut_slice(),
         crew,
     )?;
-    Ok(MaxPreflow {
-        flow,
-        pulses,
-        exact: false,
-    })
+    Ok(MaxPreflow { flow, pulses })
 }
 
 /// Pulses until no node is active; returns their number.

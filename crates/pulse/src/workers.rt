@@ -34,7 +34,7 @@ fn part_pushes(
         ⊎ ArePushShares (node_count net.now) workers parts.new.items }
 {
     if parts.len() != workers as usize {
-        *parts = push_parts(alloc, net, workers, Vec::new(alloc))?;
+        *parts = push_parts(alloc, net, workers)?;
     }
     Ok(())
 }

@@ -3,6 +3,7 @@ pub mod MovedLaws
 pub mod FreeLaws
 pub mod ReadLaws
 pub mod NameLaws
+pub mod HeldLaws
 pub mod StartLaws
 pub mod ValueLaws
 pub mod StreamLaws

@@ -24,7 +24,8 @@ module _ (p : ℕ → Bool) (start : ℕ) where
   abbrev rank_of : ℕ → ℕ
   rank_of j = count_below p (start + j)
 
-  ranks-rising : (xs : List ℕ) → IsStrictlyIncreasing xs → All (λ j. p (start + j) ≡ true) xs → IsStrictlyIncreasing (map rank_of xs)
+  -- the ranks of rising places that pass rise
+  pub ranks-rising : (xs : List ℕ) → IsStrictlyIncreasing xs → All (λ j. p (start + j) ≡ true) xs → IsStrictlyIncreasing (map rank_of xs)
   ranks-rising xs rising all k h =
       let long : length (map rank_of xs) ≡ length xs = length-map xs rank_of in
       let first : get_or (map rank_of xs) k 0 ≡ rank_of (get_or xs k 0) = get_or-map rank_of xs k 0 0 (omega arith) in

@@ -96,9 +96,17 @@ moved_props m = mapped_props (moved_literal m) m.circuit.props
 abbrev pub stays : Move → Symbol → Bool
 stays m name = is_latched m (first_latch m.circuit.aig + name.position)
 
+-- the new position of a latch that stays
+abbrev pub moved_position : Move → ℕ → ℕ
+moved_position m j = count_below (is_latched m) (first_latch m.circuit.aig + j)
+
+-- the positions of the held latches after the move: all of them stay
+abbrev pub moved_held : Move → List ℕ
+moved_held m = map (moved_position m) m.held
+
 -- the name of a latch that stays, at the latch's new position
 abbrev pub moved_name : Move → Symbol → Symbol
-moved_name m name = record name { position = count_below (is_latched m) (first_latch m.circuit.aig + name.position) }
+moved_name m name = record name { position = moved_position m name.position }
 
 unfoldable pub moved_symbols : Move → Symbols
 moved_symbols m = record m.circuit.symbols { latches = map (moved_name m) (filter (stays m) m.circuit.symbols.latches) }

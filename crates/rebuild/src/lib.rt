@@ -10,6 +10,7 @@ mod names;
 mod numbers;
 mod plan;
 mod properties;
+mod ranks;
 mod starting;
 mod values;
 

@@ -1,6 +1,6 @@
 //! What decides which variables have a latch after latches have moved over a closed set: whether they are in the set, and whether
 //! they are held or read from outside it.
-ghost use Rattle.std.specs.Prelude.{◌≡◌, ◌||◌, ◌&&◌, IfOk, length};
+ghost use Rattle.std.specs.Prelude.{◌≡◌, ◌<◌, ◌||◌, ◌&&◌, All, IfOk, length};
 ghost use Rattle.aig_graph.specs.Graph.{first_latch, is_free, latches_and_gates};
 ghost use Rattle.aig_graph.specs.Closed.{is_held, IsClosedSet};
 ghost use Rattle.aig_graph.specs.Border.{border_size, is_read_outside};
@@ -8,6 +8,7 @@ ghost use Rattle.aig_graph.specs.Move.{Move, move_of};
 ghost use Rattle.variable_tables.specs.Marking.{mark_at, Marks};
 ghost use Rattle.rebuild.specs.Entries.{by_variable, latched_by};
 
+use crate::ranks::ranks_of;
 use aig_graph::{
     Aig, Circuit, ClosedSet, Keep, Latch, NoMemory, Props, Reset, mark_held, mark_read,
 };
@@ -73,7 +74,7 @@ fn latched_marks(
 
 impl MoveMarks {
     ghost use Rattle.rebuild.specs.Marked.{AreMarksOf};
-    ghost use Rattle.rebuild.specs.Moved.{is_latched};
+    ghost use Rattle.rebuild.specs.Moved.{is_latched, moved_graph, moved_held};
     ghost use Rattle.variable_tables.specs.Marking.{has};
 
     /// The marks of a closed set's move. Linear in the circuit; inputs cost nothing.
@@ -115,6 +116,35 @@ impl MoveMarks {
             → result.now ≡ by_variable m.circuit.aig (is_latched m) }
     {
         self.latched.as_slice()
+    }
+
+    /// Where the held latches stand after the move. Takes time in the latches up to the last that is held; where none is, it takes no
+    /// time and no memory.
+    ///
+    /// # Errors
+    ///
+    /// Memory is refused.
+    pub fn held_after(
+        &self,
+        alloc: Global,
+        circuit: &Circuit,
+        set: &ClosedSet,
+        keep: &Keep,
+    ) -> Result<Keep, NoMemory>
+        requires closed { IsClosedSet circuit.now.aig keep.now set.now }
+        requires marked { AreMarksOf (move_of circuit.now keep.now set.now) self.now }
+        requires in_range { All (λ j. j < length circuit.now.aig.latches) keep.now }
+        ensures value { IfOk result (λ after. after
+            ≡ moved_held (move_of circuit.now keep.now set.now)) }
+        ensures in_range { IfOk result (λ after. All (λ j. j < length (moved_graph
+            (move_of circuit.now keep.now set.now)).latches) after) }
+    {
+        let positions = keep.positions();
+        if positions.is_empty() {
+            return Ok(Keep::none());
+        }
+        let ranks = ranks_of(alloc, self.latched.as_slice(), positions)?;
+        Ok(Keep::new(ranks))
     }
 
     /// The size of the set's border, which is how many known latches there are after the move.

@@ -5,7 +5,7 @@ use Rattle.file_words.specs.declared.fault.ReadError.{ReadError}
 use Rattle.file_words.specs.Codes.{name_of, offset_of}
 use Rattle.reports.specs.Retimings.{change}
 use Rattle.reports.specs.declared.batch.JobReport.{JobReport}
-use Rattle.reports.specs.declared.batch.JobReport.TheVariants.{Done, Refused, NoMemory, NoSuchName}
+use Rattle.reports.specs.declared.batch.JobReport.TheVariants.{Done, Refused, NoMemory, NoSuchLatch, NoSuchName}
 
 unfoldable pub offset_text : Option ℕ → List ℕ
 offset_text None = []
@@ -23,6 +23,7 @@ report_text (Done before after) = done_text before after
 report_text (Refused fault) = refusal_text fault
 report_text NoMemory = codes " memory" ++ 10 ∷ []
 report_text NoSuchName = codes " refused NoSuchName" ++ 10 ∷ []
+report_text NoSuchLatch = codes " refused NoSuchLatch" ++ 10 ∷ []
 
 -- the line of the file with this number
 abbrev pub job_line : ℕ → JobReport → List ℕ

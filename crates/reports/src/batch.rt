@@ -21,6 +21,8 @@ pub enum JobReport {
     NoMemory,
     /// A name that is to be held is that of no latch.
     NoSuchName,
+    /// A position that is to be held is that of no latch.
+    NoSuchLatch,
 }
 
 fn put_offset<W: CountedWrite>(out: &mut Buffered<'_, W>, offset: Option<u64>)
@@ -59,6 +61,7 @@ fn put_report<W: CountedWrite>(out: &mut Buffered<'_, W>, report: JobReport)
         JobReport::Refused(fault) => put_refusal(out, fault),
         JobReport::NoMemory => out.put(b" memory\n"),
         JobReport::NoSuchName => out.put(b" refused NoSuchName\n"),
+        JobReport::NoSuchLatch => out.put(b" refused NoSuchLatch\n"),
     }
 }
 

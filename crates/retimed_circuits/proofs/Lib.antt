@@ -2,7 +2,8 @@ pub mod FoundLaws
 pub mod CertifiedLaws
 pub mod ReportLaws
 pub mod RunLaws
+pub mod StayLaws
 pub mod HeldLaws
-pub mod NameLaws
+pub mod CircuitLaws
 pub mod LimitLaws
 pub mod MergedRunLaws

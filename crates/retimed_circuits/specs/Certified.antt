@@ -8,29 +8,28 @@ use Rattle.aig_graph.specs.declared.choice.Choice.{Choice}
 use Rattle.path_levels.specs.Bounded.{bounded}
 use Rattle.retimed_circuits.specs.declared.report.FrameReport.{FrameReport}
 use Rattle.retimed_circuits.specs.declared.report.Retimed.{Retimed}
-use Rattle.aig_graph.specs.Keep.{held_in}
-use Rattle.retimed_circuits.specs.Frames.{AfterFrames, IsFound, count_in}
+use Rattle.retimed_circuits.specs.Frames.{AfterFrames, IsFound, count_over}
 
 -- the certificate passes all tests for c, or for c bounded
-pub data PassesWithin (bound : ℕ) (names : List (List ℕ)) (c : Netlist) (cert : Certificate) : Type 0 where
-  passes_whole : IsVerdict c (held_in names c) cert Yes → PassesWithin bound names c cert
-  passes_bounded : IsVerdict (bounded bound (held_in names c) c) (held_in names c) cert Yes → PassesWithin bound names c cert
+pub data PassesWithin (bound : ℕ) (held : List ℕ) (c : Netlist) (cert : Certificate) : Type 0 where
+  passes_whole : IsVerdict c held cert Yes → PassesWithin bound held c cert
+  passes_bounded : IsVerdict (bounded bound held c) held cert Yes → PassesWithin bound held c cert
 
 -- the certificate passes all tests for c; under a bound it may be for c bounded
-abbrev pub Passes : Option ℕ → List (List ℕ) → Netlist → Certificate → Type 0
-Passes None names c cert = IsVerdict c (held_in names c) cert Yes
-Passes (Some bound) names c cert = PassesWithin bound names c cert
+abbrev pub Passes : Option ℕ → List ℕ → Netlist → Certificate → Type 0
+Passes None held c cert = IsVerdict c held cert Yes
+Passes (Some bound) held c cert = PassesWithin bound held c cert
 
 -- the gates are the set that is found in c, the certificate has its count, and passes all tests
-pub record IsCertificate (bound : Option ℕ) (choice : Choice) (names : List (List ℕ)) (c : Netlist) (cert : Certificate) : Type 0 where
-  pub found : IsFound bound choice names c cert.gates
-  pub counted : cert.count ≡ count_in names c cert.gates
-  pub passes : Passes bound names c cert
+pub record IsCertificate (bound : Option ℕ) (choice : Choice) (held : List ℕ) (c : Netlist) (cert : Certificate) : Type 0 where
+  pub found : IsFound bound choice held c cert.gates
+  pub counted : cert.count ≡ count_over held c cert.gates
+  pub passes : Passes bound held c cert
 
--- certificate i, from 0, is one of the circuit that i frames make of c
-abbrev pub AreOfFrames : Option ℕ → Choice → List (List ℕ) → Netlist → List Certificate → Type 0
-AreOfFrames bound choice names c certs = (i : ℕ) (d : Netlist) (kept : List ℕ) (reports : List FrameReport) (cert : Certificate)
-    → AfterFrames bound choice names c i d kept reports → slice_get certs i ≡ Some cert → IsCertificate bound choice names d cert
+-- certificate i, from 0, is one of the circuit that i frames make of c, with the held latches where they stand in it
+abbrev pub AreOfFrames : Option ℕ → Choice → List ℕ → Netlist → List Certificate → Type 0
+AreOfFrames bound choice held c certs = (i : ℕ) (d : Netlist) (kept now : List ℕ) (reports : List FrameReport) (cert : Certificate)
+    → AfterFrames bound choice held c i d kept now reports → slice_get certs i ≡ Some cert → IsCertificate bound choice now d cert
 
 -- the certificate has the count and as many gates as are reported
 pub record IsReported (cert : Certificate) (report : FrameReport) : Type 0 where
@@ -43,8 +42,8 @@ AreReported certs reports = (i : ℕ) (cert : Certificate) (report : FrameReport
 
 -- where certificates are wanted, there is one of each circuit that a frame was taken of, and one of the last circuit where the limit of
 -- frames didn't end the run; else there are none
-pub record AreCertified (bound : Option ℕ) (choice : Choice) (c : Netlist) (names : List (List ℕ)) (max_frames : ℕ) (certify : Bool) (r : Retimed) : Type 0 where
-  pub each : AreOfFrames bound choice names c r.certificates
+pub record AreCertified (bound : Option ℕ) (choice : Choice) (c : Netlist) (held : List ℕ) (max_frames : ℕ) (certify : Bool) (r : Retimed) : Type 0 where
+  pub each : AreOfFrames bound choice held c r.certificates
   pub reported : AreReported r.certificates r.frames
   pub limited : certify ≡ true → length r.frames ≡ max_frames → length r.certificates ≡ length r.frames
   pub ended : certify ≡ true → length r.frames < max_frames → length r.certificates ≡ suc (length r.frames)

@@ -1,4 +1,4 @@
-//! Frames, one after another, and their laws: what a circuit is retimed to is one, and the latches that names hold stay.
+//! Frames, one after another, and their laws: what a circuit is retimed to is one, and held latches stay with their names and resets.
 #![tactic(auto)]
 
 mod laws;

@@ -1,17 +1,17 @@
 -- A map that follows a merging is one to what is merged, and so is one that follows a cleaning before it.
-use Rattle.std.proofs.Common.{ℕ, ◌≡◌, List, length, Ok, ap, sym, ◌∙◌, subst}
+use Rattle.std.proofs.Common.{ℕ, ◌≡◌, ◌<◌, List, length, Ok, ap, sym, ◌∙◌, subst}
+use Rattle.std.specs.List.{All}
 use Rattle.std.proofs.lemmas.List.{length-map}
 use Rattle.std.proofs.lemmas.List.FromFn.{length-range_with_len}
 use Rattle.aig_graph.specs.Circuits.{Netlist}
 use Rattle.aig_graph.specs.Graph.{Graph, first_latch, free_latches}
-use Rattle.aig_graph.specs.Keep.{held_in}
 use Rattle.aig_graph.specs.Laws.{all_free, composed}
 use Rattle.aig_graph.specs.Streams.{SameStreams}
 use Rattle.clean.specs.declared.cleaning.Cleaned.{Cleaned}
 use Rattle.cleaned_circuits.proofs.MergedLaws.{length-replaced_latches}
 use Rattle.cleaned_circuits.proofs.PassLaws.{IsCircuit, IsCircuit-cleans, cleans-streams}
 use Rattle.latch_merging.specs.declared.start.MergedStart.{MergedStart}
-use Rattle.latch_merging.proofs.StartLaws.{held-by, merges-by, streams-by}
+use Rattle.latch_merging.proofs.StartLaws.{in_range-by, merges-by, stay-by, streams-by}
 use Rattle.merged_latches.specs.Partitions.{IsCoarsest, IsMerged}
 use Rattle.merged_latches.specs.Readings.{substitutes_by}
 use Rattle.merged_latches.proofs.FinerLaws.{coarsest-one}
@@ -21,9 +21,11 @@ use Rattle.map_circuits.specs.Following.{state_of}
 use Rattle.map_circuits.specs.Steps.{read_functions}
 use Rattle.map_circuits.proofs.ReadFunctionLaws.{merged-step, read-within}
 use Rattle.state_maps.specs.States.{IsStateMap}
-use Rattle.retimed_circuits.specs.Frames.{CleansIn}
+use Rattle.retimed_circuits.specs.Frames.{CleansTo}
+use Rattle.retimed_circuits.specs.Names.{StayHeld}
+use Rattle.retimed_circuits.proofs.HeldLaws.{cleaning-keeps}
 use Rattle.retiming_maps.specs.declared.parts.MapParts.{MapParts}
-use Rattle.retiming_maps.specs.Mapping.{IsMapBy, LeadsOn}
+use Rattle.retiming_maps.specs.Mapping.{IsCleanedAlong, IsMapBy, LeadsOn}
 use Rattle.retiming_maps.specs.Merging.{IsMergedAfter, IsStartAlong}
 
 module _ (b d e : Netlist) (held kept reads : List ℕ) (g h : Graph) (functions old new : List ℕ) where
@@ -54,17 +56,20 @@ module _ (b d e : Netlist) (held kept reads : List ℕ) (g h : Graph) (functions
       Q = λ xs. IsStateMap b e kept (AreOne h new) (state_of h (read_functions (first_latch d.aig) functions xs))
 
 -- a map that follows a cleaning and then a merging is one to what frames start from
-pub started : (names : List (List ℕ)) (c : Netlist) (d : Cleaned) (old mid new : MapParts) (m : MergedStart) → IsCircuit c → CleansIn names c d.circuit d.kept_free → LeadsOn c old d.circuit d.kept_free mid
-    → IsMergedAfter names d mid new m → IsStartAlong names c old new m
-started names c d old mid new m valid cleans leads after =
-    let whole : IsCircuit d.circuit = IsCircuit-cleans d.circuit (held_in names c) c d.kept_free cleans valid in
-    let first : SameStreams c d.circuit d.kept_free = cleans-streams d.circuit (held_in names c) c d.kept_free cleans valid in
-    let then : SameStreams d.circuit m.circuit (all_free d.circuit.aig) = merged-streams (held_in names d.circuit) d.circuit m.circuit whole.graph whole.netlist after.merged in
+pub started : (held : List ℕ) (c : Netlist) (d : Cleaned) (old mid new : MapParts) (m : MergedStart) → IsCircuit c → All (λ j. j < length c.aig.latches) held → IsCleanedAlong held c old mid d
+    → IsMergedAfter d mid new m → IsStartAlong held c old new m
+started held c d old mid new m valid in_range along after =
+    let cleans : CleansTo held c d.circuit d.kept_free d.keep = record { cleans = along.cleaned; held_after = along.held_after } in
+    let whole : IsCircuit d.circuit = IsCircuit-cleans d.circuit held c d.kept_free along.cleaned valid in
+    let first : SameStreams c d.circuit d.kept_free = cleans-streams d.circuit held c d.kept_free along.cleaned valid in
+    let then : SameStreams d.circuit m.circuit (all_free d.circuit.aig) = merged-streams d.keep d.circuit m.circuit whole.graph whole.netlist after.merged in
+    let stay : StayHeld held c d.keep d.circuit = cleaning-keeps held c d.circuit d.kept_free d.keep valid in_range cleans in
     let P : List ℕ → Type 0 = λ places. LeadsOn c old m.circuit places new in
     let E : Type 0 = Unit {0} in
     record {
-      merges = merges-by {E = E} names c d (Ok m) cleans after.merged after.counted after.kept_free;
-      streams = streams-by {E = E} names c d (Ok m) first then after.kept_free;
-      held = held-by {E = E} names c d (Ok m) valid cleans after.merged;
-      leads = subst P (sym after.kept_free) (λ b kept p. after.leads b (composed kept d.kept_free) (leads b kept p));
+      merges = merges-by {E = E} held c d (Ok m) cleans after.merged after.counted after.keep after.kept_free;
+      streams = streams-by {E = E} held c d (Ok m) first then after.kept_free;
+      stay = stay-by {E = E} held c d (Ok m) stay after.merged after.keep;
+      in_range = in_range-by {E = E} held c d (Ok m) along.in_range after.merged after.keep;
+      leads = subst P (sym after.kept_free) (λ b kept p. after.leads b (composed kept d.kept_free) (along.leads b kept p));
     }

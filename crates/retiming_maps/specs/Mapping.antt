@@ -1,5 +1,5 @@
 -- A map of states that grows with a retiming.
-use Rattle.std.specs.Prelude.{ℕ, ◌≡◌, List, [], length}
+use Rattle.std.specs.Prelude.{ℕ, ◌≡◌, ◌<◌, All, List, [], length}
 use Rattle.aig_graph.specs.Circuits.{AreLiteralsOf, Netlist}
 use Rattle.aig_graph.specs.declared.properties.Symbols.{Symbols}
 use Rattle.aig_graph.specs.Graph.{Graph, IsGraph, free_latches}
@@ -7,6 +7,7 @@ use Rattle.aig_graph.specs.Laws.{composed}
 use Rattle.clean.specs.declared.cleaning.Cleaned.{Cleaned}
 use Rattle.clean.specs.declared.tracing.TracedPass.{TracedPass}
 use Rattle.cleaned_circuits.specs.Cleaned.{Cleans, IsPass}
+use Rattle.cleaned_circuits.specs.Held.{HeldAfter}
 use Rattle.map_circuits.specs.Constraining.{AreOne}
 use Rattle.map_circuits.specs.Following.{state_of}
 use Rattle.state_maps.specs.States.{IsStateMap}
@@ -51,9 +52,11 @@ pub record IsNextAlong (last : TracedPass) (old new : MapParts) (t : TracedPass)
   pub places : t.kept_free.items ≡ composed last.kept_free.items second
   pub leads : LeadsOn last.circuit old t.circuit second new
 
--- a cleaning that the map follows
+-- a cleaning that the map follows, and where the held latches stand then
 pub record IsCleanedAlong (held : List ℕ) (c : Netlist) (old new : MapParts) (d : Cleaned) : Type 0 where
   pub cleaned : Cleans d.circuit held c d.kept_free
+  pub held_after : HeldAfter d.circuit d.keep held c
+  pub in_range : All (λ j. j < length d.circuit.aig.latches) d.keep
   pub leads : LeadsOn c old d.circuit d.kept_free new
 
 -- the names of a map: those of the latches of both circuits

@@ -1,7 +1,6 @@
 -- A map of states that follows a merging.
-use Rattle.std.specs.Prelude.{ℕ, ◌≡◌, List}
+use Rattle.std.specs.Prelude.{ℕ, ◌≡◌, ◌<◌, All, List, length}
 use Rattle.aig_graph.specs.Circuits.{Netlist}
-use Rattle.aig_graph.specs.Keep.{held_in}
 use Rattle.aig_graph.specs.Streams.{SameStreams}
 use Rattle.clean.specs.declared.cleaning.Cleaned.{Cleaned}
 use Rattle.latch_merging.specs.declared.start.MergedStart.{MergedStart}
@@ -9,7 +8,7 @@ use Rattle.latch_merging.specs.declared.merging.MergedCircuit.{MergedCircuit}
 use Rattle.merged_latches.specs.Counts.{AreCounts}
 use Rattle.merged_latches.specs.Partitions.{IsMerged}
 use Rattle.retimed_circuits.specs.Merging.{MergesIn}
-use Rattle.retimed_circuits.specs.Names.{held_latches}
+use Rattle.retimed_circuits.specs.Names.{StayHeld}
 use Rattle.retiming_maps.specs.declared.parts.MapParts.{MapParts}
 use Rattle.retiming_maps.specs.Mapping.{LeadsOn, LeadsWhole}
 
@@ -23,16 +22,18 @@ pub record IsMergedAlong (held : List ℕ) (c : Netlist) (old new : MapParts) (m
   pub counted : AreCounts c.aig held m.counts
   pub leads : LeadsWhole c old m.circuit new
 
--- a merging that the map follows, of a circuit that was cleaned; all its free latches stay
-pub record IsMergedAfter (names : List (List ℕ)) (d : Cleaned) (old new : MapParts) (m : MergedStart) : Type 0 where
-  pub merged : IsMerged (held_in names d.circuit) d.circuit m.circuit
-  pub counted : AreCounts d.circuit.aig (held_in names d.circuit) m.counts
+-- a merging that the map follows, of a circuit that was cleaned; all its free latches stay, and the held ones where they are
+pub record IsMergedAfter (d : Cleaned) (old new : MapParts) (m : MergedStart) : Type 0 where
+  pub merged : IsMerged d.keep d.circuit m.circuit
+  pub counted : AreCounts d.circuit.aig d.keep m.counts
+  pub keep : m.keep ≡ d.keep
   pub kept_free : m.kept_free ≡ d.kept_free
   pub leads : LeadsWhole d.circuit old m.circuit new
 
 -- a cleaning and then a merging that the map follows
-pub record IsStartAlong (names : List (List ℕ)) (c : Netlist) (old new : MapParts) (m : MergedStart) : Type 0 where
-  pub merges : MergesIn names c m.circuit m.kept_free m.counts
+pub record IsStartAlong (held : List ℕ) (c : Netlist) (old new : MapParts) (m : MergedStart) : Type 0 where
+  pub merges : MergesIn held c m.circuit m.kept_free m.keep m.counts
   pub streams : SameStreams c m.circuit m.kept_free
-  pub held : held_latches names m.circuit ≡ held_latches names c
+  pub stay : StayHeld held c m.keep m.circuit
+  pub in_range : All (λ j. j < length m.circuit.aig.latches) m.keep
   pub leads : LeadsOn c old m.circuit m.kept_free new

@@ -1,14 +1,13 @@
 //! A map that follows a merging of latches: that each latch is what it reads as is a constraint, and the function of that is its function then.
 //! The cleaning before it comes first, so these constraints are of the functions that the cleaned circuit's latches have.
-ghost use Rattle.std.specs.Prelude.{OnOk, IfOk};
-ghost use Rattle.aig_graph.specs.Keep.{NoneMissing, held_in, names_of};
+ghost use Rattle.std.specs.Prelude.{◌<◌, All, OnOk, IfOk, length};
 ghost use Rattle.merged_latches.specs.Partitions.{IsCoarsest};
 ghost use Rattle.retiming_maps.specs.Mapping.{IsSomeMapTo};
 ghost use Rattle.retiming_maps.specs.Merging.{IsMergedAfter, IsMergedAlong, IsStartAlong, LeadsMerged};
 
 use crate::parts::MapParts;
 use crate::passes::cleaned_along;
-use aig_graph::{Circuit, Keep, Lit, keep_by_names};
+use aig_graph::{Circuit, Keep, Lit};
 use clean::Cleaned;
 use latch_merging::{MergedCircuit, MergedStart, latch_reading, merged_by};
 use map_circuits::{LatchFunctions, MapError, add_readings, read_functions};
@@ -58,43 +57,27 @@ fn merged_along(
     Ok(merged)
 }
 
-/// The same, where the latches that the names hold take no part.
-fn merged_by_names(
-    alloc: Global,
-    parts: &mut MapParts,
-    circuit: &Circuit,
-    names: &[Vec<u8>],
-) -> Result<MergedCircuit, MapError>
-    requires map { IsSomeMapTo circuit.now parts.old }
-    requires names { NoneMissing (names_of names.now) circuit.now }
-    ensures { IfOk result (IsMergedAlong (held_in (names_of names.now) circuit.now) circuit.now
-        parts.old parts.new) }
-{
-    let keep = keep_by_names(alloc, circuit, names)?;
-    merged_along(alloc, parts, circuit, &keep)
-}
-
 /// What a circuit that was cleaned is merged to, and the map with it.
 fn merged_after(
     alloc: Global,
     parts: &mut MapParts,
     cleaned: Cleaned,
-    names: &[Vec<u8>],
 ) -> Result<MergedStart, MapError>
-    requires map { IsSomeMapTo cleaned.circuit parts.old }
-    requires names { NoneMissing (names_of names.now) cleaned.circuit }
-    ensures { IfOk result (IsMergedAfter (names_of names.now) cleaned parts.old parts.new) }
+    requires { IsSomeMapTo cleaned.circuit parts.old }
+    ensures { IfOk result (IsMergedAfter cleaned parts.old parts.new) }
 {
     let Cleaned {
         circuit: before,
+        keep,
         kept_free,
         ..
     } = cleaned;
-    let merged = merged_by_names(alloc, parts, &before, names);
+    let merged = merged_along(alloc, parts, &before, &keep);
     drop(before);
     match merged {
         Ok(MergedCircuit { circuit, counts }) => Ok(MergedStart {
             circuit,
+            keep,
             kept_free,
             counts,
         }),
@@ -112,15 +95,14 @@ pub fn start_along(
     alloc: Global,
     parts: &mut MapParts,
     circuit: &Circuit,
-    names: &[Vec<u8>],
+    keep: &Keep,
 ) -> Result<MergedStart, MapError>
     requires map { IsSomeMapTo circuit.now parts.old }
-    requires names { NoneMissing (names_of names.now) circuit.now }
-    ensures { IfOk result (IsStartAlong (names_of names.now) circuit.now parts.old parts.new) }
+    requires in_range { All (λ j. j < length circuit.now.aig.latches) keep.now }
+    ensures { IfOk result (IsStartAlong keep.now circuit.now parts.old parts.new) }
 {
     // That it is a circuit is what its readers ensure.
     circuit.known();
-    let keep = keep_by_names(alloc, circuit, names)?;
-    let cleaned = cleaned_along(alloc, parts, circuit, &keep)?;
-    merged_after(alloc, parts, cleaned, names)
+    let cleaned = cleaned_along(alloc, parts, circuit, keep)?;
+    merged_after(alloc, parts, cleaned)
 }

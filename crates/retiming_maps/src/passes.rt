@@ -1,5 +1,6 @@
 //! A map that follows a cleaning, pass after pass: what stands for a latch is a constraint, and latches that stay keep their functions.
 ghost use Rattle.std.specs.Prelude.{◌≡◌, ◌<◌, ◌≤◌, ◌⊎◌, All, IfOk, OnOk, false, length, true};
+ghost use Rattle.std.specs.List.Sorted.{IsStrictlyIncreasing};
 ghost use Rattle.aig_graph.specs.Graph.{free_latches, latches_and_gates};
 ghost use Rattle.clean.specs.Settled.{AreOwnLatches};
 ghost use Rattle.clean.specs.Tracing.{IsTraced};
@@ -100,17 +101,21 @@ fn next_pass(alloc: Global, parts: &mut MapParts, last: TracedPass) -> Result<Tr
 
 /// What the last pass leaves.
 fn cleaned_by(last: TracedPass) -> Cleaned
+    requires { IsStrictlyIncreasing last.held.items }
     ensures circuit { result.circuit ≡ last.circuit }
+    ensures keep { result.keep ≡ last.held.items }
     ensures kept_free { result.kept_free ≡ last.kept_free.items }
 {
     let TracedPass {
         circuit,
         kept_free,
+        held,
         kept_gates,
         ..
     } = last;
     Cleaned {
         circuit,
+        keep: Keep::new(held),
         kept_free: Sequence::from_vec(kept_free),
         kept_gates,
     }

@@ -47,6 +47,7 @@ pub record AreMergeOptions (options : Options) : Type 0 where
   pub frames : options.max_frames ≡ 0
   pub merge : options.merge ≡ true
   pub names : names_in options ≡ []
+  pub positions : options.keep_latches.items ≡ []
 
 -- the places of the free latches that cleaning leaves of what c is merged to, where these are so many
 pub record AreLeftMerged (c : Netlist) (free : ℕ) (places : Option (List ℕ)) : Type 0 where

@@ -11,7 +11,7 @@ use Rattle.aig_graph.specs.Circuits.{Netlist}
 use Rattle.aig_graph.specs.Closed.{IsClosedSet}
 use Rattle.aig_graph.specs.Graph.{Graph, IsGraph, free_latches, variables_end}
 use Rattle.aig_graph.specs.Laws.{all_free, composed}
-use Rattle.aig_graph.specs.Move.{Move}
+use Rattle.aig_graph.specs.Move.{Move, move_of}
 use Rattle.aig_graph.specs.Streams.{AreKept, SameStreams}
 use Rattle.aig_graph.specs.Value.{value_within}
 use Rattle.aig_graph.proofs.GraphLaws.{room}
@@ -23,12 +23,10 @@ use Rattle.cleaned_circuits.proofs.LatchLaws.{stands_for, by_constant, by_itself
 use Rattle.cleaned_circuits.proofs.PassLaws.{IsCircuit, IsCircuit-pass, IsCircuit-cleans, cleans-streams}
 use Rattle.rebuild.specs.Moved.{moved_graph, moved_of}
 use Rattle.rebuild.proofs.FreeLaws.{moved-free, moved-room}
-use Rattle.rebuild.proofs.MovedLaws.{IsGraph-moved}
-use Rattle.rebuild.proofs.NameLaws.{IsNetlist-moved}
 use Rattle.retimed_circuits.specs.declared.report.FrameReport.{FrameReport}
+use Rattle.retimed_circuits.proofs.CircuitLaws.{moved-circuit}
 use Rattle.retimed_circuits.proofs.FoundLaws.{found-closed}
-use Rattle.retimed_circuits.specs.Frames.{AfterFrames, IsFrame, IsHelpingSet, cleaned, count_in, frame, move_in}
-use Rattle.aig_graph.specs.Keep.{held_in}
+use Rattle.retimed_circuits.specs.Frames.{AfterFrames, IsFrame, cleaned, count_over, frame, held_over}
 use Rattle.variable_tables.proofs.ListLaws.{map-same}
 use Rattle.state_maps.specs.States.{Digits, IsStateMap, State}
 use Rattle.state_maps.specs.Cleaning.{SubstitutesHold, trimmed_state}
@@ -145,26 +143,23 @@ composed-same n left below =
     map-own [] = refl
     map-own (x ∷ xs) = ap (λ (ys : List ℕ). x ∷ ys) (map-own xs)
 
-module _ (bound : Option ℕ) (choice : Choice) (names : List (List ℕ)) where
-  -- a set that helps is closed
-  pub closed-in : (c : Netlist) (s : List ℕ) → IsHelpingSet bound choice names c s → IsClosedSet c.aig (held_in names c) s
-  closed-in c s helps = found-closed bound choice names c s helps.found
-
+module _ (bound : Option ℕ) (choice : Choice) where
   record Framed (d e : Netlist) (left : List ℕ) : Type 0 where
     circuit : IsCircuit e
     places : AreKept d e left
     has : HasStateMap d e left
 
-  frame-has : (d e : Netlist) (left : List ℕ) (report : FrameReport) → IsCircuit d → IsFrame bound choice names d e left report → Framed d e left
-  frame-has d e left report valid f =
-      let m : Move = move_in names d f.set in
-      let set : IsClosedSet d.aig (held_in names d) f.set = closed-in d f.set f.helps in
-      let small : variables_end (moved_graph m) ≤ MAX_VARIABLES = moved-room m set (room d.aig (count_in names d f.set) valid.graph (omega (arith, f.helps.fewer))) in
-      let moved : IsCircuit (moved_of m) = record { graph = IsGraph-moved m valid.graph set small; netlist = IsNetlist-moved m valid.graph set valid.netlist } in
+  frame-has : (held : List ℕ) (d e : Netlist) (left now : List ℕ) (report : FrameReport) → IsCircuit d → IsFrame bound choice held d e left now report → Framed d e left
+  frame-has held d e left now report valid f =
+      let m : Move = move_of d held f.set in
+      let there : List ℕ = held_over held d f.set in
+      let set : IsClosedSet d.aig held f.set = found-closed bound choice held d f.set f.helps.found in
+      let small : variables_end (moved_graph m) ≤ MAX_VARIABLES = moved-room m set (room d.aig (count_over held d f.set) valid.graph (omega (arith, f.helps.fewer))) in
+      let moved : IsCircuit (moved_of m) = moved-circuit held d f.set valid set f.helps.fewer in
       let over : HasStateMap d (moved_of m) (all_free d.aig) =
       (λ s. true, moved_state m, restated d (moved_of m) (all_free d.aig) (λ s. Unit {0}) (λ s. IsTrue true) (moved_state m) (λ s h. refl) (λ s h. tt) (moving-maps m valid.graph valid.netlist set small)) in
-      let streams : SameStreams (moved_of m) e left = cleans-streams e (held_in names (moved_of m)) (moved_of m) left f.cleaned moved in
-      let last : IsCircuit e = IsCircuit-cleans e (held_in names (moved_of m)) (moved_of m) left f.cleaned moved in
+      let streams : SameStreams (moved_of m) e left = cleans-streams e there (moved_of m) left f.cleaned.cleans moved in
+      let last : IsCircuit e = IsCircuit-cleans e there (moved_of m) left f.cleaned.cleans moved in
       let below : All (λ place. place < free_latches d.aig) left = λ k a h.
       let here : get_or left k a < free_latches (moved_of m).aig = streams.places.below k a h in
       omega (arith, here, moved-free m set) in
@@ -173,20 +168,20 @@ module _ (bound : Option ℕ) (choice : Choice) (names : List (List ℕ)) where
         circuit = last;
         places = record { rising = streams.places.rising; below = below; each = streams.places.each };
         has = subst P (composed-same (free_latches d.aig) left below)
-            (compose-has d (moved_of m) e (all_free d.aig) left last.graph streams.places over (cleans-has e (held_in names (moved_of m)) (moved_of m) left f.cleaned moved));
+            (compose-has d (moved_of m) e (all_free d.aig) left last.graph streams.places over (cleans-has e there (moved_of m) left f.cleaned.cleans moved));
       }
 
   record Retimed (c d : Netlist) (kept : List ℕ) : Type 0 where
     circuit : IsCircuit d
     has : HasStateMap c d kept
 
-  frames-have : (c : Netlist) → IsCircuit c → (n : ℕ) (d : Netlist) (kept : List ℕ) (reports : List FrameReport) → AfterFrames bound choice names c n d kept reports → Retimed c d kept
-  frames-have c valid _ _ _ _ (cleaned d kept cleans) = record { circuit = IsCircuit-cleans d (held_in names c) c kept cleans valid; has = cleans-has d (held_in names c) c kept cleans valid }
-  frames-have c valid _ _ _ _ (frame n d e kept left reports report before f) =
-      let so_far : Retimed c d kept = frames-have c valid n d kept reports before in
-      let one : Framed d e left = frame-has d e left report so_far.circuit f in
+  frames-have : (held : List ℕ) (c : Netlist) → IsCircuit c → (n : ℕ) (d : Netlist) (kept now : List ℕ) (reports : List FrameReport) → AfterFrames bound choice held c n d kept now reports → Retimed c d kept
+  frames-have held c valid _ _ _ _ _ (cleaned d kept now cleans) = record { circuit = IsCircuit-cleans d held c kept cleans.cleans valid; has = cleans-has d held c kept cleans.cleans valid }
+  frames-have held c valid _ _ _ _ _ (frame n d e kept left now later reports report before f) =
+      let so_far : Retimed c d kept = frames-have held c valid n d kept now reports before in
+      let one : Framed d e left = frame-has now d e left later report so_far.circuit f in
       record { circuit = one.circuit; has = compose-has c d e kept left one.circuit.graph one.places so_far.has one.has }
 
 -- so has what a circuit is retimed to
-pub retiming-maps : (bound : Option ℕ) (choice : Choice) (names : List (List ℕ)) (c : Netlist) (n : ℕ) (d : Netlist) (kept : List ℕ) (reports : List FrameReport) → RetimingMaps bound choice names c n d kept reports
-retiming-maps bound choice names c n d kept reports valid netlist frames = (frames-have bound choice names c (record { graph = valid; netlist = netlist }) n d kept reports frames).has
+pub retiming-maps : (bound : Option ℕ) (choice : Choice) (held : List ℕ) (c : Netlist) (n : ℕ) (d : Netlist) (kept now : List ℕ) (reports : List FrameReport) → RetimingMaps bound choice held c n d kept now reports
+retiming-maps bound choice held c n d kept now reports valid netlist frames = (frames-have bound choice held c (record { graph = valid; netlist = netlist }) n d kept now reports frames).has

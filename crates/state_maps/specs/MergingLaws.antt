@@ -2,6 +2,7 @@
 use Rattle.std.specs.Prelude.{ℕ, Bool, List, Option}
 use Rattle.aig_graph.specs.Graph.{IsGraph}
 use Rattle.aig_graph.specs.Circuits.{Netlist, IsNetlist}
+use Rattle.aig_graph.specs.Keep.{Holding}
 use Rattle.aig_graph.specs.Laws.{all_free}
 use Rattle.aig_graph.specs.declared.choice.Choice.{Choice}
 use Rattle.merged_latches.specs.Partitions.{IsMerged}
@@ -20,5 +21,5 @@ abbrev pub HasMergingMap : List ℕ → Netlist → Netlist → Type 0
 HasMergingMap held c d = IsGraph c.aig → IsNetlist c → IsMerged held c d → HasStateMap c d (all_free c.aig)
 
 -- and what a circuit is retimed to after it was merged has one
-abbrev pub MergedRetimingMaps : Option ℕ → Choice → List (List ℕ) → Netlist → ℕ → Bool → Retimed → Type 0
-MergedRetimingMaps bound choice names c max_frames certify r = IsGraph c.aig → IsNetlist c → IsMergedRetimed bound choice c names max_frames certify r → HasStateMap c r.circuit r.kept_free
+abbrev pub MergedRetimingMaps : Option ℕ → Choice → Holding → Netlist → ℕ → Bool → Retimed → Type 0
+MergedRetimingMaps bound choice holding c max_frames certify r = IsGraph c.aig → IsNetlist c → IsMergedRetimed bound choice c holding max_frames certify r → HasStateMap c r.circuit r.kept_free

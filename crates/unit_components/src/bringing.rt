@@ -1,6 +1,6 @@
-//! The flow of a region by its parts: each worker works on those that it owns and hands their flow back, then the crew works on the large ones, and the
-//! calling thread puts what was found in its place.
+//! The flow of a region by its parts: each worker works on those that it owns and hands their flow back, then the crew works on the large ones.
 
+use crate::gathering::{PartFlow, gathered};
 use crate::part_flows::{Cut, part_flow};
 use crate::shares::{Share, Sharing};
 use aig_graph::NoMemory;
@@ -10,111 +10,80 @@ use std::thread;
 use std::thread::Threads;
 use unit_flows::GateFlow;
 
-/// What a worker found: the flow at the gates of its parts, one part after another.
-#[derive(Drop)]
-struct Found {
-    share: Share,
-    flows: Vec<GateFlow>,
-}
-
-/// The flow at the gates of a worker's parts, one part after another.
+/// The flow of each of a worker's parts.
 fn share_flows<R: Threads + Sync>(
     rt: &R,
     alloc: Global,
     cut: &Cut,
     sharing: &Sharing,
     share: Share,
-) -> Result<Vec<GateFlow>, NoMemory> {
+) -> Result<Vec<PartFlow>, NoMemory> {
     let crew = Crew::new(1, OpenGate);
-    let mut found = Vec::with_capacity(alloc, share.places)?;
+    let mut found = Vec::new(alloc);
     for part in share.first..share.end {
         if !sharing.is_large(part) {
             let flows = part_flow(rt, alloc, cut, part, &crew)?;
-            found.extend_from_slice(flows.as_slice())?;
+            found.push(PartFlow { part, flows })?;
         }
     }
     Ok(found)
 }
 
-/// Puts the flow at the gates of a part where it belongs: what was found, from so many gates on. How many gates are then put.
-fn put(
-    cut: &Cut,
-    part: usize,
-    found: &[GateFlow],
-    from: usize,
-    gathered: &mut [GateFlow],
-) -> usize {
-    let mut next = from;
-    for place in cut.parts.places(part) {
-        let number = cut.region.gate_number(*place as usize);
-        if let Some(entry) = gathered.get_mut(number) {
-            if let Some(flow) = found.get(next) {
-                *entry = *flow;
-            }
-            next = next.wrapping_add(1);
-        }
-    }
-    next
-}
-
-/// Puts what a worker found where it belongs.
-fn put_share(cut: &Cut, sharing: &Sharing, found: &Found, gathered: &mut [GateFlow]) {
-    let mut next = 0usize;
-    for part in found.share.first..found.share.end {
-        if !sharing.is_large(part) {
-            next = put(cut, part, found.flows.as_slice(), next, gathered);
-        }
-    }
-}
-
 /// Brings the units of the parts that workers own, each in one thread. A worker passes the gate of the crew as it begins, and leaves it as it ends.
-///
-/// # Errors
-///
-/// `NoMemory` where a table or a thread's memory is refused.
-pub(crate) fn bring_shares<R: Threads + Sync, G: PhaseGate>(
+fn bring_shares<R: Threads + Sync, G: PhaseGate>(
     rt: &R,
     alloc: Global,
     cut: &Cut,
     sharing: &Sharing,
     crew: &Crew<G>,
-    gathered: &mut [GateFlow],
+    found: &mut Vec<PartFlow>,
 ) -> Result<(), NoMemory> {
     let gate = crew.gate();
-    let work = |share: Share| -> Result<Found, NoMemory> {
+    let work = |share: Share| -> Result<Vec<PartFlow>, NoMemory> {
         gate.pass(0, share.worker);
         let flows = share_flows(rt, alloc, cut, sharing, share);
         gate.leave(0, share.worker);
-        match flows {
-            Ok(flows) => Ok(Found { share, flows }),
-            Err(error) => Err(error),
-        }
+        flows
     };
     let shares = sharing.shares(alloc)?;
-    for found in thread::map_vec(rt, shares, &work)? {
-        put_share(cut, sharing, &found?, gathered);
+    for flows in thread::map_vec(rt, shares, &work)? {
+        found.append(&mut flows?)?;
     }
     Ok(())
 }
 
 /// Brings the units of the large parts, one part after another, by pulses of the crew.
-///
-/// # Errors
-///
-/// `NoMemory` where a table or a thread's memory is refused.
-pub(crate) fn bring_large<R: Threads + Sync, G: PhaseGate>(
+fn bring_large<R: Threads + Sync, G: PhaseGate>(
     rt: &R,
     alloc: Global,
     cut: &Cut,
     sharing: &Sharing,
     crew: &Crew<G>,
-    gathered: &mut [GateFlow],
+    found: &mut Vec<PartFlow>,
 ) -> Result<(), NoMemory> {
     for part in 0..cut.parts.count() {
         if sharing.is_large(part) {
             let flows = part_flow(rt, alloc, cut, part, crew)?;
-            put(cut, part, flows.as_slice(), 0, gathered);
+            found.push(PartFlow { part, flows })?;
         }
     }
     Ok(())
+}
+
+/// The flow at each gate of a region that is cut, shared out so.
+///
+/// # Errors
+///
+/// `NoMemory` where a table or a thread's memory is refused.
+pub(crate) fn flow_of_parts<R: Threads + Sync, G: PhaseGate>(
+    rt: &R,
+    alloc: Global,
+    cut: &Cut,
+    sharing: &Sharing,
+    crew: &Crew<G>,
+) -> Result<Vec<GateFlow>, NoMemory> {
+    let mut found = Vec::with_capacity(alloc, cut.parts.count())?;
+    bring_shares(rt, alloc, cut, sharing, crew, &mut found)?;
+    bring_large(rt, alloc, cut, sharing, crew, &mut found)?;
+    gathered(rt, alloc, cut, found.as_slice(), crew.workers() as usize)
 }

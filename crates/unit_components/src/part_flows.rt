@@ -6,7 +6,7 @@ use pulse::{Crew, PhaseGate};
 use std::alloc::Global;
 use std::thread::Threads;
 use unit_flows::GateFlow;
-use unit_pulses::bring_in;
+use unit_pulses::first_flow;
 use unit_starts::Region;
 
 /// A known latch, wherever its next literal leads: what reads it from outside the gates is in the marks of what leaves.
@@ -15,12 +15,11 @@ const KNOWN: Latch = Latch {
     reset: Reset::Zero,
 };
 
-/// A region that is cut, its parts, and what is known of the flow at its gates, or nothing: lent to all workers.
+/// A region that is cut, and its parts: lent to all workers.
 #[derive(Clone, Copy)]
 pub(crate) struct Cut<'a> {
     pub region: Region<'a>,
     pub parts: &'a Parts,
-    pub known: &'a [GateFlow],
 }
 
 /// The tables of a part.
@@ -30,8 +29,6 @@ struct Part {
     gates: Vec<Gate>,
     passes: Vec<bool>,
     leaving: Vec<bool>,
-    /// What is known of the flow at its gates, or nothing.
-    flows: Vec<GateFlow>,
 }
 
 impl Part {
@@ -42,7 +39,6 @@ impl Part {
             gates: Vec::with_capacity(alloc, places)?,
             passes: Vec::with_capacity(alloc, places)?,
             leaving: Vec::with_capacity(alloc, places)?,
-            flows: Vec::new(alloc),
         })
     }
 
@@ -53,15 +49,10 @@ impl Part {
         let gate = region.gate(place);
         self.passes.push(gate.is_some())?;
         match gate {
-            Some(gate) => {
-                self.gates.push(Gate {
-                    rhs0: cut.parts.literal(region, gate.rhs0),
-                    rhs1: cut.parts.literal(region, gate.rhs1),
-                })?;
-                if let Some(flow) = cut.known.get(region.gate_number(place)) {
-                    self.flows.push(*flow)?;
-                }
-            }
+            Some(gate) => self.gates.push(Gate {
+                rhs0: cut.parts.literal(region, gate.rhs0),
+                rhs1: cut.parts.literal(region, gate.rhs1),
+            })?,
             None => self.latches.push(KNOWN)?,
         }
         Ok(())
@@ -90,20 +81,13 @@ pub(crate) fn part_flow<R: Threads + Sync, G: PhaseGate>(
     number: usize,
     crew: &Crew<G>,
 ) -> Result<Vec<GateFlow>, NoMemory> {
-    let Part {
-        latches,
-        gates,
-        passes,
-        leaving,
-        mut flows,
-    } = Part::of(alloc, cut, number)?;
+    let part = Part::of(alloc, cut, number)?;
     let own = Region {
         first: 0,
-        latches: latches.as_slice(),
-        gates: gates.as_slice(),
-        passes: passes.as_slice(),
-        leaving: leaving.as_slice(),
+        latches: part.latches.as_slice(),
+        gates: part.gates.as_slice(),
+        passes: part.passes.as_slice(),
+        leaving: part.leaving.as_slice(),
     };
-    bring_in(rt, alloc, &own, crew, &mut flows)?;
-    Ok(flows)
+    first_flow(rt, alloc, &own, crew)
 }

@@ -12,8 +12,6 @@ pub(crate) struct Share {
     pub worker: u32,
     pub first: usize,
     pub end: usize,
-    /// How many places they have.
-    pub places: usize,
 }
 
 /// How the parts of a region are shared out among some workers.
@@ -86,15 +84,9 @@ impl<'a> Sharing<'a> {
         let mut shares = Vec::with_capacity(alloc, self.workers as usize)?;
         let (mut first, mut taken) = (0usize, 0usize);
         for worker in 0..self.workers {
-            let before = taken;
             let until = share_end(places, worker, self.workers);
             let end = self.take(first, &mut taken, until);
-            shares.push(Share {
-                worker,
-                first,
-                end,
-                places: taken.wrapping_sub(before),
-            })?;
+            shares.push(Share { worker, first, end })?;
             first = end;
         }
         Ok(shares)

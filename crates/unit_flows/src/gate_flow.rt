@@ -23,17 +23,6 @@ impl GateFlow {
         }
     }
 
-    /// What is wished of a gate whose flow isn't known: a unit from either fan-in, and one through.
-    pub fn unknown() -> GateFlow {
-        GateFlow {
-            first_up: true,
-            second_up: true,
-            through: true,
-            first_down: 0,
-            second_down: 0,
-        }
-    }
-
     /// Whether nothing came to the gate and nothing went on from it.
     pub fn is_none(&self) -> bool {
         !(self.first_up || self.second_up || self.through)

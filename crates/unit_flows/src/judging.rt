@@ -1,5 +1,5 @@
 //! Judges a flow: whether it shows the greatest least set, and which that is.
-ghost use Rattle.std.specs.Prelude.{◌≡◌, IfOk, IfSome, IsTrue, length};
+ghost use Rattle.std.specs.Prelude.{◌≡◌, IfOk, IfSome, IsTrue, length, replicate};
 ghost use Rattle.variable_tables.specs.Counting.{places};
 ghost use Rattle.variable_tables.specs.Marking.{mark_at};
 ghost use Rattle.aig_graph.specs.Graph.{first_latch, variables_end, latches_and_gates};
@@ -12,15 +12,43 @@ use crate::gate_flow::GateFlow;
 use crate::passes::{gates_hold, places_hold};
 use crate::sweeps::{NodeMarks, mark};
 use crate::tallies::tally;
+use crate::unit_flow::{SpareTables, filled};
 use aig_graph::{ClosedSet, NoMemory};
 use std::alloc::Global;
 
-/// Whether no node of a flow gives more than it gets, and the marks are a full cut for it.
+/// Whether no node of a flow gives more than it gets, and the marks are a full cut for it: by tables of zeros, which get its tallies.
+fn has_full_cut(
+    frame: &Frame,
+    flows: &[GateFlow],
+    marks: &NodeMarks,
+    went: &mut [u8],
+    came: &mut [u32],
+) -> bool
+    requires flows { length flows.now ≡ length frame.now.circuit.now.aig.gates }
+    requires before { length marks.now.before.items
+        ≡ latches_and_gates frame.now.circuit.now.aig }
+    requires after { length marks.now.after.items
+        ≡ latches_and_gates frame.now.circuit.now.aig }
+    requires went { went.old ≡ replicate (latches_and_gates frame.now.circuit.now.aig) 0 }
+    requires came { came.old ≡ replicate (latches_and_gates frame.now.circuit.now.aig) 0 }
+    ensures { IsTrue result → HasFullCut frame.now.circuit.now
+        frame.now.keep.now flows.now
+        (mark_at (first_latch frame.now.circuit.now.aig) marks.now.before.items)
+        (mark_at (first_latch frame.now.circuit.now.aig) marks.now.after.items) }
+{
+    let (before, after) = (marks.before.as_slice(), marks.after.as_slice());
+    tally(went, came, frame.circuit.aig(), flows)
+        && places_hold(frame, flows, went, before, after)
+        && gates_hold(frame, flows, came, before, after)
+}
+
+/// The same, by spare tables.
 fn is_shown(
     alloc: Global,
     frame: &Frame,
     flows: &[GateFlow],
     marks: &NodeMarks,
+    spare: &mut SpareTables,
 ) -> Result<bool, NoMemory>
     requires flows { length flows.now ≡ length frame.now.circuit.now.aig.gates }
     requires before { length marks.now.before.items
@@ -32,16 +60,14 @@ fn is_shown(
         (mark_at (first_latch frame.now.circuit.now.aig) marks.now.before.items)
         (mark_at (first_latch frame.now.circuit.now.aig) marks.now.after.items)) }
 {
-    let aig = frame.circuit.aig();
-    let entries = aig.latches_and_gates();
-    let mut went = vec![in alloc; 0u8; entries]?;
-    let mut came = vec![in alloc; 0u32; entries]?;
-    let (before, after) = (marks.before.as_slice(), marks.after.as_slice());
-    Ok(
-        tally(went.as_mut_slice(), came.as_mut_slice(), aig, flows)
-            && places_hold(frame, flows, went.as_slice(), before, after)
-            && gates_hold(frame, flows, came.as_slice(), before, after),
-    )
+    let entries = frame.circuit.aig().latches_and_gates();
+    let mut went = filled(spare.take_went(alloc), 0u8, entries)?;
+    let mut came = filled(spare.take_numbers(alloc), 0u32, entries)?;
+    let (goes, comes) = (went.as_mut_slice(), came.as_mut_slice());
+    let is_shown = has_full_cut(frame, flows, marks, goes, comes);
+    spare.keep_went(went);
+    spare.keep_numbers(came);
+    Ok(is_shown)
 }
 
 /// The passable gates that aren't marked before, rising.
@@ -66,7 +92,7 @@ pub(crate) fn off_marks(alloc: Global, frame: &Frame, before: &[bool]) -> Result
 }
 
 /// The greatest least set, where a flow shows it by its marks: no node of the flow gives more than it gets, and the marks are a full cut.
-/// Nothing of the flow is trusted.
+/// Nothing of the flow is trusted. The spare tables serve.
 ///
 /// # Errors
 ///
@@ -76,6 +102,7 @@ pub fn shown_by_marks(
     frame: &Frame,
     flows: &[GateFlow],
     marks: &NodeMarks,
+    spare: &mut SpareTables,
 ) -> Result<Option<ClosedSet>, NoMemory>
     requires flows { length flows.now ≡ length frame.now.circuit.now.aig.gates }
     requires reach { ReachSink frame.now.circuit.now frame.now.keep.now flows.now
@@ -89,7 +116,7 @@ pub fn shown_by_marks(
 {
     // That its gates come in order is what the graph's readers ensure.
     frame.circuit.aig().known();
-    if !is_shown(alloc, frame, flows, marks)? {
+    if !is_shown(alloc, frame, flows, marks, spare)? {
         return Ok(None);
     }
     let vars = off_marks(alloc, frame, marks.before.as_slice())?;
@@ -106,6 +133,7 @@ pub(crate) fn shown_set(
     alloc: Global,
     frame: &Frame,
     flows: &[GateFlow],
+    spare: &mut SpareTables,
 ) -> Result<Option<ClosedSet>, NoMemory>
     ensures { IfOk result (λ shown. IfSome shown (λ set. IsGreatestLeast
         frame.now.circuit.now frame.now.keep.now set)) }
@@ -113,6 +141,8 @@ pub(crate) fn shown_set(
     if flows.len() != frame.circuit.aig().gates().len() {
         return Ok(None);
     }
-    let marks = mark(alloc, frame, flows)?;
-    shown_by_marks(alloc, frame, flows, &marks)
+    let marks = mark(alloc, frame, flows, &mut *spare)?;
+    let shown = shown_by_marks(alloc, frame, flows, &marks, &mut *spare);
+    spare.keep_marks(marks);
+    shown
 }

@@ -6,10 +6,11 @@ use crate::frame::Frame;
 use crate::gate_flow::GateFlow;
 use crate::judging::shown_set;
 use crate::nearest::shown_smallest_set;
+use crate::unit_flow::SpareTables;
 use aig_graph::{Choice, ClosedSet, NoMemory};
 use std::alloc::Global;
 
-/// The chosen least set, where a flow shows it.
+/// The chosen least set, where a flow shows it. The spare tables serve.
 ///
 /// # Errors
 ///
@@ -19,12 +20,13 @@ pub fn shown_chosen(
     frame: &Frame,
     choice: Choice,
     flows: &[GateFlow],
+    spare: &mut SpareTables,
 ) -> Result<Option<ClosedSet>, NoMemory>
     ensures { IfOk result (λ shown. IfSome shown (IsChosen choice frame.now.circuit.now
         frame.now.keep.now)) }
 {
     match choice {
-        Choice::Greatest => shown_set(alloc, frame, flows),
-        Choice::Smallest => shown_smallest_set(alloc, frame, flows),
+        Choice::Greatest => shown_set(alloc, frame, flows, spare),
+        Choice::Smallest => shown_smallest_set(alloc, frame, flows, spare),
     }
 }

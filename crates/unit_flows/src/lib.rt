@@ -7,6 +7,7 @@
 ghost use Rattle.unit_flows.specs.Laws.{BorderLaw, ShownLaw, ShownSmallestLaw};
 
 mod balance;
+mod carrying;
 mod cut;
 mod frame;
 mod gate_flow;
@@ -19,12 +20,15 @@ mod onward_sweeps;
 mod passes;
 mod sweeps;
 mod tallies;
+mod unit_flow;
 
+pub use carrying::{after_cleaning, after_move};
 pub use frame::Frame;
 pub use gate_flow::GateFlow;
 pub use judging::shown_by_marks;
 pub use least_set::shown_chosen;
 pub use sweeps::{NodeMarks, mark};
+pub use unit_flow::{SpareTables, UnitFlow, filled};
 
 /// The border of each closed set has at least as many variables as units come to the sink.
 pub fn border_law()

@@ -16,6 +16,7 @@ use crate::onward_sweeps::mark_onward;
 use crate::passes::{gates_hold, places_hold};
 use crate::sweeps::NodeMarks;
 use crate::tallies::tally;
+use crate::unit_flow::{SpareTables, filled};
 use aig_graph::{ClosedSet, NoMemory};
 use std::alloc::Global;
 
@@ -107,6 +108,7 @@ pub(crate) fn shown_smallest_set(
     alloc: Global,
     frame: &Frame,
     flows: &[GateFlow],
+    spare: &mut SpareTables,
 ) -> Result<Option<ClosedSet>, NoMemory>
     ensures { IfOk result (λ shown. IfSome shown (λ set. IsSmallestLeast
         frame.now.circuit.now frame.now.keep.now set)) }
@@ -116,10 +118,13 @@ pub(crate) fn shown_smallest_set(
         return Ok(None);
     }
     let entries = aig.latches_and_gates();
-    let mut went = vec![in alloc; 0u8; entries]?;
-    let mut came = vec![in alloc; 0u32; entries]?;
+    let mut went = filled(spare.take_went(alloc), 0u8, entries)?;
+    let mut came = filled(spare.take_numbers(alloc), 0u32, entries)?;
     if !tally(went.as_mut_slice(), came.as_mut_slice(), aig, flows) {
         return Ok(None);
     }
-    shown_by_tallies(alloc, frame, flows, went.as_slice(), came.as_slice())
+    let shown = shown_by_tallies(alloc, frame, flows, went.as_slice(), came.as_slice());
+    spare.keep_went(went);
+    spare.keep_numbers(came);
+    shown
 }

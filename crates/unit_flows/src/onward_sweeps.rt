@@ -9,7 +9,7 @@ use crate::balance::{comes_after, is_fuller};
 use crate::frame::Frame;
 use crate::gate_flow::GateFlow;
 use crate::onward::{go_on, mark_if};
-use crate::sweeps::{MOST_SWEEPS, NodeMarks, open_gates};
+use crate::sweeps::{MOST_SWEEPS, NodeMarks};
 use aig_graph::NoMemory;
 use std::alloc::Global;
 
@@ -149,6 +149,18 @@ fn settle(
         open.truncate(kept);
         open.as_mut_slice().reverse();
     }
+}
+
+/// The numbers of the passable gates, rising.
+fn open_gates(alloc: Global, frame: &Frame) -> Result<Vec<u32>, NoMemory> {
+    let passes = frame.passing_gates();
+    let mut open = Vec::with_capacity(alloc, passes.len())?;
+    for k in 0..passes.len() {
+        if passes[k] {
+            open.push(k as u32)?;
+        }
+    }
+    Ok(open)
 }
 
 /// Marks what is reached from where units are left, by the tallies of a flow.

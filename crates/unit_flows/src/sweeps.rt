@@ -7,6 +7,7 @@ ghost use Rattle.unit_flows.specs.Marks.{ReachSink};
 use crate::frame::Frame;
 use crate::gate_flow::GateFlow;
 use crate::marks::see;
+use crate::unit_flow::{SpareTables, filled};
 use aig_graph::NoMemory;
 use std::alloc::Global;
 
@@ -18,6 +19,48 @@ pub(crate) const MOST_SWEEPS: u32 = 131_072;
 pub struct NodeMarks {
     pub before: Vec<bool>,
     pub after: Vec<bool>,
+}
+
+/// Sees all passable gates, from the last to the first, and lists the numbers of those that stay open, in that order, or none where nothing is marked:
+/// then nothing is to be seen any more. Not inlined, so that the loop has the registers for itself.
+#[inline(never)]
+fn first_sweep(
+    before: &mut [bool],
+    after: &mut [bool],
+    open: &mut Vec<u32>,
+    frame: &Frame,
+    flows: &[GateFlow],
+) -> Result<(), NoMemory>
+    requires flows { length flows.now ≡ length frame.now.circuit.now.aig.gates }
+    requires before { length before.old ≡ latches_and_gates frame.now.circuit.now.aig }
+    requires after { length after.old ≡ latches_and_gates frame.now.circuit.now.aig }
+    ensures reach { (held : List ℕ) → ReachSink frame.now.circuit.now held flows.now before.old after.old
+        → ReachSink frame.now.circuit.now held flows.now before.new after.new }
+    ensures before { length before.new ≡ length before.old }
+    ensures after { length after.new ≡ length after.old }
+{
+    let aig = frame.circuit.aig();
+    let first = aig.first_latch();
+    let first_gate = aig.first_gate();
+    let gates = aig.gates();
+    let passes = frame.passing_gates();
+    let mut is_marked = false;
+    open.clear();
+    open.reserve(gates.len())?;
+    for k in (0..gates.len()).rev() {
+        if passes[k] {
+            let var = first_gate + k as u32;
+            if see(before, after, first, var, &gates[k], &flows[k]) {
+                is_marked = true;
+            } else {
+                open.push(k as u32)?;
+            }
+        }
+    }
+    if !is_marked {
+        open.clear();
+    }
+    Ok(())
 }
 
 /// Sees the gates with these numbers, one after another. How many of them stay open: these then come first. Not inlined, so that the loop has
@@ -56,7 +99,7 @@ fn sweep(
     kept
 }
 
-/// Sweeps over the open gates, which rise, from the last to the first and back, until none of them is newly marked.
+/// Sweeps over the open gates, which fall, from the first to the last and back, until none of them is newly marked.
 fn settle(
     before: &mut [bool],
     after: &mut [bool],
@@ -82,33 +125,48 @@ fn settle(
     }
 }
 
-/// The numbers of the passable gates, rising.
-pub(crate) fn open_gates(alloc: Global, frame: &Frame) -> Result<Vec<u32>, NoMemory> {
-    let passes = frame.passing_gates();
-    let mut open = Vec::with_capacity(alloc, passes.len())?;
-    for k in 0..passes.len() {
-        if passes[k] {
-            open.push(k as u32)?;
-        }
-    }
-    Ok(open)
+/// Sweeps over the passable gates, from the last to the first and back, until none is newly marked. The table is for the numbers of those that are open.
+fn sweep_all(
+    before: &mut [bool],
+    after: &mut [bool],
+    open: &mut Vec<u32>,
+    frame: &Frame,
+    flows: &[GateFlow],
+) -> Result<(), NoMemory>
+    requires flows { length flows.now ≡ length frame.now.circuit.now.aig.gates }
+    requires before { length before.old ≡ latches_and_gates frame.now.circuit.now.aig }
+    requires after { length after.old ≡ latches_and_gates frame.now.circuit.now.aig }
+    ensures reach { (held : List ℕ) → ReachSink frame.now.circuit.now held flows.now before.old after.old
+        → ReachSink frame.now.circuit.now held flows.now before.new after.new }
+    ensures before { length before.new ≡ length before.old }
+    ensures after { length after.new ≡ length after.old }
+{
+    first_sweep(before, after, open, frame, flows)?;
+    settle(before, after, open, frame, flows);
+    Ok(())
 }
 
-/// A copy of the marks of what leaves.
-fn leaving_of(alloc: Global, frame: &Frame) -> Result<Vec<bool>, NoMemory>
+/// A copy of the marks of what leaves, in the memory of other marks.
+fn leaving_in(memory: Vec<bool>, frame: &Frame) -> Result<Vec<bool>, NoMemory>
     ensures { IfOk result (λ marks. marks.items ≡ frame.now.leaving.items) }
 {
-    let mut marks = Vec::with_capacity(alloc, frame.leaving.len())?;
+    let mut marks = memory;
+    marks.clear();
     marks.extend_from_slice(frame.leaving.as_slice())?;
     Ok(marks)
 }
 
-/// Marks what reaches the sink over residual arcs, as far as sweeps find it: all that does but where these are very many.
+/// Marks what reaches the sink over residual arcs, as far as sweeps find it: all that does but where these are very many. The spare tables serve.
 ///
 /// # Errors
 ///
 /// `NoMemory` where a table is refused.
-pub fn mark(alloc: Global, frame: &Frame, flows: &[GateFlow]) -> Result<NodeMarks, NoMemory>
+pub fn mark(
+    alloc: Global,
+    frame: &Frame,
+    flows: &[GateFlow],
+    spare: &mut SpareTables,
+) -> Result<NodeMarks, NoMemory>
     requires { length flows.now ≡ length frame.now.circuit.now.aig.gates }
     ensures reach { IfOk result (λ marks. ReachSink frame.now.circuit.now frame.now.keep.now flows.now
         marks.before.items marks.after.items) }
@@ -117,15 +175,17 @@ pub fn mark(alloc: Global, frame: &Frame, flows: &[GateFlow]) -> Result<NodeMark
     ensures after { IfOk result (λ marks. length marks.after.items
         ≡ latches_and_gates frame.now.circuit.now.aig) }
 {
-    let mut before = vec![in alloc; false; frame.circuit.aig().latches_and_gates()]?;
-    let mut after = leaving_of(alloc, frame)?;
-    let mut open = open_gates(alloc, frame)?;
-    settle(
+    let entries = frame.circuit.aig().latches_and_gates();
+    let mut before = filled(spare.take_before(alloc), false, entries)?;
+    let mut after = leaving_in(spare.take_after(alloc), frame)?;
+    let mut open = spare.take_numbers(alloc);
+    sweep_all(
         before.as_mut_slice(),
         after.as_mut_slice(),
         &mut open,
         frame,
         flows,
-    );
+    )?;
+    spare.keep_numbers(open);
     Ok(NodeMarks { before, after })
 }

@@ -10,7 +10,7 @@ use aig_graph::{Choice, ClosedSet, NoMemory};
 use pulse::{Crew, PhaseGate};
 use std::alloc::Global;
 use std::thread::Threads;
-use unit_flows::{Frame, GateFlow, NodeMarks, shown_chosen};
+use unit_flows::{Frame, GateFlow, NodeMarks, SpareTables, UnitFlow, shown_chosen};
 use unit_starts::{Region, Started, start_along, start_in};
 
 /// Fewer units cost less by pulses than a judge that may say no.
@@ -21,16 +21,17 @@ fn shown_by_more(
     alloc: Global,
     frame: &Frame,
     choice: Choice,
-    flows: &mut Vec<GateFlow>,
+    flow: &mut UnitFlow,
 ) -> Result<Option<ClosedSet>, NoMemory>
     ensures { IfOk result (λ shown. IfSome shown (IsChosen choice frame.now.circuit.now
         frame.now.keep.now)) }
 {
-    let brought = extend(alloc, &Region::of(frame), flows.as_mut_slice())?;
+    let UnitFlow { gates, spare } = flow;
+    let brought = extend(alloc, &Region::of(frame), gates.as_mut_slice())?;
     if brought < MANY_BROUGHT {
         return Ok(None);
     }
-    shown_chosen(alloc, frame, choice, flows.as_slice())
+    shown_chosen(alloc, frame, choice, gates.as_slice(), spare)
 }
 
 /// By a start, or by more of it, where it was one along the last flow.
@@ -38,24 +39,25 @@ fn started(
     alloc: Global,
     frame: &Frame,
     choice: Choice,
-    flows: &mut Vec<GateFlow>,
+    flow: &mut UnitFlow,
 ) -> Result<Started, NoMemory>
     ensures { IfOk result (λ started. IfSome started.set (IsChosen choice frame.now.circuit.now
         frame.now.keep.now)) }
 {
-    let is_first = flows.is_empty();
-    let started = start_along(alloc, frame, choice, flows)?;
+    let is_first = flow.gates.is_empty();
+    let started = start_along(alloc, frame, choice, &mut *flow)?;
     if is_first || started.set.is_some() {
         return Ok(started);
     }
-    let set = shown_by_more(alloc, frame, choice, flows)?;
+    let set = shown_by_more(alloc, frame, choice, flow)?;
     Ok(Started {
         set,
         marks: started.marks,
     })
 }
 
-/// By pulses of a crew from what a flow leaves, where the marks, if there are any, have each node from which units can come to the sink.
+/// By pulses of a crew from what a flow leaves, where the marks, if there are any, have each node from which units can come to the sink. The spare
+/// tables are given back before: pulses need many.
 fn shown_by_pulses<R: Threads + Sync, G: PhaseGate>(
     rt: &R,
     alloc: Global,
@@ -63,72 +65,73 @@ fn shown_by_pulses<R: Threads + Sync, G: PhaseGate>(
     choice: Choice,
     marks: Option<NodeMarks>,
     sharing: Sharing<G>,
-    flows: &mut Vec<GateFlow>,
+    flow: &mut UnitFlow,
 ) -> Result<Option<ClosedSet>, NoMemory>
     ensures { IfOk result (λ shown. IfSome shown (IsChosen choice frame.now.circuit.now
         frame.now.keep.now)) }
 {
-    bring(rt, alloc, &Region::of(frame), marks, sharing, flows)?;
-    shown_chosen(alloc, frame, choice, flows.as_slice())
+    let UnitFlow { gates, spare } = flow;
+    *spare = SpareTables::none(alloc);
+    bring(rt, alloc, &Region::of(frame), marks, sharing, gates)?;
+    shown_chosen(alloc, frame, choice, gates.as_slice(), spare)
 }
 
-/// The chosen least set of a frame, where a flow of units shows it: that of a start along `flows`, what the last flow did at the circuit's gates, or
-/// along nothing where there are none; or the flow that pulses make of it. Then `flows` is what it does there. They are hints: the set is the same
+/// The chosen least set of a frame, where a flow of units shows it: that of a start along `flow`, what the last flow did at the circuit's gates, or
+/// along nothing where there is none; or the flow that pulses make of it. Then `flow` is what it does there. They are hints: the set is the same
 /// whatever they say, or there is none.
 ///
 /// A pulse in which 4096 nodes or more are active goes to the crew: each worker reads and delivers at its own range of places. The calling thread
-/// makes all others, as worker 0. Of a circuit of at most 256 latches and gates the first flow begins at the sources, for a crew of two or more, and
-/// the crew makes its first pulse: a start would leave few units to share.
+/// makes all others, as worker 0. Of a circuit of at most 16 latches and gates the first flow begins at the sources, for a crew of two or more, and
+/// two workers make its first pulse: a start would leave few units to share, and more threads would cost more than such a run.
 ///
 /// # Errors
 ///
-/// `NoMemory` where a table is refused; then `flows` may be those of before, of a start, or none.
+/// `NoMemory` where a table is refused; then `flow` may be that of before, of a start, or none.
 pub fn chosen_least_brought<R: Threads + Sync, G: PhaseGate>(
     rt: &R,
     alloc: Global,
     frame: &Frame,
     choice: Choice,
     crew: &Crew<G>,
-    flows: &mut Vec<GateFlow>,
+    flow: &mut UnitFlow,
 ) -> Result<Option<ClosedSet>, NoMemory>
     ensures { IfOk result (λ shown. IfSome shown (IsChosen choice frame.now.circuit.now
         frame.now.keep.now)) }
 {
     let aig = frame.circuit.aig();
-    let sharing = Sharing::of(crew, aig.latches_and_gates(), flows.is_empty());
+    let sharing = Sharing::of(crew, aig.latches_and_gates(), flow.gates.is_empty());
     if sharing.from_sources {
-        *flows = vec![in alloc; GateFlow::none(); aig.gates().len()]?;
-        return shown_by_pulses(rt, alloc, frame, choice, None, sharing, flows);
+        flow.gates = vec![in alloc; GateFlow::none(); aig.gates().len()]?;
+        return shown_by_pulses(rt, alloc, frame, choice, None, sharing, flow);
     }
-    let Started { set, marks } = started(alloc, frame, choice, flows)?;
+    let Started { set, marks } = started(alloc, frame, choice, &mut *flow)?;
     match set {
         Some(set) => {
-            drop(marks);
+            if let Some(marks) = marks {
+                flow.spare.keep_marks(marks);
+            }
             Ok(Some(set))
         }
-        None => shown_by_pulses(rt, alloc, frame, choice, marks, sharing, flows),
+        None => shown_by_pulses(rt, alloc, frame, choice, marks, sharing, flow),
     }
 }
 
-/// Puts a flow over a region in place of `flows`, which are hints as above: that of a start, or what a crew's pulses make of it, so that no more
-/// units can come to the sink. Nothing is judged.
+/// A flow over a region of which none is known, a hint as above: that of a start, or what a crew's pulses make of it, so that no more units can come
+/// to the sink. Nothing is judged.
 ///
 /// # Errors
 ///
-/// `NoMemory` where a table is refused; then `flows` may be those of before, of a start, or none.
-pub fn bring_in<R: Threads + Sync, G: PhaseGate>(
+/// `NoMemory` where a table or a thread's memory is refused.
+pub fn first_flow<R: Threads + Sync, G: PhaseGate>(
     rt: &R,
     alloc: Global,
     region: &Region,
     crew: &Crew<G>,
-    flows: &mut Vec<GateFlow>,
-) -> Result<(), NoMemory> {
-    let is_first = flows.is_empty();
-    if !start_in(alloc, region, flows)? {
-        return Ok(());
+) -> Result<Vec<GateFlow>, NoMemory> {
+    let mut flows = Vec::new(alloc);
+    if start_in(alloc, region, &mut flows)? {
+        let sharing = Sharing::of_started(crew);
+        bring(rt, alloc, region, None, sharing, &mut flows)?;
     }
-    if !is_first {
-        extend(alloc, region, flows.as_mut_slice())?;
-    }
-    bring(rt, alloc, region, None, Sharing::of_started(crew), flows)
+    Ok(flows)
 }

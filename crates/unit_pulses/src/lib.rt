@@ -22,4 +22,4 @@ mod search;
 mod sharing;
 mod spots;
 
-pub use least_set::{bring_in, chosen_least_brought};
+pub use least_set::{chosen_least_brought, first_flow};

@@ -1,5 +1,6 @@
 //! Which pulses go to the crew: those in which so many nodes are active that a fork costs less than it gains, and the first of a flow that begins at
-//! the sources of a small circuit.
+//! the sources of a tiny circuit, so that the smallest ones are worked on by two workers at once, too. What that costs is the start of two threads,
+//! a tenth of such a run; by all of a crew it would be more than half, and on a circuit of some hundred places as much for nothing.
 
 use crate::nodes::Nodes;
 use crate::parts::{Delivery, Part};
@@ -10,25 +11,33 @@ use std::alloc::Global;
 /// So many active nodes make a pulse worth its two forks.
 const MANY_ACTIVE: usize = 4096;
 
-/// A circuit of at most so many latches and gates is small.
-const FEW_PLACES: usize = 256;
+/// A circuit of at most so many latches and gates is tiny.
+const FEW_PLACES: usize = 16;
+
+/// So many workers of a crew share the first pulse of a tiny circuit.
+const FEW_WORKERS: u32 = 2;
 
 /// How the pulses of a flow are shared out among the workers of a crew, each of which passes its gate.
 #[derive_where(Clone, Copy)]
 pub(crate) struct Sharing<'a, G> {
     pub gate: &'a G,
+    /// How many of them share a pulse.
     pub workers: u32,
-    /// Whether the flow begins at the sources, and the crew makes the first pulse, however few nodes are active.
+    /// Whether the flow begins at the sources, and they share the first pulse, however few nodes are active.
     pub from_sources: bool,
 }
 
 impl<'a, G: PhaseGate> Sharing<'a, G> {
     /// How a crew shares the flow of a circuit of so many latches and gates, where it is the first of a run or not.
     pub fn of(crew: &'a Crew<G>, places: usize, is_first: bool) -> Sharing<'a, G> {
-        let from_sources = is_first && crew.workers() > 1 && places <= FEW_PLACES;
+        let started = Sharing::of_started(crew);
+        if !is_first || started.workers < FEW_WORKERS || places > FEW_PLACES {
+            return started;
+        }
         Sharing {
-            from_sources,
-            ..Sharing::of_started(crew)
+            workers: FEW_WORKERS,
+            from_sources: true,
+            ..started
         }
     }
 

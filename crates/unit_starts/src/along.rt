@@ -5,7 +5,7 @@ use crate::left_units::LeftUnits;
 use crate::region::{Region, narrow};
 use aig_graph::{Gate, Lit, NoMemory};
 use std::alloc::Global;
-use unit_flows::GateFlow;
+use unit_flows::{GateFlow, UnitFlow, filled};
 
 /// Stands for no gate.
 const NOBODY: u32 = u32::MAX;
@@ -19,9 +19,9 @@ fn note_taker(takers: &mut [u32], place: u32, gate: u32) {
     }
 }
 
-/// By place, from the first latch on, the number of the gate that took the unit after it.
-fn takers_of(alloc: Global, region: &Region, known: &[GateFlow]) -> Result<Vec<u32>, NoMemory> {
-    let mut takers = vec![in alloc; NOBODY; region.places()]?;
+/// By place, from the first latch on, the number of the gate that took the unit after it, in the memory of a table.
+fn takers_in(memory: Vec<u32>, region: &Region, known: &[GateFlow]) -> Result<Vec<u32>, NoMemory> {
+    let mut takers = filled(memory, NOBODY, region.places())?;
     let table = takers.as_mut_slice();
     for (gate, (literals, flow)) in region.gates.iter().zip(known).enumerate() {
         if flow.first_up {
@@ -152,8 +152,8 @@ fn send(
     Ok(())
 }
 
-/// A flow along what is known of an earlier one at each gate, in its place: 4 bytes a latch and gate, and what the units' ways cost. Where it
-/// leaves units.
+/// A flow along what is known of an earlier one at each gate, in its place: 4 bytes a latch and gate, for which a spare table serves, and what the
+/// units' ways cost. Where it leaves units.
 ///
 /// # Errors
 ///
@@ -161,9 +161,13 @@ fn send(
 pub(crate) fn put_along(
     alloc: Global,
     region: &Region,
-    known: &mut Vec<GateFlow>,
+    known: &mut UnitFlow,
 ) -> Result<LeftUnits, NoMemory> {
-    let takers = takers_of(alloc, region, known.as_slice())?;
+    let UnitFlow {
+        gates: known,
+        spare,
+    } = known;
+    let takers = takers_in(spare.take_numbers(alloc), region, known.as_slice())?;
     let mut left = LeftUnits::none(alloc);
     let mut flows = vec![in alloc; GateFlow::none(); region.gates.len()]?;
     for place in 0..region.latches.len() {
@@ -179,5 +183,6 @@ pub(crate) fn put_along(
         }
     }
     *known = flows;
+    spare.keep_numbers(takers);
     Ok(left)
 }

@@ -9,7 +9,7 @@ use crate::left_units::LeftUnits;
 use crate::region::Region;
 use aig_graph::{Choice, ClosedSet, NoMemory};
 use std::alloc::Global;
-use unit_flows::{Frame, GateFlow, NodeMarks, mark, shown_by_marks, shown_chosen};
+use unit_flows::{Frame, GateFlow, NodeMarks, UnitFlow, mark, shown_by_marks, shown_chosen};
 
 /// What a start comes to.
 #[derive(Drop)]
@@ -25,26 +25,28 @@ pub struct Started {
 fn judged_greatest(
     alloc: Global,
     frame: &Frame,
-    flows: &[GateFlow],
+    flow: &mut UnitFlow,
     left: &LeftUnits,
 ) -> Result<Started, NoMemory>
     ensures { IfOk result (λ started. IfSome started.set (IsGreatestLeast frame.now.circuit.now
         frame.now.keep.now)) }
 {
+    let UnitFlow { gates, spare } = flow;
+    let flows = gates.as_slice();
     if flows.len() != frame.circuit.aig().gates().len() {
         return Ok(Started {
             set: None,
             marks: None,
         });
     }
-    let marks = mark(alloc, frame, flows)?;
+    let marks = mark(alloc, frame, flows, &mut *spare)?;
     if left.are_marked(&marks) {
         return Ok(Started {
             set: None,
             marks: Some(marks),
         });
     }
-    let set = shown_by_marks(alloc, frame, flows, &marks)?;
+    let set = shown_by_marks(alloc, frame, flows, &marks, &mut *spare)?;
     Ok(Started {
         set,
         marks: Some(marks),
@@ -56,16 +58,17 @@ fn judged(
     alloc: Global,
     frame: &Frame,
     choice: Choice,
-    flows: &[GateFlow],
+    flow: &mut UnitFlow,
     left: &LeftUnits,
 ) -> Result<Started, NoMemory>
     ensures { IfOk result (λ started. IfSome started.set (IsChosen choice frame.now.circuit.now
         frame.now.keep.now)) }
 {
     match choice {
-        Choice::Greatest => judged_greatest(alloc, frame, flows, left),
+        Choice::Greatest => judged_greatest(alloc, frame, flow, left),
         Choice::Smallest => {
-            let set = shown_chosen(alloc, frame, choice, flows)?;
+            let UnitFlow { gates, spare } = flow;
+            let set = shown_chosen(alloc, frame, choice, gates.as_slice(), spare)?;
             Ok(Started { set, marks: None })
         }
     }
@@ -77,15 +80,15 @@ fn start_first(
     alloc: Global,
     frame: &Frame,
     choice: Choice,
-    flows: &mut Vec<GateFlow>,
+    flow: &mut UnitFlow,
 ) -> Result<Started, NoMemory>
     ensures { IfOk result (λ started. IfSome started.set (IsChosen choice frame.now.circuit.now
         frame.now.keep.now)) }
 {
     let region = Region::of(frame);
-    let first = put_start_up(alloc, &region, flows)?;
-    let started = judged(alloc, frame, choice, flows.as_slice(), &first.left)?;
-    if started.set.is_none() && put_start_down(alloc, &region, flows, first.arrived)? {
+    let first = put_start_up(alloc, &region, &mut flow.gates)?;
+    let started = judged(alloc, frame, choice, &mut *flow, &first.left)?;
+    if started.set.is_none() && put_start_down(alloc, &region, &mut flow.gates, first.arrived)? {
         return Ok(Started {
             set: None,
             marks: None,
@@ -94,30 +97,29 @@ fn start_first(
     Ok(started)
 }
 
-/// The chosen least set, where a start shows it: one along `flows`, what the last flow did at the circuit's gates, or along nothing where there
-/// are none. Then `flows` is what the start does there. They are hints: the set is the same whatever they say, or there is none.
+/// The chosen least set, where a start shows it: one along `flow`, what the last flow did at the circuit's gates, or along nothing where there
+/// is none. Then `flow` is what the start does there. They are hints: the set is the same whatever they say, or there is none.
 ///
 /// # Errors
 ///
-/// `NoMemory` where a table is refused; then `flows` may be those of before, or of a start.
+/// `NoMemory` where a table is refused; then `flow` may be that of before, or of a start.
 pub fn start_along(
     alloc: Global,
     frame: &Frame,
     choice: Choice,
-    flows: &mut Vec<GateFlow>,
+    flow: &mut UnitFlow,
 ) -> Result<Started, NoMemory>
     ensures { IfOk result (λ started. IfSome started.set (IsChosen choice frame.now.circuit.now
         frame.now.keep.now)) }
 {
-    if flows.is_empty() {
-        return start_first(alloc, frame, choice, flows);
+    if flow.gates.is_empty() {
+        return start_first(alloc, frame, choice, flow);
     }
-    let left = put_along(alloc, &Region::of(frame), flows)?;
-    judged(alloc, frame, choice, flows.as_slice(), &left)
+    let left = put_along(alloc, &Region::of(frame), &mut *flow)?;
+    judged(alloc, frame, choice, flow, &left)
 }
 
-/// Puts a start in place of a flow over a region, and judges nothing: a start along `flows`, or where they are none, the one of two that brings more.
-/// Whether it leaves units.
+/// Puts a start along nothing in place of a flow over a region, the one of two that brings more, and judges nothing. Whether it leaves units.
 ///
 /// # Errors
 ///
@@ -127,10 +129,6 @@ pub fn start_in(
     region: &Region,
     flows: &mut Vec<GateFlow>,
 ) -> Result<bool, NoMemory> {
-    if !flows.is_empty() {
-        let left = put_along(alloc, region, flows)?;
-        return Ok(!left.is_empty());
-    }
     let first = put_start_up(alloc, region, flows)?;
     if first.left.is_empty() {
         return Ok(false);

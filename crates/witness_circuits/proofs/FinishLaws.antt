@@ -9,7 +9,7 @@ use Rattle.aig_graph.specs.Circuits.{AreNamesBelow, IsNetlist, Netlist, no_symbo
 use Rattle.aig_graph.specs.Graph.{Graph, first_latch}
 use Rattle.witness_circuits.specs.declared.sharing.Sharing.{Sharing}
 use Rattle.witness_circuits.specs.Built.{IsFilled}
-use Rattle.witness_circuits.specs.Lifting.{IsLifted, literal_name, literal_names}
+use Rattle.witness_circuits.specs.Lifting.{HasRoomFor, IsLiftedOver, IsNamedAs, literal_name, literal_names}
 
 -- the names of a lifted witness
 abbrev pub named : Graph → Symbols
@@ -39,13 +39,13 @@ literal-names-below first n all fits = record {
         ∙ ap (λ (s : Symbol). s.position) (table-at 0 n (literal_name first) k d short) ∙ place
 
 module _ (h : Graph) (c m w : Netlist) (k : Sharing) (props : Props) (filled : IsFilled h c m w k props) where
-  -- the filled graph with its properties and names is a netlist
-  pub lifted-netlist : IsNetlist (record { aig = h; props = props; symbols = named c.aig })
-  lifted-netlist = record {
+  -- the filled graph with its properties and the names of a graph with no more inputs and latches than the circuit is a netlist
+  pub lifted-netlist : (g : Graph) → HasRoomFor g c.aig → IsNetlist (record { aig = h; props = props; symbols = named g })
+  lifted-netlist g room = record {
     props = filled.props.within;
     symbols = record {
-      inputs = literal-names-below 1 c.aig.inputs h.inputs (omega (arith, filled.places.inputs));
-      latches = literal-names-below (first_latch c.aig) (length c.aig.latches) (length h.latches) (omega (arith, filled.places.latches));
+      inputs = literal-names-below 1 g.inputs h.inputs (omega (arith, filled.places.inputs, room.inputs));
+      latches = literal-names-below (first_latch g) (length g.latches) (length h.latches) (omega (arith, filled.places.latches, room.latches));
       outputs = no-names (length props.outputs);
       bad = no-names (length props.bad);
       constraints = no-names (length props.constraints);
@@ -55,14 +55,16 @@ module _ (h : Graph) (c m w : Netlist) (k : Sharing) (props : Props) (filled : I
   }
 
   -- the filled graph with its properties and names is the lifted witness
-  pub is-lifted : IsLifted c m w k (record { aig = h; props = props; symbols = named c.aig })
-  is-lifted = record {
+  pub is-lifted : (g : Graph) → IsLiftedOver c m w k (record { aig = h; props = props; symbols = named g })
+  is-lifted g = record {
     inputs = filled.places.inputs;
     latches = filled.places.latches;
     first = filled.first;
     own = filled.own;
     allowed = filled.props.allowed;
     good = filled.props.good;
-    input_names = refl;
-    latch_names = refl;
   }
+
+-- the names are those of the graph
+pub is-named : (g h : Graph) (props : Props) → IsNamedAs g (record { aig = h; props = props; symbols = named g })
+is-named g h props = record { inputs = refl; latches = refl }

@@ -10,7 +10,7 @@ use Rattle.witness_circuits.specs.Witnesses.{IsSharing}
 use Rattle.witness_circuits.specs.Naming.{IsByNames, IsByPlaces, IsSharedBy, place_below}
 
 -- an entry by number is that of what there is
-below-count : (many count i p : ℕ) (places : List (Option ℕ)) → places ≡ table 0 many (place_below count) → slice_get places i ≡ Some (Some p) → p < count
+pub below-count : (many count i p : ℕ) (places : List (Option ℕ)) → places ≡ table 0 many (place_below count) → slice_get places i ≡ Some (Some p) → p < count
 below-count many count i p places filled e =
     let there : slice_get (table 0 many (place_below count)) i ≡ Some (Some p) = ap (λ (ps : List (Option ℕ)). slice_get ps i) (sym filled) ∙ e in
     let short : i < many = omega (arith, slice_get_within (table 0 many (place_below count)) i (Some p) there, length-table 0 many (place_below count)) in

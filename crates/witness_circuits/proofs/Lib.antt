@@ -3,6 +3,8 @@ pub mod JoiningLaws
 pub mod RunLaws
 pub mod AgreeLaws
 pub mod PlaceLaws
+pub mod FirstLaws
+pub mod CarrierLaws
 pub mod LiftLaws
 pub mod CountLaws
 pub mod SourceLaws

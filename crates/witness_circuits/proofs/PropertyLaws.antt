@@ -1,8 +1,8 @@
 -- What the constraints and the bad state say.
-use Rattle.std.proofs.Common.{inl, inr, ◌⊎◌, ℕ, ◌+◌, ◌<◌, ◌≡◌, ◌↔◌, Bool, true, false, not, List, [], ◌∷◌, ◌++◌, length, map, get_or, refl, arith, ap, sym, ◌∙◌, subst}
+use Rattle.std.proofs.Common.{ℕ, ◌+◌, ◌<◌, ◌≡◌, ◌↔◌, Bool, true, false, not, List, [], ◌∷◌, ◌++◌, length, map, get_or, refl, arith, ap, sym, ◌∙◌, subst}
 use Rattle.std.specs.List.{All}
 use Rattle.std.proofs.Math.Bool.{not-not}
-use Rattle.std.proofs.lemmas.List.{get_or_append_left, get_or-append-add, get_or-map, length-append, length-map, map-append}
+use Rattle.std.proofs.lemmas.List.{get_or_append_left, get_or-append-add, get_or-map, length-append, length-map}
 use Rattle.std.proofs.lemmas.List.Elements.{All-append, All-head, All-map, All-nil, All-cons}
 use Rattle.variable_tables.proofs.ListLaws.{map-map, map-same}
 use Rattle.aig_graph.specs.declared.properties.Props.{Props}
@@ -21,8 +21,8 @@ use Rattle.map_circuits.specs.Growing.{Extends}
 use Rattle.witness_circuits.specs.declared.parts.Parts.{Parts}
 use Rattle.witness_circuits.specs.Literals.{negated}
 use Rattle.witness_circuits.specs.Lifting.{in_witness, witness_digits, witness_state}
-use Rattle.witness_circuits.specs.Parts.{AreLiftedProps, AreParts, IsView, demands, lifted_constraints, more_constraints}
-use Rattle.witness_circuits.proofs.LiftLaws.{bad-within}
+use Rattle.witness_circuits.specs.Parts.{AreLiftedProps, AreParts, IsView, demands, substitutes}
+use Rattle.witness_circuits.proofs.CarrierLaws.{bad-within}
 use Rattle.witness_circuits.proofs.ViewLaws.{view-grows}
 
 -- what holds of a joined list holds of both
@@ -80,18 +80,6 @@ module _ (h g : Graph) (own : Digits → State → ℕ → Bool) (literals : Lis
   pub all-within : (n : ℕ) (lits : List ℕ) → n ≡ length literals → AreLiteralsOf g lits → All (λ lit. variable lit < n) lits
   all-within n lits same within k d less = omega (arith, within k d less, view.many, same)
 
--- the constraints that are put beside those of the circuit
-more-says : (V : ℕ → Bool) (given own of_map : List ℕ) (A B : Type 0) → (given ≡ [] → A) → All (λ b. b ≡ true) (map V own) ↔ A → All (λ b. b ≡ true) (map V of_map) ↔ B
-    → All (λ b. b ≡ true) (map V (more_constraints given own of_map)) ↔ (A × ((given ≡ []) ⊎ B))
-more-says V [] own of_map A B empty first second = (λ _. (empty refl, inl refl), λ _. All-nil (λ b. b ≡ true))
-more-says V (lit ∷ lits) own of_map A B empty first second = (
-  λ all.
-      let both = all-both (λ b. b ≡ true) (map V own) (map V of_map) (subst (λ (bs : List Bool). All (λ b. b ≡ true) bs) (map-append V own of_map) all) in
-      (first.0 both.0, inr (second.0 both.1)),
-  λ parts. subst (λ (bs : List Bool). All (λ b. b ≡ true) bs) (sym (map-append V own of_map))
-      (All-append (λ b. b ≡ true) (map V own) (map V of_map) (first.1 parts.0) (second.1 (elim parts.1 [ inl none ↦ absurd (cc) | inr here ↦ here ]))),
-)
-
 module _ (h : Graph) (c m w : Netlist) (k : Sharing) (p : Parts) (valid : IsGraph h) (parts : AreParts h c m w k p) (one : IsNetlist c) (two : IsNetlist m) (three : IsNetlist w) where
   abbrev wd : Digits → Digits
   wd z = witness_digits c k z
@@ -102,54 +90,51 @@ module _ (h : Graph) (c m w : Netlist) (k : Sharing) (p : Parts) (valid : IsGrap
   ones : (xs ys : List Bool) → xs ≡ ys → All (λ b. b ≡ true) xs ↔ All (λ b. b ≡ true) ys
   ones xs ys same = (λ all. subst (λ (bs : List Bool). All (λ b. b ≡ true) bs) same all, λ all. subst (λ (bs : List Bool). All (λ b. b ≡ true) bs) (sym same) all)
 
-  -- the lifted constraints are 1 just where the circuit's and the witness's are, and the map's if the witness has any
-  pub constraints-say : (z : Digits) (u : State) → All (λ b. b ≡ true) (map (value_within h z u) (lifted_constraints c m w p))
-      ↔ (IsAllowed c z u × IsAllowed w (wd z) (ws u) × ((w.props.constraints ≡ []) ⊎ is_kept m u))
+  -- the lifted constraints are 1 just where the circuit's are
+  pub constraints-say : (z : Digits) (u : State) → All (λ b. b ≡ true) (map (value_within h z u) (substitutes p.first c.props.constraints)) ↔ IsAllowed c z u
   constraints-say z u =
-      let V : ℕ → Bool = value_within h z u in
-      let a : List ℕ = map (substitute p.first) c.props.constraints in
-      let b : List ℕ = more_constraints w.props.constraints (map (substitute p.witness) w.props.constraints) (map (substitute p.map) m.props.constraints) in
-      let of_c = ones (map V a) (map (value_within c.aig z u) c.props.constraints) (substitutes-values h c.aig (λ z u. value_within c.aig z u) p.first parts.first z u c.props.constraints one.props.constraints) in
-      let of_w = ones (map V (map (substitute p.witness) w.props.constraints)) (map (in_witness c m w k z u) w.props.constraints)
-      (substitutes-values h w.aig (in_witness c m w k) p.witness parts.witness z u w.props.constraints three.props.constraints) in
-      let of_m = ones (map V (map (substitute p.map) m.props.constraints)) (map (value_within m.aig u (λ j. false)) m.props.constraints)
-      (substitutes-values h m.aig (λ z u. value_within m.aig u (λ j. false)) p.map parts.map z u m.props.constraints two.props.constraints) in
-      let more = more-says V w.props.constraints (map (substitute p.witness) w.props.constraints) (map (substitute p.map) m.props.constraints) (IsAllowed w (wd z) (ws u)) (is_kept m u) (none z u) of_w of_m in (
-        λ all.
-            let both = all-both (λ b. b ≡ true) (map V a) (map V b) (subst (λ (bs : List Bool). All (λ b. b ≡ true) bs) (map-append V a b) all) in
-            let rest = more.0 both.1 in
-            (of_c.0 both.0, rest.0, rest.1),
-        λ says. subst (λ (bs : List Bool). All (λ b. b ≡ true) bs) (sym (map-append V a b)) (All-append (λ b. b ≡ true) (map V a) (map V b) (of_c.1 says.0) (more.1 (says.1, says.2))),
-      )
-    where
-      none : (z : Digits) (u : State) → w.props.constraints ≡ [] → IsAllowed w (wd z) (ws u)
-      none z u e = subst (λ (lits : List ℕ). All (λ b. b ≡ true) (map (value_within w.aig (wd z) (ws u)) lits)) (sym e) (All-nil (λ b. b ≡ true))
+      ones (map (value_within h z u) (map (substitute p.first) c.props.constraints)) (map (value_within c.aig z u) c.props.constraints)
+      (substitutes-values h c.aig (λ z u. value_within c.aig z u) p.first parts.first z u c.props.constraints one.props.constraints)
+
+  abbrev of-map : List ℕ
+  of-map = map (substitute p.map) m.props.constraints
+
+  abbrev of-witness : List ℕ
+  of-witness = map (substitute p.witness) w.props.constraints
+
+  abbrev no-bad : List ℕ
+  no-bad = map (λ lit. negated (substitute p.witness lit)) (bad_states w.props)
 
   -- the literals of what a good state has to be are literals of the graph
   pub demands-within : AreLiteralsOf h (demands m w p)
-  demands-within = All-append (λ l. IsLiteralOf h l) (map (substitute p.map) m.props.constraints) (map (λ lit. negated (substitute p.witness lit)) (bad_states w.props))
+  demands-within = All-append (λ l. IsLiteralOf h l) (of-map ++ of-witness) no-bad
+      (All-append (λ l. IsLiteralOf h l) of-map of-witness
       (substitutes-within h m.aig (λ z u. value_within m.aig u (λ j. false)) p.map parts.map m.props.constraints two.props.constraints)
+      (substitutes-within h w.aig (in_witness c m w k) p.witness parts.witness w.props.constraints three.props.constraints))
       (negations-within h w.aig (in_witness c m w k) p.witness parts.witness (bad_states w.props) (bad-within w three))
 
-  -- the literals of what a good state has to be are 1 just where the map's constraints are and the witness is good
-  pub demands-say : (z : Digits) (u : State) → All (λ l. value_within h z u l ≡ true) (demands m w p) ↔ (is_kept m u × IsGood w (wd z) (ws u))
+  -- the literals of what a good state has to be are 1 just where the map's and the witness's constraints are and the witness is good
+  pub demands-say : (z : Digits) (u : State) → All (λ l. value_within h z u l ≡ true) (demands m w p) ↔ (is_kept m u × IsAllowed w (wd z) (ws u) × IsGood w (wd z) (ws u))
   demands-say z u =
       let V : ℕ → Bool = value_within h z u in
-      let a : List ℕ = map (substitute p.map) m.props.constraints in
-      let b : List ℕ = map (λ lit. negated (substitute p.witness lit)) (bad_states w.props) in
-      let of_m = ones (map V a) (map (value_within m.aig u (λ j. false)) m.props.constraints)
+      let of_m = ones (map V of-map) (map (value_within m.aig u (λ j. false)) m.props.constraints)
       (substitutes-values h m.aig (λ z u. value_within m.aig u (λ j. false)) p.map parts.map z u m.props.constraints two.props.constraints) in
-      let of_w = ones (map V b) (map (λ lit. not (in_witness c m w k z u lit)) (bad_states w.props))
+      let of_w = ones (map V of-witness) (map (in_witness c m w k z u) w.props.constraints)
+      (substitutes-values h w.aig (in_witness c m w k) p.witness parts.witness z u w.props.constraints three.props.constraints) in
+      let of_bad = ones (map V no-bad) (map (λ lit. not (in_witness c m w k z u lit)) (bad_states w.props))
       (negations-values h w.aig (in_witness c m w k) p.witness parts.witness valid z u (bad_states w.props) (bad-within w three)) in
       let turned = all-not (in_witness c m w k z u) (bad_states w.props) in (
         λ all.
-            let both = all-both (λ l. V l ≡ true) a b all in
-            (of_m.0 (All-map (λ b. b ≡ true) V a both.0), turned.0 (of_w.0 (All-map (λ b. b ≡ true) V b both.1))),
-        λ says. All-append (λ l. V l ≡ true) a b (all-mapped (λ b. b ≡ true) V a (of_m.1 says.0)) (all-mapped (λ b. b ≡ true) V b (of_w.1 (turned.1 says.1))),
+            let outer = all-both (λ l. V l ≡ true) (of-map ++ of-witness) no-bad all in
+            let inner = all-both (λ l. V l ≡ true) of-map of-witness outer.0 in
+            (of_m.0 (All-map (λ b. b ≡ true) V of-map inner.0), of_w.0 (All-map (λ b. b ≡ true) V of-witness inner.1), turned.0 (of_bad.0 (All-map (λ b. b ≡ true) V no-bad outer.1))),
+        λ says. All-append (λ l. V l ≡ true) (of-map ++ of-witness) no-bad
+            (All-append (λ l. V l ≡ true) of-map of-witness (all-mapped (λ b. b ≡ true) V of-map (of_m.1 says.0)) (all-mapped (λ b. b ≡ true) V of-witness (of_w.1 says.1)))
+            (all-mapped (λ b. b ≡ true) V no-bad (of_bad.1 (turned.1 says.2))),
       )
 
   -- the properties: a bad state where what is demanded fails, and the constraints
-  pub lifted-props : (good bad : ℕ) (constraints : List ℕ) (props : Props) → AreAll h (demands m w p) good → bad ≡ negated good → constraints ≡ lifted_constraints c m w p
+  pub lifted-props : (good bad : ℕ) (constraints : List ℕ) (props : Props) → AreAll h (demands m w p) good → bad ≡ negated good → constraints ≡ substitutes p.first c.props.constraints
       → props ≡ record { outputs = []; bad = bad ∷ []; constraints = constraints; justice = []; fairness = [] } → AreLiftedProps h c m w k props
   lifted-props good bad constraints props all turned filled made =
       let P : Props → Type 0 = λ ps. AreLiftedProps h c m w k ps in
@@ -181,17 +166,8 @@ module _ (h : Graph) (c m w : Netlist) (k : Sharing) (p : Parts) (valid : IsGrap
             );
       })))
     where
-      more-within : (given own of_map : List ℕ) → AreLiteralsOf h own → AreLiteralsOf h of_map → AreLiteralsOf h (more_constraints given own of_map)
-      more-within [] own of_map a b = All-nil (λ l. IsLiteralOf h l)
-      more-within (lit ∷ lits) own of_map a b = All-append (λ l. IsLiteralOf h l) own of_map a b
-
-      constraints-within : AreLiteralsOf h (lifted_constraints c m w p)
-      constraints-within = All-append (λ l. IsLiteralOf h l) (map (substitute p.first) c.props.constraints)
-          (more_constraints w.props.constraints (map (substitute p.witness) w.props.constraints) (map (substitute p.map) m.props.constraints))
-          (substitutes-within h c.aig (λ z u. value_within c.aig z u) p.first parts.first c.props.constraints one.props.constraints)
-          (more-within w.props.constraints (map (substitute p.witness) w.props.constraints) (map (substitute p.map) m.props.constraints)
-          (substitutes-within h w.aig (in_witness c m w k) p.witness parts.witness w.props.constraints three.props.constraints)
-          (substitutes-within h m.aig (λ z u. value_within m.aig u (λ j. false)) p.map parts.map m.props.constraints two.props.constraints))
+      constraints-within : AreLiteralsOf h (substitutes p.first c.props.constraints)
+      constraints-within = substitutes-within h c.aig (λ z u. value_within c.aig z u) p.first parts.first c.props.constraints one.props.constraints
 
 -- the three circuits remain parts of a graph as the graph grows
 pub parts-grow : (h i : Graph) (c m w : Netlist) (k : Sharing) (p : Parts) → Extends h i → AreParts h c m w k p → AreParts i c m w k p

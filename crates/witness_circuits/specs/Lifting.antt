@@ -1,5 +1,5 @@
 -- A witness circuit of a mapped circuit, read through the map.
-use Rattle.std.specs.Prelude.{ℕ, ◌+◌, ◌*◌, ◌≡◌, ◌++◌, ◌↔◌, ◌⊎◌, Bool, List, [], length, slice_get, Some, None, codes, decimal}
+use Rattle.std.specs.Prelude.{ℕ, ◌+◌, ◌*◌, ◌≡◌, ◌≤◌, ◌++◌, ◌↔◌, Bool, List, length, slice_get, Some, None, codes, decimal}
 use Rattle.variable_tables.specs.Tables.{table}
 use Rattle.aig_graph.specs.declared.graph.Latch.{Latch}
 use Rattle.aig_graph.specs.declared.properties.Symbol.{Symbol}
@@ -40,15 +40,28 @@ abbrev pub literal_names : ℕ → ℕ → List Symbol
 literal_names first n = table 0 n (literal_name first)
 
 -- r has the inputs and latches of c, with c's resets and steps, and after them those of w that are its own, which read through the map what w
--- shares. Its constraints are c's and, where w has any, w's and the map's; it is good where the map's constraints hold and w is.
-pub record IsLifted (c m w : Netlist) (k : Sharing) (r : Netlist) : Type 0 where
+-- shares. Its constraints are c's; it is good where the map's constraints hold, w's do, and w is.
+pub record IsLiftedOver (c m w : Netlist) (k : Sharing) (r : Netlist) : Type 0 where
   pub inputs : r.aig.inputs ≡ c.aig.inputs + own_count k.inputs
   pub latches : length r.aig.latches ≡ length c.aig.latches + own_count k.latches
   pub first : (j : ℕ) (latch : Latch) → slice_get c.aig.latches j ≡ Some latch → GoesAs r.aig j latch (in_circuit c)
   pub own : (j : ℕ) (latch : Latch) → slice_get k.latches j ≡ Some None → slice_get w.aig.latches j ≡ Some latch
       → GoesAs r.aig (own_at (length c.aig.latches) k.latches j) latch (in_witness c m w k)
-  pub allowed : (z : Digits) (u : State) → IsAllowed r z u
-      ↔ (IsAllowed c z u × IsAllowed w (witness_digits c k z) (witness_state c m k u) × ((w.props.constraints ≡ []) ⊎ is_kept m u))
-  pub good : (z : Digits) (u : State) → IsGood r z u ↔ (is_kept m u × IsGood w (witness_digits c k z) (witness_state c m k u))
-  pub input_names : r.symbols.inputs ≡ literal_names 1 c.aig.inputs
-  pub latch_names : r.symbols.latches ≡ literal_names (first_latch c.aig) (length c.aig.latches)
+  pub allowed : (z : Digits) (u : State) → IsAllowed r z u ↔ IsAllowed c z u
+  pub good : (z : Digits) (u : State) → IsGood r z u
+      ↔ (is_kept m u × IsAllowed w (witness_digits c k z) (witness_state c m k u) × IsGood w (witness_digits c k z) (witness_state c m k u))
+
+-- the names of r say that its first inputs and latches are those of c, in order
+pub record IsNamedAs (c : Graph) (r : Netlist) : Type 0 where
+  pub inputs : r.symbols.inputs ≡ literal_names 1 c.inputs
+  pub latches : r.symbols.latches ≡ literal_names (first_latch c) (length c.latches)
+
+-- so over the circuit itself, which the names speak of
+pub record IsLifted (c m w : Netlist) (k : Sharing) (r : Netlist) : Type 0 where
+  pub over : IsLiftedOver c m w k r
+  pub named : IsNamedAs c.aig r
+
+-- b has as many inputs and latches as c, or more
+pub record HasRoomFor (c b : Graph) : Type 0 where
+  pub inputs : c.inputs ≤ b.inputs
+  pub latches : length c.latches ≤ length b.latches

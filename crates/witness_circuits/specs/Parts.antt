@@ -1,5 +1,5 @@
 -- The three circuits as parts of one graph.
-use Rattle.std.specs.Prelude.{ℕ, ◌+◌, ◌*◌, ◌<◌, ◌≡◌, ◌++◌, ◌↔◌, ◌⊎◌, Bool, true, false, List, [], ◌∷◌, length, map, All, slice_get, Some}
+use Rattle.std.specs.Prelude.{ℕ, ◌+◌, ◌*◌, ◌<◌, ◌≡◌, ◌++◌, ◌↔◌, Bool, true, false, List, [], ◌∷◌, length, map, All, slice_get, Some}
 use Rattle.std.specs.List.{slice_index_or}
 use Rattle.aig_graph.specs.declared.graph.Latch.{Latch}
 use Rattle.aig_graph.specs.declared.graph.Reset.{Reset}
@@ -75,28 +75,13 @@ pub record AreParts (h : Graph) (c m w : Netlist) (k : Sharing) (p : Parts) : Ty
   pub map : IsView h m.aig (over_latches m.aig) p.map
   pub witness : IsView h w.aig (in_witness c m w k) p.witness
 
--- the parts have a literal for each variable
-pub record AreLong (c m w : Graph) (p : Parts) : Type 0 where
-  pub first : length p.first ≡ variables_end c
-  pub map : length p.map ≡ variables_end m
-  pub witness : length p.witness ≡ variables_end w
-
 -- what stands for these literals
 abbrev pub substitutes : List ℕ → List ℕ → List ℕ
 substitutes literals lits = map (substitute literals) lits
 
--- what a good state has to be: the constraints of the map, and no bad state of the witness
+-- what a good state has to be: the constraints of the map and of the witness, and no bad state of the witness
 abbrev pub demands : Netlist → Netlist → Parts → List ℕ
-demands m w p = map (substitute p.map) m.props.constraints ++ map (λ lit. negated (substitute p.witness lit)) (bad_states w.props)
-
--- where a witness has constraints, it stands on them and on the map's
-abbrev pub more_constraints : List ℕ → List ℕ → List ℕ → List ℕ
-more_constraints [] own of_map = []
-more_constraints (lit ∷ lits) own of_map = own ++ of_map
-
-abbrev pub lifted_constraints : Netlist → Netlist → Netlist → Parts → List ℕ
-lifted_constraints c m w p =
-    map (substitute p.first) c.props.constraints ++ more_constraints w.props.constraints (map (substitute p.witness) w.props.constraints) (map (substitute p.map) m.props.constraints)
+demands m w p = map (substitute p.map) m.props.constraints ++ map (substitute p.witness) w.props.constraints ++ map (λ lit. negated (substitute p.witness lit)) (bad_states w.props)
 
 -- what the constraints and the bad states of the lifted witness say
 pub record AreLiftedProps (h : Graph) (c m w : Netlist) (k : Sharing) (p : Props) : Type 0 where
@@ -104,10 +89,9 @@ pub record AreLiftedProps (h : Graph) (c m w : Netlist) (k : Sharing) (p : Props
   pub outputs : p.outputs ≡ []
   pub justice : p.justice ≡ []
   pub fairness : p.fairness ≡ []
-  pub allowed : (z : Digits) (u : State) → All (λ b. b ≡ true) (map (value_within h z u) p.constraints)
-      ↔ (IsAllowed c z u × IsAllowed w (witness_digits c k z) (witness_state c m k u) × ((w.props.constraints ≡ []) ⊎ is_kept m u))
+  pub allowed : (z : Digits) (u : State) → All (λ b. b ≡ true) (map (value_within h z u) p.constraints) ↔ IsAllowed c z u
   pub good : (z : Digits) (u : State) → All (λ b. b ≡ false) (map (value_within h z u) (bad_states p))
-      ↔ (is_kept m u × IsGood w (witness_digits c k z) (witness_state c m k u))
+      ↔ (is_kept m u × IsAllowed w (witness_digits c k z) (witness_state c m k u) × IsGood w (witness_digits c k z) (witness_state c m k u))
 
 -- latches with these resets, those of c and of the witness's own
 abbrev pub both_resets : List Latch → List Latch → List Reset

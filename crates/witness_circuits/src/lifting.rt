@@ -3,14 +3,14 @@
 ghost use Rattle.std.specs.Prelude.{◌≡◌, IfOk};
 ghost use Rattle.aig_graph.specs.Circuits.{IsNetlist};
 ghost use Rattle.witness_circuits.specs.Built.{circuit_of};
-ghost use Rattle.witness_circuits.specs.Lifting.{IsLifted};
+ghost use Rattle.witness_circuits.specs.Lifting.{HasRoomFor, IsLifted, IsLiftedOver, IsNamedAs};
 ghost use Rattle.witness_circuits.specs.Parts.{IsLiftable};
 
 use crate::building::{Built, assembled};
 use crate::errors::LiftError;
 use crate::names::names_of;
 use crate::sharing::Sharing;
-use aig_graph::{Circuit, Symbols};
+use aig_graph::{Aig, Circuit, Symbols};
 use std::alloc::Global;
 
 /// The graph and its properties as a circuit with these names. Takes no memory.
@@ -20,6 +20,36 @@ fn finished(built: Built, symbols: Symbols) -> Circuit
 {
     let Built { gates, props } = built;
     Circuit::new(gates.finish(), props, symbols)
+}
+
+/// A witness circuit for a model, made of one for the circuit to which a map maps the states of the first circuit. That is the model, or has
+/// the model's inputs and latches and more latches. What is made has the inputs and latches of the first circuit, and after them those that
+/// are the witness's own. Its names say that its first inputs and latches are those of the model. Linear in all three.
+///
+/// # Errors
+///
+/// `NoMemory` where memory is refused, `TooLarge` where it would have more variables than a graph may have.
+pub fn witness_lifted_over(
+    alloc: Global,
+    model: &Aig,
+    first: &Circuit,
+    map: &Circuit,
+    witness: &Circuit,
+    sharing: &Sharing,
+) -> Result<Circuit, LiftError>
+    requires fits { IsLiftable first.now map.now witness.now sharing.now }
+    requires room { HasRoomFor model.now first.now.aig }
+    ensures lifted { IfOk result (IsLiftedOver first.now map.now witness.now sharing.now) }
+    ensures named { IfOk result (IsNamedAs model.now) }
+{
+    let symbols = names_of(alloc, model)?;
+    match assembled(alloc, first, map, witness, sharing) {
+        Ok(built) => Ok(finished(built, symbols)),
+        Err(error) => {
+            drop(symbols);
+            Err(error)
+        }
+    }
 }
 
 /// A witness circuit for a circuit, made of one for the circuit to which a map maps its states. It has the inputs and latches of the
@@ -38,13 +68,6 @@ pub fn lifted_witness(
     requires { IsLiftable first.now map.now witness.now sharing.now }
     ensures { IfOk result (IsLifted first.now map.now witness.now sharing.now) }
 {
-    first.known();
-    let symbols = names_of(alloc, first.aig())?;
-    match assembled(alloc, first, map, witness, sharing) {
-        Ok(built) => Ok(finished(built, symbols)),
-        Err(error) => {
-            drop(symbols);
-            Err(error)
-        }
-    }
+    let lifted = witness_lifted_over(alloc, first.aig(), first, map, witness, sharing)?;
+    Ok(lifted)
 }

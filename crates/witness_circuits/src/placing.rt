@@ -17,11 +17,11 @@ fn place_below(place: u32, count: usize) -> Option<u32>
 }
 
 /// For each of so many inputs or latches that of the model with its number, if there is one.
-pub(crate) fn first_places(
-    alloc: Global,
-    many: u32,
-    count: usize,
-) -> Result<Vec<Option<u32>>, AllocError>
+///
+/// # Errors
+///
+/// `AllocError` where memory is refused.
+pub fn first_places(alloc: Global, many: u32, count: usize) -> Result<Vec<Option<u32>>, AllocError>
     ensures { IfOk result (λ places. places.items ≡ table 0 many (place_below count)) }
 {
     let mut places = Vec::with_capacity(alloc, many as usize)?;

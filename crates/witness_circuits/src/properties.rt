@@ -1,10 +1,10 @@
-//! The constraints and the bad state. Where the witness has no constraints the map's are not among the lifted one's, and its bad state
-//! alone says that they hold; else they are, since a step has to keep the witness's constraints whether its state is good or not.
+//! The constraints and the bad state. The constraints are the circuit's alone: that the map's and the witness's hold is a part of what a good
+//! state is, since a latch of the witness's own holds anything where a check begins.
 ghost use Rattle.std.specs.Prelude.{◌≡◌, ◌∷◌, [], IfOk, OnOk, length};
 ghost use Rattle.aig_graph.specs.Graph.{IsGraph, variables_end};
 ghost use Rattle.map_circuits.specs.Growing.{Extends};
 ghost use Rattle.witness_circuits.specs.Witnesses.{bad_states};
-ghost use Rattle.witness_circuits.specs.Parts.{AreLiftedProps, AreLong, AreParts, demands, lifted_constraints};
+ghost use Rattle.witness_circuits.specs.Parts.{AreLiftedProps, AreParts, demands, substitutes};
 
 use crate::errors::LiftError;
 use crate::literals::{push_negations, push_substitutes};
@@ -25,39 +25,23 @@ fn bad_states(props: &Props) -> &[Lit]
     }
 }
 
-/// The constraints of the circuit and, where the witness has any, the witness's and the map's.
-fn constraints_of(
-    alloc: Global,
-    parts: &Parts,
-    first: &Circuit,
-    map: &Circuit,
-    witness: &Circuit,
-) -> Result<Vec<Lit>, NoMemory>
-    requires { AreLong first.now.aig map.now.aig witness.now.aig parts.now }
-    ensures { IfOk result (λ lits. lits.items ≡ lifted_constraints first.now map.now witness.now
-        parts.now) }
+/// The constraints of the circuit.
+fn constraints_of(alloc: Global, parts: &Parts, first: &Circuit) -> Result<Vec<Lit>, NoMemory>
+    requires { length parts.now.first ≡ variables_end first.now.aig }
+    ensures { IfOk result (λ lits. lits.items
+        ≡ substitutes parts.now.first first.now.props.constraints) }
 {
     first.known();
-    map.known();
-    witness.known();
     let mut lits = Vec::new(alloc);
     push_substitutes(
         &mut lits,
         &parts.first,
         first.props().constraints.as_slice(),
     )?;
-    if !witness.props().constraints.is_empty() {
-        push_substitutes(
-            &mut lits,
-            &parts.witness,
-            witness.props().constraints.as_slice(),
-        )?;
-        push_substitutes(&mut lits, &parts.map, map.props().constraints.as_slice())?;
-    }
     Ok(lits)
 }
 
-/// What a good state has to be: one in which the map's constraints are 1, and the witness's bad states are not.
+/// What a good state has to be: one in which the map's and the witness's constraints are 1, and the witness's bad states are not.
 fn demands_of(
     alloc: Global,
     parts: &Parts,
@@ -70,8 +54,10 @@ fn demands_of(
 {
     map.known();
     witness.known();
+    let constraints = witness.props().constraints.as_slice();
     let mut demands = Vec::new(alloc);
     push_substitutes(&mut demands, &parts.map, map.props().constraints.as_slice())?;
+    push_substitutes(&mut demands, &parts.witness, constraints)?;
     push_negations(&mut demands, &parts.witness, bad_states(witness.props()))?;
     Ok(demands)
 }
@@ -116,7 +102,7 @@ pub(crate) fn add_props(
     witness.known();
     let demands = demands_of(alloc, parts, map, witness)?;
     let good = add_conjunction_of(gates, demands.as_slice())?;
-    let constraints = constraints_of(alloc, parts, first, map, witness)?;
+    let constraints = constraints_of(alloc, parts, first)?;
     let props = props_of(alloc, good.signed_as(Lit::TRUE), constraints)?;
     Ok(props)
 }

@@ -25,6 +25,7 @@ returns-in-Err g c =
       levels = tt;
       unread = facts.unread;
       missing = facts.missing;
+      no_latch = facts.no_latch;
       unwritten = facts.unwritten;
       cut_off = facts.cut_off;
     }) in

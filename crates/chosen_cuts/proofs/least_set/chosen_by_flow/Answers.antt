@@ -1,4 +1,4 @@
-use Rattle.std.proofs.lemmas.Result.{IfOk-from_err, IfOk-weaker}
+use Rattle.std.proofs.lemmas.Result.{IfOk-from_err}
 use Rattle.chosen_cuts.proofs.least_set.chosen_by_flow.Goals as goal
 
 pub chosen_set-set-requires-clause-network : goal.chosen_set-set-requires-clause-network
@@ -10,12 +10,8 @@ chosen_set-set-requires-clause-preflow g c = c.in_ok-preflow.ensures
 pub returns-clause-set : goal.returns-clause-set
 returns-clause-set g c = c.chosen_set-set.ensures.set
 
--- what is added says nothing of the memory of tables, which is replaced afterwards
 pub returns-clause-certificate : goal.returns-clause-certificate
-returns-clause-certificate g c =
-    IfOk-weaker c.chosen_set-set.result _ _
-    (λ set adds. record { certify = adds.certify; added = adds.added; none = adds.none })
-    c.chosen_set-set.ensures.certificate
+returns-clause-certificate g c = c.chosen_set-set.ensures.certificate
 
 pub returns-in_err-net-clause-set : goal.returns-in_err-net-clause-set
 returns-in_err-net-clause-set g c = IfOk-from_err c.from_residual.result _ c.from_residual.ensures.0

@@ -1,9 +1,13 @@
-use Rattle.std.proofs.Common.{◌≡◌, ◌<◌, ◌∙◌, ap, sym, subst, ℕ, List}
+use Rattle.std.proofs.Common.{◌≡◌, ◌<◌, ◌∙◌, ap, sym, subst, ℕ, List, length}
+use Rattle.std.specs.List.{All}
+use Rattle.std.specs.List.Sorted.{IsStrictlyIncreasing}
 use Rattle.aig_graph.specs.Graph.{Graph, latches_and_gates}
 use Rattle.aig_graph.specs.Streams.{SameStreams}
 use Rattle.cleaned_circuits.specs.Cleaned.{IsPass, Cleans}
+use Rattle.cleaned_circuits.specs.Held.{HeldAfter}
+use Rattle.cleaned_circuits.proofs.HeldLaws.{held_after-rising}
 use Rattle.cleaned_circuits.proofs.PassLaws.{IsCircuit, cleans-streams}
-use Rattle.clean.proofs.CleaningLaws.{Passed, passed-start, passed-in_range, passed-more, passed-done, kept-long}
+use Rattle.clean.proofs.CleaningLaws.{Passed, passed-start, passed-in_range, passed-more, passed-done, passed-held, kept-long}
 use Rattle.clean.proofs.cleaning.clean.Goals as goal
 
 pub loop-before-init : goal.loop-before-init
@@ -57,3 +61,25 @@ returns-clause-streams c =
     subst (λ (xs : List ℕ). SameStreams c.args.circuit.now c.cleaned_by.result.circuit xs) (sym c.cleaned_by.ensures.kept_free)
     (subst (λ d. SameStreams c.args.circuit.now d last.kept_free.items) (sym c.cleaned_by.ensures.circuit)
     (cleans-streams last.circuit c.args.keep.now c.args.circuit.now last.kept_free.items cleaned valid))
+
+pub cleaned_by-requires : goal.cleaned_by-requires
+cleaned_by-requires c =
+    let last = c.loop-before.last in
+    let after : HeldAfter last.circuit last.held.items c.args.keep.now c.args.circuit.now =
+    passed-held c.args.keep.now c.args.circuit.now c.loop-before.before last.circuit last.kept_free.items last.held.items c.loop-before.invariant (c.goes_on.ensures.done c.loop-before-test.false) in
+    held_after-rising last.circuit last.held.items c.args.keep.now c.args.circuit.now after (subst IsStrictlyIncreasing c.positions.ensures.value c.positions.ensures.rising)
+
+pub returns-clause-held : goal.returns-clause-held
+returns-clause-held c =
+    let last = c.loop-before.last in
+    let after : HeldAfter last.circuit last.held.items c.args.keep.now c.args.circuit.now =
+    passed-held c.args.keep.now c.args.circuit.now c.loop-before.before last.circuit last.kept_free.items last.held.items c.loop-before.invariant (c.goes_on.ensures.done c.loop-before-test.false) in
+    subst (λ (js : List ℕ). HeldAfter c.cleaned_by.result.circuit js c.args.keep.now c.args.circuit.now) (sym c.cleaned_by.ensures.keep)
+    (subst (λ d. HeldAfter d last.held.items c.args.keep.now c.args.circuit.now) (sym c.cleaned_by.ensures.circuit) after)
+
+pub returns-clause-in_range : goal.returns-clause-in_range
+returns-clause-in_range c =
+    let last = c.loop-before.last in
+    subst (λ (js : List ℕ). All (λ (j : ℕ). j < length c.cleaned_by.result.circuit.aig.latches) js) (sym c.cleaned_by.ensures.keep)
+    (subst (λ d. All (λ (j : ℕ). j < length d.aig.latches) last.held.items) (sym c.cleaned_by.ensures.circuit)
+    (passed-in_range c.args.keep.now c.args.circuit.now c.loop-before.before last.circuit last.kept_free.items last.held.items c.loop-before.invariant))

@@ -10,8 +10,8 @@ returns-in-Ok-clause-reported g c =
     let beside = c.in-Ok.ensures in
     let reported = c.with_times in
     report_of _ c.args.task.now (g.I.CountedRead.input c.args.stdin.now) (g.O.CountedWrite.output c.args.out.now) (g.O.CountedWrite.output c.retimed-ended.new.out)
-    (g.O.CountedWrite.output c.write_beside.new.out) c.in_ok-answer.answer c.write_beside.new.answer reported.result.retimed reported.result.levels reported.result.map
-    reported.ensures.levels beside.levels reported.ensures.retimed beside.frames reported.ensures.map beside.map c.in_ok-answer.ensures.answer beside.written
+    (g.O.CountedWrite.output c.write_beside.new.out) c.in_ok-answer.answer c.write_beside.new.answer reported.result.retimed reported.result.keep reported.result.levels reported.result.map
+    reported.ensures.keep beside.keep reported.ensures.levels beside.levels reported.ensures.retimed beside.frames reported.ensures.map beside.map c.in_ok-answer.ensures.answer beside.written
 
 pub returns-clause-prints : goal.returns-clause-prints
 returns-clause-prints g c =

@@ -5,5 +5,5 @@ use Rattle.commands.proofs.retiming.remaining.Goals as goal
 
 pub returns : goal.returns
 returns c =
-    IfOk-weaker c.of.result _ _ (λ left is. is ∙ remaining_is c.args.task.now c.args.bound c.args.retimed.now c.in_ok-names.names.items c.as_slice.result.now c.len.result
-    c.as_slice.ensures.value c.in_ok-names.ensures c.len.ensures) c.of.ensures
+    let timed = c.args.timed.now in
+    IfOk-weaker c.of.result _ _ (λ left is. is ∙ remaining_is c.args.task.now timed.levels.bound timed.retimed timed.keep c.len.result c.len.ensures) c.of.ensures

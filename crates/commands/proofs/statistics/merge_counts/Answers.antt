@@ -1,15 +1,20 @@
-use Rattle.std.proofs.Common.{refl}
-use Rattle.aig_graph.specs.Keep.{first_missing}
+use Rattle.std.proofs.Common.{ℕ, List, ◌<◌, arith, length, sym, subst}
+use Rattle.std.specs.List.{All}
 use Rattle.std.proofs.lemmas.Result.{IfOk-from_err}
+use Rattle.retimed_circuits.specs.Merging.{MergesIn}
 use Rattle.commands.proofs.statistics.merge_counts.Goals as goal
 
--- no name is missing where there is none
+-- no latch is held
 pub merged_start-requires : goal.merged_start-requires
-unfolding first_missing
-merged_start-requires c = refl
+merged_start-requires c =
+    let P : List ℕ → Type 0 = λ js. All (λ (j : ℕ). j < length c.args.circuit.now.aig.latches) js in
+    record { in_range = subst P (sym c.none.ensures) (λ k a h. absurd (omega (arith, h))) }
 
 pub returns : goal.returns
-returns c = record { start = c.in_ok-start.start.circuit; kept = c.in_ok-start.start.kept_free; merges = c.in_ok-start.ensures.merges }
+returns c =
+    let start = c.in_ok-start.start in
+    let P : List ℕ → Type 0 = λ held. MergesIn held c.args.circuit.now start.circuit start.kept_free start.keep start.counts in
+    record { start = start.circuit; kept = start.kept_free; now = start.keep; merges = subst P c.none.ensures c.in_ok-start.ensures.merges }
 
 pub returns-in_err-start : goal.returns-in_err-start
 returns-in_err-start c = IfOk-from_err c.from_residual.result _ c.from_residual.ensures.0

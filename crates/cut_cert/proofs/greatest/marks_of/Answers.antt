@@ -4,9 +4,6 @@ use Rattle.frame_net.specs.FlowNet.{node_count}
 use Rattle.pulse.specs.Conditions.{state_of}
 use Rattle.cut_cert.proofs.greatest.marks_of.Goals as goal
 
-pub labelled_side-requires-clause-exact : goal.labelled_side-requires-clause-exact
-labelled_side-requires-clause-exact c = sym c.has_exact_labels.ensures ∙ c.if-has_exact_labels.true
-
 pub returns-clause-side : goal.returns-clause-side
 returns-clause-side c =
     subst (λ (xs : List Bool). IsSourceSide (node_count c.args.net.now) (state_of c.args.net.now c.args.preflow.now.flow) (λ v. not (slice_index_or xs v false))) (sym c.into_marks.ensures) c.in_ok-side.ensures.side

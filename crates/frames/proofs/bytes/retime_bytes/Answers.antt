@@ -15,6 +15,9 @@ returns-clause-unread g c = c.retime_bytes_watched.ensures.retimes.unread
 pub returns-clause-missing : goal.returns-clause-missing
 returns-clause-missing g c = c.retime_bytes_watched.ensures.retimes.missing
 
+pub returns-clause-no_latch : goal.returns-clause-no_latch
+returns-clause-no_latch g c = c.retime_bytes_watched.ensures.retimes.no_latch
+
 pub returns-clause-unwritten : goal.returns-clause-unwritten
 returns-clause-unwritten g c = c.retime_bytes_watched.ensures.retimes.unwritten
 

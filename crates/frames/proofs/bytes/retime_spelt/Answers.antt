@@ -1,67 +1,21 @@
-use Rattle.std.proofs.Common.{Err, ap, [], ◌∷◌}
-use Rattle.std.specs.Option.{unwrap_or}
-use Rattle.aig_binary.proofs.SpellingLaws.{the_spelling_law}
-use Rattle.retimed_circuits.proofs.LimitLaws.{stays-within}
-use Rattle.frames.specs.declared.errors.BytesError.TheVariants.{Retime}
-use Rattle.frames.specs.declared.errors.RetimeError.{RetimeError}
-use Rattle.frames.specs.Answering.{IsStop}
+use Rattle.std.proofs.Common.{[], ◌∷◌, ◌++◌, sym, subst}
+use Rattle.retimed_circuits.specs.declared.report.Retimed.{Retimed}
+use Rattle.level_laws.specs.Retiming.{KeepsLevels}
+use Rattle.frames.specs.Answering.{IsWritten}
 use Rattle.frames.specs.Bounds.{bound_in}
-use Rattle.frames.specs.Named.{names_in}
-use Rattle.frames.specs.Stages.{Writing, stages_of}
-use Rattle.std.proofs.lemmas.Result.{IfOk-from_err}
-use Rattle.frames.proofs.StageLaws.{notifies-then}
-use Rattle.frames.proofs.StopLaws.{at-error, stops-retiming}
+use Rattle.frames.specs.Stages.{Notifies, Writing, stages_of}
 use Rattle.frames.proofs.bytes.retime_spelt.Goals as goal
 
 pub returns-in-Ok-clause-ok : goal.returns-in-Ok-clause-ok
 returns-in-Ok-clause-ok g c =
-    let options = c.args.options.now in
-    let spelt = c.args.spelt in
-    let r = c.in_ok-retimed.retimed in
-    let retimed = c.in_ok-retimed.ensures.retimed in
-    record {
-      answer = record { names = c.in_ok-retimed.ensures.none_missing; retimed = retimed };
-      writes = c.in-Ok.ensures.ok;
-      reads_back = λ within.
-          (the_spelling_law (unwrap_or options.spelling spelt.spelling) r.circuit).read c.in_range.ensures.graph c.in_range.ensures.netlist
-          (stays-within options.merge (bound_in options spelt.circuit) options.choice spelt.circuit (names_in options) options.max_frames options.certify r retimed within);
-    }
+    subst (IsWritten c.args.options.now c.args.spelt (g.W.CountedWrite.output c.args.writer.now) (g.W.CountedWrite.output c.run_spelt.new.writer)) (sym c.retimed_of.ensures) c.in-Ok.ensures.ok
 
 pub returns-in-Ok-clause-levels : goal.returns-in-Ok-clause-levels
-returns-in-Ok-clause-levels g c = c.in_ok-retimed.ensures.levels
-
-pub returns-in_err-retimed-clause-levels : goal.returns-in_err-retimed-clause-levels
-returns-in_err-retimed-clause-levels g c = IfOk-from_err c.from_residual.result _ c.from_residual.ensures.0
-
-pub returns-in_err-retimed-clause-ok : goal.returns-in_err-retimed-clause-ok
-returns-in_err-retimed-clause-ok g c = IfOk-from_err c.from_residual.result _ c.from_residual.ensures.0
-
-pub returns-in_err-retimed-clause-err : goal.returns-in_err-retimed-clause-err
-returns-in_err-retimed-clause-err g c =
-    let options = c.args.options.now in
-    let spelt = c.args.spelt in
-    let out = g.W.CountedWrite.output c.args.writer.now in
-    let e = c.in_err-retimed.field-0.0 in
-    at-error c.from_residual.result (Retime e) (IsStop options spelt out out) c.from_residual.ensures.1
-    (stops-retiming options spelt out e (λ place is. c.in_err-retimed.ensures.missing place (ap (λ (x : RetimeError). Err x) is)))
-
-pub returns-in-Err-clause-err : goal.returns-in-Err-clause-err
-returns-in-Err-clause-err g c =
-    let options = c.args.options.now in
-    let spelt = c.args.spelt in
-    let before = g.W.CountedWrite.output c.args.writer.now in
-    let after = g.W.CountedWrite.output c.write_answer.new.writer in
-    let retimed = c.in_ok-retimed.ensures in
-    record {
-      retimed = c.in_ok-retimed.retimed;
-      answer = record { names = retimed.none_missing; retimed = retimed.retimed };
-      writes = c.in-Err.ensures.err;
-    }
-
-pub returns-in_err-retimed-clause-notified : goal.returns-in_err-retimed-clause-notified
-returns-in_err-retimed-clause-notified g c = IfOk-from_err c.from_residual.result _ c.from_residual.ensures.0
+returns-in-Ok-clause-levels g c =
+    let before = c.args.spelt.circuit in
+    subst (λ (r : Retimed). KeepsLevels (bound_in c.args.options.now before) before r.circuit) (sym c.retimed_of.ensures) c.in-Ok.ensures.levels
 
 pub returns-in-Ok-clause-notified : goal.returns-in-Ok-clause-notified
 returns-in-Ok-clause-notified g c =
-    let r = c.in_ok-retimed.retimed in
-    notifies-then g.V.FrameWatcher.was_notified c.args.watcher.now c.retime_over.new.watcher c.enter.new.self (stages_of c.args.options.now.max_frames r) (Writing ∷ []) c.in_ok-retimed.ensures.notified c.enter.ensures
+    subst (λ (r : Retimed). Notifies g.V.FrameWatcher.was_notified c.args.watcher.now c.run_spelt.new.watcher (stages_of c.args.options.now.max_frames r ++ Writing ∷ []))
+    (sym c.retimed_of.ensures) c.in-Ok.ensures.notified

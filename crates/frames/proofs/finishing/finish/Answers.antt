@@ -8,28 +8,29 @@ use Rattle.frames.proofs.finishing.finish.Goals as goal
 pub run_to_end-requires-after_bounds : goal.run_to_end-requires-after_bounds
 run_to_end-requires-after_bounds g c κs within =
     let begun = c.args.begun in
-    (c.requires.0, begun-ready g.F.RunFollower.has_come c.args.options.now begun.run.bound c.requires.0 begun.read begun.run.retimed begun.run.follower c.requires.1)
+    (c.requires.0, begun-ready g.F.RunFollower.has_come c.args.options.now begun.run.bound c.requires.0 begun.read begun.run.retimed begun.run.keep begun.run.follower c.requires.1)
 
 pub run_of_read-requires : goal.run_of_read-requires
 run_of_read-requires g c =
     let begun = c.args.begun in
     let end = c.in_ok-end.end in
-    merged-below g.F.RunFollower.has_come c.args.options.now begun.run.bound c.requires.0 begun.read c.in-Some.read begun.run.retimed end.retimed begun.run.follower end.follower c.in-Some.is
+    merged-below g.F.RunFollower.has_come c.args.options.now begun.run.bound c.requires.0 begun.read c.in-Some.read begun.run.retimed end.retimed begun.run.keep end.keep begun.run.follower end.follower c.in-Some.is
     (c.in_ok-end.ensures.retimed c.requires.0) c.requires.1
 
 pub returns-in-None-clause-retimed : goal.returns-in-None-clause-retimed
 returns-in-None-clause-retimed g c = λ d.
     let begun = c.args.begun in
     let end = c.in_ok-end.end in
-    plain-finished g.F.RunFollower.has_come c.args.options.now begun.run.bound d begun.read begun.run.retimed end.retimed begun.run.follower end.follower c.in-None.is (c.in_ok-end.ensures.retimed d)
+    plain-finished g.F.RunFollower.has_come c.args.options.now begun.run.bound d begun.read begun.run.retimed end.retimed begun.run.keep end.keep begun.run.follower end.follower c.in-None.is
+    (c.in_ok-end.ensures.retimed d)
 
 pub returns-in-Some-clause-retimed : goal.returns-in-Some-clause-retimed
 returns-in-Some-clause-retimed g c =
     let begun = c.args.begun in
     let end = c.in_ok-end.end in
     IfOk-weaker c.run_of_read.result _ _
-    (λ whole same. λ d. merged-finished g.F.RunFollower.has_come c.args.options.now begun.run.bound d begun.read c.in-Some.read begun.run.retimed end.retimed whole.retimed begun.run.follower end.follower whole.follower
-    c.in-Some.is (c.in_ok-end.ensures.retimed d) same.0 same.1) c.run_of_read.ensures
+    (λ whole same. λ d. merged-finished g.F.RunFollower.has_come c.args.options.now begun.run.bound d begun.read c.in-Some.read begun.run.retimed end.retimed whole.retimed
+    begun.run.keep end.keep whole.keep begun.run.follower end.follower whole.follower c.in-Some.is (c.in_ok-end.ensures.retimed d) same.0 same.1 same.2) c.run_of_read.ensures
 
 pub returns-in-Some-clause-notified : goal.returns-in-Some-clause-notified
 returns-in-Some-clause-notified g c =

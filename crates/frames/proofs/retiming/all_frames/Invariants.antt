@@ -8,7 +8,8 @@ use Rattle.frames.proofs.retiming.all_frames.Given as goal
 -- whatever circuit d the first one is the cleaning of, and c was read; the watcher has been notified of each frame, and the bound stays
 abbrev pub invariant-loop : goal.invariant-loop
 invariant-loop g l =
-    ((c d : Netlist) (kept : List ℕ) → IsFollowed g.F.RunFollower.has_come l.options l.fn.start.bound c d kept 0 l.fn.start.retimed l.fn.start.follower
-    → IsFollowed g.F.RunFollower.has_come l.options l.fn.start.bound c d kept l.counter l.run.retimed l.run.follower × AreCollected l.options l.fn.start.bound d l.counter l.records)
+    let start = l.fn.start in
+    ((c d : Netlist) (held kept : List ℕ) → IsFollowed g.F.RunFollower.has_come l.options start.bound c d held kept 0 start.retimed start.keep start.follower
+    → IsFollowed g.F.RunFollower.has_come l.options start.bound c d held kept l.counter l.run.retimed l.run.keep l.run.follower × AreCollected l.options start.bound held d l.counter l.records)
     × Notifies g.V.FrameWatcher.was_notified l.fn.watcher l.watcher (frame_stages 0 l.run.retimed.frames)
-    × (l.run.bound ≡ l.fn.start.bound)
+    × (l.run.bound ≡ start.bound)

@@ -1,8 +1,7 @@
 use Rattle.std.proofs.Common.{◌≡◌, List, ℕ, sym, subst}
-use Rattle.aig_graph.specs.Laws.{composed}
 use Rattle.retimed_circuits.specs.declared.report.Retimed.{Retimed}
 use Rattle.frames.specs.Following.{IsRetimedFrom}
-use Rattle.frames.proofs.FrameLaws.{ended}
+use Rattle.frames.proofs.FrameLaws.{ended, with_certificates}
 use Rattle.frames.proofs.StageLaws.{same-looks}
 use Rattle.frames.proofs.retiming.run_to_end.Goals as goal
 
@@ -16,14 +15,15 @@ pub all_frames-requires-clause-none_yet : goal.all_frames-requires-clause-none_y
 all_frames-requires-clause-none_yet g c κs within = c.new-records.ensures.certificates
 
 pub returns-in-Ok-clause-retimed : goal.returns-in-Ok-clause-retimed
-returns-in-Ok-clause-retimed g c = λ read d kept start.
+returns-in-Ok-clause-retimed g c = λ read d held kept start.
     let has_come = g.F.RunFollower.has_come in
     let options = c.args.options.now in
+    let bound = c.args.start.bound in
     let run = c.in-Ok.run' in
     let r = run.retimed in
     let records = c.all_frames.new.records in
     let whole = c.certified.ensures in
-    let s : Retimed = record { circuit = r.circuit; kept_free = r.kept_free; read_latches = r.read_latches; merged = r.merged; frames = r.frames; certificates = records.certificates.items } in
+    let s : Retimed = with_certificates r records in
     let same : c.certified.result.retimed ≡ s = λ i. record {
       circuit = whole.circuit i;
       kept_free = whole.kept_free i;
@@ -32,10 +32,12 @@ returns-in-Ok-clause-retimed g c = λ read d kept start.
       frames = whole.frames i;
       certificates = whole.certificates i;
     } in
-    let ends = c.in-Ok.ensures.run read d kept start in
-    let is : IsRetimedFrom has_come options c.args.start.bound read d kept s run.follower = record { retimed = ended options c.args.start.bound d records r ends.run; come = ends.come } in
-    subst (λ (x : Retimed). IsRetimedFrom has_come options c.args.start.bound read d kept x c.certified.result.follower) (sym same)
-    (subst (λ f. IsRetimedFrom has_come options c.args.start.bound read d kept s f) (sym whole.follower) is)
+    let ends = c.in-Ok.ensures.run read d held kept start in
+    let done = ended options bound d held records r run.keep ends.run in
+    let is : IsRetimedFrom has_come options bound read d held kept s run.keep run.follower = record { retimed = done.0; ends = done.1; stays = ends.run.underway.keeps.stays; come = ends.come } in
+    subst (λ (x : Retimed). IsRetimedFrom has_come options bound read d held kept x c.certified.result.keep c.certified.result.follower) (sym same)
+    (subst (λ (js : List ℕ). IsRetimedFrom has_come options bound read d held kept s js c.certified.result.follower) (sym whole.keep)
+    (subst (λ f. IsRetimedFrom has_come options bound read d held kept s run.keep f) (sym whole.follower) is))
 
 pub returns-in-Ok-clause-notified : goal.returns-in-Ok-clause-notified
 returns-in-Ok-clause-notified g c =

@@ -1,12 +1,13 @@
-use Rattle.std.proofs.Common.{List, ℕ, ◌∙◌, ap, subst}
-use Rattle.std.specs.Global.{Vec}
-use Rattle.aig_graph.specs.Keep.{NoneMissing, held_in, names_of}
+use Rattle.std.proofs.Common.{Err, ap}
+use Rattle.frames.specs.declared.errors.RetimeError.{RetimeError}
+use Rattle.frames.specs.Named.{IsFirstNoLatchBy}
+use Rattle.frames.proofs.HoldLaws.{at-latch}
 use Rattle.frames.proofs.runs.begin_plain.Goals as goal
 
 pub begin-requires-clause-keep : goal.begin-requires-clause-keep
-begin-requires-clause-keep c = c.in_ok-keep.ensures.ok ∙ ap (λ names. held_in (names_of names) c.args.circuit.now) c.as_slice.ensures.value
+begin-requires-clause-keep c = c.in_ok-keep.ensures.keep
 
-pub begin-requires-clause-names : goal.begin-requires-clause-names
-begin-requires-clause-names c =
-    let P : List (Vec ℕ) → Type 0 = λ names. NoneMissing (names_of names) c.args.circuit.now in
-    subst P c.as_slice.ensures.value c.in_ok-keep.ensures.none_missing
+pub returns-in_err-keep-clause-no_latch : goal.returns-in_err-keep-clause-no_latch
+returns-in_err-keep-clause-no_latch c =
+    at-latch c.from_residual.result c.in_err-keep.field-0.0 (IsFirstNoLatchBy c.args.options.now c.args.circuit.now) c.from_residual.ensures.1
+    (λ place is. c.in_err-keep.ensures.no_latch place (ap (λ (x : RetimeError). Err x) is))

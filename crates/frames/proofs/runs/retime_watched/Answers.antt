@@ -1,28 +1,27 @@
-use Rattle.std.proofs.Common.{[], ◌∷◌}
-use Rattle.level_laws.proofs.RetimingLevelLaws.{retiming-levels}
+use Rattle.std.proofs.Common.{Err, ap, refl, sym, subst}
+use Rattle.retimed_circuits.specs.declared.report.Retimed.{Retimed}
+use Rattle.level_laws.specs.Retiming.{KeepsLevels}
+use Rattle.frames.specs.declared.errors.RetimeError.{RetimeError}
 use Rattle.frames.specs.Bounds.{bound_in}
-use Rattle.frames.specs.Named.{names_in}
-use Rattle.frames.specs.Stages.{Cleaning, looks_of}
-use Rattle.frames.proofs.StageLaws.{notifies-then}
+use Rattle.frames.specs.Named.{IsFirstNoLatchBy}
+use Rattle.frames.specs.Retiming.{IsRetimedBy}
+use Rattle.frames.specs.Stages.{Notifies, stages_of}
+use Rattle.frames.proofs.HoldLaws.{at-latch}
 use Rattle.frames.proofs.runs.retime_watched.Goals as goal
 
-pub finish_plain-requires-after_bounds : goal.finish_plain-requires-after_bounds
-finish_plain-requires-after_bounds g c κs within = (c.args.circuit.now, c.in_ok-begun.ensures.begun)
+pub returns-in-Ok-clause-retimed : goal.returns-in-Ok-clause-retimed
+returns-in-Ok-clause-retimed g c = subst (IsRetimedBy c.args.options.now c.args.circuit.now) (sym c.retimed_of.ensures) c.in-Ok.ensures.retimed.retimed
 
-pub returns-clause-retimed : goal.returns-clause-retimed
-returns-clause-retimed g c = c.in_ok-retimed.ensures.retimed c.args.circuit.now c.in_ok-begun.ensures.begun
-
-pub returns-clause-none_missing : goal.returns-clause-none_missing
-returns-clause-none_missing g c = c.in_ok-begun.ensures.begun.names
-
-pub returns-clause-notified : goal.returns-clause-notified
-returns-clause-notified g c =
-    notifies-then g.V.FrameWatcher.was_notified c.args.watcher.now c.enter.new.self c.finish_plain.new.watcher (Cleaning ∷ []) (looks_of c.args.options.now.max_frames c.in_ok-retimed.retimed)
-    c.enter.ensures c.in_ok-retimed.ensures.notified
-
-pub returns-clause-levels : goal.returns-clause-levels
-returns-clause-levels g c =
-    let options = c.args.options.now in
+pub returns-in-Ok-clause-levels : goal.returns-in-Ok-clause-levels
+returns-in-Ok-clause-levels g c =
     let before = c.args.circuit.now in
-    retiming-levels options.merge (bound_in options before) options.choice before (names_in options) options.max_frames options.certify c.in_ok-retimed.retimed c.known.ensures.graph c.known.ensures.netlist
-    (c.in_ok-retimed.ensures.retimed before c.in_ok-begun.ensures.begun)
+    subst (λ (r : Retimed). KeepsLevels (bound_in c.args.options.now before) before r.circuit) (sym c.retimed_of.ensures) c.in-Ok.ensures.levels
+
+pub returns-in-Ok-clause-notified : goal.returns-in-Ok-clause-notified
+returns-in-Ok-clause-notified g c =
+    subst (λ (r : Retimed). Notifies g.V.FrameWatcher.was_notified c.args.watcher.now c.run_watched.new.watcher (stages_of c.args.options.now.max_frames r)) (sym c.retimed_of.ensures) c.in-Ok.ensures.notified
+
+pub returns-in-Err-clause-no_latch : goal.returns-in-Err-clause-no_latch
+returns-in-Err-clause-no_latch g c =
+    at-latch {T = Retimed} (Err c.in-Err.error) c.in-Err.error (IsFirstNoLatchBy c.args.options.now c.args.circuit.now) refl
+    (λ place is. c.in-Err.ensures.no_latch place (ap (λ (x : RetimeError). Err x) is))

@@ -9,10 +9,7 @@ pub begin-requires-clause-there : goal.begin-requires-clause-there
 begin-requires-clause-there g c = c.in_ok-identity.ensures
 
 pub begin-requires-clause-keep : goal.begin-requires-clause-keep
-begin-requires-clause-keep g c = c.requires.keep
-
-pub begin-requires-clause-names : goal.begin-requires-clause-names
-begin-requires-clause-names g c = c.requires.names
+begin-requires-clause-keep g c = c.requires
 
 pub finish-requires-after_bounds : goal.finish-requires-after_bounds
 finish-requires-after_bounds g c κs within = (c.args.circuit.now, c.in_ok-begun.ensures)

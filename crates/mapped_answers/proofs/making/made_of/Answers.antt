@@ -1,22 +1,20 @@
-use Rattle.std.proofs.Common.{ℕ, List, Err, ap, subst, sym, ◌∙◌, [], ◌∷◌}
-use Rattle.std.specs.Global.{Vec}
+use Rattle.std.proofs.Common.{Err, ap, subst, sym, [], ◌∷◌}
 use Rattle.std.proofs.lemmas.Result.{IfErr-weaker}
-use Rattle.aig_graph.specs.Keep.{IsFirstMissing, NoneMissing, held_in, names_of}
-use Rattle.aig_graph.specs.declared.holding.KeepError.{KeepError}
+use Rattle.frames.specs.declared.errors.RetimeError.{RetimeError}
 use Rattle.frames.specs.Stages.{Cleaning, looks_of}
 use Rattle.frames.proofs.StageLaws.{all-notified}
 use Rattle.mapped_answers.specs.Mapping.{IsMakingError, IsMapError}
-use Rattle.mapped_answers.specs.declared.errors.AnswerError.{AnswerError}
-use Rattle.mapped_answers.proofs.MakingLaws.{unmapped, unnamed}
+use Rattle.mapped_answers.proofs.MakingLaws.{unheld, unmapped}
 use Rattle.mapped_answers.proofs.making.made_of.Goals as goal
 
 pub made_mapped-requires-clause-keep : goal.made_mapped-requires-clause-keep
-made_mapped-requires-clause-keep g c κs within = c.in-Ok.ensures.ok ∙ ap (λ names. held_in (names_of names) c.args.circuit.now) c.as_slice.ensures.value
+made_mapped-requires-clause-keep g c κs within = c.in-Ok.ensures.keep
+
+pub made_mapped-requires-clause-latches : goal.made_mapped-requires-clause-latches
+made_mapped-requires-clause-latches g c κs within = c.in-Ok.ensures.latches
 
 pub made_mapped-requires-clause-names : goal.made_mapped-requires-clause-names
-made_mapped-requires-clause-names g c κs within =
-    let P : List (Vec ℕ) → Type 0 = λ names. NoneMissing (names_of names) c.args.circuit.now in
-    subst P c.as_slice.ensures.value c.in-Ok.ensures.none_missing
+made_mapped-requires-clause-names g c κs within = c.in-Ok.ensures.none_missing
 
 pub returns-in-Ok-clause-err : goal.returns-in-Ok-clause-err
 returns-in-Ok-clause-err g c =
@@ -33,6 +31,6 @@ pub returns-in-Err-clause-err : goal.returns-in-Err-clause-err
 returns-in-Err-clause-err g c =
     let options = c.args.options.now in
     let circuit = c.args.circuit.now in
-    let P : ℕ → List (Vec ℕ) → Type 0 = λ place names. IsFirstMissing (names_of names) circuit place in
-    let Q : AnswerError → Type 0 = λ e. IsMakingError options circuit e in
-    subst Q (sym c.unnamed.ensures) (unnamed options circuit c.in-Err.error (λ place is. subst (P place) c.as_slice.ensures.value (c.in-Err.ensures.missing place (ap (λ (x : KeepError). Err x) is))))
+    let e = c.in-Err.error in
+    subst (IsMakingError options circuit) (sym c.unheld.ensures)
+    (unheld options circuit e (λ place is. c.in-Err.ensures.missing place (ap (λ (x : RetimeError). Err x) is)) (λ place is. c.in-Err.ensures.no_latch place (ap (λ (x : RetimeError). Err x) is)))

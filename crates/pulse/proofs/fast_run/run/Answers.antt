@@ -5,7 +5,6 @@ use Rattle.flow_whole.proofs.ActiveLaws.{none_at}
 use Rattle.flow_whole.proofs.RunLaws.{paid_none, paid_pulse, pulses_fit}
 use Rattle.pulse.specs.Conditions.{state_of}
 use Rattle.pulse.proofs.PartLaws.{pulse_parted}
-use Rattle.pulse.proofs.RelabelLaws.{labels_exact}
 use Rattle.pulse.proofs.StepLaws.{paid_labels, pulse_left}
 use Rattle.pulse.proofs.fast_run.run.Goals as goal
 
@@ -15,7 +14,6 @@ pulses-init g c = record {
   between = c.relabel.ensures.flow;
   pushes = c.requires.pushes;
   usable = c.requires.usable;
-  exact = λ on. labels_exact (node_count c.args.net.now) (state_of c.args.net.now c.args.flow.now) (state_of c.args.net.now c.relabel.new.flow) c.relabel.ensures.exact;
   paid = paid_none c.args.net.now (state_of c.args.net.now c.relabel.new.flow) c.known.ensures.network c.relabel.ensures.flow.sound;
 }
 
@@ -24,21 +22,20 @@ overflow_add-count g c = omega (arith, pulses_fit c.args.net.now c.pulses.count 
 
 pub pulses-smaller : goal.pulses-smaller
 pulses-smaller g c =
-    pulse_left c.args.net.now c.pulses.flow c.part_ahead.new.flow c.relabel_after_walks-exact.new.flow c.known.ensures.network c.pulses.invariant.between.sound (sym c.is_active.ensures ∙ c.pulses-test.true)
-    (pulse_parted c.args.net.now c.pulses.flow c.pulse_by.new.flow c.part_ahead.new.flow c.in_ok-pulse_by.ensures.flow c.in_ok-part_ahead.ensures.flow c.in_ok-part_ahead.ensures.agree) c.relabel_after_walks-exact.ensures.labels
+    pulse_left c.args.net.now c.pulses.flow c.part_ahead.new.flow c.relabel_after_walks.new.flow c.known.ensures.network c.pulses.invariant.between.sound (sym c.is_active.ensures ∙ c.pulses-test.true)
+    (pulse_parted c.args.net.now c.pulses.flow c.pulse_by.new.flow c.part_ahead.new.flow c.in_ok-pulse_by.ensures.flow c.in_ok-part_ahead.ensures.flow c.in_ok-part_ahead.ensures.agree) c.relabel_after_walks.ensures.labels
 
 pub pulses-preserved : goal.pulses-preserved
 pulses-preserved g c = record {
   some = c.next-share.ensures.some;
-  between = c.relabel_after_walks-exact.ensures.flow;
+  between = c.relabel_after_walks.ensures.flow;
   pushes = c.in_ok-pulse_by.ensures.pushes;
   usable = c.in_ok-pulse_by.ensures.unspent;
-  exact = c.relabel_after_walks-exact.ensures.exact;
-  paid = paid_labels c.args.net.now (c.pulses.count + 1) c.part_ahead.new.flow c.relabel_after_walks-exact.new.flow c.known.ensures.network
+  paid = paid_labels c.args.net.now (c.pulses.count + 1) c.part_ahead.new.flow c.relabel_after_walks.new.flow c.known.ensures.network
       (paid_pulse c.args.net.now c.pulses.count (state_of c.args.net.now c.pulses.flow) (state_of c.args.net.now c.part_ahead.new.flow) c.known.ensures.network c.pulses.invariant.paid
       (sym c.is_active.ensures ∙ c.pulses-test.true)
       (pulse_parted c.args.net.now c.pulses.flow c.pulse_by.new.flow c.part_ahead.new.flow c.in_ok-pulse_by.ensures.flow c.in_ok-part_ahead.ensures.flow c.in_ok-part_ahead.ensures.agree).agree)
-      c.relabel_after_walks-exact.ensures.labels;
+      c.relabel_after_walks.ensures.labels;
 }
 
 pub returns-clause-ended : goal.returns-clause-ended
@@ -46,6 +43,3 @@ returns-clause-ended g c = λ v h. none_at (node_count c.args.net.now) (is_activ
 
 pub returns-clause-bounded : goal.returns-clause-bounded
 returns-clause-bounded g c = omega (arith, c.pulses.invariant.paid.bounded)
-
-pub returns-clause-exact : goal.returns-clause-exact
-returns-clause-exact g c = c.pulses.invariant.exact

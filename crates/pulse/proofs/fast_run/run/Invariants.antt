@@ -1,8 +1,8 @@
-use Rattle.std.proofs.Common.{◌≡◌, ◌<◌, false, true}
+use Rattle.std.proofs.Common.{◌≡◌, ◌<◌, false}
 use Rattle.frame_net.specs.FlowNet.{node_count}
 use Rattle.flow_whole.proofs.ActiveLaws.{work}
 use Rattle.flow_whole.proofs.RunLaws.{Paid}
-use Rattle.pulse.specs.Conditions.{ArePushesOf, HasExactLabels, IsBetween, state_of}
+use Rattle.pulse.specs.Conditions.{ArePushesOf, IsBetween, state_of}
 use Rattle.pulse.proofs.fast_run.run.Given as goal
 
 abbrev pub invariant-pulses : goal.invariant-pulses
@@ -11,7 +11,6 @@ invariant-pulses g l = record {
   between : IsBetween l.net l.flow;
   pushes : ArePushesOf l.net l.pushes;
   usable : l.pushes.spent ≡ false;
-  exact : l.exact ≡ true → HasExactLabels l.net l.flow;
   paid : Paid l.net l.count (state_of l.net l.flow);
 }
 

@@ -1,4 +1,3 @@
-use Rattle.std.proofs.lemmas.Bool.{false≢true}
 use Rattle.flow_theory.specs.Laws.{started}
 use Rattle.frame_net.specs.FlowNet.{node_count}
 use Rattle.flow_part.specs.Parts.{pair}
@@ -18,5 +17,4 @@ returns-clause-greatest g c = record {
   preflow = c.in_ok-pulses.ensures.flow.sound.preflow;
   valid = c.in_ok-pulses.ensures.flow.sound.valid;
   none_active = c.in_ok-pulses.ensures.run.ended;
-  exact = λ on. absurd (false≢true on);
 }

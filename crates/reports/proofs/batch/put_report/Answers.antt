@@ -16,3 +16,7 @@ returns-in-NoMemory g c = rw c.in-NoMemory.is c.put.ensures
 pub returns-in-NoSuchName : goal.returns-in-NoSuchName
 unfolding report_text
 returns-in-NoSuchName g c = rw c.in-NoSuchName.is c.put-in-NoSuchName.ensures
+
+pub returns-in-NoSuchLatch : goal.returns-in-NoSuchLatch
+unfolding report_text
+returns-in-NoSuchLatch g c = rw c.in-NoSuchLatch.is c.put-in-NoSuchLatch.ensures

@@ -1,10 +1,14 @@
-use Rattle.std.proofs.Common.{◌≡◌, ◌<◌, ◌∙◌, ap, sym, subst, ℕ, List}
+use Rattle.std.proofs.Common.{◌≡◌, ◌<◌, ◌∙◌, ap, sym, subst, ℕ, List, length}
+use Rattle.std.specs.List.{All}
+use Rattle.std.specs.List.Sorted.{IsStrictlyIncreasing}
 use Rattle.aig_graph.specs.Circuits.{Netlist}
 use Rattle.aig_graph.specs.Graph.{Graph, latches_and_gates}
 use Rattle.aig_graph.specs.Laws.{composed}
 use Rattle.cleaned_circuits.specs.Cleaned.{Cleans, IsPass}
+use Rattle.cleaned_circuits.specs.Held.{HeldAfter}
+use Rattle.cleaned_circuits.proofs.HeldLaws.{held_after-rising}
 use Rattle.cleaned_circuits.proofs.PassLaws.{IsCircuit}
-use Rattle.clean.proofs.CleaningLaws.{Passed, passed-start, passed-in_range, passed-more, passed-done, kept-long, next-below}
+use Rattle.clean.proofs.CleaningLaws.{Passed, passed-start, passed-in_range, passed-more, passed-done, passed-held, kept-long, next-below}
 use Rattle.retiming_maps.specs.Mapping.{LeadsOn}
 use Rattle.retiming_maps.proofs.StepLaws.{leads-more}
 use Rattle.retiming_maps.proofs.passes.cleaned_along.Goals as goal
@@ -57,15 +61,28 @@ loop-before-preserved c =
           (next-below c.args.keep.now c.args.circuit.now c.loop-before.before last.circuit last.kept_free.items last.held.items c.loop-before.invariant.passed next.circuit step.second next.held.items step.pass);
     }
 
+pub cleaned_by-requires : goal.cleaned_by-requires
+cleaned_by-requires c =
+    let last = c.loop-before.last in
+    let after : HeldAfter last.circuit last.held.items c.args.keep.now c.args.circuit.now =
+    passed-held c.args.keep.now c.args.circuit.now c.loop-before.before last.circuit last.kept_free.items last.held.items c.loop-before.invariant.passed (c.goes_on.ensures.done c.loop-before-test.false) in
+    held_after-rising last.circuit last.held.items c.args.keep.now c.args.circuit.now after (subst IsStrictlyIncreasing c.positions.ensures.value c.positions.ensures.rising)
+
 pub returns : goal.returns
 returns c =
+    let held = c.args.keep.now in
     let before = c.args.circuit.now in
     let last = c.loop-before.last in
     let made = c.cleaned_by.result in
-    let P : Netlist → List ℕ → Type 0 = λ d js. Cleans d c.args.keep.now before js × LeadsOn before c.args.parts.now d js c.loop-before.parts in
-    let both : P last.circuit last.kept_free.items = (
-      passed-done c.args.keep.now before c.loop-before.before last.circuit last.kept_free.items last.held.items c.loop-before.invariant.passed (c.goes_on.ensures.done c.loop-before-test.false),
+    let passed = c.loop-before.invariant.passed in
+    let done = c.goes_on.ensures.done c.loop-before-test.false in
+    let P : Netlist → List ℕ → List ℕ → Type 0 = λ d js now. Cleans d held before js × HeldAfter d now held before × All (λ (j : ℕ). j < length d.aig.latches) now × LeadsOn before c.args.parts.now d js c.loop-before.parts in
+    let all : P last.circuit last.kept_free.items last.held.items = (
+      passed-done held before c.loop-before.before last.circuit last.kept_free.items last.held.items passed done,
+      passed-held held before c.loop-before.before last.circuit last.kept_free.items last.held.items passed done,
+      passed-in_range held before c.loop-before.before last.circuit last.kept_free.items last.held.items passed,
       c.loop-before.invariant.leads,
     ) in
-    let same : P made.circuit made.kept_free = subst (λ (d : Netlist). P d made.kept_free) (sym c.cleaned_by.ensures.circuit) (subst (P last.circuit) (sym c.cleaned_by.ensures.kept_free) both) in
-    record { cleaned = same.0; leads = same.1 }
+    let same : P made.circuit made.kept_free made.keep = subst (λ (d : Netlist). P d made.kept_free made.keep) (sym c.cleaned_by.ensures.circuit)
+    (subst (λ (js : List ℕ). P last.circuit js made.keep) (sym c.cleaned_by.ensures.kept_free) (subst (P last.circuit last.kept_free.items) (sym c.cleaned_by.ensures.keep) all)) in
+    record { cleaned = same.0; held_after = same.1; in_range = same.2; leads = same.3 }

@@ -9,4 +9,4 @@ pub returns-clause-has_map : goal.returns-clause-has_map
 returns-clause-has_map c = λ held before d. has-merging_map held before d
 
 pub returns-clause-retiming : goal.returns-clause-retiming
-returns-clause-retiming c = λ choice names before max_frames certify r. merged-retiming_maps choice names before max_frames certify r
+returns-clause-retiming c = merged-retiming_maps

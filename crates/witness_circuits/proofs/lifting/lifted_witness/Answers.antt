@@ -1,23 +1,13 @@
-use Rattle.std.proofs.Common.{◌≡◌, ◌∙◌, ap, sym, subst}
-use Rattle.aig_graph.specs.declared.properties.Symbols.{Symbols}
-use Rattle.aig_graph.specs.Circuits.{IsNetlist, Netlist}
-use Rattle.witness_circuits.specs.declared.building.Built.{Built}
-use Rattle.witness_circuits.specs.Built.{circuit_of}
-use Rattle.witness_circuits.specs.Lifting.{IsLifted}
-use Rattle.witness_circuits.proofs.FinishLaws.{is-lifted, lifted-netlist, named}
+use Rattle.std.proofs.Common.{arith, ap, length, subst}
+use Rattle.aig_graph.specs.Graph.{Graph}
+use Rattle.witness_circuits.specs.Lifting.{IsNamedAs}
 use Rattle.witness_circuits.proofs.lifting.lifted_witness.Goals as goal
 
-pub finished-requires : goal.finished-requires
-finished-requires c =
-    let a : Netlist = c.args.first.now in
-    let b : Built = c.in-Ok.built in
-    let symbols : c.in_ok-symbols.symbols ≡ named a.aig = c.in_ok-symbols.ensures ∙ ap named c.aig.ensures.value in
-    subst (λ (s : Symbols). IsNetlist (circuit_of b s)) (sym symbols) (lifted-netlist b.gates a c.args.map.now c.args.witness.now c.args.sharing.now b.props c.in-Ok.ensures)
+pub witness_lifted_over-requires-clause-room : goal.witness_lifted_over-requires-clause-room
+witness_lifted_over-requires-clause-room c = record {
+  inputs = omega (arith, ap (λ (g : Graph). g.inputs) c.aig.ensures.value);
+  latches = omega (arith, ap (λ (g : Graph). length g.latches) c.aig.ensures.value);
+}
 
-pub returns-in-Ok : goal.returns-in-Ok
-returns-in-Ok c =
-    let a : Netlist = c.args.first.now in
-    let b : Built = c.in-Ok.built in
-    let symbols : c.in_ok-symbols.symbols ≡ named a.aig = c.in_ok-symbols.ensures ∙ ap named c.aig.ensures.value in
-    let made : c.finished.result ≡ circuit_of b (named a.aig) = c.finished.ensures ∙ ap (circuit_of b) symbols in
-    subst (λ (r : Netlist). IsLifted a c.args.map.now c.args.witness.now c.args.sharing.now r) (sym made) (is-lifted b.gates a c.args.map.now c.args.witness.now c.args.sharing.now b.props c.in-Ok.ensures)
+pub returns : goal.returns
+returns c = record { over = c.in_ok-lifted.ensures.lifted; named = subst (λ (g : Graph). IsNamedAs g c.in_ok-lifted.lifted) c.aig.ensures.value c.in_ok-lifted.ensures.named }

@@ -7,8 +7,11 @@ returns-clause-merges c = IfOk-weaker c.start_along.result _ _ (λ m along. alon
 pub returns-clause-streams : goal.returns-clause-streams
 returns-clause-streams c = IfOk-weaker c.start_along.result _ _ (λ m along. along.streams) c.start_along.ensures
 
-pub returns-clause-held : goal.returns-clause-held
-returns-clause-held c = IfOk-weaker c.start_along.result _ _ (λ m along. along.held) c.start_along.ensures
+pub returns-clause-stay : goal.returns-clause-stay
+returns-clause-stay c = IfOk-weaker c.start_along.result _ _ (λ m along. along.stay) c.start_along.ensures
+
+pub returns-clause-in_range : goal.returns-clause-in_range
+returns-clause-in_range c = IfOk-weaker c.start_along.result _ _ (λ m along. along.in_range) c.start_along.ensures
 
 pub returns-clause-comes : goal.returns-clause-comes
 returns-clause-comes c = IfOk-weaker c.start_along.result _ _ (λ m along. λ b kept each come. along.leads b kept come) c.start_along.ensures

@@ -1,0 +1,3 @@
+mod BesideLaws
+mod TurnedLaws
+mod BackLiftLaws

@@ -1,0 +1,45 @@
+//! From a circuit to a maximum preflow of its network.
+ghost use Rattle.std.specs.Prelude.{IfOk};
+ghost use Rattle.frame_net.specs.Cuts.{IsNetworkOf};
+ghost use Rattle.pulse.specs.Conditions.{IsMaxPreflow};
+
+use aig_graph::{Circuit, Keep, NoMemory};
+use frame_net::{Net, passable};
+use pulse::{Crew, MaxPreflow, PhaseGate, PulseError, run_with_global_relabeling};
+use std::alloc::Global;
+use std::thread::Threads;
+
+/// The network of a circuit and its held latches.
+///
+/// # Errors
+///
+/// `NoMemory`.
+pub fn network(alloc: Global, circuit: &Circuit, keep: &Keep) -> Result<Net, NoMemory>
+    ensures { IfOk result (IsNetworkOf circuit.now keep.now) }
+{
+    let pass = passable(alloc, circuit.aig(), keep)?;
+    let net = Net::build(alloc, circuit.aig(), circuit.props(), &pass, keep)?;
+    // That a network has a point for each side of a gate is what its reader ensures.
+    net.known();
+    net.known_points();
+    Ok(net)
+}
+
+/// A maximum preflow of a network, by pulses with global relabeling.
+///
+/// # Errors
+///
+/// `NoMemory`.
+pub fn maximum_preflow<G: PhaseGate>(
+    rt: &(impl Threads + Sync),
+    alloc: Global,
+    net: &Net,
+    crew: &Crew<G>,
+) -> Result<MaxPreflow, NoMemory>
+    ensures { IfOk result (IsMaxPreflow net.now) }
+{
+    match run_with_global_relabeling(rt, alloc, net, crew) {
+        Ok(preflow) => Ok(preflow),
+        Err(PulseError::NoMemory) => Err(NoMemory),
+    }
+}

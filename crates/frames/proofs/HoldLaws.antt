@@ -1,0 +1,23 @@
+-- Why latches can't be held, through the steps that hand on an error.
+use Rattle.std.proofs.Common.{ℕ, ◌≡◌, ◌∙◌, Result, Ok, Err, refl, sym}
+use Rattle.std.specs.Result.{IsErrAnd}
+use Rattle.aig_graph.specs.declared.holding.HoldError.{HoldError}
+use Rattle.aig_graph.specs.declared.holding.HoldError.TheVariants as holding
+use Rattle.frames.specs.declared.errors.RetimeError.{RetimeError}
+use Rattle.frames.specs.declared.errors.RetimeError.TheVariants.{NoMemory, NoSuchLatch, NoSuchName}
+use Rattle.frames.specs.Codes.{of_hold_error}
+
+same_error : {T : Type 0} (a b : RetimeError) → ◌≡◌ {A = Result T RetimeError} (Err a) (Err b) → a ≡ b
+same_error a b e = cc
+
+-- what is so where an error is that of a position is so where the result has it
+pub at-latch : {T : Type 0} (r : Result T RetimeError) (e : RetimeError) (P : ℕ → Type 0) → IsErrAnd r (λ x. x ≡ e) → ((place : ℕ) → e ≡ NoSuchLatch place → P place)
+    → (place : ℕ) → r ≡ Err (NoSuchLatch place) → P place
+at-latch (Ok x) e P is given place same = absurd is
+at-latch (Err x) e P is given place same = given place (sym is ∙ same_error x (NoSuchLatch place) same)
+
+-- the position is that of the error of holding
+pub latch-of : (e : HoldError) (place : ℕ) → of_hold_error e ≡ NoSuchLatch place → e ≡ holding.NoSuchLatch place
+latch-of holding.NoMemory place same = absurd (cc)
+latch-of (holding.NoSuchName k) place same = absurd (cc)
+latch-of (holding.NoSuchLatch k) place same = cc

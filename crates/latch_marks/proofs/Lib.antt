@@ -1,3 +1,0 @@
-pub mod NameLaws
-pub mod GivenBackLaws
-pub mod HeldLaws

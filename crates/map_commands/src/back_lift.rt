@@ -1,0 +1,105 @@
+//! The command `lift --back`.
+ghost use Rattle.std.specs.Prelude.{◌≡◌, IfErr, IfOk, true};
+ghost use Rattle.aig_graph.specs.Graph.{free_latches};
+ghost use Rattle.map_checks.specs.Answers.{AreFitting, IsMap};
+ghost use Rattle.map_commands.specs.Lifted.{IsBackLiftOf, IsFailureToLift, IsLiftedBackBy, IsLiftedOf};
+ghost use Rattle.witness_circuits.specs.Naming.{IsSharedBy};
+ghost use Rattle.witness_circuits.specs.Witnesses.{IsSharing};
+
+use crate::given::Given;
+use crate::made::Made;
+use aig_graph::Circuit;
+use backward_witnesses::{back_lift_law, witness_lifted_back};
+use circuit_files::Failure;
+use command_line::Lifting;
+use file_words::ReadError;
+use map_checks::are_fitting;
+use std::alloc::Global;
+use witness_circuits::{LiftError, Sharing, SharingError, sharing_of};
+
+/// The witness circuit for the first circuit, where it is known what the one for the second shares with that.
+fn lifted_back_by<'a>(
+    alloc: Global,
+    given: &Given,
+    sharing: &Sharing,
+    task: &Lifting<'a>,
+) -> Result<Circuit, Failure<'a>>
+    requires map { IsMap given.now.map.circuit }
+    requires fitting { AreFitting given.now.pair.second.circuit given.now.pair.first.circuit
+        given.now.map.circuit }
+    requires known { free_latches given.now.pair.first.circuit.aig ≡ 0 }
+    requires shares { IsSharing given.now.pair.second.circuit given.now.witness.circuit
+        sharing.now }
+    ensures lifted { IfOk result (IsLiftedBackBy given.now.pair.first.circuit
+        given.now.pair.second.circuit given.now.map.circuit given.now.witness.circuit
+        sharing.now) }
+    ensures failed { IfErr result (IsFailureToLift task.now given.now) }
+{
+    back_lift_law();
+    let first = &given.pair.first.circuit;
+    let second = &given.pair.second.circuit;
+    first.known();
+    second.known();
+    match witness_lifted_back(
+        alloc,
+        first,
+        second,
+        &given.map.circuit,
+        &given.witness.circuit,
+        sharing,
+    ) {
+        Ok(lifted) => Ok(lifted),
+        Err(LiftError::NoMemory) => Err(Failure::Memory),
+        Err(LiftError::TooLarge) => {
+            Err(Failure::Refused(task.output.name(), ReadError::TooLarge(0)))
+        }
+    }
+}
+
+/// The witness circuit for the first circuit, of circuits and a map that fit together.
+fn lifted_back_of<'a>(
+    alloc: Global,
+    given: &Given,
+    task: &Lifting<'a>,
+) -> Result<Circuit, Failure<'a>>
+    requires map { IsMap given.now.map.circuit }
+    requires fitting { AreFitting given.now.pair.second.circuit given.now.pair.first.circuit
+        given.now.map.circuit }
+    requires known { free_latches given.now.pair.first.circuit.aig ≡ 0 }
+    ensures lifted { IfOk result (IsBackLiftOf given.now.pair.first.circuit
+        given.now.pair.second.circuit given.now.map.circuit given.now.witness.circuit) }
+    ensures failed { IfErr result (IsFailureToLift task.now given.now) }
+{
+    match sharing_of(alloc, &given.pair.second.circuit, &given.witness.circuit) {
+        Ok(sharing) => {
+            let lifted = lifted_back_by(alloc, given, &sharing, task);
+            drop(sharing);
+            lifted
+        }
+        Err(SharingError::NoMemory) => Err(Failure::Memory),
+        Err(SharingError::NoSuchLiteral) => Err(Failure::NoSuchLiteral(task.witness.name())),
+    }
+}
+
+/// What is made of the witness circuit that is read, by a map from the second circuit to the first.
+pub(crate) fn lifted_back<'a>(
+    alloc: Global,
+    given: &Given,
+    task: &Lifting<'a>,
+) -> Result<Made, Failure<'a>>
+    requires { IsMap given.now.map.circuit }
+    ensures lifted { IfOk result (IsLiftedOf true given.now) }
+    ensures failed { IfErr result (IsFailureToLift task.now given.now) }
+{
+    let first = &given.pair.first.circuit;
+    if !are_fitting(&given.pair.second.circuit, first, &given.map.circuit) {
+        return Ok(Made::ShapesDiffer);
+    }
+    if first.aig().free_latches() > 0 {
+        return Ok(Made::ShapesDiffer);
+    }
+    match lifted_back_of(alloc, given, task) {
+        Ok(circuit) => Ok(Made::Circuit(circuit)),
+        Err(failure) => Err(failure),
+    }
+}
