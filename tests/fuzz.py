@@ -250,6 +250,9 @@ def compare_backward(rng, comparison):
     comparison.count(ran([comparison.program, 'same', 'in', 'other', *random_sequences(rng)]) == (0, 'same\n', ''), f'same, {what}')
     comparison.count(keeps_bound(c, words, moved[0]), f'levels, {what}')
     comparison.count(held_stay(c, d, m, words), f'held latches, {what}')
+    files = dict(zip(('in', 'other', 'map'), (data, *moved)))
+    for witness in (d, named(rng, random_files.circuit(rng, 3, 5, 9), d)):
+        comparison.run(['lift', '--back', 'in', 'other', 'map', 'own', 'OUT'], {**files, 'own': text(witness, rng.choice(['aag', 'aig']))})
 
 
 def compare_merging(rng, comparison):
@@ -340,6 +343,7 @@ def compare_lifts(rng, comparison, data, retimed, map_data):
         words = rng.choice([[], ['--ascii'], ['--binary']])
         comparison.run(['lift', 'in', 'other', 'map', 'own', 'OUT', *words], {**files, 'own': text(witness, rng.choice(['aag', 'aig']))})
     comparison.run(['lift', *rng.sample(['in', 'other', 'map', 'own'], 4), 'OUT'], {})
+    comparison.run(['lift', '--back', *rng.sample(['in', 'other', 'map', 'own'], 4), 'OUT'], {})
 
 
 def compare_judges(comparison, certificates, held, data):

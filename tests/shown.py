@@ -148,6 +148,7 @@ def folder_of(path):
     if path.name == 'TUTORIAL.md':
         for name in ('match', 'proof', 'verilog'):
             copy(TOP / 'examples' / name, folder / 'examples' / name)
+        shutil.copy(TOP / 'examples' / 'decoder.aag', folder / 'examples')
         (folder / 'tests').symlink_to(TOP / 'tests')
         folder = folder / 'examples' / 'match'
         if shutil.which('yosys'):
@@ -167,9 +168,10 @@ def can_run(command, folder, made):
     command = command.split('    #')[0]
     name = command.split()[0]
     written = [*made, *re.findall(r'(?:write_aiger|retime \S+) (\S+?)[;"]', command)]
-    circuits = [it for it in circuits_in(command) if it not in written]
     if name in OWN:
-        return all((folder / circuit).exists() for circuit in circuits[:-1 if ' lift ' in command else 1])
+        read = circuits_in(command)[:-1 if ' lift ' in command else 1]
+        return all(circuit in written or (folder / circuit).exists() for circuit in read)
+    circuits = [it for it in circuits_in(command) if it not in written]
     files = circuits if name == 'berkeley-abc' else re.findall(r'(\S+) >', command) if name == 'sed' else []
     needed = ('yosys', 'berkeley-abc') if name == 'fretime_verilog' else (name,)
     if 'witness_checker' in command and not any(map(shutil.which, SOLVERS)):

@@ -77,3 +77,15 @@ def clash(command, paths, options, names):
                 both = second[1] in IS_WRITTEN
                 return said + ('each thing that is written has a file of its own' if both else 'it would be written over what is read')
     return None
+
+
+def repeat(paths):
+    """The place of the first of the paths that a list writes which is the file of one before it; None where each is one of its own."""
+    seen = set()
+    for k, path in enumerate(paths):
+        found = identity(path)
+        if found and found[0] != 'device':
+            if found in seen:
+                return k
+            seen.add(found)
+    return None

@@ -62,9 +62,10 @@ def from_shared(places, shared, own):
     return [next(own) if place is None else shared[place] for place in places]
 
 
-def lifted(c, d, m, w):
-    """The witness circuit for c that is made of w, which is one for d, by a map m of the states of c to those of d."""
-    of_inputs, of_latches = sharing(d, w)
+def lifted_over(c, m, w, shared, named):
+    """The witness circuit over c that is made of w, which shares this with a circuit that m maps the states of c to; names say which of its
+    first inputs and latches are those of another circuit."""
+    of_inputs, of_latches = shared
     inputs = [2 * (1 + k) for k in range(c.inputs + of_inputs.count(None))]
     latches = [2 * (1 + len(inputs) + k) for k in range(len(c.latches) + of_latches.count(None))]
     joined = Joined(1 + len(inputs) + len(latches))
@@ -72,13 +73,16 @@ def lifted(c, d, m, w):
     image = joined.copied(m, latches[:len(c.latches)])
     of_witness = joined.copied(w, from_shared(of_inputs, inputs, inputs[c.inputs:])
                                + from_shared(of_latches, [image(lit) for lit in m.outputs], latches[len(c.latches):]))
-    holds = [image(lit) for lit in m.constraints]
+    holds = [image(lit) for lit in m.constraints] + [of_witness(lit) for lit in w.constraints]
     bad = joined.all(holds + [of_witness(lit) ^ 1 for lit in w.bad or w.outputs]) ^ 1
-    constraints = [read(lit) for lit in c.constraints]
-    if w.constraints:
-        constraints += [of_witness(lit) for lit in w.constraints] + holds
     nexts = [(read(next_lit), reset) for next_lit, reset in c.latches]
     nexts += [(of_witness(next_lit), reset) for place, (next_lit, reset) in zip(of_latches, w.latches) if place is None]
-    names = {'i': {k: b'= %d' % inputs[k] for k in range(c.inputs)},
-             'l': {k: b'= %d' % (2 * (c.first_latch() + k)) for k in range(len(c.latches))}}
+    names = {'i': {k: b'= %d' % inputs[k] for k in range(named.inputs)},
+             'l': {k: b'= %d' % (2 * (named.first_latch() + k)) for k in range(len(named.latches))}}
+    constraints = [read(lit) for lit in c.constraints]
     return Circuit(len(inputs), nexts, joined.gates, [], [bad], constraints, symbols=no_symbols() | names)
+
+
+def lifted(c, d, m, w):
+    """The witness circuit for c that is made of w, which is one for d, by a map m of the states of c to those of d."""
+    return lifted_over(c, m, w, sharing(d, w), c)

@@ -5,7 +5,8 @@ import sys
 from reference.certificates import audit, certificates, first_difference, read_blocks, written
 from reference.checks import are_fitting, checked, is_map
 from reference.circuit import text
-from reference.clashes import clash
+from reference.back_lifts import lifted_back
+from reference.clashes import clash, repeat
 from reference.lifts import NoSuchLiteral, lifted
 from reference.maps import state_map
 from reference.merging import merge_counts
@@ -22,9 +23,9 @@ PATHS = {'retime': 2, 'batch': 1, 'stat': 1, 'convert': 2, 'sim': 2, 'same': 3, 
 OPTIONS = {'retime': {'--ascii', '--binary', '--workers', '--frames', '--near', '--merge', '--levels', '--no-longer', '--keep', '--keep-latch', '--cert', '--map',
                       '--progress', '--quiet'},
            'verify': {'--keep', '--keep-latch', '--merge', '--levels', '--no-longer', '--out'},
-           'dot': {'--frame', '--merge', '--keep', '--keep-latch', '--around', '--depth'},
+           'dot': {'--frame', '--merge', '--levels', '--no-longer', '--keep', '--keep-latch', '--around', '--depth'},
            'batch': {'--ascii', '--binary', '--workers', '--frames', '--near', '--merge', '--levels', '--no-longer'}, 'convert': {'--ascii', '--binary'},
-           'miter': {'--ascii', '--binary', '--certificate'}, 'product': {'--ascii', '--binary'}, 'lift': {'--ascii', '--binary'}, 'stat': {'--merge'}, 'witness': {'--merge'}, 'sim': {'--random', '--steps', '--seed', '--vcd'},
+           'miter': {'--ascii', '--binary', '--certificate'}, 'product': {'--ascii', '--binary'}, 'lift': {'--ascii', '--binary', '--back'}, 'stat': {'--merge'}, 'witness': {'--merge'}, 'sim': {'--random', '--steps', '--seed', '--vcd'},
            'same': {'--random', '--steps', '--seed', '--kept'}}
 # How many of the last paths of a command are written.
 WRITING = {'retime': 1, 'convert': 1, 'dot': 1, 'miter': 1, 'product': 2, 'lift': 1}
@@ -108,8 +109,8 @@ def arguments(words):
         raise Ends(2, 'error: steps or a seed of no random sequences')
     if '--depth' in options and '--around' not in options:
         raise Ends(2, 'error: a depth of no neighbourhood')
-    if command == 'dot' and '--merge' in options and '--frame' not in options:
-        raise Ends(2, 'error: --merge without --frame')
+    if command == 'dot' and {'--merge', '--levels', '--no-longer'} & set(options) and '--frame' not in options:
+        raise Ends(2, 'error: --merge or a bound without --frame')
     outputs = paths[len(paths) - WRITING.get(command, 0):]
     if (paths[:len(paths) - len(outputs)] + options.get('--kept', []) + options.get('--out', [])).count('-') > 1:
         raise Ends(2, 'error: standard input is read once')
@@ -241,7 +242,7 @@ def retime(paths, options):
 
 
 def entries_of(path):
-    """The paths of each line of a list."""
+    """The paths of each line of a list, of which no two write one file."""
     data, at, found = bytes_of(path), 0, []
     lines = data.split(b'\n')
     for line in lines[:-1] if lines[-1] == b'' else lines:
@@ -251,9 +252,12 @@ def entries_of(path):
             raise Ends(1, f'{source_name(path)}: BadLine at {at}') from error
         if len(found) == LINES:
             raise Ends(1, f'{source_name(path)}: TooLarge at {at}')
-        found.append((input_path, output_path))
+        found.append((at, input_path, output_path))
         at += len(line) + 1
-    return found
+    again = repeat(output_path for _, _, output_path in found)
+    if again is not None:
+        raise Ends(1, f'{source_name(path)}: SameFile at {found[again][0]}')
+    return [paths for _, *paths in found]
 
 
 def say(line):
@@ -366,10 +370,11 @@ def lift(paths, options):
     c, d, m, w = (circuit_of(path) for path in paths[:4])
     if not is_map(m[0]):
         raise Ends(1, f'{source_name(paths[2])}: NotAMap')
-    if not are_fitting(c[0], d[0], m[0]):
+    is_back = '--back' in options
+    if not (are_fitting(d[0], c[0], m[0]) and not c[0].free_latches() if is_back else are_fitting(c[0], d[0], m[0])):
         return 1, 'shapes differ\n'
     try:
-        found = lifted(c[0], d[0], m[0], w[0])
+        found = (lifted_back if is_back else lifted)(c[0], d[0], m[0], w[0])
     except NoSuchLiteral as missing:
         raise Ends(1, f'{source_name(paths[3])}: NoSuchLiteral') from missing
     write(paths[4], text(found, letters_of(options, w[1])))
@@ -384,7 +389,7 @@ def drawn_circuit(c, path, options):
         held = held_latches(c, names)
         if '--frame' not in options:
             return c, held, None
-        frame = frames_of(c, 1, names, merge='--merge' in options)[0]
+        frame = frames_of(c, 1, names, merge='--merge' in options, bound=bound_of(options, c))[0]
     except NoSuchName as missing:
         raise no_such_name(path, c, missing.args[0]) from missing
     except NoSuchLatch as missing:
