@@ -104,6 +104,8 @@ complete -c fretime -n '__fish_seen_subcommand_from same' -l json -d 'Print an o
 
 complete -c fretime -n '__fish_seen_subcommand_from dot' -l frame -d 'Show over which gates latches move next'
 complete -c fretime -n '__fish_seen_subcommand_from dot' -l merge -d 'Merge latches that always agree first'
+complete -c fretime -n '__fish_seen_subcommand_from dot' -x -l levels -d 'Let no move make a path of more than n gates'
+complete -c fretime -n '__fish_seen_subcommand_from dot' -l no-longer -d 'Let no path get longer than the longest of IN'
 complete -c fretime -n '__fish_seen_subcommand_from dot' -x -l keep -d 'Hold each latch with this name; may be repeated'
 complete -c fretime -n '__fish_seen_subcommand_from dot' -r -l keep-from -d 'Hold the latches that the lines of FILE name'
 complete -c fretime -n '__fish_seen_subcommand_from dot' -x -l keep-latch -d 'Hold the latch at position n, from 0; may be repeated'
@@ -125,6 +127,7 @@ complete -c fretime -n '__fish_seen_subcommand_from miter' -l binary -d 'Write b
 complete -c fretime -n '__fish_seen_subcommand_from product' -l ascii -d 'Write ASCII'
 complete -c fretime -n '__fish_seen_subcommand_from product' -l binary -d 'Write binary'
 
+complete -c fretime -n '__fish_seen_subcommand_from lift' -l back -d 'Read MAP as \'backward\' writes it, from OUT to IN'
 complete -c fretime -n '__fish_seen_subcommand_from lift' -l ascii -d 'Write ASCII'
 complete -c fretime -n '__fish_seen_subcommand_from lift' -l binary -d 'Write binary'
 
@@ -135,5 +138,5 @@ complete -c fretime -n '__fish_seen_subcommand_from retime backward dot verify' 
 complete -c fretime -n '__fish_seen_subcommand_from dot' -x -l around -a '(__fretime_names ilobcjf)' \
     -d 'Draw the neighbourhood of what has this name alone'
 
-complete -c fretime -n '__fish_seen_subcommand_from explain' -f -a 'BadHeader TooLarge MaxIndex BadLine BadLiteral DefinedTwice Undefined Cycle BadReset BadDelta Truncated BadSymbol Trailing Width TooMany NoSuchProperty TooManySteps NoSuchName NoSuchLatch TooManyNodes NotAMap NoSuchLiteral ShapesDiffer NotClosed BadRoute UsedTwice CountDiffers NoMemory Device'
+complete -c fretime -n '__fish_seen_subcommand_from explain' -f -a 'BadHeader TooLarge MaxIndex BadLine BadLiteral DefinedTwice Undefined Cycle BadReset BadDelta Truncated BadSymbol Trailing Width TooMany NoSuchProperty TooManySteps NoSuchName NoSuchLatch TooManyNodes NotAMap NoSuchLiteral SameFile ShapesDiffer NotClosed BadRoute UsedTwice CountDiffers NoMemory Device'
 # end of commands and options
