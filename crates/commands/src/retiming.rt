@@ -246,7 +246,7 @@ fn certified<
     ensures prints { IfErr result (λ failure. Prints (outcome_of failure) (O.output out.old)
         (O.output out.new)) }
 {
-    let mut progress = Progress::new(task, is_terminal, rt, alloc, err);
+    let mut progress = Progress::new(task.shown, task.json, is_terminal, rt, alloc, err);
     let ended = retimed(rt, alloc, task, stdin, out, &mut progress);
     let times = progress.end();
     let mut answer = ended?;
