@@ -48,6 +48,7 @@ fn moving<'a>(alloc: Global, matches: &ArgMatches<'a>) -> Result<Option<Task<'a>
         output,
         options: options(alloc, matches)?,
         map: target(matches, "map"),
+        shown: shown(matches),
         json: json(matches),
     })))
 }

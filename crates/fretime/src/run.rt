@@ -78,7 +78,7 @@ fn run_task<
         Task::Retime(retiming) => {
             print_retimed(rt, alloc, retiming, is_terminal, stdin, out, err)
         }
-        Task::Backward(moving) => print_moves(rt, alloc, moving, stdin, out, err),
+        Task::Backward(moving) => { print_moves(rt, alloc, moving, is_terminal, stdin, out, err) }
         Task::Batch(batch) => { Ok(retime_list(rt, alloc, batch, is_terminal, stdin, out, err)) }
         Task::Stat(counting) => print_statistics(rt, alloc, counting, stdin, out),
         Task::Convert(input, output, spelling) => {
