@@ -1,8 +1,5 @@
 -- A map to a circuit, with the constraints of a merging, is one to what the circuit is merged to.
-use Rattle.std.proofs.Common.{ℕ, ◌<◌, ◌≡◌, length, List, get_or, arith, ap, sym, ◌∙◌, subst, zero-add}
-use Rattle.std.specs.List.{range_with_len}
-use Rattle.std.proofs.lemmas.List.{ext_get_or, length-map, get_or-map}
-use Rattle.std.proofs.lemmas.List.FromFn.{get_or-range_with_len, length-range_with_len}
+use Rattle.std.proofs.Common.{ℕ, ◌≡◌, List, sym, subst}
 use Rattle.aig_graph.specs.Circuits.{Netlist}
 use Rattle.aig_graph.specs.Graph.{Graph, free_latches}
 use Rattle.aig_graph.specs.Laws.{all_free, composed}
