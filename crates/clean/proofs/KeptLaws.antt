@@ -281,6 +281,7 @@ module _ (k : Kept) (kept : AreKept k) (lists : List ℕ) (same : SameLists k.li
   unfolding last_of
   same-last v = ap (λ (l : ℕ). cond (nat_lt v k.first) 0 l) (same (v - k.first))
 
+  -- a wider table has the same gates on its lists
   pub AreKept-wider : AreKept wider
   AreKept-wider = record {
     last = λ place. omega (arith, same place, kept.last place);
@@ -302,5 +303,6 @@ SameLists-push lists place = elim (cases_lt place (length lists)) [
       ])
 ]
 
+-- lists that stay the same twice are the same
 pub SameLists-then : (first second third : List ℕ) → SameLists first second → SameLists second third → SameLists first third
 SameLists-then first second third before after place = after place ∙ before place
