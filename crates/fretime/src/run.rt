@@ -168,6 +168,21 @@ fn finish_task<
     reported(rt, alloc, task, ended, is_terminal, out, err)
 }
 
+/// Reports why the names that a task holds can't be read, and returns how the run ends.
+fn report_without_names<'a, R: Files, O: CountedWrite, E: CountedWrite>(
+    rt: &R,
+    alloc: Global,
+    task: &Task<'a>,
+    failure: Failure<'a>,
+    is_terminal: bool,
+    out: &mut O,
+    err: &mut E,
+) -> Outcome
+    ensures { MayPrint result (O.output out.old) (O.output out.new) }
+{
+    reported(rt, alloc, task, Err(failure), is_terminal, out, err)
+}
+
 /// Does a task with the names of the files that it names, and returns how the run ends.
 fn run_with_names<
     R: Files + Threads + Sync + Clock,
@@ -190,14 +205,16 @@ fn run_with_names<
             let mut named = task;
             let outcome = match hold_names(files.as_slice(), &mut named) {
                 Ok(()) => finish_task(rt, alloc, &named, is_terminal, stdin, out, err),
-                Err(failure) => reported(rt, alloc, &named, Err(failure), is_terminal, out, err),
+                Err(failure) => {
+                    report_without_names(rt, alloc, &named, failure, is_terminal, out, err)
+                }
             };
             drop(named);
             drop(files);
             outcome
         }
         Err(failure) => {
-            let outcome = reported(rt, alloc, &task, Err(failure), is_terminal, out, err);
+            let outcome = report_without_names(rt, alloc, &task, failure, is_terminal, out, err);
             drop(task);
             outcome
         }
