@@ -1,6 +1,6 @@
 //! Circuits whose latches move backward as was worked out by hand, and those that stay.
 use aag_text::read_aag;
-use aig_graph::{Circuit, Keep};
+use aig_graph::{Circuit, Keep, hold};
 use backward_retiming::{MoveOptions, MoveStage, MoveWatcher, MovedBack, move_back};
 use std::alloc::Global;
 use std::test::*;
@@ -57,13 +57,13 @@ fn is_wanted(alloc: Global, moved: &MovedBack, row: &Row) -> bool {
     moved.is_shown & is_text(alloc, &moved.circuit, row.after) & is_text(alloc, &moved.map, row.map)
 }
 
-fn becomes(alloc: Global, circuit: Circuit, row: &Row, levels: Option<u32>) -> bool {
+fn becomes(alloc: Global, circuit: Circuit, keep: &Keep, row: &Row, levels: Option<u32>) -> bool {
     let options = MoveOptions {
         frames: 1 << 28,
         levels,
     };
     let mut seen = Seen::nothing(alloc);
-    match move_back(alloc, circuit, &Keep::none(), &options, &mut seen) {
+    match move_back(alloc, circuit, keep, &options, &mut seen) {
         Ok(moved) => {
             let wanted = is_wanted(alloc, &moved, row);
             drop(moved);
@@ -76,7 +76,7 @@ fn becomes(alloc: Global, circuit: Circuit, row: &Row, levels: Option<u32>) -> b
 /// Whether a circuit becomes what its row says, where no path gets longer than this, or than its longest.
 fn moves_as(alloc: Global, row: &Row, levels: Option<u32>) -> bool {
     match read_aag(alloc, row.circuit) {
-        Ok(circuit) => becomes(alloc, circuit, row, levels),
+        Ok(circuit) => becomes(alloc, circuit, &Keep::none(), row, levels),
         Err(_) => false,
     }
 }
@@ -187,6 +187,36 @@ const BOUNDED: Row = Row {
     after: b"aag 16 4 5 6 7\n2\n4\n6\n8\n10 26 1\n12 28\n14 30\n16 6 1\n18 8 1\n32\n12\n14\n20\n22\n24\n20 18 16\n22 19 16\n24 18 17\n26 4 2\n28 5 2\n30 4 3\n32 10 2\n",
     map: b"aag 8 5 0 6 3\n2\n4\n6\n8\n10\n2\n4\n6\n12\n14\n16\n12 10 8\n14 11 8\n16 10 9\n",
 };
+
+/// The decoder whose first line's latch is held: its gate stays with it, and two latches do for the other lines.
+const HELD: Row = Row {
+    circuit: b"aag 10 2 4 4 4\n2\n4\n6 14 1\n8 16\n10 18\n12 20\n6\n8\n10\n12\n14 4 2\n16 5 2\n18 4 3\n20 5 3\n",
+    after: b"aag 9 2 3 4 4\n2\n4\n6 18 1\n8 2 1\n10 4 1\n6\n12\n14\n16\n12 11 8\n14 10 9\n16 11 9\n18 4 2\n",
+    map: b"aag 6 3 0 4 3\n2\n4\n6\n2\n8\n10\n12\n8 7 4\n10 6 5\n12 7 5\n",
+};
+
+/// Whether a circuit becomes what its row says, where its first latch is held.
+fn moves_held(alloc: Global, row: &Row) -> bool {
+    let Ok(circuit) = read_aag(alloc, row.circuit) else {
+        return false;
+    };
+    match hold(alloc, &circuit, &[], &[0]) {
+        Ok(keep) => {
+            let wanted = becomes(alloc, circuit, &keep, row, None);
+            drop(keep);
+            wanted
+        }
+        Err(_) => {
+            drop(circuit);
+            false
+        }
+    }
+}
+
+#[test]
+fn leaves_a_gate_that_a_held_latch_reads(rt: HostRuntime) {
+    assert!(rt; moves_held(rt.alloc(), &HELD));
+}
 
 #[test]
 fn leaves_a_gate_that_a_constraint_reads(rt: HostRuntime) {
