@@ -19,7 +19,7 @@ use backward_commands::print_moves;
 use circuit_files::{Failure, Outcome};
 use clap::Error;
 use clap::error::ErrorKind;
-use command_endings::{hold_names, read_name_files};
+use command_endings::{NameFile, hold_names, read_name_files};
 use command_line::{Task, Verification, parse_arguments};
 use commands::{convert, print_retimed, print_statistics, print_verification, write_picture};
 use counted_io::{Buffered, CountedRead, CountedWrite};
@@ -183,6 +183,16 @@ fn report_without_names<'a, R: Files, O: CountedWrite, E: CountedWrite>(
     reported(rt, alloc, task, Err(failure), is_terminal, out, err)
 }
 
+/// A task with the names of these files held too, or why it can't hold them.
+fn with_names<'a>(
+    files: &'a [NameFile<'a>],
+    task: Task<'a>,
+) -> (Task<'a>, Result<(), Failure<'a>>) {
+    let mut named = task;
+    let held = hold_names(files, &mut named);
+    (named, held)
+}
+
 /// Does a task with the names of the files that it names, and returns how the run ends.
 fn run_with_names<
     R: Files + Threads + Sync + Clock,
@@ -202,8 +212,8 @@ fn run_with_names<
 {
     match read_name_files(rt, alloc, task.name_files(), stdin) {
         Ok(files) => {
-            let mut named = task;
-            let outcome = match hold_names(files.as_slice(), &mut named) {
+            let (named, held) = with_names(files.as_slice(), task);
+            let outcome = match held {
                 Ok(()) => finish_task(rt, alloc, &named, is_terminal, stdin, out, err),
                 Err(failure) => {
                     report_without_names(rt, alloc, &named, failure, is_terminal, out, err)
