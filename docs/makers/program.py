@@ -2,7 +2,6 @@
 given more than once, and which one another needs."""
 import itertools
 import os
-import pathlib
 import re
 import subprocess
 import tempfile
@@ -125,10 +124,7 @@ def words_of(options):
 
 
 def is_taken(program, words):
-    """Whether a command line isn't refused as one. It is run in a folder without a circuit, so that nothing is done; a file of names
-    is there, since the program reads it before it judges the line."""
+    """Whether a command line isn't refused as one. It is run in a folder without a circuit, so that nothing is done."""
     with tempfile.TemporaryDirectory(prefix='fretime-docs-') as room:
-        for number in (1, 2, 3):
-            pathlib.Path(room, f'keep-from{number}').touch()
         ran = subprocess.run([program, *words], cwd=room, stdin=subprocess.DEVNULL, capture_output=True, timeout=60, check=False)
     return ran.returncode != 2

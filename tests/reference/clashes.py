@@ -44,14 +44,14 @@ def identity(path):
     return ('bytes', found.st_dev, found.st_ino, name) if path else None
 
 
-def uses(command, paths, options, names):
+def uses(command, paths, options):
     """The files that are written, and those that are read: the argument, what it is for, the path, and which file it is."""
     found = [(name, role, path) for (name, role), path in zip(PATHS[command], paths)]
     found += [(name, WRITTEN, path) for name in BESIDE for path in options.get(name, [])]
     prints = command == 'sim' or command == 'retime' and '-' not in [path for _, role, path in found if role in IS_WRITTEN]
     printed = [('what is printed', WRITTEN, '-')] if prints else []
     found = printed + found if command == 'sim' else found + printed
-    found += [('--keep-from', READ, f'./{path}' if path == '-' else path) for path in names]
+    found += [('--keep-from', READ, path) for path in options.get('--keep-from', [])]
     streams = {True: '/dev/stdout', False: '/dev/stdin'}
     found = [(*use, identity(streams[use[1] in IS_WRITTEN] if use[2] == '-' else use[2])) for use in found]
     return [use for use in found if use[1] in IS_WRITTEN], [use for use in found if use[1] not in IS_WRITTEN]
@@ -65,11 +65,11 @@ def is_lost(first, second):
     return both and (kind == 'pipe' or '-' in (first[2], second[2]))
 
 
-def clash(command, paths, options, names):
+def clash(command, paths, options):
     """What is said of the first two files that are one, and lose something; None where there are none."""
     if command not in PATHS:
         return None
-    written, read = uses(command, paths, options, names)
+    written, read = uses(command, paths, options)
     for k, first in enumerate(written):
         for second in written[k + 1:] + read:
             if first[3] and first[3] == second[3] and is_lost(first, second):

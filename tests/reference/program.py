@@ -20,10 +20,10 @@ from reference.witnesses import carried_text
 
 PATHS = {'retime': 2, 'batch': 1, 'stat': 1, 'convert': 2, 'sim': 2, 'same': 3, 'verify': 2, 'check': 3, 'miter': 4, 'product': 5, 'lift': 5, 'dot': 2,
          'witness': 3}
-OPTIONS = {'retime': {'--ascii', '--binary', '--workers', '--frames', '--near', '--merge', '--levels', '--no-longer', '--keep', '--keep-latch', '--cert', '--map',
+OPTIONS = {'retime': {'--ascii', '--binary', '--workers', '--frames', '--near', '--merge', '--levels', '--no-longer', '--keep', '--keep-from', '--keep-latch', '--cert', '--map',
                       '--progress', '--quiet'},
-           'verify': {'--keep', '--keep-latch', '--merge', '--levels', '--no-longer', '--out'},
-           'dot': {'--frame', '--merge', '--levels', '--no-longer', '--keep', '--keep-latch', '--around', '--depth'},
+           'verify': {'--keep', '--keep-from', '--keep-latch', '--merge', '--levels', '--no-longer', '--out'},
+           'dot': {'--frame', '--merge', '--levels', '--no-longer', '--keep', '--keep-from', '--keep-latch', '--around', '--depth'},
            'batch': {'--ascii', '--binary', '--workers', '--frames', '--near', '--merge', '--levels', '--no-longer'}, 'convert': {'--ascii', '--binary'},
            'miter': {'--ascii', '--binary', '--certificate'}, 'product': {'--ascii', '--binary'}, 'lift': {'--ascii', '--binary', '--back'}, 'stat': {'--merge'}, 'witness': {'--merge'}, 'sim': {'--random', '--steps', '--seed', '--vcd'},
            'same': {'--random', '--steps', '--seed', '--kept'}}
@@ -31,9 +31,10 @@ OPTIONS = {'retime': {'--ascii', '--binary', '--workers', '--frames', '--near', 
 WRITING = {'retime': 1, 'convert': 1, 'dot': 1, 'miter': 1, 'product': 2, 'lift': 1}
 GREATEST = {'--workers': 64, '--frames': 2**28, '--keep-latch': 2**28 - 1, '--depth': 100, '--random': 2**20, '--steps': 2**22, '--seed': 2**32 - 1, '--levels': 2**32 - 1}
 LEAST = {'--seed': 0, '--keep-latch': 0, '--levels': 0}
-VALUED = {'--workers', '--frames', '--levels', '--keep', '--keep-latch', '--cert', '--map', '--out', '--certificate', '--around', '--depth', '--random',
+VALUED = {'--workers', '--frames', '--levels', '--keep', '--keep-from', '--keep-latch', '--cert', '--map', '--out', '--certificate', '--around', '--depth', '--random',
           '--steps', '--seed', '--kept', '--vcd'}
 EXCLUSIVE = (('--ascii', '--binary'), ('--progress', '--quiet'), ('--levels', '--no-longer'))
+READING = ('--kept', '--out', '--keep-from')
 BESIDE = ('--map', '--cert', '--certificate', '--vcd')
 LINES = 2**20
 
@@ -42,42 +43,28 @@ class Ends(Exception):
     """A run that ends early: its status, and the line on standard error."""
 
 
-def names_in(path):
-    """The names in a file, a name a line; an empty line is none."""
+def names_in(path, data):
+    """The names in the bytes of a file, a name a line; an empty line is none."""
     offset, names = 0, []
-    for line in bytes_of_file(path).split(b'\n'):
+    for line in data.split(b'\n'):
         try:
             names.append(line.decode())
         except UnicodeDecodeError as error:
-            raise Ends(1, f'{path}: BadLine at {offset}') from error
+            raise Ends(1, f'{source_name(path)}: BadLine at {offset}') from error
         offset += len(line) + 1
     return [name for name in names if name]
 
 
-def with_names(words, names_of):
-    """The words, each file of names replaced by its names, and the paths of these files."""
-    found, files, rest = [], [], iter(words)
-    for word in rest:
-        option, equals, path = word.partition('=')
-        path = path if equals else next(rest, None) if option == '--keep-from' else None
-        if option == '--keep-from' and path is not None:
-            found += [f'--keep={name}' for name in names_of(path)]
-            files.append(path)
-        else:
-            found.append(word)
-    return found, files
-
-
 def parsed(words):
-    """What the words ask for, once the names are read that files have: wrong words are refused before, and then those of which two
-    files are one."""
-    arguments(with_names(words, lambda path: [''])[0])
-    named, name_files = with_names(words, names_in)
-    command, paths, options = arguments(named)
-    said = clash(command, paths, options, name_files)
+    """What the words ask for: wrong words are refused first, then those of which two files are one, and then the files of names are
+    read, whose names follow those of the words."""
+    command, paths, options = arguments(words)
+    said = clash(command, paths, options)
     if said:
         raise Ends(2, f'error: {said}')
-    return command, paths, options
+    files = [(path, bytes_of(path)) for path in options.pop('--keep-from', [])]
+    names = [name for path, data in files for name in names_in(path, data)]
+    return command, paths, options | ({'--keep': options.get('--keep', []) + names} if names else {})
 
 
 def arguments(words):
@@ -93,7 +80,7 @@ def arguments(words):
             paths.append(word)
             continue
         name, _, value = word.partition('=')
-        if name not in OPTIONS.get(command, ()) or (name in options and name not in {'--keep', '--keep-latch'}):
+        if name not in OPTIONS.get(command, ()) or (name in options and name not in {'--keep', '--keep-from', '--keep-latch'}):
             raise Ends(2, f'error: {word}')
         if name in VALUED and '=' not in word:
             value = next(rest, '--')
@@ -112,7 +99,8 @@ def arguments(words):
     if command == 'dot' and {'--merge', '--levels', '--no-longer'} & set(options) and '--frame' not in options:
         raise Ends(2, 'error: --merge or a bound without --frame')
     outputs = paths[len(paths) - WRITING.get(command, 0):]
-    if (paths[:len(paths) - len(outputs)] + options.get('--kept', []) + options.get('--out', [])).count('-') > 1:
+    read = paths[:len(paths) - len(outputs)] + [path for option in READING for path in options.get(option, [])]
+    if read.count('-') > 1:
         raise Ends(2, 'error: standard input is read once')
     printed = ['-'] if command == 'sim' else []
     if (outputs + printed + beside(options)).count('-') > 1:

@@ -11,12 +11,10 @@ use Rattle.aig_graph.specs.Circuits.{AreNamesBelow, IsNetlist, Netlist, outputs_
 use Rattle.aig_graph.specs.Graph.{Graph, IsGraph}
 use Rattle.aig_graph.specs.Laws.{all_free}
 use Rattle.retiming_maps.specs.Mapping.{IsMapBy}
+use Rattle.retiming_maps.proofs.FinishingLaws.{no-names}
 use Rattle.retiming_maps.proofs.StartLaws.{identity-map, inputs-graph}
 use Rattle.variable_tables.specs.Tables.{table}
 use Rattle.backward_circuits.specs.Drawn.{IsWires, map_names}
-
-no-names : (n : ℕ) → AreNamesBelow n []
-no-names n = record { rising = λ k less. absurd (omega (arith, less)); below = λ k a less. absurd (omega (arith, less)) }
 
 -- the inputs alone, with the names of the latches
 abbrev pub wires_of : Netlist → Netlist

@@ -13,8 +13,8 @@ use Rattle.command_line.specs.StreamUses.{moving_takes_stdout}
 use Rattle.command_line.specs.declared.task.Moving.{Moving}
 use Rattle.circuit_files.specs.WrittenFiles.{IsTargetGiven}
 use Rattle.circuit_files.specs.declared.outcome.Outcome.{Outcome}
+use Rattle.command_endings.specs.HeldNames.{held_by}
 use Rattle.command_endings.specs.Sources.{IsCircuitAt}
-use Rattle.backward_commands.specs.Held.{held_for}
 use Rattle.backward_commands.specs.Printing.{EndsPrintingMoves, SaysMoves}
 use Rattle.backward_commands.specs.declared.answering.Answer.{Answer}
 
@@ -26,9 +26,9 @@ bound_of (bounds.Levels levels) = Some levels
 
 -- the circuit that was read, moved backward as the task asks, with its map; what it had, and in which format both are written
 pub record IsAnswerOf (task : Moving) (spelt : SpeltCircuit) (answer : Answer) : Type 0 where
-  pub moved : IsAnswerTo spelt.circuit (held_for task spelt.circuit) (bound_of task.bound) answer.moved
+  pub moved : IsAnswerTo spelt.circuit (held_by task.options spelt.circuit) (bound_of task.options.bound) answer.moved
   pub before : answer.before ≡ counts spelt.circuit
-  pub spelling : answer.spelling ≡ unwrap_or task.spelling spelt.spelling
+  pub spelling : answer.spelling ≡ unwrap_or task.options.spelling spelt.spelling
 
 -- the same of what the task reads
 pub record AnswersTask (task : Moving) (before after : Input) (answer : Answer) : Type 0 where

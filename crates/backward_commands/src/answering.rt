@@ -1,13 +1,13 @@
 //! What a move backward answers.
 ghost use Rattle.std.specs.Prelude.{◌≡◌, IfOk};
 ghost use Rattle.backward_retiming.specs.Answered.{IsAnswerTo};
-ghost use Rattle.backward_commands.specs.Held.{held_for};
+ghost use Rattle.command_endings.specs.HeldNames.{held_by};
 ghost use Rattle.backward_commands.specs.Moving.{AnswersTask, IsAnswerOf, bound_of};
 ghost use Rattle.backward_commands.specs.Moving as wanted;
 
 use aig_binary::{Spelling, SpeltCircuit};
-use aig_graph::{Circuit, Keep};
-use backward_retiming::{MoveOptions, MovedBack, move_back};
+use aig_graph::Circuit;
+use backward_retiming::{MoveOptions, MoveWatcher, MovedBack, move_back};
 use circuit_counts::Counts;
 use circuit_files::{Failure, circuit_at};
 use command_endings::held_latches;
@@ -36,26 +36,23 @@ fn bound_of(bound: PathBound) -> Option<u32>
     }
 }
 
-/// The latches that the task holds.
-fn held_for<'a>(alloc: Global, circuit: &Circuit, task: &Moving<'a>) -> Result<Keep, Failure<'a>>
-    ensures { IfOk result (λ keep. keep ≡ held_for task.now circuit.now) }
-{
-    let positions = task.keep_latches.as_slice();
-    held_latches(alloc, circuit, task.input, task.keep.as_slice(), positions)
-}
-
 /// Moves the latches of the circuit that are not held.
-fn moved<'a>(alloc: Global, circuit: Circuit, task: &Moving<'a>) -> Result<MovedBack, Failure<'a>>
-    ensures { IfOk result (IsAnswerTo circuit (held_for task.now circuit)
-        (wanted.bound_of task.now.bound)) }
+fn moved<'a, W: MoveWatcher>(
+    alloc: Global,
+    circuit: Circuit,
+    task: &Moving<'a>,
+    watcher: &mut W,
+) -> Result<MovedBack, Failure<'a>>
+    ensures { IfOk result (IsAnswerTo circuit (held_by task.now.options circuit)
+        (wanted.bound_of task.now.options.bound)) }
 {
     let options = MoveOptions {
-        frames: task.frames,
-        levels: bound_of(task.bound),
+        frames: task.options.frames,
+        levels: bound_of(task.options.bound),
     };
-    match held_for(alloc, &circuit, task) {
+    match held_latches(alloc, &circuit, task.input, &task.options) {
         Ok(keep) => {
-            let moved = move_back(alloc, circuit, &keep, &options);
+            let moved = move_back(alloc, circuit, &keep, &options, watcher);
             drop(keep);
             match moved {
                 Ok(moved) => Ok(moved),
@@ -70,20 +67,21 @@ fn moved<'a>(alloc: Global, circuit: Circuit, task: &Moving<'a>) -> Result<Moved
 }
 
 /// The answer of the circuit that is read.
-fn answer_of<'a>(
+fn answer_of<'a, W: MoveWatcher>(
     alloc: Global,
     spelt: SpeltCircuit,
     task: &Moving<'a>,
+    watcher: &mut W,
 ) -> Result<Answer, Failure<'a>>
     ensures { IfOk result (IsAnswerOf task.now spelt) }
 {
     let SpeltCircuit { circuit, spelling } = spelt;
-    let spelling = task.spelling.unwrap_or(spelling);
+    let spelling = task.options.spelling.unwrap_or(spelling);
     let Ok(before) = Counts::of(alloc, &circuit) else {
         drop(circuit);
         return Err(Failure::Memory);
     };
-    match moved(alloc, circuit, task) {
+    match moved(alloc, circuit, task, watcher) {
         Ok(moved) => Ok(Answer {
             moved,
             before,
@@ -93,17 +91,18 @@ fn answer_of<'a>(
     }
 }
 
-/// Reads what the task reads, and moves its latches.
-pub(crate) fn answer_for<'a, R: Files, I: CountedRead>(
+/// Reads what the task reads, and moves its latches. The watcher is notified of each frame, and of the check.
+pub(crate) fn answer_for<'a, R: Files, I: CountedRead, W: MoveWatcher>(
     rt: &R,
     alloc: Global,
     task: &Moving<'a>,
     stdin: &mut I,
+    watcher: &mut W,
 ) -> Result<Answer, Failure<'a>>
     ensures { IfOk result (AnswersTask task.now (I.input stdin.old) (I.input stdin.new)) }
 {
     match circuit_at(rt, alloc, task.input, stdin) {
-        Ok(spelt) => answer_of(alloc, spelt, task),
+        Ok(spelt) => answer_of(alloc, spelt, task, watcher),
         Err(failure) => Err(failure),
     }
 }

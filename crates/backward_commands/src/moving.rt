@@ -6,16 +6,19 @@ ghost use Rattle.circuit_files.specs.Outcomes.{outcome_of};
 ghost use Rattle.circuit_files.specs.WrittenFiles.{IsFileGiven};
 ghost use Rattle.circuit_files.specs.declared.outcome.Outcome.TheVariants.{Device};
 ghost use Rattle.command_endings.specs.Printing.{Prints, ending};
-ghost use Rattle.backward_commands.specs.Moving.{PrintsMoves, WritesIfAsked, WritesMoves};
+ghost use Rattle.backward_commands.specs.Moving.{AnswersTask, PrintsMoves, WritesIfAsked, WritesMoves};
 
 use crate::answering::{Answer, answer_for};
 use crate::printing::print_answer;
+use backward_retiming::{MoveStage, MoveWatcher};
 use circuit_files::{Failure, Outcome};
 use command_endings::write_circuit;
 use command_line::Moving;
 use counted_io::{CountedRead, CountedWrite};
+use progress::Progress;
 use std::alloc::Global;
 use std::rt::Files;
+use std::time::Clock;
 
 /// Writes the map of an answer where it is asked for.
 fn write_map<'a, R: Files, O: CountedWrite>(
@@ -55,12 +58,67 @@ fn write_answer<'a, R: Files, O: CountedWrite>(
     }
 }
 
-/// Reads a circuit, moves its latches backward, writes it, and its map where that is asked for, and then prints the frames that were
-/// taken, as an object of JSON or in lines.
-pub fn print_moves<'a, R: Files, I: CountedRead, O: CountedWrite, E: CountedWrite>(
+/// Reads a circuit, moves its latches backward, and writes it, and its map where that is asked for. The watcher is notified of each stage.
+fn write_moved<'a, R: Files, I: CountedRead, O: CountedWrite, W: MoveWatcher>(
     rt: &R,
     alloc: Global,
     task: &Moving<'a>,
+    stdin: &mut I,
+    out: &mut O,
+    watcher: &mut W,
+) -> Result<Answer, Failure<'a>>
+    ensures answer { IfOk result (AnswersTask task.now (I.input stdin.old) (I.input stdin.new)) }
+    ensures written { IfOk result (λ answer. WritesMoves (IsFileGiven R R.Dir R.File.contents)
+        task.now answer (O.output out.old) (O.output out.new)) }
+    ensures file { OnOk result (moving_takes_stdout task.now ≡ false
+        → O.output out.new ≡ O.output out.old) }
+    ensures prints { IfErr result (λ failure. Prints (outcome_of failure) (O.output out.old)
+        (O.output out.new)) }
+{
+    let answer = answer_for(rt, alloc, task, stdin, watcher)?;
+    watcher.begin(MoveStage::Writing);
+    match write_answer(rt, task, &answer, out) {
+        Ok(()) => Ok(answer),
+        Err(failure) => {
+            drop(answer);
+            Err(failure)
+        }
+    }
+}
+
+/// The same. Shows on standard error how far the run is, until all is written.
+fn write_shown<'a, R: Files + Clock, I: CountedRead, O: CountedWrite, E: CountedWrite>(
+    rt: &R,
+    alloc: Global,
+    task: &Moving<'a>,
+    is_terminal: bool,
+    stdin: &mut I,
+    out: &mut O,
+    err: &mut E,
+) -> Result<Answer, Failure<'a>>
+    ensures answer { IfOk result (AnswersTask task.now (I.input stdin.old) (I.input stdin.new)) }
+    ensures written { IfOk result (λ answer. WritesMoves (IsFileGiven R R.Dir R.File.contents)
+        task.now answer (O.output out.old) (O.output out.new)) }
+    ensures file { OnOk result (moving_takes_stdout task.now ≡ false
+        → O.output out.new ≡ O.output out.old) }
+    ensures prints { IfErr result (λ failure. Prints (outcome_of failure) (O.output out.old)
+        (O.output out.new)) }
+{
+    let mut progress = Progress::new(task.shown, false, is_terminal, rt, alloc, err);
+    let answer = write_moved(rt, alloc, task, stdin, out, &mut progress);
+    drop(progress.end());
+    answer
+}
+
+/// Reads a circuit, moves its latches backward, writes it, and its map where that is asked for, and then prints the frames that were
+/// taken, as an object of JSON or in lines.
+///
+/// Shows how far the run is as the task asks; `is_terminal` is whether standard error is a terminal.
+pub fn print_moves<'a, R: Files + Clock, I: CountedRead, O: CountedWrite, E: CountedWrite>(
+    rt: &R,
+    alloc: Global,
+    task: &Moving<'a>,
+    is_terminal: bool,
     stdin: &mut I,
     out: &mut O,
     err: &mut E,
@@ -70,16 +128,12 @@ pub fn print_moves<'a, R: Files, I: CountedRead, O: CountedWrite, E: CountedWrit
         (E.output err.new)) }
     ensures prints { Prints (ending result) (O.output out.old) (O.output out.new) }
 {
-    let answer = answer_for(rt, alloc, task, stdin)?;
-    match write_answer(rt, task, &answer, out) {
-        Ok(()) => {
+    match write_shown(rt, alloc, task, is_terminal, stdin, out, err) {
+        Ok(answer) => {
             let ended = print_answer(alloc, task, &answer, out, err);
             drop(answer);
             ended
         }
-        Err(failure) => {
-            drop(answer);
-            Err(failure)
-        }
+        Err(failure) => Err(failure),
     }
 }

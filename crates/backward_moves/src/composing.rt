@@ -45,6 +45,15 @@ fn through(
     Ok(before)
 }
 
+/// How many gates the maps of frames have.
+fn count_gates(maps: &[FrameMap]) -> usize {
+    let mut count = 0usize;
+    for map in maps {
+        count = count.saturating_add(map.gates.len());
+    }
+    count
+}
+
 /// The map of frames of which the last leaves so many latches.
 ///
 /// # Errors
@@ -55,7 +64,7 @@ pub(crate) fn composed(
     maps: &[FrameMap],
     latches: u32,
 ) -> Result<WholeMap, NoMemory> {
-    let mut gates = Shared::after(alloc, latches.wrapping_add(1))?;
+    let mut gates = Shared::after(alloc, latches.wrapping_add(1), count_gates(maps))?;
     let mut state = Vec::new(alloc);
     for place in 0..latches {
         state.push(Literal::of(place.wrapping_add(1)))?;

@@ -14,6 +14,8 @@ mod reading;
 mod rebuilding;
 mod shared;
 mod sweeping;
+mod watching;
 
 pub use frame::FrameCounts;
 pub use moving::{Drafted, MoveOptions, draft_moves};
+pub use watching::{MoveStage, MoveWatcher};

@@ -7,6 +7,7 @@ use crate::levels::levels_of;
 use crate::reading::{Inputs, draft_of, stands_of};
 use crate::rebuilding::FrameMap;
 use crate::sweeping::sweep;
+use crate::watching::{MoveStage, MoveWatcher};
 use aig_graph::{Circuit, Keep, NoMemory};
 use backward_sets::{Draft, DraftLatch, DraftReset, Literal, Pair, number};
 use std::alloc::Global;
@@ -47,6 +48,17 @@ impl Drafted {
     }
 }
 
+/// How many latches have a known reset.
+fn known_latches(draft: &Draft) -> u32 {
+    let mut count = 0u32;
+    for latch in &draft.latches {
+        if latch.reset != DraftReset::Free {
+            count = count.wrapping_add(1);
+        }
+    }
+    count
+}
+
 /// A run of frames.
 #[derive(Drop)]
 struct Run {
@@ -75,13 +87,28 @@ impl Run {
         Ok(true)
     }
 
+    /// The stage in which the set of the next frame is looked for.
+    fn looking(&self) -> MoveStage {
+        MoveStage::Looking {
+            taken: self.frames.len(),
+            latches: known_latches(&self.draft),
+            gates: self.draft.gates.len(),
+        }
+    }
+
     /// Takes frames until none saves a latch.
-    fn advance_all(&mut self, alloc: Global, options: &MoveOptions) -> Result<(), NoMemory> {
+    fn advance_all<W: MoveWatcher>(
+        &mut self,
+        alloc: Global,
+        options: &MoveOptions,
+        watcher: &mut W,
+    ) -> Result<(), NoMemory> {
         let bound = match options.levels {
             Some(levels) => Some(levels.max(levels_of(alloc, &self.draft)?)),
             None => None,
         };
         for _ in 0..options.frames {
+            watcher.begin(self.looking());
             if !self.advance(alloc, bound)? {
                 return Ok(());
             }
@@ -150,11 +177,12 @@ fn finished(
 /// # Errors
 ///
 /// `NoMemory` where a table is refused.
-pub fn draft_moves(
+pub fn draft_moves<W: MoveWatcher>(
     alloc: Global,
     circuit: &Circuit,
     keep: &Keep,
     options: &MoveOptions,
+    watcher: &mut W,
 ) -> Result<Option<Drafted>, NoMemory> {
     let (mut draft, inputs) = draft_of(alloc, circuit, keep)?;
     drop(sweep(alloc, &mut draft)?);
@@ -164,7 +192,8 @@ pub fn draft_moves(
         maps: Vec::new(alloc),
         frames: Vec::new(alloc),
     };
-    run.advance_all(alloc, options)?;
+    run.advance_all(alloc, options, watcher)?;
+    watcher.begin(MoveStage::Checking);
     if run.frames.is_empty() {
         return Ok(None);
     }

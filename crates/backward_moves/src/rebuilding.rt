@@ -1,5 +1,5 @@
 //! The draft after a frame, and the map of its states to those before it. Behind the latches stand copies of the set's gates, which read the
-//! latches; in the map stand the same copies over the map's inputs. What read a latch reads the copy of what the latch read.
+//! latches; in the map stand the same copies, whose variables are lower, since it has no inputs but the latches. What read a latch reads the copy of what the latch read.
 
 use crate::copies::{Copies, Version, copy_of, set_copy};
 use crate::latching::{Latching, latching_of};
@@ -13,7 +13,6 @@ use std::alloc::Global;
 /// What the latches of before a frame hold, by those after it: gates over these, which have the variables from 1 on, and a literal for each.
 #[derive(Drop)]
 pub(crate) struct FrameMap {
-    pub latches: u32,
     pub gates: Vec<Pair>,
     pub outputs: Vec<Literal>,
 }
@@ -45,8 +44,9 @@ fn needs(version: Version, by_larger: bool, pair: &Pair) -> (Option<bool>, Optio
 }
 
 impl Side {
-    /// The latches stand for the copies of border variables, where the first has this variable. The set's gates come after them.
-    fn new(alloc: Global, latching: &Latching, first: u32) -> Result<Side, NoMemory> {
+    /// The latches stand for the copies of border variables. The copies of the set's gates come after them.
+    fn new(alloc: Global, draft: &Draft, latching: &Latching) -> Result<Side, NoMemory> {
+        let first = draft.first_latch();
         let mut copies = Vec::with_capacity(alloc, latching.copies.len())?;
         for of_var in &latching.copies {
             let mut shifted = Copies::NONE;
@@ -61,7 +61,7 @@ impl Side {
         }
         let end = first.wrapping_add(number(latching.latches.len()));
         Ok(Side {
-            gates: Shared::after(alloc, end)?,
+            gates: Shared::after(alloc, end, draft.gates.len())?,
             copies,
         })
     }
@@ -98,7 +98,7 @@ impl Side {
         Ok(())
     }
 
-    /// What stands for each latch of before, where a latch that doesn't take part has this variable.
+    /// What stands for a latch of before, where it has this variable if it doesn't take part.
     fn latch(&self, wishes: &Wishes, latch: &DraftLatch, own: u32) -> Literal {
         if latch.takes_part() {
             self.literal(wishes, latch.next, latch.wish())
@@ -107,19 +107,52 @@ impl Side {
         }
     }
 
-    /// The same of all latches, where the first has this variable.
+    /// The same of all latches.
     fn put_latches(
         &self,
         draft: &Draft,
         latching: &Latching,
         wishes: &Wishes,
-        first: u32,
         stands: &mut Vec<Literal>,
     ) -> Result<(), NoMemory> {
+        let first = draft.first_latch();
         for (latch, place) in draft.latches.iter().zip(latching.places.iter()) {
             stands.push(self.latch(wishes, latch, first.wrapping_add(*place)))?;
         }
         Ok(())
+    }
+
+    /// The map of the states after a frame to those before it, where no gates stand here yet but the copies of the set's.
+    fn map(
+        &self,
+        alloc: Global,
+        draft: &Draft,
+        latching: &Latching,
+        wishes: &Wishes,
+    ) -> Result<FrameMap, NoMemory> {
+        let many = draft.inputs;
+        let mut gates = Vec::with_capacity(alloc, self.gates.gates().len())?;
+        for pair in self.gates.gates() {
+            gates.push(Pair {
+                larger: lowered(pair.larger, many),
+                smaller: lowered(pair.smaller, many),
+            })?;
+        }
+        let mut outputs = Vec::with_capacity(alloc, draft.latches.len())?;
+        self.put_latches(draft, latching, wishes, &mut outputs)?;
+        for output in outputs.iter_mut() {
+            *output = lowered(*output, many);
+        }
+        Ok(FrameMap { gates, outputs })
+    }
+}
+
+/// The literal where so many variables fewer stand before it. The constant stays.
+fn lowered(lit: Literal, many: u32) -> Literal {
+    if lit.var() == 0 {
+        lit
+    } else {
+        Literal::of(lit.var().wrapping_sub(many)).signed_as(lit)
     }
 }
 
@@ -157,7 +190,7 @@ fn stands_of(
     for var in 0..draft.first_latch() {
         stands.push(Literal::of(var))?;
     }
-    side.put_latches(draft, latching, wishes, draft.first_latch(), &mut stands)?;
+    side.put_latches(draft, latching, wishes, &mut stands)?;
     let mut var = draft.first_gate();
     for pair in &draft.gates {
         let lit = if set.has(var) {
@@ -171,27 +204,6 @@ fn stands_of(
         var = var.wrapping_add(1);
     }
     Ok(stands)
-}
-
-/// The map of the states after a frame to those before it.
-fn frame_map(
-    alloc: Global,
-    draft: &Draft,
-    set: &Bordered,
-    wishes: &Wishes,
-    latching: &Latching,
-) -> Result<FrameMap, NoMemory> {
-    let mut side = Side::new(alloc, latching, 1)?;
-    side.put_all(draft, set, wishes)?;
-    let mut outputs = Vec::with_capacity(alloc, draft.latches.len())?;
-    side.put_latches(draft, latching, wishes, 1, &mut outputs)?;
-    let Side { gates, copies } = side;
-    drop(copies);
-    Ok(FrameMap {
-        latches: number(latching.latches.len()),
-        gates: gates.into_gates(),
-        outputs,
-    })
 }
 
 /// The variables of the copies of the set's gates.
@@ -234,9 +246,9 @@ pub(crate) fn rebuild(
     wishes: &Wishes,
 ) -> Result<Rebuilt, NoMemory> {
     let mut latching = latching_of(alloc, draft, set, wishes.of.as_slice())?;
-    let map = frame_map(alloc, draft, set, wishes, &latching)?;
-    let mut side = Side::new(alloc, &latching, draft.first_latch())?;
+    let mut side = Side::new(alloc, draft, &latching)?;
     side.put_all(draft, set, wishes)?;
+    let map = side.map(alloc, draft, &latching, wishes)?;
     let stands = stands_of(alloc, draft, set, wishes, &latching, &mut side)?;
     finished_latches(latching.latches.as_mut_slice(), stands.as_slice());
     let observed = all_standing(alloc, stands.as_slice(), draft.observed.as_slice())?;

@@ -8,6 +8,9 @@ use std::mem;
 /// The smallest table.
 const SMALLEST: usize = 16;
 
+/// The most entries that a table has from the start.
+const LARGEST: usize = 1 << 31;
+
 /// Gates from a first variable on, and by what they read one more than the place of each; 0 where there is none.
 #[derive(Drop)]
 pub(crate) struct Shared {
@@ -52,18 +55,30 @@ fn slot(pair: &Pair, mask: usize) -> usize {
     (key >> 32) as usize & mask
 }
 
+/// The size of a table that so many gates fill by half at most.
+fn size_for(gates: usize) -> usize {
+    let mut size = SMALLEST;
+    for _ in 0..usize::BITS {
+        if size / 2 > gates || size >= LARGEST {
+            return size;
+        }
+        size = size.saturating_mul(2);
+    }
+    size
+}
+
 impl Shared {
-    /// No gates yet, from a first variable on.
+    /// No gates yet, from a first variable on, with room for so many.
     ///
     /// # Errors
     ///
-    /// `NoMemory` where the table is refused.
-    pub fn after(alloc: Global, first: u32) -> Result<Shared, NoMemory> {
+    /// `NoMemory` where a table is refused.
+    pub fn after(alloc: Global, first: u32, room: usize) -> Result<Shared, NoMemory> {
         Ok(Shared {
             alloc,
             first,
-            gates: Vec::new(alloc),
-            table: vec![in alloc; 0; SMALLEST]?,
+            gates: Vec::with_capacity(alloc, room)?,
+            table: vec![in alloc; 0; size_for(room)]?,
         })
     }
 
@@ -127,6 +142,11 @@ impl Shared {
     /// The literal of the gate that has an entry.
     fn literal(&self, entry: u32) -> Literal {
         Literal::of(self.first.wrapping_add(entry).wrapping_sub(1))
+    }
+
+    /// The gates so far.
+    pub fn gates(&self) -> &[Pair] {
+        self.gates.as_slice()
     }
 
     /// The gates alone.

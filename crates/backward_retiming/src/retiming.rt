@@ -7,7 +7,7 @@ use crate::drawing::{drawn_circuit, drawn_map};
 use crate::seals::SealError;
 use aig_graph::{Circuit, Keep, NoMemory};
 use backward_circuits::{is_moved_back, wires};
-use backward_moves::{Drafted, FrameCounts, MoveOptions, draft_moves};
+use backward_moves::{Drafted, FrameCounts, MoveOptions, MoveWatcher, draft_moves};
 use std::alloc::Global;
 
 /// What a circuit becomes: the new circuit, the map of its states to those of the first one, and what each frame did.
@@ -141,20 +141,21 @@ pub fn move_as_drafted(
 
 /// Moves the latches of a circuit backward that aren't held, as far as that saves some and is shown. The streams are those of the circuit, the
 /// map is one of the new circuit's states to those of the circuit, there are no more latches, held latches stay with their resets and names, and
-/// no way is longer than the bound, if there is one, or than the circuit's longest.
+/// no way is longer than the bound, if there is one, or than the circuit's longest. The watcher is notified of each frame, and of the check.
 ///
 /// # Errors
 ///
 /// `NoMemory` where memory is refused.
-pub fn move_back(
+pub fn move_back<W: MoveWatcher>(
     alloc: Global,
     circuit: Circuit,
     keep: &Keep,
     options: &MoveOptions,
+    watcher: &mut W,
 ) -> Result<MovedBack, NoMemory>
     ensures { IfOk result (IsAnswerTo circuit keep.now options.now.levels) }
 {
-    match draft_moves(alloc, &circuit, keep, options) {
+    match draft_moves(alloc, &circuit, keep, options, watcher) {
         Ok(Some(drafted)) => move_as_drafted(alloc, circuit, keep, options.levels, drafted),
         Ok(None) => unmoved(alloc, circuit, true),
         Err(error) => {

@@ -23,7 +23,7 @@ use Rattle.witness_circuits.proofs.CarrierLaws.{IsCarrier, bad-within, kept-alik
 use Rattle.witness_circuits.proofs.FirstLaws.{first-opens, first-steps}
 use Rattle.witness_circuits.proofs.LiftLaws.{allowed-back, good-there}
 use Rattle.witness_circuits.proofs.OpeningLaws.{held_choice, opened, opening-twice}
-use Rattle.map_miters.proofs.AnswerLaws.{free-fewer}
+use Rattle.state_maps.proofs.FreeLaws.{free-fewer}
 use Rattle.map_miters.specs.Products.{GivesState, second_state}
 use Rattle.backward_witnesses.specs.Beside.{IsBeside, in_second}
 use Rattle.backward_witnesses.specs.Lifting.{LiftsBack}

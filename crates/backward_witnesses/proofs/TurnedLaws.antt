@@ -5,9 +5,10 @@ use Rattle.std.proofs.lemmas.List.Elements.{All-cons, All-head, All-nil}
 use Rattle.variable_tables.specs.Tables.{table}
 use Rattle.variable_tables.proofs.TableLaws.{length-table, table-at}
 use Rattle.aig_graph.specs.declared.properties.Props.{Props}
-use Rattle.aig_graph.specs.Circuits.{AreLiteralsOf, AreNamesBelow, IsNetlist, Netlist, no_symbols}
+use Rattle.aig_graph.specs.Circuits.{AreLiteralsOf, IsNetlist, Netlist, no_symbols}
 use Rattle.aig_graph.specs.Graph.{Graph, IsGraph, IsLiteralOf}
 use Rattle.aig_graph.specs.Value.{value_within}
+use Rattle.witness_circuits.proofs.FinishLaws.{no-names}
 use Rattle.witness_circuits.proofs.ViewLaws.{input-value, table-within}
 use Rattle.map_miters.specs.Holding.{HoldAs}
 use Rattle.backward_witnesses.specs.Turned.{IsTurned, IsTurnedIn}
@@ -31,9 +32,6 @@ first-hold h valid n fits = record {
       let at : 2 * (1 + (0 + k)) ≡ 2 * (1 + k) = omega arith in
       ap (value_within h z u) (table-at 0 n (λ j. 2 * (1 + j)) k 0 short ∙ at) ∙ input-value h valid z u k (omega (arith, short, fits));
 }
-
-no-names : (n : ℕ) → AreNamesBelow n []
-no-names n = record { rising = λ k less. absurd (omega (arith, less)); below = λ k a less. absurd (omega (arith, less)) }
 
 module _ (h : Graph) (c d m : Netlist) (p : Props) (t : IsTurnedIn h c d m p) where
   abbrev n : ℕ

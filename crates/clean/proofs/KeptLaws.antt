@@ -10,8 +10,7 @@ use Rattle.aig_graph.specs.Graph.{variable}
 use Rattle.cleaned_circuits.specs.Merged.{same_fan_ins}
 use Rattle.cleaned_circuits.proofs.SubstituteLaws.{same_fan_ins-is}
 use Rattle.clean.specs.declared.kept.KeptGate.{KeptGate}
-use Rattle.clean.specs.declared.kept.GateList.{GateList}
-use Rattle.clean.specs.Kept.{Kept, pairs_of, pairs, no_gate, no_list, last_of, or_else, on_list, listed, AreKept, IsListOf}
+use Rattle.clean.specs.Kept.{Kept, pairs_of, pairs, no_gate, last_of, or_else, on_list, listed, AreKept, IsListOf, SameLists}
 
 -- no second answer
 pub or_else-none : (o : Option ℕ) → or_else o None ≡ o
@@ -103,8 +102,8 @@ module _ (k : Kept) (kept : AreKept k) where
   pub last-few : (v : ℕ) → last_of k v ≤ length k.gates
   unfolding last_of
   last-few v = elim (cases_Bool (nat_lt v k.first)) [
-    | inl low ↦ (let none = cond-true (nat_lt v k.first) 0 (get_or k.lists (v - k.first) no_list).last low in omega (arith, none))
-    | inr high ↦ (let there = cond-false (nat_lt v k.first) 0 (get_or k.lists (v - k.first) no_list).last high in omega (arith, there, kept.last (v - k.first)))
+    | inl low ↦ (let none = cond-true (nat_lt v k.first) 0 (get_or k.lists (v - k.first) 0) low in omega (arith, none))
+    | inr high ↦ (let there = cond-false (nat_lt v k.first) 0 (get_or k.lists (v - k.first) 0) high in omega (arith, there, kept.last (v - k.first)))
   ]
 
   -- a walk begins at the last gate of the list
@@ -159,7 +158,7 @@ module _ (k : Kept) (kept : AreKept k) (one : KeptGate) (back : one.before ≤ l
         ∙ ap (λ (o : Option ℕ). or_else o (lookup (same_fan_ins gate) (k.rest ++ (one.gate, one.lit) ∷ []))) (sym (same-list gate (last_of k (variable gate.rhs0)) (last-few k kept (variable gate.rhs0))));
   }
 
-  module _ (place : ℕ) (list : GateList) (is_list : IsListOf k (variable one.gate.rhs0) place) (link : one.before ≡ (get_or k.lists place no_list).last) (last : list.last ≡ length k.gates + 1) (new : lookup (same_fan_ins one.gate) (pairs k) ≡ None) where
+  module _ (place : ℕ) (list : ℕ) (is_list : IsListOf k (variable one.gate.rhs0) place) (link : one.before ≡ get_or k.lists place 0) (last : list ≡ length k.gates + 1) (new : lookup (same_fan_ins one.gate) (pairs k) ≡ None) where
     abbrev longer : Kept
     longer = record { first = k.first; gates = more; lists = slice_set k.lists place list; rest = k.rest }
 
@@ -169,8 +168,8 @@ module _ (k : Kept) (kept : AreKept k) (one : KeptGate) (back : one.before ≤ l
         let v : ℕ = variable one.gate.rhs0 in
         let at : v - k.first ≡ place = omega (arith, is_list.at) in
         cond-false (nat_lt v k.first) 0 _ (le-ltb v k.first (omega (arith, is_list.at)))
-        ∙ ap (λ (p : ℕ). (get_or (slice_set k.lists place list) p no_list).last) at
-        ∙ ap (λ (l : GateList). l.last) (get_or-set_same k.lists place list no_list is_list.within) ∙ last
+        ∙ ap (λ (p : ℕ). get_or (slice_set k.lists place list) p 0) at
+        ∙ get_or-set_same k.lists place list 0 is_list.within ∙ last
 
     before-here : last_of k (variable one.gate.rhs0) ≡ one.before
     unfolding last_of
@@ -178,14 +177,14 @@ module _ (k : Kept) (kept : AreKept k) (one : KeptGate) (back : one.before ≤ l
         let v : ℕ = variable one.gate.rhs0 in
         let at : v - k.first ≡ place = omega (arith, is_list.at) in
         cond-false (nat_lt v k.first) 0 _ (le-ltb v k.first (omega (arith, is_list.at)))
-        ∙ ap (λ (p : ℕ). (get_or k.lists p no_list).last) at ∙ sym link
+        ∙ ap (λ (p : ℕ). get_or k.lists p 0) at ∙ sym link
 
     last-there : (v : ℕ) → (v ≡ variable one.gate.rhs0 → ⊥) → last_of longer v ≡ last_of k v
     unfolding last_of
     last-there v other = elim (cases_lt v k.first) [
       | inl low ↦ cond-true (nat_lt v k.first) 0 _ (lt-ltb v k.first low) ∙ sym (cond-true (nat_lt v k.first) 0 _ (lt-ltb v k.first low))
-      | inr high ↦ ap (λ (l : GateList). cond (nat_lt v k.first) 0 l.last)
-          (get_or-set_other k.lists place (v - k.first) list no_list (λ same. other (omega (arith, same, high, is_list.at))))
+      | inr high ↦ ap (λ (l : ℕ). cond (nat_lt v k.first) 0 l)
+          (get_or-set_other k.lists place (v - k.first) list 0 (λ same. other (omega (arith, same, high, is_list.at))))
     ]
 
     -- the gate itself
@@ -245,10 +244,10 @@ module _ (k : Kept) (kept : AreKept k) (one : KeptGate) (back : one.before ≤ l
     AreKept-listed = record {
       last = λ p. elim (cases_eq p place) [
         | inl at ↦ (
-            let same = ap (λ (q : ℕ). (get_or (slice_set k.lists place list) q no_list).last) at ∙ ap (λ (l : GateList). l.last) (get_or-set_same k.lists place list no_list is_list.within) in
+            let same = ap (λ (q : ℕ). get_or (slice_set k.lists place list) q 0) at ∙ get_or-set_same k.lists place list 0 is_list.within in
             omega (arith, same, last, length_push k.gates one))
         | inr other ↦ (
-            let same = ap (λ (l : GateList). l.last) (get_or-set_other k.lists place p list no_list other) in
+            let same = get_or-set_other k.lists place p list 0 other in
             omega (arith, same, kept.last p, length_push k.gates one))
       ];
       before = before-more k.gates one kept.before back;
@@ -259,16 +258,51 @@ module _ (k : Kept) (kept : AreKept k) (one : KeptGate) (back : one.before ≤ l
     }
 
 -- no gates yet
-pub AreKept-none : (first n : ℕ) → AreKept (record { first = first; gates = []; lists = replicate n no_list; rest = [] })
+pub AreKept-none : (first n : ℕ) → AreKept (record { first = first; gates = []; lists = replicate n 0; rest = [] })
 unfolding on_list
 AreKept-none first n = record {
   last = λ place. elim (cases_lt place n) [
-    | inl less ↦ (let same = ap (λ (l : GateList). l.last) (get_or-replicate n place no_list no_list less) in omega (arith, same))
+    | inl less ↦ (let same = get_or-replicate {A = ℕ} n place 0 0 less in omega (arith, same))
     | inr past ↦ (
-        let long : length (replicate n no_list) ≤ place = omega (arith, length-replicate n no_list, past) in
-        let same = ap (λ (l : GateList). l.last) (get_or-eq_default (replicate n no_list) no_list long) in
+        let long : length (replicate {A = ℕ} n 0) ≤ place = omega (arith, length-replicate {A = ℕ} n 0, past) in
+        let same = get_or-eq_default {A = ℕ} (replicate n 0) 0 long in
         omega (arith, same))
   ];
   before = λ m. (let same = ap (λ (x : KeptGate). x.before) (get_or-eq_default {A = KeptGate} [] no_gate {n = m} (omega arith)) in omega (arith, same));
   found = λ gate. refl;
 }
+
+-- more lists, which are empty, hold what the lists held
+module _ (k : Kept) (kept : AreKept k) (lists : List ℕ) (same : SameLists k.lists lists) where
+  abbrev wider : Kept
+  wider = record { first = k.first; gates = k.gates; lists = lists; rest = k.rest }
+
+  same-last : (v : ℕ) → last_of wider v ≡ last_of k v
+  unfolding last_of
+  same-last v = ap (λ (l : ℕ). cond (nat_lt v k.first) 0 l) (same (v - k.first))
+
+  -- a wider table has the same gates on its lists
+  pub AreKept-wider : AreKept wider
+  AreKept-wider = record {
+    last = λ place. omega (arith, same place, kept.last place);
+    before = kept.before;
+    found = λ gate.
+        kept.found gate
+        ∙ ap (λ (l : ℕ). or_else (on_list k.gates gate (length k.gates) l) (lookup (same_fan_ins gate) k.rest)) (sym (same-last (variable gate.rhs0)));
+  }
+
+-- one more empty list
+pub SameLists-push : (lists : List ℕ) → SameLists lists (lists ++ 0 ∷ [])
+SameLists-push lists place = elim (cases_lt place (length lists)) [
+  | inl less ↦ get_or_append_left lists (0 ∷ []) 0 place less
+  | inr past ↦ (
+      let none = get_or-eq_default {A = ℕ} lists 0 past in
+      elim (cases_eq place (length lists)) [
+        | inl at ↦ ap (λ (p : ℕ). get_or (lists ++ 0 ∷ []) p 0) at ∙ get_or-append_seam lists 0 [] 0 ∙ sym none
+        | inr other ↦ get_or-eq_default (lists ++ 0 ∷ []) 0 (omega (arith, length_push lists 0, past, other)) ∙ sym none
+      ])
+]
+
+-- lists that stay the same twice are the same
+pub SameLists-then : (first second third : List ℕ) → SameLists first second → SameLists second third → SameLists first third
+SameLists-then first second third before after place = after place ∙ before place

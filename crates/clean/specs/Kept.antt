@@ -5,14 +5,13 @@ use Rattle.aig_graph.specs.declared.graph.Gate.{Gate}
 use Rattle.aig_graph.specs.Graph.{variable}
 use Rattle.cleaned_circuits.specs.Merged.{same_fan_ins}
 use Rattle.clean.specs.declared.kept.KeptGate.{KeptGate}
-use Rattle.clean.specs.declared.kept.GateList.{GateList}
 
--- the gates in the order in which they were kept; by variable, from the first latch on, its list; and those that stand in the hash
--- table
+-- the gates in the order in which they were kept; by variable, from the first latch on, the link to the last gate of its list; and those
+-- that stand in the hash table
 pub record Kept : Type 0 where
   pub first : ℕ
   pub gates : List KeptGate
-  pub lists : List GateList
+  pub lists : List ℕ
   pub rest : List (Gate × ℕ)
 
 -- each gate with its literal
@@ -25,12 +24,9 @@ pairs k = pairs_of k.gates
 abbrev pub no_gate : KeptGate
 no_gate = record { gate = record { rhs0 = 0; rhs1 = 0 }; lit = 0; before = 0 }
 
-abbrev pub no_list : GateList
-no_list = record { last = 0; length = 0 }
-
 -- the link to the last gate of a variable's list
 unfoldable pub last_of : Kept → ℕ → ℕ
-last_of k v = if nat_lt v k.first then 0 else (get_or k.lists (v - k.first) no_list).last
+last_of k v = if nat_lt v k.first then 0 else get_or k.lists (v - k.first) 0
 
 -- the first of two answers that there is
 abbrev pub or_else : Option ℕ → Option ℕ → Option ℕ
@@ -50,7 +46,7 @@ listed k gate = on_list k.gates gate (length k.gates) (last_of k (variable gate.
 
 -- links lead back, and each kept gate is on its list or in the hash table
 pub record AreKept (k : Kept) : Type 0 where
-  pub last : (place : ℕ) → (get_or k.lists place no_list).last ≤ length k.gates
+  pub last : (place : ℕ) → get_or k.lists place 0 ≤ length k.gates
   pub before : (n : ℕ) → (get_or k.gates n no_gate).before ≤ n
   pub found : (gate : Gate) → lookup (same_fan_ins gate) (pairs k) ≡ or_else (listed k gate) (lookup (same_fan_ins gate) k.rest)
 
@@ -59,3 +55,7 @@ pub record IsListOf (k : Kept) (v place : ℕ) : Type 0 where
   pub at : k.first + place ≡ v
   pub within : place < length k.lists
   pub few : length k.gates + 1 < 2 ^ 32
+
+-- more lists, which are empty
+abbrev pub SameLists : List ℕ → List ℕ → Type 0
+SameLists before after = (place : ℕ) → get_or after place 0 ≡ get_or before place 0

@@ -15,6 +15,7 @@ ghost use Rattle.clean.specs.Settled.{AreOwnLatches};
 use crate::held::Held;
 use crate::latches::are_own_latches;
 use crate::pass::{Pass, run_pass};
+use crate::substitution::Substitution;
 use aig_graph::{Circuit, Keep, NoMemory, Sequence};
 use std::alloc::Global;
 
@@ -27,8 +28,9 @@ pub struct Cleaned {
     pub keep: Keep,
     /// Of each free latch that stays, its place, from 0, among the free latches of the circuit that was cleaned.
     pub kept_free: Sequence<u32>,
-    /// Of each gate that stays, its place among the gates of the circuit that was cleaned. A hint: no clause speaks of it.
-    pub kept_gates: Vec<u32>,
+    /// By variable from the first latch on, whether a latch or gate of the circuit that was cleaned stays; empty where all do. A hint: no
+    /// clause speaks of it.
+    pub kept: Vec<bool>,
 }
 
 /// The entries of a first list at the places that a second list names. Where the lists have the places of the free latches
@@ -48,45 +50,47 @@ pub fn composed(alloc: Global, first: &[u32], second: &[u32]) -> Result<Vec<u32>
     Ok(places)
 }
 
-/// The entries of a first list at the places that a second list names, as far as it has them. A hint: no clause speaks of them.
+/// Whether each latch and gate stays over two passes, by the marks of the first pass and by those of the second, which has one for each that
+/// the first keeps. A hint: no clause speaks of it.
 ///
 /// # Errors
 ///
 /// `NoMemory` where the list is refused.
-pub fn picked(alloc: Global, first: &[u32], second: &[u32]) -> Result<Vec<u32>, NoMemory> {
-    let mut entries = Vec::with_capacity(alloc, second.len())?;
-    for place in second {
-        entries.push(first.get(*place as usize).copied().unwrap_or(u32::MAX))?;
+pub fn kept_twice(alloc: Global, first: &[bool], second: &[bool]) -> Result<Vec<bool>, NoMemory> {
+    let mut later = second.iter();
+    let mut kept = Vec::with_capacity(alloc, first.len())?;
+    for stays in first {
+        if *stays {
+            kept.push(later.next().copied().unwrap_or(false))?;
+        } else {
+            kept.push(false)?;
+        }
     }
-    Ok(entries)
+    Ok(kept)
 }
 
 /// The pass after a pass. Where the places of the last pass are counted among the free latches of an earlier circuit, so are
 /// those of this one.
-fn pass_after(alloc: Global, last: &Pass) -> Result<Pass, NoMemory>
+fn pass_after(alloc: Global, last: &Pass, spare: &mut Substitution) -> Result<Pass, NoMemory>
     requires in_range { All (λ j. j < length last.now.circuit.aig.latches) last.now.held.items }
     requires places { length last.now.kept_free.items ≡ free_latches last.now.circuit.aig }
     ensures { IfOk result (λ next. IsPassAfter last.now.held.items last.now.circuit next.circuit
         last.now.kept_free.items next.kept_free.items next.held.items) }
 {
-    let mut next = run_pass(alloc, &last.circuit, last.held.as_slice())?;
+    let mut next = run_pass(alloc, &last.circuit, last.held.as_slice(), spare)?;
     next.kept_free = composed(alloc, last.kept_free.as_slice(), next.kept_free.as_slice())?;
-    next.kept_gates = picked(
-        alloc,
-        last.kept_gates.as_slice(),
-        next.kept_gates.as_slice(),
-    )?;
+    next.kept = kept_twice(alloc, last.kept.as_slice(), next.kept.as_slice())?;
     Ok(next)
 }
 
 /// The pass after a pass that isn't needed any more.
-fn next_pass(alloc: Global, last: Pass) -> Result<Pass, NoMemory>
+fn next_pass(alloc: Global, last: Pass, spare: &mut Substitution) -> Result<Pass, NoMemory>
     requires in_range { All (λ j. j < length last.circuit.aig.latches) last.held.items }
     requires places { length last.kept_free.items ≡ free_latches last.circuit.aig }
     ensures { IfOk result (λ next. IsPassAfter last.held.items last.circuit next.circuit
         last.kept_free.items next.kept_free.items next.held.items) }
 {
-    pass_after(alloc, &last)
+    pass_after(alloc, &last, spare)
 }
 
 /// Whether each latch of a circuit stands for itself.
@@ -136,14 +140,14 @@ fn cleaned_by(last: Pass) -> Cleaned
     let Pass {
         circuit,
         kept_free,
-        kept_gates,
+        kept,
         held,
     } = last;
     Cleaned {
         circuit,
         keep: Keep::new(held),
         kept_free: Sequence::from_vec(kept_free),
-        kept_gates,
+        kept,
     }
 }
 
@@ -165,10 +169,11 @@ pub fn clean(alloc: Global, circuit: &Circuit, keep: &Keep) -> Result<Cleaned, N
     ensures in_range { IfOk result (λ c. All (λ j. j < length c.circuit.aig.latches) c.keep) }
 {
     let mut before = circuit.aig().latches_and_gates();
-    let mut last = run_pass(alloc, circuit, keep.positions())?;
+    let mut spare = Substitution::none(alloc);
+    let mut last = run_pass(alloc, circuit, keep.positions(), &mut spare)?;
     while goes_on(alloc, &last, before) {
         before = last.circuit.aig().latches_and_gates();
-        last = next_pass(alloc, last)?;
+        last = next_pass(alloc, last, &mut spare)?;
     }
     Ok(cleaned_by(last))
 }

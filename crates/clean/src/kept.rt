@@ -5,7 +5,7 @@ ghost use Rattle.std.specs.Prelude.{◌≡◌, ◌++◌, ◌∷◌, [], None, If
 ghost use Rattle.std.specs.Map.{lookup};
 ghost use Rattle.cleaned_circuits.specs.Merged.{same_fan_ins};
 ghost use Rattle.aig_graph.specs.Graph.{variable};
-ghost use Rattle.clean.specs.Kept.{pairs, last_of, listed, IsListOf};
+ghost use Rattle.clean.specs.Kept.{pairs, last_of, listed, IsListOf, SameLists};
 
 use aig_graph::{Aig, Gate, Lit, NoMemory};
 use indexmap::IndexMap;
@@ -13,10 +13,7 @@ use std::alloc::Global;
 use std::marker::Model;
 
 /// How many gates a list takes.
-const LONGEST: u8 = 32;
-
-/// The list of a variable that the table doesn't have.
-const NO_LIST: GateList = GateList { last: 0, length: 0 };
+const LONGEST: u32 = 32;
 
 /// A kept gate with its literal, and the link to the one before it in its list: one more than a place among the kept gates, and 0 where
 /// the list ends.
@@ -27,19 +24,13 @@ pub(crate) struct KeptGate {
     pub(crate) before: u32,
 }
 
-/// The list of a larger fan-in: the link to its last gate, and how many it has, or `LONGEST` where it has more.
-#[derive(Clone, Copy)]
-pub(crate) struct GateList {
-    pub(crate) last: u32,
-    pub(crate) length: u8,
-}
-
 /// The gates that are kept so far, each with the literal of its variable.
 #[derive(Drop)]
 pub struct KeptGates {
     first: u32,
     gates: Vec<KeptGate>,
-    lists: Vec<GateList>,
+    /// By variable from the first latch on, the link to the last gate that has it as its larger fan-in, and 0 where there is none.
+    lists: Vec<u32>,
     rest: IndexMap<Gate, Lit>,
 }
 
@@ -73,6 +64,16 @@ fn insert_new(rest: &mut IndexMap<Gate, Lit>, gate: Gate, lit: Lit) -> Result<()
     Ok(())
 }
 
+/// Adds empty lists until there are so many.
+fn widen(lists: &mut Vec<u32>, count: usize) -> Result<(), NoMemory>
+    ensures { SameLists lists.old.items lists.new.items }
+{
+    for _ in lists.len()..count {
+        lists.push(0)?;
+    }
+    Ok(())
+}
+
 impl KeptGates {
     /// No gates yet of such a circuit, with room for all that it has.
     pub fn of(alloc: Global, aig: &Aig) -> Result<KeptGates, NoMemory>
@@ -80,7 +81,7 @@ impl KeptGates {
     {
         let variables = aig.latches_and_gates();
         let gates = Vec::with_capacity(alloc, aig.gates().len())?;
-        let lists = vec![in alloc; NO_LIST; variables]?;
+        let lists = vec![in alloc; 0; variables]?;
         Ok(KeptGates {
             first: aig.first_latch(),
             gates,
@@ -98,7 +99,7 @@ impl KeptGates {
             0
         } else {
             let place = (var - self.first) as usize;
-            self.lists.get(place).copied().unwrap_or(NO_LIST).last
+            self.lists.get(place).copied().unwrap_or(0)
         }
     }
 
@@ -132,12 +133,34 @@ impl KeptGates {
         ensures { IfSome result (λ place. IsListOf self.now var place) }
     {
         let place = var.checked_sub(self.first)? as usize;
-        let list = self.lists.get(place)?;
-        if list.length < LONGEST && self.gates.len() < u32::MAX as usize {
+        let last = self.lists.get(place)?;
+        if self.is_short(*last) && self.gates.len() < u32::MAX as usize {
             Some(place)
         } else {
             None
         }
+    }
+
+    /// Whether the list that a link begins takes one more gate.
+    fn is_short(&self, last: u32) -> bool {
+        let mut link = last;
+        for _ in 0..LONGEST {
+            if link == 0 {
+                return true;
+            }
+            link = match self.gates.get((link - 1) as usize) {
+                Some(kept) => kept.before,
+                None => 0,
+            };
+        }
+        link == 0
+    }
+
+    /// Gives a variable a list, where it comes after those of the circuit.
+    pub fn cover(&mut self, var: u32) -> Result<(), NoMemory>
+        ensures { pairs self.new ≡ pairs self.old }
+    {
+        widen(&mut self.lists, var.saturating_sub(self.first) as usize + 1)
     }
 
     /// Adds a gate to the list at a place, which is that of its larger fan-in.
@@ -146,13 +169,9 @@ impl KeptGates {
         requires list { IsListOf self.old (variable gate.rhs0) place }
         ensures { OnOk result (pairs self.new ≡ pairs self.old ++ (gate, lit) ∷ []) }
     {
-        let list = self.lists[place];
-        let before = list.last;
+        let before = self.lists[place];
         self.gates.push(KeptGate { gate, lit, before })?;
-        self.lists[place] = GateList {
-            last: self.gates.len() as u32,
-            length: list.length.saturating_add(1),
-        };
+        self.lists[place] = self.gates.len() as u32;
         Ok(())
     }
 

@@ -18,7 +18,7 @@ mod substitution;
 mod tracing;
 mod trim;
 
-pub use cleaning::{Cleaned, clean, composed, has_more, picked};
+pub use cleaning::{Cleaned, clean, composed, has_more, kept_twice};
 pub use gates::{known_substitute, merge_gates};
 pub use held::Held;
 pub use kept::KeptGates;

@@ -7,7 +7,6 @@ ghost use Rattle.cleaned_circuits.specs.Merged.{replaced_latch, replaced_gate, r
 
 use crate::held::Held;
 use crate::names::copied_symbols;
-use crate::substitutes::substitutes_of;
 use crate::substitution::Substitution;
 use aig_graph::{Aig, Circuit, Gate, Latch, NoMemory, Props};
 use std::alloc::Global;
@@ -100,20 +99,4 @@ pub(crate) fn merged_by(
     let aig = replaced_aig(alloc, circuit.aig(), substitutes)?;
     let props = circuit.props().mapped(alloc, substitutes)?;
     Ok(Merged { aig, props })
-}
-
-/// The same, where what stands for each variable isn't known yet.
-pub(crate) fn merged_of(
-    alloc: Global,
-    circuit: &Circuit,
-    held: &Held<'_>,
-) -> Result<Merged, NoMemory>
-    requires { length held.now.marks.items ≡ length circuit.now.aig.latches }
-    ensures aig { IfOk result (λ merged. merged.aig
-        ≡ (merged_of held.now.positions.now circuit.now).aig) }
-    ensures props { IfOk result (λ merged. merged.props
-        ≡ (merged_of held.now.positions.now circuit.now).props) }
-{
-    let substitutes = substitutes_of(alloc, circuit.aig(), held)?;
-    merged_by(alloc, circuit, held, &substitutes)
 }

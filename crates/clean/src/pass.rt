@@ -10,8 +10,10 @@ ghost use Rattle.clean.specs.Passes.{IsPassOf};
 ghost use Rattle.clean.specs.Sweep.{is_marked};
 
 use crate::held::Held;
-use crate::merged::{Merged, merged_of};
+use crate::merged::{Merged, merged_by};
 use crate::reached::{Reached, reach_everything};
+use crate::substitutes::substitutes_of;
+use crate::substitution::Substitution;
 use crate::trim::Trim;
 use aig_graph::{Circuit, NoMemory};
 use std::alloc::Global;
@@ -22,19 +24,21 @@ pub(crate) struct Pass {
     pub(crate) circuit: Circuit,
     /// Of each free latch that stays, its place among the free latches before.
     pub(crate) kept_free: Vec<u32>,
-    /// Of each gate that stays, its place among the gates before. A hint: no clause speaks of it.
-    pub(crate) kept_gates: Vec<u32>,
+    /// By variable from the first latch on, whether a latch or gate of before stays. A hint: no clause speaks of it.
+    pub(crate) kept: Vec<bool>,
     /// The new positions of the held latches.
     pub(crate) held: Vec<u32>,
 }
 
-/// The merged circuit, without what isn't reached.
+/// The merged circuit, without what isn't reached. The new literals take the memory of a table that is needed no more, and leave it to `spare`.
 pub(crate) fn trimmed(
     alloc: Global,
     circuit: &Circuit,
     held: &[u32],
     merged: &Merged,
     reached: &Reached,
+    standing: Substitution,
+    spare: &mut Substitution,
 ) -> Result<Pass, NoMemory>
     requires graph { IsGraph circuit.now.aig }
     requires in_range { All (λ j. j < length circuit.now.aig.latches) held.now }
@@ -45,21 +49,27 @@ pub(crate) fn trimmed(
         pass.held.items (is_marked reached.now)) }
 {
     let symbols = circuit.symbols();
-    let trim = Trim::new(alloc, &merged.aig, reached)?;
+    let trim = Trim::new(&merged.aig, reached, standing)?;
     let kept_free = trim.kept_free(alloc)?;
-    let kept_gates = trim.kept_gates(alloc)?;
+    let kept = reached.copied_marks(alloc)?;
     let held = trim.new_positions(alloc, held)?;
     let circuit = trim.circuit(alloc, &merged.props, symbols)?;
+    spare.keep(trim.into_table());
     Ok(Pass {
         circuit,
         kept_free,
-        kept_gates,
+        kept,
         held,
     })
 }
 
-/// One pass over a circuit, with the latches at these positions held.
-pub(crate) fn run_pass(alloc: Global, circuit: &Circuit, held: &[u32]) -> Result<Pass, NoMemory>
+/// One pass over a circuit, with the latches at these positions held. Its tables of literals take the memory of the spare one.
+pub(crate) fn run_pass(
+    alloc: Global,
+    circuit: &Circuit,
+    held: &[u32],
+    spare: &mut Substitution,
+) -> Result<Pass, NoMemory>
     requires { All (λ j. j < length circuit.now.aig.latches) held.now }
     ensures pass { IfOk result (λ pass. IsPass held.now circuit.now pass.circuit
         pass.kept_free.items pass.held.items) }
@@ -67,7 +77,9 @@ pub(crate) fn run_pass(alloc: Global, circuit: &Circuit, held: &[u32]) -> Result
         pass.kept_free.items) }
 {
     let marks = Held::new(alloc, held, circuit.aig().latches().len())?;
-    let merged = merged_of(alloc, circuit, &marks)?;
+    let table = spare.take(alloc);
+    let standing = substitutes_of(alloc, circuit.aig(), &marks, table)?;
+    let merged = merged_by(alloc, circuit, &marks, &standing)?;
     let reached = reach_everything(alloc, &merged.aig, &merged.props, held)?;
-    trimmed(alloc, circuit, held, &merged, &reached)
+    trimmed(alloc, circuit, held, &merged, &reached, standing, spare)
 }

@@ -180,6 +180,13 @@ impl Reached {
         self.waiting.pop()
     }
 
+    /// By variable from the first latch on, whether it is reached.
+    pub(crate) fn copied_marks(&self, alloc: Global) -> Result<Vec<bool>, NoMemory> {
+        let mut marks = Vec::new(alloc);
+        marks.extend_from_slice(self.marks.as_slice())?;
+        Ok(marks)
+    }
+
     /// Whether the latch or the gate at a variable is reached.
     pub(crate) fn has(&self, var: u32) -> bool
         ensures { result ≡ is_marked self.now var }

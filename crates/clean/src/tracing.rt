@@ -30,8 +30,8 @@ pub struct TracedPass {
     pub substitutes: Vec<Lit>,
     /// Whether each latch of the circuit before stays.
     pub stays: Vec<bool>,
-    /// Of each gate that stays, its place among the gates before. A hint: no clause speaks of it.
-    pub kept_gates: Vec<u32>,
+    /// By variable from the first latch on, whether a latch or gate of before stays. A hint: no clause speaks of it.
+    pub kept: Vec<bool>,
 }
 
 /// What stands for each latch, by what stands for each variable.
@@ -73,19 +73,21 @@ pub fn traced_pass(alloc: Global, circuit: &Circuit, held: &[u32]) -> Result<Tra
     ensures { IfOk result (IsTraced held.now circuit.now) }
 {
     let marks = Held::new(alloc, held, circuit.aig().latches().len())?;
-    let standing = substitutes_of(alloc, circuit.aig(), &marks)?;
+    let mut spare = Substitution::none(alloc);
+    let standing = substitutes_of(alloc, circuit.aig(), &marks, spare.take(alloc))?;
     let substitutes = latch_literals(alloc, circuit.aig(), &marks, &standing)?;
     let merged = merged_by(alloc, circuit, &marks, &standing)?;
-    drop(standing);
     let reached = reach_everything(alloc, &merged.aig, &merged.props, held)?;
     let stays = stays_of(alloc, circuit.aig(), &reached)?;
-    let pass = trimmed(alloc, circuit, held, &merged, &reached)?;
+    let pass = trimmed(
+        alloc, circuit, held, &merged, &reached, standing, &mut spare,
+    )?;
     Ok(TracedPass {
         circuit: pass.circuit,
         kept_free: pass.kept_free,
         held: pass.held,
         substitutes,
         stays,
-        kept_gates: pass.kept_gates,
+        kept: pass.kept,
     })
 }

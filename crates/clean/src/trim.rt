@@ -24,12 +24,12 @@ pub(crate) struct Trim<'a> {
     ghost renumbers: { literals ≡ new_literals aig.now (is_marked reached.now) },
 }
 
-/// The new literals: numbers close up.
-fn new_literals(alloc: Global, aig: &Aig, reached: &Reached) -> Result<Substitution, NoMemory>
+/// The new literals: numbers close up. In the memory of a table that is needed no more.
+fn new_literals(aig: &Aig, reached: &Reached, spare: Substitution) -> Result<Substitution, NoMemory>
     ensures { IfOk result (λ literals. literals ≡ new_literals aig.now (is_marked reached.now)) }
 {
     let first = aig.first_latch();
-    let mut literals = Substitution::new(alloc, first, aig.latches_and_gates())?;
+    let mut literals = spare.renewed(first, aig.latches_and_gates())?;
     let mut next = first;
     for var in first..aig.variables() as u32 {
         literals.push(Lit::new(next, false))?;
@@ -47,21 +47,27 @@ fn one_if_free(latch: Latch) -> u32
 }
 
 impl<'a> Trim<'a> {
-    /// The graph without what isn't reached.
+    /// The graph without what isn't reached. The new literals take the memory of a table that is needed no more.
     pub(crate) fn new(
-        alloc: Global,
         aig: &'a Aig,
         reached: &'a Reached,
+        spare: Substitution,
     ) -> Result<Trim<'a>, NoMemory>
         ensures aig { IfOk result (λ trim. trim.aig.now ≡ aig.now) }
         ensures reached { IfOk result (λ trim. trim.reached.now ≡ reached.now) }
     {
-        let literals = new_literals(alloc, aig, reached)?;
+        let literals = new_literals(aig, reached, spare)?;
         Ok(Trim {
             aig,
             reached,
             literals,
         })
+    }
+
+    /// The table of new literals, which is needed no more.
+    pub(crate) fn into_table(self) -> Substitution {
+        let Trim { literals, .. } = self;
+        literals
     }
 
     /// Whether the latch at a place stays.
@@ -115,18 +121,6 @@ impl<'a> Trim<'a> {
             }
         }
         Ok(gates)
-    }
-
-    /// The places of the gates that stay.
-    pub(crate) fn kept_gates(&self, alloc: Global) -> Result<Vec<u32>, NoMemory> {
-        let first = self.aig.first_gate();
-        let mut kept = Vec::new(alloc);
-        for place in 0..self.aig.gates().len() as u32 {
-            if self.reached.has(first + place) {
-                kept.push(place)?;
-            }
-        }
-        Ok(kept)
     }
 
     /// The graph of what stays.

@@ -1,3 +1,4 @@
 pub mod PrintingLaws
 pub mod EndingLaws
 pub mod RefusalLaws
+pub mod NameFileLaws

@@ -1,5 +1,5 @@
 //! What the commands share: how one ends that has printed, what standard output may have been given by then, what is read of a file
-//! or of standard input, a circuit that is written, and the names of latches that are held.
+//! or of standard input, a circuit that is written, the latches that are held, the files of their names, and the options of a run.
 //!
 //! How a command ends that prints for other programs: an object of JSON on a line of what it found, or of why it failed.
 #![tactic(auto)]
@@ -7,7 +7,9 @@
 mod endings;
 mod failures;
 mod findings;
+mod name_files;
 mod names;
+mod options;
 mod writing;
 
 pub use endings::ended;
@@ -16,5 +18,7 @@ pub use findings::{
     print_audit, print_batch, print_difference, print_retiming, print_shapes_differ,
     print_statistics,
 };
-pub use names::{bytes_of_names, failure_of_holding, held_latches, missing_latch, missing_name};
+pub use name_files::{NameFile, hold_names, read_name_files};
+pub use names::{held_latches, missing_latch, missing_name};
+pub use options::run_options;
 pub use writing::write_circuit;

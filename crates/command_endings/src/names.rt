@@ -1,17 +1,17 @@
 //! The latches that a command holds in the circuit that it reads.
 ghost use Rattle.std.specs.Prelude.{ℕ, ◌≡◌, ◌<◌, All, List, Some, IfOk, length, map, slice_get};
 ghost use Rattle.std.specs.Borrow.{Bor};
-ghost use Rattle.aig_graph.specs.Keep.{held_of};
 ghost use Rattle.circuit_files.specs.declared.outcome.Failure.TheVariants as fails;
-ghost use Rattle.command_endings.specs.HeldNames.{IsFailureOfHolding, texts_of};
+ghost use Rattle.command_endings.specs.HeldNames.{IsFailureOfHolding, held_by};
 
 use aig_graph::{Circuit, HoldError, Keep, hold};
 use circuit_files::Failure;
+use command_line::RetimingOptions;
 use std::alloc::{AllocError, Global};
 use stream_paths::Source;
 
 /// The names, each as its bytes.
-pub fn bytes_of_names(alloc: Global, keep: &[&str]) -> Result<Vec<Vec<u8>>, AllocError>
+pub(crate) fn bytes_of_names(alloc: Global, keep: &[&str]) -> Result<Vec<Vec<u8>>, AllocError>
     ensures { IfOk result (λ names. map (λ name. name.items) names.items
         ≡ map (λ name. name.now) keep.now) }
 {
@@ -39,38 +39,38 @@ pub fn missing_latch<'a>(path: &'a str, positions: &[u32], number: usize) -> Fai
 }
 
 /// The failure that an error is, of the latches that are to be held in the circuit that is read.
-pub fn failure_of_holding<'a>(
+fn failure_of_holding<'a>(
     error: HoldError,
     input: Source<'a>,
-    keep: &[&'a str],
-    positions: &[u32],
+    options: &RetimingOptions<'a>,
 ) -> Failure<'a>
-    ensures { IsFailureOfHolding input.entry keep.now positions.now error result }
+    ensures { IsFailureOfHolding input.entry options.now error result }
 {
+    let (names, positions) = (options.keep.as_slice(), options.keep_latches.as_slice());
     match error {
         HoldError::NoMemory => Failure::Memory,
-        HoldError::NoSuchName(place) => missing_name(input.name(), keep, place),
+        HoldError::NoSuchName(place) => missing_name(input.name(), names, place),
         HoldError::NoSuchLatch(number) => missing_latch(input.name(), positions, number),
     }
 }
 
-/// The latches with these names and at these positions of the circuit that is read.
+/// The latches of the circuit that is read that the options hold.
 pub fn held_latches<'a>(
     alloc: Global,
     circuit: &Circuit,
     input: Source<'a>,
-    keep: &[&'a str],
-    positions: &[u32],
+    options: &RetimingOptions<'a>,
 ) -> Result<Keep, Failure<'a>>
-    ensures held { IfOk result (λ held. held
-        ≡ held_of (record { names = texts_of keep.now; positions = positions.now }) circuit.now) }
+    ensures held { IfOk result (λ held. held ≡ held_by options.now circuit.now) }
     ensures in_range { IfOk result (λ held. All (λ j. j < length circuit.now.aig.latches) held) }
 {
+    let keep = options.keep.as_slice();
+    let positions = options.keep_latches.as_slice();
     let Ok(names) = bytes_of_names(alloc, keep) else {
         return Err(Failure::Memory);
     };
     match hold(alloc, circuit, names.as_slice(), positions) {
         Ok(held) => Ok(held),
-        Err(error) => Err(failure_of_holding(error, input, keep, positions)),
+        Err(error) => Err(failure_of_holding(error, input, options)),
     }
 }

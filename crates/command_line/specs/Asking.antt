@@ -14,6 +14,7 @@ use Rattle.aig_graph.specs.declared.choice.Choice.{Choice}
 use Rattle.aig_graph.specs.declared.choice.Choice.TheVariants.{Greatest, Smallest}
 use Rattle.frames.specs.declared.bound.PathBound.{PathBound}
 use Rattle.frames.specs.declared.bound.PathBound.TheVariants as bounds
+use Rattle.command_line.specs.declared.options.RetimingOptions.{RetimingOptions}
 use Rattle.command_line.specs.declared.task.Shown.{Shown}
 use Rattle.command_line.specs.declared.task.Shown.TheVariants.{OnTerminal, EachFrame, Nothing}
 use Rattle.command_line.specs.declared.task.Retiming.{Retiming}
@@ -113,55 +114,56 @@ number_of text = if is_numeral (without_leading_plus text) then digits_value 10 
 abbrev pub values_of : ArgMatches → List ℕ → List (List ℕ)
 values_of matches id = unwrap_or (option_map raw_values (matched_of (found_of matches) id)) []
 
--- the paths, the options and the names of a retiming are the values of their own arguments
+-- what is read is what each value of the argument with this id stands for, in their order
+pub record AreSources (matches : ArgMatches) (id : List ℕ) (sources : List Source) : Type 0 where
+  pub paths : List (Bor (List ℕ))
+  pub given : map (λ path. path.now) paths ≡ values_of matches id
+  pub stand_for : sources ≡ map source_of paths
+
+-- the options of a retiming are the values of their own arguments; one that isn't given, or that a command doesn't have, is its default
+pub record AreOptions (matches : ArgMatches) (options : RetimingOptions) : Type 0 where
+  pub spelling : IsSpelling matches options.spelling
+  pub frames : IsNumber matches (codes "frames") (2 ^ 28) options.frames
+  pub choice : IsChoice matches options.choice
+  pub bound : IsBound matches options.bound
+  pub merge : IsFlag matches (codes "merge") options.merge
+  pub names : map (λ name. name.now) options.keep.items ≡ values_of matches (codes "keep")
+  pub name_files : AreSources matches (codes "keep-from") options.keep_from.items
+  pub places : options.keep_latches.items ≡ map number_of (values_of matches (codes "keep-latch"))
+
+-- the paths and the options of a retiming are the values of their own arguments
 pub record IsRetiming (matches : ArgMatches) (retiming : Retiming) : Type 0 where
   pub input : IsSource matches (codes "IN") retiming.input
   pub output : IsTarget matches (codes "OUT") retiming.output
-  pub spelling : IsSpelling matches retiming.spelling
+  pub options : AreOptions matches retiming.options
   pub workers : IsNumber matches (codes "workers") 1 retiming.workers
-  pub frames : IsNumber matches (codes "frames") (2 ^ 28) retiming.frames
-  pub choice : IsChoice matches retiming.choice
-  pub bound : IsBound matches retiming.bound
   pub certificates : IsSomeTarget matches (codes "cert") retiming.certificates
   pub mapping : IsSomeTarget matches (codes "map") retiming.map
   pub shown : IsShown matches retiming.shown
-  pub names : map (λ name. name.now) retiming.keep.items ≡ values_of matches (codes "keep")
-  pub places : retiming.keep_latches.items ≡ map number_of (values_of matches (codes "keep-latch"))
-  pub merge : IsFlag matches (codes "merge") retiming.merge
   pub json : IsFlag matches (codes "json") retiming.json
 
--- the paths, the options and the names of a move backward are the values of their own arguments
+-- the paths and the options of a move backward are the values of their own arguments
 pub record IsMoving (matches : ArgMatches) (moving : Moving) : Type 0 where
   pub input : IsSource matches (codes "IN") moving.input
   pub output : IsTarget matches (codes "OUT") moving.output
-  pub spelling : IsSpelling matches moving.spelling
-  pub frames : IsNumber matches (codes "frames") (2 ^ 28) moving.frames
-  pub bound : IsBound matches moving.bound
+  pub options : AreOptions matches moving.options
   pub mapping : IsSomeTarget matches (codes "map") moving.map
-  pub names : map (λ name. name.now) moving.keep.items ≡ values_of matches (codes "keep")
-  pub places : moving.keep_latches.items ≡ map number_of (values_of matches (codes "keep-latch"))
+  pub shown : IsShown matches moving.shown
   pub json : IsFlag matches (codes "json") moving.json
 
 -- the list and the options of a batch are the values of their own arguments
 pub record IsBatch (matches : ArgMatches) (batch : Batching) : Type 0 where
   pub list : IsSource matches (codes "LIST") batch.list
-  pub spelling : IsSpelling matches batch.spelling
+  pub options : AreOptions matches batch.options
   pub workers : IsNumber matches (codes "workers") 1 batch.workers
-  pub frames : IsNumber matches (codes "frames") (2 ^ 28) batch.frames
-  pub choice : IsChoice matches batch.choice
-  pub bound : IsBound matches batch.bound
-  pub merge : IsFlag matches (codes "merge") batch.merge
   pub json : IsFlag matches (codes "json") batch.json
 
--- the paths and the names of a verification are the values of their own arguments
+-- the paths and the options of a verification are the values of their own arguments
 pub record IsVerification (matches : ArgMatches) (verification : Verification) : Type 0 where
   pub input : IsSource matches (codes "IN") verification.input
   pub certificates : IsSource matches (codes "CERT") verification.certificates
   pub retimed : IsSomeSource matches (codes "out") verification.retimed
-  pub names : map (λ name. name.now) verification.keep.items ≡ values_of matches (codes "keep")
-  pub places : verification.keep_latches.items ≡ map number_of (values_of matches (codes "keep-latch"))
-  pub merge : IsFlag matches (codes "merge") verification.merge
-  pub bound : IsBound matches verification.bound
+  pub options : AreOptions matches verification.options
   pub json : IsFlag matches (codes "json") verification.json
 
 -- the numbers of random sequences are the values of their own arguments
@@ -190,17 +192,14 @@ pub record IsComparison (matches : ArgMatches) (comparison : Comparison) : Type 
   pub stimuli : AreStimuli matches comparison.stimuli
   pub json : IsFlag matches (codes "json") comparison.json
 
--- the paths, the options and the names of a drawing are the values of their own arguments
+-- the paths and the options of a drawing are the values of their own arguments
 pub record IsDrawing (matches : ArgMatches) (drawing : Drawing) : Type 0 where
   pub input : IsSource matches (codes "IN") drawing.input
   pub output : IsTarget matches (codes "OUT") drawing.output
   pub frame : IsFlag matches (codes "frame") drawing.frame
-  pub merge : IsFlag matches (codes "merge") drawing.merge
-  pub bound : IsBound matches drawing.bound
+  pub options : AreOptions matches drawing.options
   pub around : option_map (λ name. name.now) drawing.around ≡ first_value (found_of matches) (codes "around")
   pub depth : IsNumber matches (codes "depth") 2 drawing.depth
-  pub names : map (λ name. name.now) drawing.keep.items ≡ values_of matches (codes "keep")
-  pub places : drawing.keep_latches.items ≡ map number_of (values_of matches (codes "keep-latch"))
 
 -- the path and the flags of a count are the values of their own arguments
 pub record IsCounting (matches : ArgMatches) (counting : Counting) : Type 0 where

@@ -1,5 +1,5 @@
 -- How often a task uses each standard stream.
-use Rattle.std.specs.Prelude.{◌≤◌, ◌||◌, Bool, false, List, [], ◌∷◌, Option, Some, None}
+use Rattle.std.specs.Prelude.{◌≤◌, ◌||◌, ◌++◌, Bool, false, List, [], ◌∷◌, Option, Some, None}
 use Rattle.std.specs.List.{count_by}
 use Rattle.stream_paths.specs.Streams.{is_stdin, is_stdout}
 use Rattle.stream_paths.specs.declared.source.Source.{Source}
@@ -42,23 +42,35 @@ sources_of_asking asking = asking.input ∷ asking.retimed ∷ asking.map ∷ []
 abbrev pub sources_of_lifting : Lifting → List Source
 sources_of_lifting lifting = lifting.input ∷ lifting.retimed ∷ lifting.map ∷ lifting.witness ∷ []
 
+-- the files of names of the latches that a task holds
+abbrev pub name_files : Task → List Source
+name_files (Retime retiming) = retiming.options.keep_from.items
+name_files (Backward moving) = moving.options.keep_from.items
+name_files (Verify verification) = verification.options.keep_from.items
+name_files (Dot drawing) = drawing.options.keep_from.items
+name_files _ = []
+
+-- what a task reads beside them
+abbrev pub other_sources : Task → List Source
+other_sources (Retime retiming) = retiming.input ∷ []
+other_sources (Backward moving) = moving.input ∷ []
+other_sources (Batch batch) = batch.list ∷ []
+other_sources (Stat counting) = counting.input ∷ []
+other_sources (Convert input output spelling) = input ∷ []
+other_sources (Sim simulation) = sources_of_simulation simulation
+other_sources (Same comparison) = sources_of_comparison comparison
+other_sources (Verify verification) = sources_of_verification verification
+other_sources (Check checking) = checking.input ∷ checking.retimed ∷ checking.map ∷ []
+other_sources (Miter asking) = sources_of_asking asking
+other_sources (Product asking) = sources_of_asking asking
+other_sources (Lift lifting) = sources_of_lifting lifting
+other_sources (Dot drawing) = drawing.input ∷ []
+other_sources (Witness carrying) = carrying.input ∷ carrying.retimed ∷ carrying.witness ∷ []
+other_sources (Explain name) = []
+
 -- what a task reads
 abbrev pub sources_of : Task → List Source
-sources_of (Retime retiming) = retiming.input ∷ []
-sources_of (Backward moving) = moving.input ∷ []
-sources_of (Batch batch) = batch.list ∷ []
-sources_of (Stat counting) = counting.input ∷ []
-sources_of (Convert input output spelling) = input ∷ []
-sources_of (Sim simulation) = sources_of_simulation simulation
-sources_of (Same comparison) = sources_of_comparison comparison
-sources_of (Verify verification) = sources_of_verification verification
-sources_of (Check checking) = checking.input ∷ checking.retimed ∷ checking.map ∷ []
-sources_of (Miter asking) = sources_of_asking asking
-sources_of (Product asking) = sources_of_asking asking
-sources_of (Lift lifting) = sources_of_lifting lifting
-sources_of (Dot drawing) = drawing.input ∷ []
-sources_of (Witness carrying) = carrying.input ∷ carrying.retimed ∷ carrying.witness ∷ []
-sources_of (Explain name) = []
+sources_of task = name_files task ++ other_sources task
 
 -- a target more, where there is one
 abbrev pub with_target : Option Target → List Target → List Target

@@ -4,6 +4,7 @@ ghost use Rattle.clap.specs.Words.{first_value, found_of};
 ghost use Rattle.command_line.specs.Asking.{AreSequences, AreStimuli, Asks, IsChecking};
 ghost use Rattle.command_line.specs.StreamUses.{UsesStreamsOnce};
 
+use crate::options::options;
 use crate::refusing::command_error;
 use crate::stream_uses::stream_conflict;
 use crate::task::{
@@ -11,8 +12,7 @@ use crate::task::{
     Sequences, Simulation, Stimuli, Task, Verification,
 };
 use crate::values::{
-    bound, choice, depth, frames, json, keep, keep_latches, merge, number, shown, source,
-    source_if_given, spelling, target, workers,
+    depth, json, merge, number, shown, source, source_if_given, spelling, target, workers,
 };
 use clap::error::ErrorKind;
 use clap::{ArgMatches, Command, Error};
@@ -28,18 +28,12 @@ fn retiming<'a>(alloc: Global, matches: &ArgMatches<'a>) -> Result<Option<Task<'
     Ok(Some(Task::Retime(Retiming {
         input,
         output,
-        spelling: spelling(matches),
+        options: options(alloc, matches)?,
         workers: workers(matches),
-        frames: frames(matches),
-        choice: choice(matches),
-        bound: bound(matches),
         certificates: target(matches, "cert"),
-        merge: merge(matches),
         map: target(matches, "map"),
         json: json(matches),
         shown: shown(matches),
-        keep: keep(alloc, matches)?,
-        keep_latches: keep_latches(alloc, matches)?,
     })))
 }
 
@@ -52,13 +46,10 @@ fn moving<'a>(alloc: Global, matches: &ArgMatches<'a>) -> Result<Option<Task<'a>
     Ok(Some(Task::Backward(Moving {
         input,
         output,
-        spelling: spelling(matches),
-        frames: frames(matches),
-        bound: bound(matches),
+        options: options(alloc, matches)?,
         map: target(matches, "map"),
+        shown: shown(matches),
         json: json(matches),
-        keep: keep(alloc, matches)?,
-        keep_latches: keep_latches(alloc, matches)?,
     })))
 }
 
@@ -72,11 +63,8 @@ fn verification<'a>(alloc: Global, matches: &ArgMatches<'a>) -> Result<Option<Ta
         input,
         certificates,
         retimed: source_if_given(matches, "out"),
-        merge: merge(matches),
-        bound: bound(matches),
+        options: options(alloc, matches)?,
         json: json(matches),
-        keep: keep(alloc, matches)?,
-        keep_latches: keep_latches(alloc, matches)?,
     })))
 }
 
@@ -90,28 +78,24 @@ fn drawing<'a>(alloc: Global, matches: &ArgMatches<'a>) -> Result<Option<Task<'a
         input,
         output,
         frame: matches.get_flag("frame"),
-        merge: merge(matches),
-        bound: bound(matches),
+        options: options(alloc, matches)?,
         around: matches.get_str("around"),
         depth: depth(matches),
-        keep: keep(alloc, matches)?,
-        keep_latches: keep_latches(alloc, matches)?,
     })))
 }
 
-fn batch<'a>(matches: &ArgMatches<'a>) -> Option<Task<'a>>
-    ensures { IfSome result (Asks (codes "batch") matches.now) }
+fn batch<'a>(alloc: Global, matches: &ArgMatches<'a>) -> Result<Option<Task<'a>>, AllocError>
+    ensures { IfOk result (λ found. IfSome found (Asks (codes "batch") matches.now)) }
 {
-    Some(Task::Batch(Batch {
-        list: source(matches, "LIST")?,
-        spelling: spelling(matches),
+    let Some(list) = source(matches, "LIST") else {
+        return Ok(None);
+    };
+    Ok(Some(Task::Batch(Batch {
+        list,
+        options: options(alloc, matches)?,
         workers: workers(matches),
-        frames: frames(matches),
-        choice: choice(matches),
-        bound: bound(matches),
-        merge: merge(matches),
         json: json(matches),
-    }))
+    })))
 }
 
 fn statistics<'a>(matches: &ArgMatches<'a>) -> Option<Task<'a>>
@@ -292,12 +276,11 @@ fn explanation<'a>(matches: &ArgMatches<'a>) -> Option<Task<'a>>
     Some(Task::Explain(matches.get_str("FAULT")?))
 }
 
-/// What the matches of a subcommand ask for, where it holds no latches by their names.
-fn task_without_names<'a>(name: &str, matches: &ArgMatches<'a>) -> Option<Task<'a>>
+/// What the matches of a subcommand ask for, where it moves no latches.
+fn task_without_options<'a>(name: &str, matches: &ArgMatches<'a>) -> Option<Task<'a>>
     ensures { IfSome result (Asks name.now matches.now) }
 {
     match name {
-        "batch" => batch(matches),
         "stat" => statistics(matches),
         "convert" => conversion(matches),
         "sim" => simulation(matches),
@@ -324,8 +307,9 @@ fn task<'a>(
         "retime" => retiming(alloc, matches),
         "backward" => moving(alloc, matches),
         "verify" => verification(alloc, matches),
+        "batch" => batch(alloc, matches),
         "dot" => drawing(alloc, matches),
-        _ => Ok(task_without_names(name, matches)),
+        _ => Ok(task_without_options(name, matches)),
     }
 }
 

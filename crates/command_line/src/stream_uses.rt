@@ -2,7 +2,7 @@
 ghost use Rattle.std.specs.Prelude.{◌≡◌, ◌≤◌, IfNone};
 ghost use Rattle.std.specs.List.{count_by};
 ghost use Rattle.stream_paths.specs.Streams.{is_stdin, is_stdout};
-ghost use Rattle.command_line.specs.StreamUses.{UsesStreamsOnce, asking_targets, moving_targets, retiming_targets, simulation_targets, sources_of, sources_of_comparison, sources_of_lifting, sources_of_simulation, sources_of_verification, targets_of};
+ghost use Rattle.command_line.specs.StreamUses.{UsesStreamsOnce, asking_targets, moving_targets, other_sources, retiming_targets, simulation_targets, sources_of, sources_of_comparison, sources_of_lifting, sources_of_simulation, sources_of_verification, targets_of};
 ghost use Rattle.command_line.specs.StreamUses as wanted;
 
 use crate::task::{
@@ -63,9 +63,9 @@ fn stdin_uses_of_lifting(lifting: &Lifting<'_>) -> usize
     stdin_count(&[lifting.input, lifting.retimed, lifting.map, lifting.witness])
 }
 
-/// How many of the things that a task reads are standard input.
-fn stdin_uses(task: &Task<'_>) -> usize
-    ensures { result ≡ count_by is_stdin (sources_of task.now) }
+/// How many of the things that a task reads beside files of names are standard input.
+fn other_stdin_uses(task: &Task<'_>) -> usize
+    ensures { result ≡ count_by is_stdin (other_sources task.now) }
 {
     match task {
         Task::Retime(retiming) => stdin_count(&[retiming.input]),
@@ -86,6 +86,13 @@ fn stdin_uses(task: &Task<'_>) -> usize
         Task::Dot(drawing) => stdin_count(&[drawing.input]),
         Task::Explain(_) => 0,
     }
+}
+
+/// How many of the things that a task reads are standard input.
+fn stdin_uses(task: &Task<'_>) -> usize
+    ensures { result ≡ count_by is_stdin (sources_of task.now) }
+{
+    stdin_count(task.name_files()) + other_stdin_uses(task)
 }
 
 /// How many of the circuit, the map and the certificates go to standard output.
@@ -193,6 +200,21 @@ fn writes_stdout(target: Option<Target<'_>>) -> bool
     match target {
         Some(target) => target.is_stdout(),
         None => false,
+    }
+}
+
+impl<'a> Task<'a> {
+    /// The files of names of the latches that are held.
+    pub fn name_files(&self) -> &[Source<'a>]
+        ensures { result.now ≡ wanted.name_files self.now }
+    {
+        match self {
+            Task::Retime(retiming) => retiming.options.keep_from.as_slice(),
+            Task::Backward(moving) => moving.options.keep_from.as_slice(),
+            Task::Verify(verification) => verification.options.keep_from.as_slice(),
+            Task::Dot(drawing) => drawing.options.keep_from.as_slice(),
+            _ => &[],
+        }
     }
 }
 

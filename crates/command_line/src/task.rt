@@ -1,11 +1,10 @@
 //! What a command line asks for, without how that was written: the words of options and their defaults are known in this crate
-//! alone. Paths and names are slices of the arguments, so a task takes memory for a list of names only.
+//! alone. Paths and names are slices of the arguments, so a task takes memory for lists of names and of their files only.
 ghost use Rattle.std.specs.Prelude.{◌≡◌};
 ghost use Rattle.command_line.specs.Asking.{command_of};
 
-use aig_graph::Choice;
+use crate::options::RetimingOptions;
 use file_words::Spelling;
-use frames::PathBound;
 use stream_paths::{Source, Target};
 
 /// What is shown of a run on standard error while it goes on.
@@ -26,28 +25,16 @@ pub struct Retiming<'a> {
     pub input: Source<'a>,
     /// What is written.
     pub output: Target<'a>,
-    /// The spelling of the written file; `None` is that of the read one.
-    pub spelling: Option<Spelling>,
+    /// How latches are moved.
+    pub options: RetimingOptions<'a>,
     /// The number of workers of the flow, from 1 to 64.
     pub workers: u32,
-    /// The most frames that are taken.
-    pub frames: u32,
-    /// Which of the least sets a frame takes.
-    pub choice: Choice,
-    /// How long moves may make paths.
-    pub bound: PathBound,
     /// What the certificates are written to; `None` asks for none.
     pub certificates: Option<Target<'a>>,
     /// What the map of states is written to; `None` asks for none.
     pub map: Option<Target<'a>>,
     /// What is shown of the run.
     pub shown: Shown,
-    /// The names of the latches that are held in their places.
-    pub keep: Vec<&'a str>,
-    /// The positions of the latches that are held in their places.
-    pub keep_latches: Vec<u32>,
-    /// Whether latches that always agree are merged before the first frame.
-    pub merge: bool,
     /// Whether an object of JSON is printed in place of the lines.
     pub json: bool,
 }
@@ -59,18 +46,12 @@ pub struct Moving<'a> {
     pub input: Source<'a>,
     /// What is written.
     pub output: Target<'a>,
-    /// The format of the written files; `None` is that of the read one.
-    pub spelling: Option<Spelling>,
-    /// The most frames that are taken.
-    pub frames: u32,
-    /// How long moves may make paths.
-    pub bound: PathBound,
+    /// How latches are moved. None are merged, and the choice of least sets says nothing.
+    pub options: RetimingOptions<'a>,
     /// What the map of states is written to; `None` asks for none.
     pub map: Option<Target<'a>>,
-    /// The names of the latches that are held in their places.
-    pub keep: Vec<&'a str>,
-    /// The positions of the latches that are held in their places.
-    pub keep_latches: Vec<u32>,
+    /// What is shown of the run.
+    pub shown: Shown,
     /// Whether an object of JSON is printed in place of the lines.
     pub json: bool,
 }
@@ -84,14 +65,8 @@ pub struct Verification<'a> {
     pub certificates: Source<'a>,
     /// The circuit that the retiming is to end in; `None` doesn't ask for it.
     pub retimed: Option<Source<'a>>,
-    /// The names of the latches that were held in their places.
-    pub keep: Vec<&'a str>,
-    /// The positions of the latches that were held in their places.
-    pub keep_latches: Vec<u32>,
-    /// Whether latches that always agree were merged before the first frame.
-    pub merge: bool,
-    /// How long moves might make paths.
-    pub bound: PathBound,
+    /// How latches were moved.
+    pub options: RetimingOptions<'a>,
     /// Whether an object of JSON is printed in place of the lines.
     pub json: bool,
 }
@@ -147,18 +122,10 @@ pub struct Comparison<'a> {
 pub struct Batch<'a> {
     /// The list of files.
     pub list: Source<'a>,
-    /// The spelling of the written files; `None` is that of the read one, for each.
-    pub spelling: Option<Spelling>,
+    /// How the latches of each circuit are moved.
+    pub options: RetimingOptions<'a>,
     /// The number of workers, from 1 to 64, each of which takes a file at a time.
     pub workers: u32,
-    /// The most frames that are taken of a circuit.
-    pub frames: u32,
-    /// Which of the least sets a frame takes.
-    pub choice: Choice,
-    /// How long moves may make paths.
-    pub bound: PathBound,
-    /// Whether latches that always agree are merged before the first frame of a circuit.
-    pub merge: bool,
     /// Whether an object of JSON is printed in place of the lines.
     pub json: bool,
 }
@@ -172,14 +139,8 @@ pub struct Drawing<'a> {
     pub output: Target<'a>,
     /// Whether the set over which latches move next is shown.
     pub frame: bool,
-    /// Whether latches that always agree are merged, where that set is shown.
-    pub merge: bool,
-    /// How long moves may make paths, where that set is shown.
-    pub bound: PathBound,
-    /// The names of the latches that are held in their places.
-    pub keep: Vec<&'a str>,
-    /// The positions of the latches that are held in their places.
-    pub keep_latches: Vec<u32>,
+    /// Which latches are held, and how the others move where that set is shown.
+    pub options: RetimingOptions<'a>,
     /// The name of what the picture shows the neighbourhood of; `None` asks for the whole circuit.
     pub around: Option<&'a str>,
     /// How many edges the neighbourhood reaches, from 1 to 100.

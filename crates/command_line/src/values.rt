@@ -1,7 +1,8 @@
 //! The values of arguments, of which each has a function whose clause says which argument it comes from. That the command-line library
 //! matched the words as it should is only tested.
 ghost use Rattle.std.specs.Prelude.{◌≡◌, ◌^◌, IfOk, IfSome, codes, map};
-ghost use Rattle.command_line.specs.Asking.{IsBound, IsChoice, IsFlag, IsNumber, IsShown, IsSomeSource, IsSomeTarget, IsSource, IsSpelling, number_of, values_of};
+ghost use Rattle.stream_paths.specs.Streams.{source_of};
+ghost use Rattle.command_line.specs.Asking.{AreSources, IsBound, IsChoice, IsFlag, IsNumber, IsShown, IsSomeSource, IsSomeTarget, IsSource, IsSpelling, number_of, values_of};
 
 use crate::task::Shown;
 use aig_graph::Choice;
@@ -23,6 +24,28 @@ pub(crate) fn source_if_given<'a>(matches: &ArgMatches<'a>, id: &str) -> Option<
     ensures { IsSomeSource matches.now id.now result }
 {
     Some(Source::of(matches.get_str(id)?))
+}
+
+/// What paths that are read stand for.
+fn sources_of<'a>(alloc: Global, paths: &[&'a str]) -> Result<Vec<Source<'a>>, AllocError>
+    ensures { IfOk result (λ sources. sources.items ≡ map source_of paths.now) }
+{
+    let mut sources = Vec::new(alloc);
+    for path in paths {
+        sources.push(Source::of(*path))?;
+    }
+    Ok(sources)
+}
+
+/// What each value of the argument with this id, a path that is read, stands for.
+pub(crate) fn sources<'a>(
+    alloc: Global,
+    matches: &ArgMatches<'a>,
+    id: &str,
+) -> Result<Vec<Source<'a>>, AllocError>
+    ensures { IfOk result (λ sources. AreSources matches.now id.now sources.items) }
+{
+    sources_of(alloc, matches.get_strs(id).unwrap_or(&[]))
 }
 
 /// What the argument with this id, a path that is written, stands for.

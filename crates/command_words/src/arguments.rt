@@ -104,6 +104,15 @@ const SEED: Argument = Argument(
     "What random digits follow from, else 0",
 );
 
+const PROGRESS: Argument = Argument(
+    "progress",
+    Flag,
+    Apart("quiet"),
+    "Write a line to standard error as each frame begins",
+);
+
+const QUIET: Argument = Argument("quiet", Flag, Free, "Show no progress on a terminal either");
+
 pub(crate) const RETIME: &[Argument] = &[
     READ_CIRCUIT,
     WRITTEN_CIRCUIT,
@@ -132,13 +141,8 @@ pub(crate) const RETIME: &[Argument] = &[
         Free,
         "Write how OUT's latches follow from IN's to MAP",
     ),
-    Argument(
-        "progress",
-        Flag,
-        Apart("quiet"),
-        "Write a line to standard error as each frame begins",
-    ),
-    Argument("quiet", Flag, Free, "Show no progress on a terminal either"),
+    PROGRESS,
+    QUIET,
     KEEP,
     KEEP_FROM,
     KEEP_LATCH,
@@ -159,6 +163,8 @@ pub(crate) const BACKWARD: &[Argument] = &[
         Free,
         "Write how IN's latches follow from OUT's to MAP",
     ),
+    PROGRESS,
+    QUIET,
     KEEP,
     KEEP_FROM,
     KEEP_LATCH,

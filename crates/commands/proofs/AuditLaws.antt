@@ -39,7 +39,7 @@ plain_replay bound most merge held c blocks r settled unasked is =
 
 -- what is judged of a replay is judged of the task
 pub judged-result : (task : Verification) (c : Netlist) (blocks : List Certificate) (bytes : Option (List ℕ)) (replay : Replay) (bound : Option ℕ) (judgement : Judgement)
-    → bound ≡ bound_for task.bound c → IsReplayOf task c blocks replay → IsJudgement bound bytes replay judgement → IsJudgedBy task c blocks bytes judgement
+    → bound ≡ bound_for task.options.bound c → IsReplayOf task c blocks replay → IsJudgement bound bytes replay judgement → IsJudgedBy task c blocks bytes judgement
 judged-result task c blocks bytes replay bound judgement is replays judges =
     record { replay = replay; replays = replays; judges = subst (λ (b : Option ℕ). IsJudgement b bytes replay judgement) is judges }
 

@@ -31,8 +31,8 @@ object_of_frames task r held levels left took times mapped old new result is sam
 
 -- what is left, by the number of frames
 pub remaining_is : (task : Retiming) (bound : Option ℕ) (r : Retimed) (held : List ℕ) (frames : ℕ) → frames ≡ length r.frames
-    → remaining r.circuit held bound (nat_lt frames task.frames) ≡ remaining_of task bound r held
-remaining_is task bound r held frames many = ap (λ (n : ℕ). remaining r.circuit held bound (nat_lt n task.frames)) many
+    → remaining r.circuit held bound (nat_lt frames task.options.frames) ≡ remaining_of task bound r held
+remaining_is task bound r held frames many = ap (λ (n : ℕ). remaining r.circuit held bound (nat_lt n task.options.frames)) many
 
 -- what is printed alike ends alike
 pub frames_alike : (json : Bool) (task : Retiming) (r s : Retimed) (held : List ℕ) (levels : ReadLevels) (times : Option Times) (mapped : Option MapCounts) (old new : Output) (result : Result Outcome Failure)

@@ -3,7 +3,6 @@ use Rattle.std.specs.Prelude.{ℕ, ◌≡◌, ◌<◌, ◌≤◌, ◌+◌, Bool,
 use Rattle.std.specs.Borrow.{Bor}
 use Rattle.aig_graph.specs.Graph.{variables_end}
 use Rattle.aig_graph.specs.Circuits.{Netlist}
-use Rattle.aig_graph.specs.Keep.{Holding, held_of}
 use Rattle.aig_binary.specs.declared.reading.SpeltCircuit.{SpeltCircuit}
 use Rattle.counted_io.specs.Input.{Input}
 use Rattle.counted_io.specs.Output.{Output}
@@ -13,10 +12,8 @@ use Rattle.circuit_files.specs.declared.outcome.Failure.{Failure}
 use Rattle.circuit_files.specs.declared.outcome.Failure.TheVariants as fails
 use Rattle.circuit_files.specs.declared.outcome.Outcome.{Outcome}
 use Rattle.circuit_files.specs.declared.outcome.Outcome.TheVariants.{Done}
-use Rattle.aig_graph.specs.declared.choice.Choice.TheVariants.{Greatest}
 use Rattle.retimed_circuits.specs.declared.report.Retimed.{Retimed}
 use Rattle.frames.specs.Bounds.{bound_in}
-use Rattle.frames.specs.Named.{holding_in}
 use Rattle.frames.specs.Retiming.{IsNextSet, IsRetimedHeld}
 use Rattle.frames.specs.declared.follower.NoFollower.{NoFollower}
 use Rattle.frames.specs.declared.options.Options.{Options}
@@ -25,16 +22,10 @@ use Rattle.pictures.specs.Looks.{everything}
 use Rattle.pictures.specs.Near.{has_node, is_centre, is_near}
 use Rattle.pictures.specs.Pictures.{picture}
 use Rattle.command_line.specs.declared.task.Drawing.{Drawing}
-use Rattle.command_endings.specs.HeldNames.{OfSource, texts_of}
+use Rattle.command_endings.specs.HeldNames.{OfSource, held_by}
+use Rattle.command_endings.specs.RunOptions.{AreOptionsOf}
 use Rattle.command_endings.specs.Sources.{IsCircuitAt}
 use Rattle.commands.specs.declared.scene.Scene.{Scene}
-
--- which latches the task asks to be held, and their positions in a circuit
-abbrev pub holding_for : Drawing → Holding
-holding_for task = record { names = texts_of task.keep.items; positions = task.keep_latches.items }
-
-abbrev pub held_for : Drawing → Netlist → List ℕ
-held_for task c = held_of (holding_for task) c
 
 -- the neighbourhood of what the name names, or all variables
 abbrev pub shown : Netlist → Drawing → ℕ → Bool
@@ -58,15 +49,6 @@ abbrev pub IsRefusal : Option (Bor (List ℕ)) → Netlist → Source → Failur
 IsRefusal (Some name) c input failure = (has_node c name.now ≡ false) × OfSource input (λ path. failure ≡ fails.NoSuchName path name)
 IsRefusal None c input failure = (2000 < nodes c) × OfSource input (λ path. failure ≡ fails.TooManyNodes path)
 
--- the options of a retiming that takes no frame, where the task holds latches
-pub record AreOptionsFor (task : Drawing) (options : Options) : Type 0 where
-  pub frames : options.max_frames ≡ 0
-  pub choice : options.choice ≡ Greatest
-  pub certify : options.certify ≡ false
-  pub merge : options.merge ≡ task.merge
-  pub bound : options.bound ≡ task.bound
-  pub holding : holding_in options ≡ holding_for task
-
 -- the run of c by the options, which has taken all its frames, under the bound for c
 pub record IsRunBy (options : Options) (c : Netlist) (run : Run NoFollower) : Type 0 where
   pub is : IsRetimedHeld options c run.retimed run.keep
@@ -82,7 +64,7 @@ pub record IsShownOf (options : Options) (run : Run NoFollower) (scene : Scene) 
 -- latches, under the bound that the task names, where one makes fewer
 pub record IsNextShown (task : Drawing) (c : Netlist) (scene : Scene) : Type 0 where
   pub options : Options
-  pub are : AreOptionsFor task options
+  pub are : AreOptionsOf task.options 0 false options
   pub run : Run NoFollower
   pub is : IsRunBy options c run
   pub shown : IsShownOf options run scene
@@ -90,7 +72,7 @@ pub record IsNextShown (task : Drawing) (c : Netlist) (scene : Scene) : Type 0 w
 -- what is shown of c: itself with the latches that the task holds, or where the next frame is asked for what that frame begins with
 abbrev pub IsShownFor : Bool → Drawing → Netlist → Scene → Type 0
 IsShownFor true task c scene = IsNextShown task c scene
-IsShownFor false task c scene = (scene.circuit ≡ c) × (scene.keep ≡ held_for task c) × (scene.set ≡ None)
+IsShownFor false task c scene = (scene.circuit ≡ c) × (scene.keep ≡ held_by task.options c) × (scene.set ≡ None)
 
 -- a scene of what the task shows of the circuit that is read, which can be drawn
 pub record IsSceneOf (task : Drawing) (before after : Input) (scene : Scene) : Type 0 where

@@ -26,7 +26,7 @@ use Rattle.json_reports.specs.declared.counts.ReadLevels.{ReadLevels}
 use Rattle.circuit_files.specs.WrittenFiles.{IsTargetGiven}
 use Rattle.circuit_files.specs.declared.outcome.Outcome.{Outcome}
 use Rattle.circuit_files.specs.declared.outcome.Failure.{Failure}
-use Rattle.commands.specs.RetimingTasks.{AreOptionsOf, EndsPrintingFrames, PrintsAlike, SaysFrames, counts_of, levels_reported}
+use Rattle.commands.specs.RetimingTasks.{AreOptionsFor, EndsPrintingFrames, PrintsAlike, SaysFrames, counts_of, levels_reported}
 use Rattle.commands.specs.declared.answer.Answer.{Answer}
 
 -- a retiming from standard input to standard output, which gets the circuit alone
@@ -63,7 +63,7 @@ pub record IsAnswerAt (FileGiven : List ℕ → List ℕ → Type 0) (task : Ret
 -- so was the answer, by the options of the task, of what it reads: of standard input, of the bytes that were left
 pub record WritesAnswer (FileGiven : List ℕ → List ℕ → Type 0) (task : Retiming) (input : Input) (old new : Output) (answer : Answer) : Type 0 where
   pub options : Options
-  pub are_options : AreOptionsOf task options
+  pub are_options : AreOptionsFor task options
   pub spelt : SpeltCircuit
   pub read : is_stdin task.input ≡ true → Spells input spelt
   pub at : IsAnswerAt FileGiven task options spelt old new answer
@@ -76,7 +76,7 @@ WritesMap FileGiven None made old new = new ≡ old
 
 -- the text of a retiming's certificates
 abbrev pub blocks_text : Retiming → Retimed → List ℕ
-blocks_text task r = certificates_text (record { choice = task.choice; blocks = r.certificates })
+blocks_text task r = certificates_text (record { choice = task.options.choice; blocks = r.certificates })
 
 -- so were the certificates
 abbrev pub WritesCertificates : (List ℕ → List ℕ → Type 0) → Option Target → List ℕ → Output → Output → Type 0
@@ -120,7 +120,7 @@ pub record PrintsRetiming (FileGiven : List ℕ → List ℕ → Type 0) (task :
 -- the circuit of the bytes
 pub record AnswersPipe (task : Retiming) (input : Input) (old new : Output) (retimed : Retimed) (levels : ReadLevels) : Type 0 where
   pub options : Options
-  pub are_options : AreOptionsOf task options
+  pub are_options : AreOptionsFor task options
   pub answered : IsAnswered input old new options retimed
   pub levels_are : levels ≡ levels_reported task answered.spelt.circuit
 

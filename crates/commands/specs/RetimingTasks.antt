@@ -5,6 +5,7 @@ use Rattle.aig_graph.specs.Circuits.{Netlist}
 use Rattle.stream_paths.specs.Streams.{target_name}
 use Rattle.stream_paths.specs.declared.source.Source.{Source}
 use Rattle.stream_paths.specs.declared.target.Target.{Target}
+use Rattle.command_line.specs.declared.options.RetimingOptions.{RetimingOptions}
 use Rattle.command_line.specs.declared.task.Retiming.{Retiming}
 use Rattle.mapped_answers.specs.declared.errors.AnswerError.{AnswerError}
 use Rattle.mapped_answers.specs.declared.errors.AnswerError.TheVariants.{Bytes, MapTooLarge}
@@ -28,34 +29,26 @@ use Rattle.circuit_files.specs.declared.outcome.Outcome.TheVariants.{Device, Don
 use Rattle.circuit_files.specs.declared.outcome.Failure.{Failure}
 use Rattle.circuit_files.specs.declared.outcome.Failure.TheVariants as fails
 use Rattle.command_endings.specs.Objects.{EndsPrintingObject}
-use Rattle.command_endings.specs.HeldNames.{OfSource, texts_of}
+use Rattle.command_endings.specs.HeldNames.{OfSource}
+use Rattle.command_endings.specs.RunOptions.{AreOptionsOf}
 use Rattle.command_endings.specs.Printing.{EndsPrinting}
 use Rattle.frames.specs.Bounds.{bound_for}
-use Rattle.frames.specs.Named.{names_in}
 use Rattle.frames.specs.declared.options.Options.{Options}
 
--- the options are the task's
-pub record AreOptionsOf (task : Retiming) (options : Options) : Type 0 where
-  pub spelling : options.spelling ≡ task.spelling
-  pub frames : options.max_frames ≡ task.frames
-  pub choice : options.choice ≡ task.choice
-  pub certify : options.certify ≡ is_some task.certificates
-  pub merge : options.merge ≡ task.merge
-  pub bound : options.bound ≡ task.bound
-  pub names : names_in options ≡ texts_of task.keep.items
-  pub positions : options.keep_latches.items ≡ task.keep_latches.items
+-- the options of a run are the task's, which makes certificates where they are asked for
+abbrev pub AreOptionsFor : Retiming → Options → Type 0
+AreOptionsFor task options = AreOptionsOf task.options task.options.frames (is_some task.certificates) options
 
--- the failure that an error of a run is, of a circuit in which latches with these names and at these positions are to be held: one of them is
--- that of no latch, or no memory
-abbrev pub IsFailureOfRun : Source → List (Bor (List ℕ)) → List ℕ → RetimeError → Failure → Type 0
-IsFailureOfRun source names positions NoMemory failure = failure ≡ fails.Memory
-IsFailureOfRun source names positions (NoSuchName number) failure = (name : Bor (List ℕ)) → slice_get names number ≡ Some name → OfSource source (λ path. failure ≡ fails.NoSuchName path name)
-IsFailureOfRun source names positions (NoSuchLatch number) failure = (position : ℕ) → slice_get positions number ≡ Some position → OfSource source (λ path. failure ≡ fails.NoSuchLatch path position)
+-- the failure that an error of a run is, of a circuit in which the options hold latches: one of them is that of no latch, or no memory
+abbrev pub IsFailureOfRun : Source → RetimingOptions → RetimeError → Failure → Type 0
+IsFailureOfRun source options NoMemory failure = failure ≡ fails.Memory
+IsFailureOfRun source options (NoSuchName number) failure = (name : Bor (List ℕ)) → slice_get options.keep.items number ≡ Some name → OfSource source (λ path. failure ≡ fails.NoSuchName path name)
+IsFailureOfRun source options (NoSuchLatch number) failure = (position : ℕ) → slice_get options.keep_latches.items number ≡ Some position → OfSource source (λ path. failure ≡ fails.NoSuchLatch path position)
 
 -- the failure that an error is: of what is read, of the run, or of what is written
 abbrev pub IsFailureOf : Retiming → BytesError → Failure → Type 0
 IsFailureOf task (Read error) failure = OfSource task.input (λ path. failure ≡ failure_of_reading error path)
-IsFailureOf task (Retime error) failure = IsFailureOfRun task.input task.keep.items task.keep_latches.items error failure
+IsFailureOf task (Retime error) failure = IsFailureOfRun task.input task.options error failure
 IsFailureOf task (Write error) failure = (name : Bor (List ℕ)) × (name.now ≡ target_name task.output) × (failure ≡ fails.Device name)
 
 -- the same of a run with a map, which may be refused
@@ -71,11 +64,11 @@ HasFailed (Some target) failure = (outcome_of failure ≡ Device) × IsAbout (ta
 -- what the task's retiming leaves under a bound, or without one: the circuit, where its held latches stay, which stand at these positions;
 -- fewer frames than the limit end where no set leaves fewer
 abbrev pub remaining_of : Retiming → Option ℕ → Retimed → List ℕ → Remaining
-remaining_of task bound r held = remaining r.circuit held bound (nat_lt (length r.frames) task.frames)
+remaining_of task bound r held = remaining r.circuit held bound (nat_lt (length r.frames) task.options.frames)
 
 -- the levels of the circuit that is read, which an object tells, and the bound that its run has
 abbrev pub levels_reported : Retiming → Netlist → ReadLevels
-levels_reported task c = record { counted = if task.json then Some (levels c) else None; bound = bound_for task.bound c }
+levels_reported task c = record { counted = if task.json then Some (levels c) else None; bound = bound_for task.options.bound c }
 
 -- how many gates and constraints a map has
 abbrev pub counts_of : Netlist → MapCounts

@@ -1,7 +1,6 @@
 -- What is printed of an audit, and of a file that is compared with what its blocks end in, and how the run ends by it.
 use Rattle.std.specs.Prelude.{ℕ, ◌≡◌, Bool, true, false, List, Option, Some, None, Result}
 use Rattle.aig_graph.specs.Circuits.{Netlist}
-use Rattle.aig_graph.specs.Keep.{held_of}
 use Rattle.aig_binary.specs.declared.reading.SpeltCircuit.{SpeltCircuit}
 use Rattle.counted_io.specs.Input.{Input}
 use Rattle.counted_io.specs.Output.{Output, WritesAll}
@@ -21,7 +20,7 @@ use Rattle.circuit_files.specs.Codes.{status_of}
 use Rattle.circuit_files.specs.declared.outcome.Failure.{Failure}
 use Rattle.circuit_files.specs.declared.outcome.Outcome.{Outcome}
 use Rattle.circuit_files.specs.declared.outcome.Outcome.TheVariants.{Done, Unconfirmed}
-use Rattle.command_endings.specs.HeldNames.{texts_of}
+use Rattle.command_endings.specs.HeldNames.{held_by}
 use Rattle.command_endings.specs.Objects.{EndsPrintingObject}
 use Rattle.command_endings.specs.Sources.{AreCertificatesAt, IsCircuitAt}
 use Rattle.commands.specs.Replaying.{AreRetimedAt, IsJudgement, IsReplayFor}
@@ -43,10 +42,6 @@ outcome_by (Some (DiffersAt offset)) end = Unconfirmed
 abbrev pub outcome_of_judgement : Judgement → Outcome
 outcome_of_judgement judgement = outcome_by judgement.agreement judgement.audit.end
 
--- the positions of the latches that the task holds
-abbrev pub held_for : Verification → Netlist → List ℕ
-held_for task c = held_of (record { names = texts_of task.keep.items; positions = task.keep_latches.items }) c
-
 -- the object of a judgement after which the run ends so
 abbrev pub EndsWithObject : List Certificate → Judgement → Outcome → Output → Output → Result Outcome Failure → Type 0
 EndsWithObject blocks judgement outcome old new result =
@@ -64,14 +59,14 @@ pub record EndsWithAudit (json : Bool) (blocks : List Certificate) (judgement : 
 
 -- what the blocks end in for c, where the latches are held that the task names
 abbrev pub IsReplayOf : Verification → Netlist → List Certificate → Replay → Type 0
-IsReplayOf task c blocks replay = IsReplayFor task.bound task.merge (held_for task c) c blocks replay
+IsReplayOf task c blocks replay = IsReplayFor task.options.bound task.options.merge (held_by task.options c) c blocks replay
 
 -- the audit of the blocks for this circuit, with the latches held that the task names, and what comes of comparing these bytes with
 -- what they end in
 pub record IsJudgedBy (task : Verification) (c : Netlist) (blocks : List Certificate) (bytes : Option (List ℕ)) (judgement : Judgement) : Type 0 where
   pub replay : Replay
   pub replays : IsReplayOf task c blocks replay
-  pub judges : IsJudgement (bound_for task.bound c) bytes replay judgement
+  pub judges : IsJudgement (bound_for task.options.bound c) bytes replay judgement
 
 -- that is printed as the task asks, and the run ends by it
 pub record PrintsAudit (task : Verification) (c : Netlist) (blocks : List Certificate) (bytes : Option (List ℕ)) (ended : Outcome) (old new : Output) : Type 0 where

@@ -11,13 +11,13 @@ ghost use Rattle.circuit_files.specs.WrittenFiles.{IsFileGiven, IsTargetGiven};
 ghost use Rattle.command_line.specs.StreamUses.{writes_stdout};
 ghost use Rattle.command_endings.specs.Printing.{Prints};
 ghost use Rattle.commands.specs.Pipes.{IsAnswerTo, WritesMap};
-ghost use Rattle.commands.specs.RetimingTasks.{AreOptionsOf, HasFailed, IsFailureOf, IsFailureOfRun, IsMapFailureOf, counts_of, levels_reported};
+ghost use Rattle.commands.specs.RetimingTasks.{AreOptionsFor, HasFailed, IsFailureOf, IsFailureOfRun, IsMapFailureOf, counts_of, levels_reported};
 
 use aig_binary::{Spelling, SpeltCircuit};
 use aig_graph::{Circuit, Keep, NoMemory};
 use circuit_files::{Failure, file_at};
 use command_endings::{missing_latch, missing_name};
-use command_line::Retiming;
+use command_line::{Retiming, RetimingOptions};
 use counted_io::{CountedWrite, WriteError};
 use file_words::ReadError;
 use frames::{BytesError, FrameWatcher, NoFollower, Options, RetimeError, Retimed, Run, run_spelt};
@@ -54,14 +54,14 @@ fn crew(task: &Retiming<'_>) -> Crew<OpenGate>
 pub(crate) fn failure_of_run<'a>(
     error: RetimeError,
     input: Source<'a>,
-    keep: &[&'a str],
-    positions: &[u32],
+    options: &RetimingOptions<'a>,
 ) -> Failure<'a>
-    ensures { IsFailureOfRun input.entry keep.now positions.now error result }
+    ensures { IsFailureOfRun input.entry options.now error result }
 {
+    let (names, positions) = (options.keep.as_slice(), options.keep_latches.as_slice());
     match error {
         RetimeError::NoMemory => Failure::Memory,
-        RetimeError::NoSuchName(place) => missing_name(input.name(), keep, place),
+        RetimeError::NoSuchName(place) => missing_name(input.name(), names, place),
         RetimeError::NoSuchLatch(number) => missing_latch(input.name(), positions, number),
     }
 }
@@ -72,10 +72,7 @@ fn failure_of<'a>(error: BytesError, task: &Retiming<'a>) -> Failure<'a>
 {
     match error {
         BytesError::Read(error) => Failure::of_reading(error, task.input.name()),
-        BytesError::Retime(error) => {
-            let positions = task.keep_latches.as_slice();
-            failure_of_run(error, task.input, task.keep.as_slice(), positions)
-        }
+        BytesError::Retime(error) => failure_of_run(error, task.input, &task.options),
         BytesError::Write(_) => Failure::Device(task.output.name()),
     }
 }
@@ -119,7 +116,7 @@ fn levels_counted(
 fn levels_for(alloc: Global, circuit: &Circuit, task: &Retiming<'_>) -> Result<ReadLevels, NoMemory>
     ensures { IfOk result (λ reported. reported ≡ levels_reported task.now circuit.now) }
 {
-    let bound = task.bound.for_circuit(alloc, circuit)?;
+    let bound = task.options.bound.for_circuit(alloc, circuit)?;
     let counted = levels_counted(alloc, circuit, task)?;
     Ok(ReadLevels { counted, bound })
 }
@@ -224,7 +221,7 @@ pub(crate) fn retime_to<'a, R: Threads + Sync, W: CountedWrite, V: FrameWatcher>
     writer: &mut W,
     watcher: &mut V,
 ) -> Result<Answer, Failure<'a>>
-    requires { AreOptionsOf task.now options.now }
+    requires { AreOptionsFor task.now options.now }
     ensures answer { IfOk result (IsAnswerTo task.now options.now spelt (W.output writer.old)
         (W.output writer.new)) }
     ensures prints { IfErr result (λ failure. Prints (outcome_of failure) (W.output writer.old)

@@ -121,7 +121,7 @@ fn tell_no_frame<E: CountedWrite>(scene: &Scene, task: &Drawing<'_>, is_terminal
     ensures { is_terminal ≡ false → E.output err.new ≡ E.output err.old }
 {
     if is_terminal && task.frame && scene.set.is_none() {
-        let _ = write_all(err, no_frame(task.bound));
+        let _ = write_all(err, no_frame(task.options.bound));
     }
 }
 

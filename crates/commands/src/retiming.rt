@@ -9,7 +9,7 @@ ghost use Rattle.circuit_files.specs.WrittenFiles.{IsFileGiven, IsTargetGiven};
 ghost use Rattle.circuit_files.specs.declared.outcome.Outcome.TheVariants.{Done};
 ghost use Rattle.commands.specs.Pipes.{IsAnswerAt, IsPipe, IsReportOf, PrintsRetiming, WritesAnswer, WritesBeside, WritesCertificates, WritesPipe, blocks_text};
 ghost use Rattle.command_endings.specs.Printing.{EndsAside, Prints, ending};
-ghost use Rattle.commands.specs.RetimingTasks.{AreOptionsOf, EndsPrintingFrames, HasFailed, PrintsAlike, SaysFrames, counts_of, remaining_of};
+ghost use Rattle.commands.specs.RetimingTasks.{AreOptionsFor, EndsPrintingFrames, HasFailed, PrintsAlike, SaysFrames, counts_of, remaining_of};
 ghost use Rattle.command_line.specs.declared.task.Shown.TheVariants.{Nothing};
 
 use crate::answer::{Answer, map_counts, map_written, retime_to};
@@ -19,36 +19,19 @@ use certificate_files::{CertFile, Choice, write_cert};
 use certificates::Certificate;
 use circuit_counts::Remaining;
 use circuit_files::{Failure, Outcome, circuit_at, file_at};
-use command_endings::{bytes_of_names, ended};
+use command_endings::{ended, run_options};
 use command_line::{Retiming, Shown};
 use counted_io::{CountedRead, CountedWrite, WriteError, write_all};
 use frames::{FrameWatcher, Options, Retimed};
 use json_reports::{MapCounts, ReadLevels, Times};
 use progress::Progress;
 use reports::{print_remaining, print_retiming};
-use std::alloc::{AllocError, Global};
+use std::alloc::Global;
 use std::mem;
 use std::rt::Files;
 use std::thread::Threads;
 use std::time::Clock;
 use stream_paths::Target;
-
-fn options(alloc: Global, task: &Retiming<'_>) -> Result<Options, AllocError>
-    ensures { IfOk result (AreOptionsOf task.now) }
-{
-    let keep_latches = Vec::from_slice(alloc, task.keep_latches.as_slice())?;
-    let keep = bytes_of_names(alloc, task.keep.as_slice())?;
-    Ok(Options {
-        spelling: task.spelling,
-        max_frames: task.frames,
-        choice: task.choice,
-        certify: task.certificates.is_some(),
-        keep,
-        keep_latches,
-        merge: task.merge,
-        bound: task.bound,
-    })
-}
 
 /// Writes the circuit that was read, retimed, to what the task writes.
 fn retime_by<'a, R: Files + Threads + Sync, O: CountedWrite, V: FrameWatcher>(
@@ -60,7 +43,7 @@ fn retime_by<'a, R: Files + Threads + Sync, O: CountedWrite, V: FrameWatcher>(
     out: &mut O,
     watcher: &mut V,
 ) -> Result<Answer, Failure<'a>>
-    requires { AreOptionsOf task.now options.now }
+    requires { AreOptionsFor task.now options.now }
     ensures answer { IfOk result (IsAnswerAt (IsFileGiven R R.Dir R.File.contents) task.now
         options.now spelt (O.output out.old) (O.output out.new)) }
     ensures file { is_stdout task.now.output ≡ false → O.output out.new ≡ O.output out.old }
@@ -86,7 +69,7 @@ fn retime_read<'a, R: Files + Threads + Sync, I: CountedRead, O: CountedWrite, V
     out: &mut O,
     watcher: &mut V,
 ) -> Result<Answer, Failure<'a>>
-    requires { AreOptionsOf task.now options.now }
+    requires { AreOptionsFor task.now options.now }
     ensures answer { IfOk result (WritesAnswer (IsFileGiven R R.Dir R.File.contents) task.now
         (I.input stdin.old) (O.output out.old) (O.output out.new)) }
     ensures file { is_stdout task.now.output ≡ false → O.output out.new ≡ O.output out.old }
@@ -113,7 +96,8 @@ fn retimed<'a, R: Files + Threads + Sync, I: CountedRead, O: CountedWrite, V: Fr
     ensures prints { IfErr result (λ failure. Prints (outcome_of failure) (O.output out.old)
         (O.output out.new)) }
 {
-    match options(alloc, task) {
+    let asked = &task.options;
+    match run_options(alloc, asked, asked.frames, task.certificates.is_some()) {
         Ok(options) => retime_read(rt, alloc, task, &options, stdin, out, watcher),
         Err(_) => Err(Failure::Memory),
     }
@@ -174,7 +158,7 @@ fn certify<'a, R: Files, O: CountedWrite>(
         return Ok(());
     };
     let blocks = mem::replace(&mut retimed.certificates, Sequence::empty(alloc));
-    match write_certificates(rt, task.choice, blocks, target, out) {
+    match write_certificates(rt, task.options.choice, blocks, target, out) {
         Ok(()) => Ok(()),
         Err(_) => Err(Failure::Device(target.name())),
     }
@@ -262,7 +246,7 @@ fn certified<
     ensures prints { IfErr result (λ failure. Prints (outcome_of failure) (O.output out.old)
         (O.output out.new)) }
 {
-    let mut progress = Progress::new(task, is_terminal, rt, alloc, err);
+    let mut progress = Progress::new(task.shown, task.json, is_terminal, rt, alloc, err);
     let ended = retimed(rt, alloc, task, stdin, out, &mut progress);
     let times = progress.end();
     let mut answer = ended?;
@@ -286,7 +270,7 @@ fn remaining(alloc: Global, task: &Retiming<'_>, timed: &Timed) -> Result<Remain
         levels,
         ..
     } = timed;
-    let is_least = retimed.frames.len() < task.frames as usize;
+    let is_least = retimed.frames.len() < task.options.frames as usize;
     Remaining::of(alloc, &retimed.circuit, keep, levels.bound, is_least)
 }
 
@@ -345,7 +329,7 @@ fn is_still_ascii(task: &Retiming<'_>, timed: &Timed) -> bool {
         Target::File(path) => path.ends_with(".aig"),
         Target::Stdout => false,
     };
-    is_named_binary && task.spelling.is_none() && timed.spelling == Spelling::Ascii
+    is_named_binary && task.options.spelling.is_none() && timed.spelling == Spelling::Ascii
 }
 
 /// Tells on a terminal why no more latches go, and where a file has another spelling than its name says, unless somebody asks for an object

@@ -1,18 +1,19 @@
 //! What `dot` draws: the circuit that is read, with its held latches, or where the next frame is asked for what that frame begins with, and the
 //! set that it takes.
 ghost use Rattle.std.specs.Prelude.{◌≡◌, IfOk, false};
-ghost use Rattle.commands.specs.Drawings.{AreOptionsFor, IsNextShown, IsRunBy, IsSceneOf, IsShownFor, IsShownOf, held_for};
+ghost use Rattle.command_endings.specs.RunOptions.{AreOptionsOf};
+ghost use Rattle.commands.specs.Drawings.{IsNextShown, IsRunBy, IsSceneOf, IsShownFor, IsShownOf};
 
 use crate::answer::failure_of_run;
 use crate::drawable::check_drawable;
 use aig_graph::{Circuit, ClosedSet, Keep};
 use circuit_files::{Failure, circuit_at};
-use command_endings::{bytes_of_names, held_latches};
+use command_endings::{held_latches, run_options};
 use command_line::Drawing;
 use counted_io::CountedRead;
 use frames::{NoFollower, NoWatcher, Options, Retimed, Run, next_set, run_watched};
 use pulse::{Crew, OpenGate};
-use std::alloc::{AllocError, Global};
+use std::alloc::Global;
 use std::rt::Files;
 use std::thread::Threads;
 
@@ -24,29 +25,6 @@ pub(crate) struct Scene {
     pub(crate) keep: Keep,
     /// The gates that the next frame moves latches over, where that frame is shown and takes any.
     pub(crate) set: Option<ClosedSet>,
-}
-
-/// The latches that the task holds.
-fn held_for<'a>(alloc: Global, circuit: &Circuit, task: &Drawing<'a>) -> Result<Keep, Failure<'a>>
-    ensures { IfOk result (λ keep. keep ≡ held_for task.now circuit.now) }
-{
-    let positions = task.keep_latches.as_slice();
-    held_latches(alloc, circuit, task.input, task.keep.as_slice(), positions)
-}
-
-/// The options of a retiming that takes no frame.
-fn options(alloc: Global, task: &Drawing<'_>) -> Result<Options, AllocError>
-    ensures { IfOk result (AreOptionsFor task.now) }
-{
-    let keep_latches = Vec::from_slice(alloc, task.keep_latches.as_slice())?;
-    Ok(Options {
-        max_frames: 0,
-        keep: bytes_of_names(alloc, task.keep.as_slice())?,
-        keep_latches,
-        merge: task.merge,
-        bound: task.bound,
-        ..Options::defaults(alloc)
-    })
 }
 
 /// The run under this bound.
@@ -85,10 +63,7 @@ fn run_by<'a, R: Threads + Sync>(
     let crew = Crew::new(1, OpenGate);
     match run_watched(rt, alloc, circuit, options, &crew, &mut NoWatcher) {
         Ok(run) => Ok(under(run, bound)),
-        Err(error) => {
-            let positions = task.keep_latches.as_slice();
-            Err(failure_of_run(error, task.input, task.keep.as_slice(), positions))
-        }
+        Err(error) => Err(failure_of_run(error, task.input, &task.options)),
     }
 }
 
@@ -135,7 +110,7 @@ fn shown_by<'a, R: Threads + Sync>(
     options: &Options,
     task: &Drawing<'a>,
 ) -> Result<Scene, Failure<'a>>
-    requires { AreOptionsFor task.now options.now }
+    requires { AreOptionsOf task.now.options 0 false options.now }
     ensures { IfOk result (IsNextShown task.now circuit.now) }
 {
     let run = run_by(rt, alloc, circuit, options, task)?;
@@ -151,7 +126,7 @@ fn next_shown<'a, R: Threads + Sync>(
 ) -> Result<Scene, Failure<'a>>
     ensures { IfOk result (IsNextShown task.now circuit.now) }
 {
-    let Ok(options) = options(alloc, task) else {
+    let Ok(options) = run_options(alloc, &task.options, 0, false) else {
         return Err(Failure::Memory);
     };
     let shown = shown_by(rt, alloc, circuit, &options, task);
@@ -163,7 +138,7 @@ fn next_shown<'a, R: Threads + Sync>(
 fn as_read<'a>(alloc: Global, circuit: Circuit, task: &Drawing<'a>) -> Result<Scene, Failure<'a>>
     ensures { IfOk result (IsShownFor false task.now circuit) }
 {
-    match held_for(alloc, &circuit, task) {
+    match held_latches(alloc, &circuit, task.input, &task.options) {
         Ok(keep) => Ok(Scene {
             circuit,
             keep,

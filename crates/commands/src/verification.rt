@@ -1,15 +1,15 @@
 //! The command `verify`.
-ghost use Rattle.std.specs.Prelude.{◌≡◌, ◌<◌, All, IfErr, IfOk, length};
+ghost use Rattle.std.specs.Prelude.{◌≡◌, IfErr, IfOk};
 ghost use Rattle.reports.specs.Audits.{audit_text};
 ghost use Rattle.stream_paths.specs.Streams.{source_name};
 ghost use Rattle.circuit_files.specs.Outcomes.{IsAbout};
 ghost use Rattle.command_endings.specs.Printing.{EndsPrinting, Prints, ending};
 ghost use Rattle.command_endings.specs.Sources.{AreCertificatesAt, IsCircuitAt};
 ghost use Rattle.commands.specs.Replaying.{bytes_in};
-ghost use Rattle.commands.specs.Verifying.{EndsWithAudit, EndsWithObject, IsJudgedBy, IsReplayOf, PrintsAudit, PrintsAuditBeside, PrintsAuditFor, PrintsAuditOf, held_for, outcome_of_end, outcome_of_judgement};
+ghost use Rattle.commands.specs.Verifying.{EndsWithAudit, EndsWithObject, IsJudgedBy, IsReplayOf, PrintsAudit, PrintsAuditBeside, PrintsAuditFor, PrintsAuditOf, outcome_of_end, outcome_of_judgement};
 
 use crate::replaying::{Judgement, judged, replay_of, retimed_at};
-use aig_graph::{Circuit, Keep};
+use aig_graph::Circuit;
 use certificate_audits::{End, Replay};
 use certificates::Certificate;
 use circuit_files::{Failure, Outcome, certificates_at, circuit_at};
@@ -21,19 +21,6 @@ use std::alloc::Global;
 use std::fmt::Write;
 use std::rt::Files;
 
-/// The latches that the task holds.
-fn held_for<'a>(
-    alloc: Global,
-    circuit: &Circuit,
-    task: &Verification<'a>,
-) -> Result<Keep, Failure<'a>>
-    ensures held { IfOk result (λ keep. keep ≡ held_for task.now circuit.now) }
-    ensures in_range { IfOk result (λ keep. All (λ j. j < length circuit.now.aig.latches) keep) }
-{
-    let positions = task.keep_latches.as_slice();
-    held_latches(alloc, circuit, task.input, task.keep.as_slice(), positions)
-}
-
 /// What the certificates end in, where the latches are held that the task holds.
 fn replayed<'a>(
     alloc: Global,
@@ -43,9 +30,10 @@ fn replayed<'a>(
 ) -> Result<Replay, Failure<'a>>
     ensures { IfOk result (IsReplayOf task.now circuit.now blocks.now) }
 {
-    match held_for(alloc, circuit, task) {
+    let options = &task.options;
+    match held_latches(alloc, circuit, task.input, options) {
         Ok(keep) => {
-            let replay = replay_of(alloc, circuit, blocks, &keep, task.merge, task.bound);
+            let replay = replay_of(alloc, circuit, blocks, &keep, options.merge, options.bound);
             drop(keep);
             match replay {
                 Ok(replay) => Ok(replay),
@@ -66,7 +54,7 @@ fn judged_by<'a>(
 ) -> Result<Judgement, Failure<'a>>
     ensures { IfOk result (IsJudgedBy task.now circuit.now blocks.now (bytes_in bytes.now)) }
 {
-    let Ok(bound) = task.bound.for_circuit(alloc, circuit) else {
+    let Ok(bound) = task.options.bound.for_circuit(alloc, circuit) else {
         return Err(Failure::Memory);
     };
     match replayed(alloc, circuit, blocks, task) {

@@ -1,12 +1,11 @@
 -- Which files of a command line can't be one file, and the first two of them that are.
-use Rattle.std.specs.Prelude.{ℕ, ◌≡◌, ◌==◌, ◌&&◌, ◌||◌, ◌++◌, not, Bool, true, false, List, [], ◌∷◌, Option, Some, None, All, map, option_map, if◌then◌else◌}
-use Rattle.std.specs.Borrow.{Bor}
+use Rattle.std.specs.Prelude.{◌≡◌, ◌==◌, ◌&&◌, ◌||◌, not, Bool, true, false, List, [], ◌∷◌, Option, Some, None, All, map, option_map, if◌then◌else◌}
 use Rattle.std.specs.List.{find}
 use Rattle.std.specs.Option.{option_or}
 use Rattle.std.specs.Str.{bytes_eq}
 use Rattle.std.specs.String.{string_bytes}
 use Rattle.command_line.specs.declared.task.Task.{Task}
-use Rattle.file_identities.specs.FileUses.{name_file, read_by, written_by}
+use Rattle.file_identities.specs.FileUses.{read_by, written_by}
 use Rattle.file_identities.specs.declared.clash.FileClash.{FileClash}
 use Rattle.file_identities.specs.declared.clash.FileClash.TheVariants.{WrittenTwice, WrittenOver}
 use Rattle.file_identities.specs.declared.file_use.FileUse.{FileUse}
@@ -80,14 +79,14 @@ AreApart [] read = Unit {0}
 AreApart (first ∷ later) read =
     All (λ other. clash first other ≡ false) later × (All (λ other. clash first other ≡ false) read × AreApart later read)
 
--- the files are all that a task writes and reads, with those of names
-pub record AreFilesOf (task : Task) (names : List (Bor (List ℕ))) (written read : List Asked) : Type 0 where
+-- the files are all that a task writes and reads
+pub record AreFilesOf (task : Task) (written read : List Asked) : Type 0 where
   pub writes : map (λ asked. asked.file) written ≡ written_by task
-  pub reads : map (λ asked. asked.file) read ≡ read_by task ++ map name_file names
+  pub reads : map (λ asked. asked.file) read ≡ read_by task
 
 -- the first clash of a task's files, by some answers of the file system
-pub record IsClashOf (task : Task) (names : List (Bor (List ℕ))) (found : Option FileClash) : Type 0 where
+pub record IsClashOf (task : Task) (found : Option FileClash) : Type 0 where
   pub written : List Asked
   pub read : List Asked
-  pub are : AreFilesOf task names written read
+  pub are : AreFilesOf task written read
   pub first : found ≡ first_clash written read

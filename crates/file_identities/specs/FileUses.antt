@@ -1,13 +1,12 @@
 -- The files that a task reads and writes, with the argument that names each, and what it is there for.
-use Rattle.std.specs.Prelude.{ℕ, List, [], ◌∷◌, Option, Some, None, if◌then◌else◌}
-use Rattle.std.specs.Borrow.{Bor}
+use Rattle.std.specs.Prelude.{◌++◌, List, [], ◌∷◌, Option, Some, None, map, if◌then◌else◌}
 use Rattle.std.specs.List.{flat_map}
 use Rattle.std.specs.Option.{option_to_list}
 use Rattle.stream_paths.specs.declared.source.Source.{Source}
 use Rattle.stream_paths.specs.declared.source.Source.TheVariants as sources
 use Rattle.stream_paths.specs.declared.target.Target.{Target}
 use Rattle.stream_paths.specs.declared.target.Target.TheVariants as targets
-use Rattle.command_line.specs.StreamUses.{moving_takes_stdout, takes_stdout}
+use Rattle.command_line.specs.StreamUses.{moving_takes_stdout, name_files, takes_stdout}
 use Rattle.command_line.specs.declared.task.Asking.{Asking}
 use Rattle.command_line.specs.declared.task.Lifting.{Lifting}
 use Rattle.command_line.specs.declared.task.Moving.{Moving}
@@ -69,9 +68,9 @@ abbrev pub stimulus_of : Stimuli → Option FileUse
 stimulus_of (stimuli.Read source) = Some (reading Stim source)
 stimulus_of (stimuli.Random sequences) = None
 
--- the file of names of an option that names one
-abbrev pub name_file : Bor (List ℕ) → FileUse
-name_file path = record { argument = KeepFrom; role = roles.Read; place = places.File path }
+-- a file of names of latches that are held
+abbrev pub name_file : Source → FileUse
+name_file source = reading KeepFrom source
 
 -- those that there are
 abbrev pub given : List (Option FileUse) → List FileUse
@@ -110,20 +109,24 @@ written_by (Check checking) = []
 written_by (Witness carrying) = []
 written_by (Explain name) = []
 
--- what a task reads that writes a file
+-- what a task reads that writes a file, beside files of names
+abbrev pub others_read_by : Task → List FileUse
+others_read_by (Retime retiming) = given (Some (original In retiming.input) ∷ [])
+others_read_by (Backward moving) = given (Some (original In moving.input) ∷ [])
+others_read_by (Convert input output spelling) = given (Some (original In input) ∷ [])
+others_read_by (Sim simulation) = given (Some (reading In simulation.input) ∷ stimulus_of simulation.stimuli ∷ [])
+others_read_by (Miter asking) = read_by_asking asking
+others_read_by (Product asking) = read_by_asking asking
+others_read_by (Lift lifting) = read_by_lifting lifting
+others_read_by (Dot drawing) = given (Some (reading In drawing.input) ∷ [])
+others_read_by (Batch batch) = []
+others_read_by (Stat counting) = []
+others_read_by (Same comparison) = []
+others_read_by (Verify verification) = []
+others_read_by (Check checking) = []
+others_read_by (Witness carrying) = []
+others_read_by (Explain name) = []
+
+-- what it reads, and after it the files of names of the latches that it holds
 abbrev pub read_by : Task → List FileUse
-read_by (Retime retiming) = given (Some (original In retiming.input) ∷ [])
-read_by (Backward moving) = given (Some (original In moving.input) ∷ [])
-read_by (Convert input output spelling) = given (Some (original In input) ∷ [])
-read_by (Sim simulation) = given (Some (reading In simulation.input) ∷ stimulus_of simulation.stimuli ∷ [])
-read_by (Miter asking) = read_by_asking asking
-read_by (Product asking) = read_by_asking asking
-read_by (Lift lifting) = read_by_lifting lifting
-read_by (Dot drawing) = given (Some (reading In drawing.input) ∷ [])
-read_by (Batch batch) = []
-read_by (Stat counting) = []
-read_by (Same comparison) = []
-read_by (Verify verification) = []
-read_by (Check checking) = []
-read_by (Witness carrying) = []
-read_by (Explain name) = []
+read_by task = others_read_by task ++ map name_file (name_files task)

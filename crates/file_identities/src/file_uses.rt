@@ -126,17 +126,6 @@ fn stimulus_of<'a>(stimuli: Stimuli<'a>) -> Option<FileUse<'a>>
     }
 }
 
-/// The file of names of an option that names one.
-fn name_file(path: &str) -> FileUse<'_>
-    ensures { result ≡ name_file path.entry }
-{
-    FileUse {
-        argument: Argument::KeepFrom,
-        role: Role::Read,
-        place: Place::File(path),
-    }
-}
-
 pub(crate) fn push<'a, R: Files>(
     rt: &R,
     alloc: Global,
@@ -293,14 +282,14 @@ pub(crate) fn written_by<'a, R: Files>(
     }
 }
 
-/// What a task reads that writes a file.
-fn read_by<'a, R: Files>(
+/// What a task reads that writes a file, beside files of names.
+fn others_read_by<'a, R: Files>(
     rt: &R,
     alloc: Global,
     task: &Task<'a>,
 ) -> Result<Vec<Asked<'a>>, AllocError>
     ensures { IfOk result (λ files. map (λ asked. asked.file) files.items
-        ≡ wanted.read_by task.now) }
+        ≡ wanted.others_read_by task.now) }
 {
     match task {
         Task::Retime(retiming) => {
@@ -331,30 +320,29 @@ fn read_by<'a, R: Files>(
 fn push_name_files<'a, R: Files>(
     rt: &R,
     alloc: Global,
-    names: &[&'a str],
+    names: &[Source<'a>],
     files: &mut Vec<Asked<'a>>,
 ) -> Result<(), AllocError>
     ensures { OnOk result (map (λ asked. asked.file) files.new.items
         ≡ map (λ asked. asked.file) files.old.items ++ map name_file names.now) }
 {
-    for path in names {
-        push(rt, alloc, name_file(*path), files)?;
+    for source in names {
+        push(rt, alloc, reading(Argument::KeepFrom, *source), files)?;
     }
     Ok(())
 }
 
-/// What a task reads, and after it the files of names.
-pub(crate) fn all_read_by<'a, R: Files>(
+/// What a task reads, and after it the files of names of the latches that it holds.
+pub(crate) fn read_by<'a, R: Files>(
     rt: &R,
     alloc: Global,
     task: &Task<'a>,
-    names: &[&'a str],
 ) -> Result<Vec<Asked<'a>>, AllocError>
     ensures { IfOk result (λ files. map (λ asked. asked.file) files.items
-        ≡ wanted.read_by task.now ++ map name_file names.now) }
+        ≡ wanted.read_by task.now) }
 {
-    let mut files = read_by(rt, alloc, task)?;
-    match push_name_files(rt, alloc, names, &mut files) {
+    let mut files = others_read_by(rt, alloc, task)?;
+    match push_name_files(rt, alloc, task.name_files(), &mut files) {
         Ok(()) => Ok(files),
         Err(error) => {
             drop(files);

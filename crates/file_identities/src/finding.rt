@@ -3,13 +3,13 @@ ghost use Rattle.std.specs.Prelude.{◌≡◌, IfOk};
 ghost use Rattle.file_identities.specs.Clashes.{IsClashOf};
 
 use crate::clash::{FileClash, first_clash};
-use crate::file_uses::{all_read_by, written_by};
+use crate::file_uses::{read_by, written_by};
 use command_line::Task;
 use std::alloc::{AllocError, Global};
 use std::rt::Files;
 
 /// The first two files of a task that are one, where something would be lost: by whatever paths they are named, and whether they
-/// are there or would be made. `names` are the paths of the files of names. Nothing is opened.
+/// are there or would be made. Nothing is opened.
 ///
 /// # Errors
 ///
@@ -18,12 +18,11 @@ pub fn find_clash<'a, R: Files>(
     rt: &R,
     alloc: Global,
     task: &Task<'a>,
-    names: &[&'a str],
 ) -> Result<Option<FileClash<'a>>, AllocError>
-    ensures { IfOk result (IsClashOf task.now names.now) }
+    ensures { IfOk result (IsClashOf task.now) }
 {
     let written = written_by(rt, alloc, task)?;
-    match all_read_by(rt, alloc, task, names) {
+    match read_by(rt, alloc, task) {
         Ok(read) => {
             let clash = first_clash(written.as_slice(), read.as_slice());
             drop(read);

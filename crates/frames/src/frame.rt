@@ -20,6 +20,7 @@ use pulse::{Crew, PhaseGate};
 use rebuild::moved_by;
 use retimed_circuits::FrameReport;
 use std::alloc::Global;
+use std::mem;
 use std::thread::Threads;
 use unit_flows::{GateFlow, after_cleaning, after_move};
 
@@ -82,20 +83,36 @@ fn moved_over<F: RunFollower>(
     settled(alloc, follower, after, held, copies)
 }
 
-/// What the flow did at each gate, by the gates after a move over the set and a cleaning that keeps gates at these places; none are
-/// listed where it keeps all.
+/// The places, among so many gates, of those that a cleaning keeps, by its marks of latches and gates.
+fn kept_places(alloc: Global, kept: &[bool], gates: usize) -> Result<Vec<u32>, NoMemory> {
+    let latches = kept.len().saturating_sub(gates);
+    let mut places = Vec::new(alloc);
+    let mut place: u32 = 0;
+    for stays in &kept[latches..] {
+        if *stays {
+            places.push(place)?;
+        }
+        place = place.saturating_add(1);
+    }
+    Ok(places)
+}
+
+/// What the flow did at each gate, by the gates after a move over the set and a cleaning that keeps the latches and gates with these marks;
+/// there are none where it keeps all.
 fn carried(
     alloc: Global,
     circuit: &Circuit,
     set: &ClosedSet,
-    kept_gates: &[u32],
-    flows: &[GateFlow],
+    kept: &[bool],
+    flows: Vec<GateFlow>,
 ) -> Result<Vec<GateFlow>, NoMemory> {
-    let moved = after_move(alloc, circuit.aig(), set, flows)?;
-    if kept_gates.is_empty() {
+    let moved = after_move(alloc, circuit.aig(), set, flows.as_slice())?;
+    drop(flows);
+    if kept.is_empty() {
         return Ok(moved);
     }
-    after_cleaning(alloc, kept_gates, moved.as_slice())
+    let places = kept_places(alloc, kept, moved.len())?;
+    after_cleaning(alloc, places.as_slice(), moved.as_slice())
 }
 
 /// The frame of the circuit that a run has come to, where one makes fewer latches: the set that is found, and what is left of it after its
@@ -137,8 +154,8 @@ pub(crate) fn next_frame<F: RunFollower, G: PhaseGate, V: FrameWatcher>(
             let set = &found.set;
             let follower = &mut run.follower;
             let cleaned = moved_over(alloc, follower, circuit, keep, set, prepared)?;
-            let kept_gates = cleaned.kept_gates.as_slice();
-            records.flows = carried(alloc, circuit, set, kept_gates, records.flows.as_slice())?;
+            let flows = mem::replace(&mut records.flows, Vec::new(alloc));
+            records.flows = carried(alloc, circuit, set, cleaned.kept.as_slice(), flows)?;
             Ok(Some(Frame {
                 cleaned,
                 report: found.report,

@@ -13,7 +13,7 @@ use clean::Cleaned;
 use normalised_circuits::{all_places, are_low_normalised};
 use std::alloc::Global;
 
-/// A circuit as what it is cleaned to, which it is if it is normalised. The gates that stay aren't listed, since they all do.
+/// A circuit as what it is cleaned to, which it is if it is normalised. All latches and gates stay, so none is marked.
 fn as_cleaned<E: From<NoMemory>>(alloc: Global, circuit: Circuit, keep: Keep) -> Result<Cleaned, E>
     ensures circuit { IfOk result (λ d. d.circuit ≡ circuit) }
     ensures keep { IfOk result (λ d. d.keep ≡ keep) }
@@ -24,7 +24,7 @@ fn as_cleaned<E: From<NoMemory>>(alloc: Global, circuit: Circuit, keep: Keep) ->
             circuit,
             keep,
             kept_free,
-            kept_gates: Vec::new(alloc),
+            kept: Vec::new(alloc),
         }),
         Err(error) => {
             drop(circuit);

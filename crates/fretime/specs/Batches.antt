@@ -1,5 +1,5 @@
 -- How the circuits of a batch are retimed, and what is printed of it, by how it ends.
-use Rattle.std.specs.Prelude.{ℕ, ◌≡◌, ◌⊎◌, Bool, true, false, List, [], fold}
+use Rattle.std.specs.Prelude.{ℕ, ◌≡◌, ◌⊎◌, Bool, true, false, List, fold}
 use Rattle.counted_io.specs.Output.{Output, WritesAll}
 use Rattle.frames.specs.declared.options.Options.{Options}
 use Rattle.batch_pool.specs.Outcomes.{AreOutcomes}
@@ -15,23 +15,13 @@ use Rattle.json_reports.specs.Lines.{json_line}
 use Rattle.circuit_files.specs.Codes.{status_of}
 use Rattle.circuit_files.specs.declared.outcome.Outcome.{Outcome}
 use Rattle.circuit_files.specs.declared.outcome.Outcome.TheVariants.{Done, Refused, ShapesDiffer, CommandLine, Device, Memory, Differ, Unconfirmed}
+use Rattle.command_endings.specs.RunOptions.{AreOptionsOf}
 use Rattle.fretime.specs.Reporting.{PrintsFailure}
 
--- the options are the task's; no certificate is made, and no latch is held
-pub record AreBatchOptions (task : Batch) (options : Options) : Type 0 where
-  pub spelling : options.spelling ≡ task.spelling
-  pub frames : options.max_frames ≡ task.frames
-  pub choice : options.choice ≡ task.choice
-  pub certify : options.certify ≡ false
-  pub merge : options.merge ≡ task.merge
-  pub bound : options.bound ≡ task.bound
-  pub keep : options.keep.items ≡ []
-  pub keep_latches : options.keep_latches.items ≡ []
-
--- each outcome is that of its job, by the options of the task
+-- each outcome is that of its job, by the options of the task; no certificate is made
 pub record AreOutcomesFor (task : Batch) (jobs : List Job) (outcomes : List JobOutcome) : Type 0 where
   pub options : Options
-  pub are_options : AreBatchOptions task options
+  pub are_options : AreOptionsOf task.options task.options.frames false options
   pub are : AreOutcomes options jobs outcomes
 
 -- what is printed of an outcome

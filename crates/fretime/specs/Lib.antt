@@ -3,5 +3,3 @@ pub mod Batches
 pub mod Answers
 pub mod Runs
 pub mod Explaining
-pub mod Names
-pub mod Apart

@@ -7,9 +7,10 @@ use frames::PathBound;
 
 /// The options of `retime` that bear on certificates and that 'verify' wasn't given; `None` where it has all of them.
 fn missing_options(task: &Verification<'_>) -> Option<&'static [u8]> {
-    let holds = !task.keep.as_slice().is_empty() || !task.keep_latches.as_slice().is_empty();
-    let is_bounded = task.bound != PathBound::None;
-    match (holds, task.merge, is_bounded) {
+    let options = &task.options;
+    let holds = !options.keep.as_slice().is_empty() || !options.keep_latches.as_slice().is_empty();
+    let is_bounded = options.bound != PathBound::None;
+    match (holds, options.merge, is_bounded) {
         (true, true, true) => None,
         (true, true, false) => Some(b"--levels or --no-longer"),
         (true, false, true) => Some(b"--merge"),

@@ -6,7 +6,7 @@ ghost use Rattle.circuit_files.specs.Outcomes.{outcome_of};
 ghost use Rattle.circuit_files.specs.declared.outcome.Outcome.TheVariants.{Device, Memory};
 ghost use Rattle.fretime.specs.Answers.{FailsAt, IsOfInput, IsOfOutputs, IsWritten, NamesFile, report_at};
 ghost use Rattle.fretime.specs.Reporting.{PrintsFailure, SaysFailureBy};
-ghost use Rattle.fretime.specs.Batches.{AreBatchOptions, AreOutcomesFor, Printed, PrintsList};
+ghost use Rattle.fretime.specs.Batches.{AreOutcomesFor, Printed, PrintsList};
 ghost use Rattle.fretime.specs.Batches as wanted;
 ghost use Rattle.file_identities.specs.Outputs.{HaveOwnFiles};
 
@@ -16,11 +16,11 @@ use crate::reporting::{report_failure_as, told_of};
 use batch_lists::{Entry, ListError, read_list};
 use batch_pool::{Job, run_batch};
 use circuit_files::{Failure, Outcome, bytes_at, bytes_of_file};
+use command_endings::run_options;
 use command_line::Batch;
 use counted_io::{CountedRead, CountedWrite};
 use fault_pages::give_hint;
 use file_identities::check_outputs;
-use frames::Options;
 use pulse::{Crew, OpenGate};
 use reports::{JobReport, print_job};
 use std::alloc::Global;
@@ -65,19 +65,6 @@ fn read_jobs<'a, R: Files>(
     Ok(jobs)
 }
 
-/// How the task wants each circuit to be retimed.
-fn options_of(alloc: Global, task: &Batch<'_>) -> Options
-    ensures { AreBatchOptions task.now result }
-{
-    let mut options = Options::defaults(alloc);
-    options.spelling = task.spelling;
-    options.max_frames = task.frames;
-    options.choice = task.choice;
-    options.merge = task.merge;
-    options.bound = task.bound;
-    options
-}
-
 /// As many workers as are asked for.
 fn crew(task: &Batch<'_>) -> Crew<OpenGate>
     ensures { 0 < task.now.workers → task.now.workers ≤ 64
@@ -95,7 +82,10 @@ fn run_jobs<'a, R: Threads + Sync>(
 ) -> Result<Vec<batch_pool::Outcome>, Failure<'a>>
     ensures { IfOk result (λ outcomes. AreOutcomesFor task.now jobs.now outcomes.items) }
 {
-    let options = options_of(alloc, task);
+    let asked = &task.options;
+    let Ok(options) = run_options(alloc, asked, asked.frames, false) else {
+        return Err(Failure::Memory);
+    };
     let crew = crew(task);
     let ran = run_batch(rt, alloc, jobs, &options, &crew);
     drop(options);

@@ -1,31 +1,15 @@
 //! Files of a command line that are one, as an error of its command.
-ghost use Rattle.std.specs.Prelude.{◌≡◌, ◌⊎◌, IfNone, IfOk, IfSome, None};
+ghost use Rattle.std.specs.Prelude.{◌≡◌, ◌⊎◌, IfNone, IfSome, None};
 ghost use Rattle.clap.specs.Values.{kind_of};
 ghost use Rattle.clap.specs.declared.error.kind.ErrorKind.TheVariants.{ArgumentConflict, OutOfMemory};
-ghost use Rattle.fretime.specs.Apart.{IsClashIn};
+ghost use Rattle.file_identities.specs.Clashes.{IsClashOf};
 
-use crate::name_files::files_named;
 use clap::Error;
 use clap::error::ErrorKind;
 use command_line::{Task, command_error};
 use file_identities::{FileClash, find_clash};
-use std::alloc::{AllocError, Global};
+use std::alloc::Global;
 use std::rt::Files;
-
-/// The first clash of the files of a task and of the files of names that the words name.
-fn clash_in<'a, R: Files>(
-    rt: &R,
-    alloc: Global,
-    task: &Task<'a>,
-    words: &'a [String],
-) -> Result<Option<FileClash<'a>>, AllocError>
-    ensures { IfOk result (λ found. IsClashIn task.now found) }
-{
-    let names = files_named(alloc, words)?;
-    let found = find_clash(rt, alloc, task, names.as_slice());
-    drop(names);
-    found
-}
 
 /// A clash as an error of the command.
 fn error_of(alloc: Global, task: &Task<'_>, clash: FileClash<'_>) -> Error
@@ -42,19 +26,13 @@ fn error_of(alloc: Global, task: &Task<'_>, clash: FileClash<'_>) -> Error
     }
 }
 
-/// Why a task isn't begun, whose words these are: two files of the line are one, and something would be lost, or memory is
-/// refused.
-pub(crate) fn clash_error<R: Files>(
-    rt: &R,
-    alloc: Global,
-    task: &Task<'_>,
-    words: &[String],
-) -> Option<Error>
-    ensures apart { IfNone result (IsClashIn task.now None) }
+/// Why a task isn't begun: two of its files are one, and something would be lost, or memory is refused.
+pub(crate) fn clash_error<R: Files>(rt: &R, alloc: Global, task: &Task<'_>) -> Option<Error>
+    ensures apart { IfNone result (IsClashOf task.now None) }
     ensures kind { IfSome result (λ error. (kind_of error ≡ ArgumentConflict)
         ⊎ (kind_of error ≡ OutOfMemory)) }
 {
-    match clash_in(rt, alloc, task, words) {
+    match find_clash(rt, alloc, task) {
         Ok(None) => None,
         Ok(Some(clash)) => Some(error_of(alloc, task, clash)),
         Err(error) => Some(Error::from(error)),

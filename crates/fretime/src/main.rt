@@ -8,7 +8,6 @@ mod batch;
 mod batch_object;
 mod clashes;
 mod explaining;
-mod name_files;
 mod reporting;
 mod run;
 mod written;

@@ -179,6 +179,21 @@ fn tell_of_list<R: Files, E: CountedWrite>(
     }
 }
 
+/// Tells on a terminal of each file of names whose lines end with carriage returns, where a file was refused.
+fn tell_of_name_files<R: Files, E: CountedWrite>(
+    rt: &R,
+    task: &Task<'_>,
+    outcome: Outcome,
+    is_terminal: bool,
+    err: &mut E,
+) {
+    if outcome == Outcome::Refused {
+        for names in task.name_files() {
+            tell_returns(rt, *names, is_terminal, err);
+        }
+    }
+}
+
 /// How a task ends. Where it failed, reports why: as an object too where the task asks for objects, and with a hint on a terminal.
 pub fn reported<'a, R: Files, O: CountedWrite, E: CountedWrite>(
     rt: &R,
@@ -206,6 +221,7 @@ pub fn reported<'a, R: Files, O: CountedWrite, E: CountedWrite>(
             let of_all = is_of_all(task, failure);
             let told = told_of(failure, of_all, is_of_written(task, failure));
             give_hint(rt, alloc, &told, is_terminal, err);
+            tell_of_name_files(rt, task, outcome, is_terminal, err);
             outcome
         }
     }

@@ -14,12 +14,12 @@ ghost use Rattle.fretime.specs.Runs.{Does, MayGive, MayPrint, PrintsFilesOrRefus
 use crate::batch::retime_list;
 use crate::clashes::clash_error;
 use crate::explaining::explain;
-use crate::name_files::{name_files, tell_returns_of, words_with_names};
 use crate::reporting::{report_failure, reported};
 use backward_commands::print_moves;
 use circuit_files::{Failure, Outcome};
 use clap::Error;
 use clap::error::ErrorKind;
+use command_endings::{NameFile, hold_names, read_name_files};
 use command_line::{Task, Verification, parse_arguments};
 use commands::{convert, print_retimed, print_statistics, print_verification, write_picture};
 use counted_io::{Buffered, CountedRead, CountedWrite};
@@ -78,7 +78,7 @@ fn run_task<
         Task::Retime(retiming) => {
             print_retimed(rt, alloc, retiming, is_terminal, stdin, out, err)
         }
-        Task::Backward(moving) => print_moves(rt, alloc, moving, stdin, out, err),
+        Task::Backward(moving) => { print_moves(rt, alloc, moving, is_terminal, stdin, out, err) }
         Task::Batch(batch) => { Ok(retime_list(rt, alloc, batch, is_terminal, stdin, out, err)) }
         Task::Stat(counting) => print_statistics(rt, alloc, counting, stdin, out),
         Task::Convert(input, output, spelling) => {
@@ -168,20 +168,41 @@ fn finish_task<
     reported(rt, alloc, task, ended, is_terminal, out, err)
 }
 
-/// The words of a command line.
-#[derive(Clone, Copy)]
-struct Words<'w> {
-    /// As they were given.
-    given: &'w [String],
-    /// With the names of files of names in place of these.
-    named: &'w [String],
-}
-
-/// Does what the arguments ask for, unless two of their files are one, and returns how the run ends.
-fn run_named<R: Files + Threads + Sync + Clock, I: CountedRead, O: CountedWrite, E: CountedWrite>(
+/// Reports why the names that a task holds can't be read, and returns how the run ends.
+fn report_without_names<'a, R: Files, O: CountedWrite, E: CountedWrite>(
     rt: &R,
     alloc: Global,
-    words: &Words<'_>,
+    task: &Task<'a>,
+    failure: Failure<'a>,
+    is_terminal: bool,
+    out: &mut O,
+    err: &mut E,
+) -> Outcome
+    ensures { MayPrint result (O.output out.old) (O.output out.new) }
+{
+    reported(rt, alloc, task, Err(failure), is_terminal, out, err)
+}
+
+/// A task with the names of these files held too, or why it can't hold them.
+fn with_names<'a>(
+    files: &'a [NameFile<'a>],
+    task: Task<'a>,
+) -> (Task<'a>, Result<(), Failure<'a>>) {
+    let mut named = task;
+    let held = hold_names(files, &mut named);
+    (named, held)
+}
+
+/// Does a task with the names of the files that it names, and returns how the run ends.
+fn run_with_names<
+    R: Files + Threads + Sync + Clock,
+    I: CountedRead,
+    O: CountedWrite,
+    E: CountedWrite,
+>(
+    rt: &R,
+    alloc: Global,
+    task: Task<'_>,
     is_terminal: bool,
     stdin: &mut I,
     out: &mut O,
@@ -189,16 +210,45 @@ fn run_named<R: Files + Threads + Sync + Clock, I: CountedRead, O: CountedWrite,
 ) -> Outcome
     ensures { MayPrint result (O.output out.old) (O.output out.new) }
 {
-    match parse_arguments(alloc, words.named) {
-        Ok(task) => {
-            let outcome = match clash_error(rt, alloc, &task, words.given) {
-                Some(error) => refuse_line(error, is_terminal, err),
-                None => finish_task(rt, alloc, &task, is_terminal, stdin, out, err),
+    match read_name_files(rt, alloc, task.name_files(), stdin) {
+        Ok(files) => {
+            let (named, held) = with_names(files.as_slice(), task);
+            let outcome = match held {
+                Ok(()) => finish_task(rt, alloc, &named, is_terminal, stdin, out, err),
+                Err(failure) => {
+                    report_without_names(rt, alloc, &named, failure, is_terminal, out, err)
+                }
             };
+            drop(named);
+            drop(files);
+            outcome
+        }
+        Err(failure) => {
+            let outcome = report_without_names(rt, alloc, &task, failure, is_terminal, out, err);
             drop(task);
             outcome
         }
-        Err(error) => refuse_line(error, is_terminal, err),
+    }
+}
+
+/// Does a task, unless two of its files are one, and returns how the run ends.
+fn run_apart<R: Files + Threads + Sync + Clock, I: CountedRead, O: CountedWrite, E: CountedWrite>(
+    rt: &R,
+    alloc: Global,
+    task: Task<'_>,
+    is_terminal: bool,
+    stdin: &mut I,
+    out: &mut O,
+    err: &mut E,
+) -> Outcome
+    ensures { MayPrint result (O.output out.old) (O.output out.new) }
+{
+    match clash_error(rt, alloc, &task) {
+        Some(error) => {
+            drop(task);
+            refuse_line(error, is_terminal, err)
+        }
+        None => run_with_names(rt, alloc, task, is_terminal, stdin, out, err),
     }
 }
 
@@ -210,94 +260,7 @@ fn without_flag_of_help(words: &[String]) -> &[String] {
     if is_flag { &words[..2] } else { words }
 }
 
-/// Reports why names of files can't be put in, as the command that the words ask for reports its failures.
-fn report_without_names<R: Files, O: CountedWrite, E: CountedWrite>(
-    rt: &R,
-    alloc: Global,
-    words: &[String],
-    failure: Failure<'_>,
-    is_terminal: bool,
-    out: &mut O,
-    err: &mut E,
-) -> Outcome
-    ensures { MayPrint result (O.output out.old) (O.output out.new) }
-{
-    match parse_arguments(alloc, words) {
-        Ok(task) => {
-            let outcome = reported(rt, alloc, &task, Err(failure), is_terminal, out, err);
-            drop(task);
-            outcome
-        }
-        Err(error) => refuse_line(error, is_terminal, err),
-    }
-}
-
 /// Does what the arguments ask for, and returns how the run ends.
-fn run_command<R: Files + Threads + Sync + Clock, I: CountedRead, O: CountedWrite, E: CountedWrite>(
-    rt: &R,
-    alloc: Global,
-    words: &[String],
-    is_terminal: bool,
-    stdin: &mut I,
-    out: &mut O,
-    err: &mut E,
-) -> Outcome
-    ensures { MayPrint result (O.output out.old) (O.output out.new) }
-{
-    let given = without_flag_of_help(words);
-    match words_with_names(rt, alloc, given) {
-        Ok(None) => {
-            let words = Words {
-                given,
-                named: given,
-            };
-            run_named(rt, alloc, &words, is_terminal, stdin, out, err)
-        }
-        Ok(Some(named)) => {
-            let words = Words {
-                given,
-                named: named.as_slice(),
-            };
-            let outcome = run_named(rt, alloc, &words, is_terminal, stdin, out, err);
-            drop(named);
-            outcome
-        }
-        Err(failure) => report_without_names(rt, alloc, words, failure, is_terminal, out, err),
-    }
-}
-
-/// The same of arguments that name a file of names: they are read before any file is. Where a file is refused, a terminal is told of
-/// names that end with carriage returns.
-fn run_with_files<
-    R: Files + Threads + Sync + Clock,
-    I: CountedRead,
-    O: CountedWrite,
-    E: CountedWrite,
->(
-    rt: &R,
-    alloc: Global,
-    words: &[String],
-    is_terminal: bool,
-    stdin: &mut I,
-    out: &mut O,
-    err: &mut E,
-) -> Outcome
-    ensures { MayPrint result (O.output out.old) (O.output out.new) }
-{
-    match parse_arguments(alloc, words) {
-        Ok(task) => {
-            drop(task);
-            let outcome = run_command(rt, alloc, words, is_terminal, stdin, out, err);
-            if outcome == Outcome::Refused {
-                tell_returns_of(rt, words, is_terminal, err);
-            }
-            outcome
-        }
-        Err(error) => refuse_line(error, is_terminal, err),
-    }
-}
-
-/// The same of any arguments.
 fn run_line<R: Files + Threads + Sync + Clock, I: CountedRead, O: CountedWrite, E: CountedWrite>(
     rt: &R,
     alloc: Global,
@@ -309,10 +272,9 @@ fn run_line<R: Files + Threads + Sync + Clock, I: CountedRead, O: CountedWrite, 
 ) -> Outcome
     ensures { MayPrint result (O.output out.old) (O.output out.new) }
 {
-    if name_files(words) {
-        run_with_files(rt, alloc, words, is_terminal, stdin, out, err)
-    } else {
-        run_command(rt, alloc, words, is_terminal, stdin, out, err)
+    match parse_arguments(alloc, without_flag_of_help(words)) {
+        Ok(task) => run_apart(rt, alloc, task, is_terminal, stdin, out, err),
+        Err(error) => refuse_line(error, is_terminal, err),
     }
 }
 

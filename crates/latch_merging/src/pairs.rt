@@ -47,6 +47,7 @@ impl PairNames {
         requires { lookup (same_fan_ins pair) self.old ≡ None }
         ensures { OnOk result (self.new ≡ self.old ++ (pair, name) ∷ []) }
     {
+        self.names.cover(pair.rhs0.var())?;
         self.names.add(pair, name)?;
         self.next = self.next.saturating_add(1);
         Ok(())

@@ -186,6 +186,7 @@ module _ (g c : Graph) (functions held set : List ℕ) (valid : IsGraph c) (clos
       → length functions ≡ length c.latches → All (λ l. IsLiteralOf g l) functions → Follows g functions c set (first_gate c) g literals
   follows-start literals front long many all = record {
     long = long;
+    latches = λ j less. front j (omega (arith, less, many));
     within = within-start c held set closed g functions literals front many all;
     values = λ s v less source. elim source [
       | inl latch ↦ (
@@ -206,6 +207,7 @@ module _ (g c : Graph) (functions held set : List ℕ) (valid : IsGraph c) (clos
       → Follows g functions c set m h literals
   follows-skip h literals n m from none_there p = record {
     long = p.long;
+    latches = p.latches;
     within = within-skip c held set closed h literals n m from none_there p.within;
     values = λ s w less source. elim (cases_lt w n) [
       | inl below ↦ p.values s w below source
@@ -239,6 +241,7 @@ module _ (g c : Graph) (functions held set : List ℕ) (valid : IsGraph c) (clos
       let P : List ℕ → Type 0 = λ ls. Follows g functions c set (v + 1) i ls in
       subst P (sym written) (record {
         long = omega (arith, p.long, length-set literals (v - first_latch c) lit);
+        latches = λ j less. get_or-set_other literals (v - first_latch c) j lit 0 (λ e. absurd (omega (arith, e, less, place.from))) ∙ p.latches j less;
         within = within-one c held set closed h i literals v lit gate there p.long more is.within p.within;
         values = values-more;
       })

@@ -1,8 +1,5 @@
 -- A map to a circuit, with the constraints of a merging, is one to what the circuit is merged to.
-use Rattle.std.proofs.Common.{ℕ, ◌<◌, ◌≡◌, length, List, get_or, arith, ap, sym, ◌∙◌, subst, zero-add}
-use Rattle.std.specs.List.{range_with_len}
-use Rattle.std.proofs.lemmas.List.{ext_get_or, length-map, get_or-map}
-use Rattle.std.proofs.lemmas.List.FromFn.{get_or-range_with_len, length-range_with_len}
+use Rattle.std.proofs.Common.{ℕ, ◌≡◌, List, sym, subst}
 use Rattle.aig_graph.specs.Circuits.{Netlist}
 use Rattle.aig_graph.specs.Graph.{Graph, free_latches}
 use Rattle.aig_graph.specs.Laws.{all_free, composed}
@@ -10,6 +7,7 @@ use Rattle.merged_latches.proofs.MergingLaws.{IsGraph-merged_latches, merged-str
 use Rattle.state_maps.specs.States.{IsStateMap, State}
 use Rattle.state_maps.proofs.FrameMapLaws.{restated}
 use Rattle.state_maps.proofs.MapLaws.{maps-compose}
+use Rattle.state_maps.proofs.MergedRunMapLaws.{composed-every}
 use Rattle.map_circuits.specs.Constraining.{AreOne}
 use Rattle.map_circuits.specs.Following.{state_of}
 use Rattle.map_circuits.proofs.SteppingLaws.{state-kept}
@@ -18,17 +16,6 @@ use Rattle.state_maps.proofs.MergedStepLaws.{merging-maps}
 use Rattle.map_circuits.specs.Steps.{MergingStep}
 use Rattle.map_circuits.proofs.ReadsSubstituteLaws.{reads-below, reads-hold}
 use Rattle.aig_graph.proofs.StreamLaws.{funext}
-
--- a list with all its places is itself
-composed-every : (kept : List ℕ) (n : ℕ) → length kept ≡ n → composed kept (range_with_len 0 n) ≡ kept
-composed-every kept n long =
-    let f : ℕ → ℕ = λ place. get_or kept place 0 in
-    let places : List ℕ = range_with_len 0 n in
-    let all : length (composed kept places) ≡ n = length-map places f ∙ length-range_with_len 0 n in
-    ext_get_or 0 (composed kept places) kept (all ∙ sym long) (λ j h.
-    let within : j < n = omega (arith, h, all) in
-    let there : j < length places = omega (arith, within, length-range_with_len 0 n) in
-    get_or-map f places j 0 0 there ∙ ap f (get_or-range_with_len 0 n j 0 within ∙ zero-add j))
 
 -- the constraints of what latches read as make a map to a circuit one to what the circuit is merged to
 pub merging-step : (c d e : Netlist) (held kept : List ℕ) (g h : Graph) (functions old new : List ℕ) → MergingStep c d e held kept g h functions old new

@@ -4,6 +4,7 @@ use Rattle.std.specs.List.{All}
 use Rattle.std.proofs.Math.ListN.{get_or-eq_default}
 use Rattle.std.proofs.lemmas.List.{get_or-map, length-map}
 use Rattle.std.proofs.lemmas.List.Elements.{All-map}
+use Rattle.std.proofs.lemmas.Option.{get_or_from_slice_get}
 use Rattle.aig_graph.specs.Closed.{IsClosedSet, IsLatchOrIn}
 use Rattle.aig_graph.specs.Graph.{Graph, IsLiteralOf, first_latch, variables_end}
 use Rattle.aig_graph.specs.Move.{Move}
@@ -13,7 +14,7 @@ use Rattle.aig_graph.proofs.SearchLaws.{has_iff_contains}
 use Rattle.rebuild.specs.Moved.{is_latched, latch_for, moved_graph}
 use Rattle.rebuild.proofs.BorderLaws.{latched-cases}
 use Rattle.variable_tables.specs.Counting.{places}
-use Rattle.variable_tables.proofs.ListLaws.{map-same}
+use Rattle.variable_tables.proofs.ListLaws.{map-same, slice_get-map_some}
 use Rattle.variable_tables.proofs.PlacesLaws.{Ranks, rank_at}
 use Rattle.state_maps.specs.States.{State}
 use Rattle.state_maps.specs.Cleaning.{held_by}
@@ -73,6 +74,11 @@ module _ (g : Graph) (functions : List ℕ) (m : Move) (h : Graph) (literals : L
             let r : Ranks (is_latched m) end k v = rank_at (is_latched m) end k v e in
             follows.within v r.below (latched-source v r.passes)));
         many = length-map vars (entry_of first literals) ∙ sym (latches-many m);
+        own = λ k v e below.
+            let r : Ranks (is_latched m) end k v = rank_at (is_latched m) end k v e in
+            let from : first ≤ v = source-from m.circuit.aig m.held m.set set v (latched-source v r.passes) in
+            get_or_from_slice_get (map (entry_of first literals) vars) k (entry_of first literals v) 0 (slice_get-map_some (entry_of first literals) vars k v e)
+            ∙ follows.latches (v - first) (omega (arith, from, below));
         states = λ s. funext _ _ (λ j. entries-hold (value_within h s (λ j. false)) (entry_of first literals) m.circuit.aig (state_of g functions s) vars
             (λ k v e.
             let r : Ranks (is_latched m) end k v = rank_at (is_latched m) end k v e in
@@ -101,6 +107,10 @@ module _ (g : Graph) (functions : List ℕ) (c : Graph) (reached : ℕ → Bool)
         within = All-map (λ lit. IsLiteralOf g lit) (entry_of 0 functions) vars (all_from_slice_get (λ v. IsLiteralOf g (entry_of 0 functions v)) vars
             (λ k v e. let r : Ranks remaining (length c.latches) k v = rank_at remaining (length c.latches) k v e in all (v - 0) 0 (omega (arith, r.below, many))));
         many = length-map vars (entry_of 0 functions);
+        own = λ k j e.
+            let here : j - 0 ≡ j = omega arith in
+            get_or_from_slice_get (map (entry_of 0 functions) vars) k (entry_of 0 functions j) 0 (slice_get-map_some (entry_of 0 functions) vars k j e)
+            ∙ ap (λ (i : ℕ). get_or functions i 0) here;
         states = λ s. funext _ _ (λ j. places-hold (value_within g s (λ j. false)) (entry_of 0 functions) (state_of g functions s) vars
             (λ k v e.
             let r : Ranks remaining (length c.latches) k v = rank_at remaining (length c.latches) k v e in

@@ -1,33 +1,29 @@
 -- Where the questions of a map have the answers that they should, both circuits have the same streams; a map of states by which free latches stay has them.
-use Rattle.std.proofs.Common.{inl, inr, ℕ, suc, zero, ◌+◌, ◌-◌, ◌*◌, ◌/◌, ◌<◌, ◌≤◌, ◌≡◌, Bool, true, false, Option, Some, None, List, [], ◌∷◌, ◌++◌, length, map, take, count_by, get_or, slice_get, cond, if◌then◌else◌, refl, arith, ap, sym, ◌∙◌, subst}
-use Rattle.std.specs.List.{flat_map}
+use Rattle.std.proofs.Common.{inl, inr, ℕ, suc, zero, ◌+◌, ◌-◌, ◌*◌, ◌/◌, ◌<◌, ◌≤◌, ◌≡◌, Bool, true, false, Option, Some, None, List, [], ◌∷◌, length, map, take, count_by, get_or, slice_get, cond, if◌then◌else◌, refl, arith, ap, sym, ◌∙◌, subst}
 use Rattle.std.proofs.Math.Seq.{take-length}
 use Rattle.std.proofs.lemmas.Bool.{cases_lt}
-use Rattle.std.proofs.lemmas.List.{get_or-map, get_or_past, length-map, map-append}
+use Rattle.std.proofs.lemmas.List.{get_or-map, get_or_past, length-map}
 use Rattle.std.proofs.lemmas.Option.{none-some, same_Some, slice_get_past, slice_get_within}
 use Rattle.variable_tables.proofs.ListLaws.{count_by-cons}
-use Rattle.variable_tables.proofs.PlacesLaws.{count-lt}
 use Rattle.aig_graph.specs.declared.graph.Latch.{Latch}
 use Rattle.aig_graph.specs.declared.graph.Reset.{Reset}
 use Rattle.aig_graph.specs.declared.graph.Reset.TheVariants.{Zero, One, Free}
-use Rattle.aig_graph.specs.declared.properties.Props.{Props}
 use Rattle.aig_graph.specs.Circuits.{Netlist}
-use Rattle.aig_graph.specs.Graph.{Graph, IsGraph, first_latch, free_before, free_latches, is_free, is_free_latch, variable}
+use Rattle.aig_graph.specs.Graph.{Graph, IsGraph, free_before, free_latches, is_free, is_free_latch, variable}
 use Rattle.aig_graph.specs.Streams.{AreKept, chosen, property_literals}
 use Rattle.aig_graph.specs.Value.{Choice, Inputs, latch_value, next_value, opening, opening_at, value, value_within}
-use Rattle.aig_graph.proofs.FreeLaws.{free-count, is_free_at}
-use Rattle.aig_graph.proofs.KindLaws.{element, latch_at-first_latch}
-use Rattle.aig_graph.proofs.PropsLaws.{flat-map_map}
+use Rattle.aig_graph.proofs.KindLaws.{element}
 use Rattle.aig_graph.proofs.StreamLaws.{funext}
-use Rattle.state_maps.specs.MapCircuits.{IsMapCircuit, is_kept, mapped}
-use Rattle.state_maps.specs.States.{Digits, SameReads, State, after_step, opening_state}
-use Rattle.witness_circuits.proofs.OpeningLaws.{held_choice, opened, opening-known, opening-twice}
+use Rattle.state_maps.specs.MapCircuits.{FreeStay, IsFreeInput, IsMapCircuit, free_outputs, is_kept, mapped}
+use Rattle.state_maps.specs.States.{State, after_step, opening_state}
+use Rattle.state_maps.proofs.FreeLaws.{free-fewer, free-within}
+use Rattle.state_maps.proofs.MapLaws.{all-read}
+use Rattle.witness_circuits.proofs.OpeningLaws.{free-where, held_choice, opened, opening-known, opening-twice}
 use Rattle.witness_circuits.proofs.ViewLaws.{input-value}
 use Rattle.map_miters.specs.Holding.{reset_at, reset_state}
-use Rattle.map_miters.specs.Questions.{Begins, FreeStay, IsAskable, IsFreeInput, IsFirst, free_outputs}
-use Rattle.map_miters.specs.Laws.{GiveStreams, MapsMeetQuestions, MeetsQuestions, free_places}
-use Rattle.map_miters.proofs.TieLaws.{free-within}
-use Rattle.map_miters.proofs.WitnessLaws.{free-where}
+use Rattle.map_miters.specs.Questions.{Begins, IsAskable, IsFirst}
+use Rattle.map_miters.specs.Laws.{GiveStreams, MapsAreNeverOne, MapsMeetQuestions, MeetsQuestions, free_places}
+use Rattle.map_miters.specs.Miters.{output_in, state_in}
 
 -- ---- outputs that stand for free latches, by their places
 read-first : (b : Bool) (x : ℕ) (xs : List ℕ) → b ≡ true → get_or (if b then x ∷ xs else xs) 0 0 ≡ x
@@ -61,12 +57,6 @@ free-many (l ∷ ls) (x ∷ xs) long =
     put-long (is_free l) x (free_outputs ls xs)
     ∙ ap (λ (n : ℕ). cond {A = ℕ} (is_free l) 1 0 + n) (free-many ls xs (omega (arith, long)))
     ∙ sym (count_by-cons is_free l ls)
-
--- fewer free latches come before a free one than before a later latch
-pub free-fewer : (g : Graph) (j n : ℕ) → is_free_latch (slice_get g.latches j) ≡ true → j < n → n ≤ length g.latches → free_before g j < free_before g n
-free-fewer g j n free less within =
-    let here : is_free_at g (first_latch g + j) ≡ true = ap is_free_latch (latch_at-first_latch g j) ∙ free in
-    omega (arith, count-lt (is_free_at g) (first_latch g + j) (first_latch g + n) (omega (arith, less)) here, free-count g j (omega (arith, less, within)), free-count g n within)
 
 -- a free latch holds at step 0 what is chosen for it
 chosen-opening : (g : Graph) (f : Choice) (j : ℕ) (o : Option Latch) → is_free_latch o ≡ true → opening_at g f j o ≡ f (free_before g j)
@@ -215,17 +205,6 @@ give-streams c d m graph askable meets =
     }
 
 -- ---- the other way
--- the values of all properties, from those of each kind
-literals-read : (p : Props) (a : ℕ → Bool) → map a (property_literals p) ≡ map a p.outputs ++ map a p.bad ++ map a p.constraints ++ flat_map (λ bs. bs) (map (map a) p.justice) ++ map a p.fairness
-literals-read p a =
-    let flat = flat_map (λ (lits : List ℕ). lits) p.justice in
-    let e = flat-map_map a p.justice in
-    let e1 = map-append a p.outputs p.bad in
-    let e2 = map-append a (p.outputs ++ p.bad) p.constraints in
-    let e3 = map-append a (p.outputs ++ p.bad ++ p.constraints) flat in
-    let e4 = map-append a (p.outputs ++ p.bad ++ p.constraints ++ flat) p.fairness in
-    cc
-
 module _ (c d : Netlist) (kept : List ℕ) (m : Netlist) (is : IsMapCircuit c d kept m) (stay : FreeStay c d m) where
   module _ (s : State) where
     abbrev choice : Choice
@@ -245,25 +224,30 @@ module _ (c d : Netlist) (kept : List ℕ) (m : Netlist) (is : IsMapCircuit c d 
           ap (opening latch.reset) at ∙ opening-twice latch.reset (chosen kept choice (free_before d.aig j)) ∙ sym at);
     }
 
-  reads-all : (x : Digits) (s t : State) → SameReads c d x s t → map (value_within d.aig x t) (property_literals d.props) ≡ map (value_within c.aig x s) (property_literals c.props)
-  reads-all x s t same =
-      let one = literals-read d.props (value_within d.aig x t) in
-      let two = literals-read c.props (value_within c.aig x s) in
-      let outputs = same.outputs in
-      let bad = same.bad in
-      let constraints = same.constraints in
-      let justice = same.justice in
-      let fairness = same.fairness in
-      cc
-
   answers : MeetsQuestions c d m
   answers = record {
     reset = begins;
     keep = is.maps.keeps;
     next = λ x s here j less. ap (λ (t : State). t j) (is.maps.steps x s here);
-    read = λ x s here. reads-all x s (mapped m s) (is.maps.reads x s here);
+    read = λ x s here. all-read c d x s (mapped m s) (is.maps.reads x s here);
   }
 
 -- a map of states has the answers
 pub maps-meet : (c d m : Netlist) (kept : List ℕ) → MapsMeetQuestions c d kept m
 maps-meet c d m kept is stay = answers c d kept m is stay
+
+-- so no output of its miter is ever 1
+pub maps-never : (c d m r : Netlist) (kept : List ℕ) → MapsAreNeverOne c d kept m r
+maps-never c d m r kept is stay miter z k less =
+    let met : MeetsQuestions c d m = answers c d kept m is stay in
+    let s : State = state_in c.aig z in
+    elim (cases_lt k 2) [
+      | inl low ↦ elim (cases_lt k 1) [
+        | inl first ↦ (let at : k ≡ 0 = omega (arith, first) in ap (λ (i : ℕ). output_in r i z) at ∙ (miter.reset z).1 (met.reset s))
+        | inr second ↦ (let at : k ≡ 1 = omega (arith, low, second) in ap (λ (i : ℕ). output_in r i z) at ∙ (miter.keep z).1 (met.keep z s))
+      ]
+      | inr high ↦ elim (cases_lt k 3) [
+        | inl third ↦ (let at : k ≡ 2 = omega (arith, high, third) in ap (λ (i : ℕ). output_in r i z) at ∙ (miter.next z).1 (met.next z s))
+        | inr last ↦ (let at : k ≡ 3 = omega (arith, last, less) in ap (λ (i : ℕ). output_in r i z) at ∙ (miter.read z).1 (met.read z s))
+      ]
+    ]

@@ -6,7 +6,7 @@ use Rattle.std.proofs.lemmas.List.Elements.{All-append, All-cons, All-nil}
 use Rattle.aig_graph.specs.declared.graph.Latch.{Latch}
 use Rattle.aig_graph.specs.declared.graph.Reset.{Reset}
 use Rattle.aig_graph.specs.declared.properties.Props.{Props}
-use Rattle.aig_graph.specs.Circuits.{AreLiteralsOf, AreNamesBelow, IsNetlist, Netlist}
+use Rattle.aig_graph.specs.Circuits.{AreLiteralsOf, IsNetlist, Netlist}
 use Rattle.aig_graph.specs.Graph.{Graph, IsGraph, IsLiteralOf}
 use Rattle.aig_graph.specs.Value.{next_value, value_within}
 use Rattle.aig_graph.proofs.KindLaws.{element}
@@ -17,6 +17,7 @@ use Rattle.map_circuits.proofs.GrowingLaws.{negated-value}
 use Rattle.witness_circuits.specs.Witnesses.{bad_states}
 use Rattle.witness_circuits.specs.Latches.{with_nexts}
 use Rattle.witness_circuits.proofs.AgreeLaws.{AreAlike, literal-alike, literals-alike}
+use Rattle.witness_circuits.proofs.FinishLaws.{no-names}
 use Rattle.witness_circuits.proofs.LatchLaws.{length-with_nexts, next-read}
 use Rattle.map_miters.specs.Comparing.{SaysThat}
 use Rattle.map_miters.specs.declared.products.Built.{Built}
@@ -192,9 +193,6 @@ module _ (g h : Graph) (wanted : Wanted) (c d m : Netlist) (sides : Sides) (prop
         bad-within : (bad : List ℕ) → AreLiteralsOf h bad → AreLiteralsOf h (bad_states (record props { bad = bad }))
         bad-within [] within = says.within.outputs
         bad-within (x ∷ bad) within = within
-
-no-names : (n : ℕ) → AreNamesBelow n []
-no-names n = record { rising = λ k less. absurd (omega (arith, less)); below = λ k a less. absurd (omega (arith, less)) }
 
 module _ (goal : Goal) (c d m : Netlist) (b : Built) (built : IsBuilt goal c d m b) where
   -- what is built is a netlist

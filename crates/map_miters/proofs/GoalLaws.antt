@@ -1,5 +1,6 @@
 -- What says that a state is good.
-use Rattle.std.proofs.Common.{ℕ, ◌<◌, ◌≡◌, ◌↔◌, Bool, true, false, ◌&&◌, List, length, map, get_or, refl, arith, ap, sym, ◌∙◌}
+use Rattle.std.proofs.Common.{ℕ, ◌<◌, ◌≡◌, ◌↔◌, Bool, false, ◌&&◌, List, length, map, get_or, arith, ap, sym, ◌∙◌}
+use Rattle.std.proofs.lemmas.Bool.{and_from, and_parts}
 use Rattle.std.proofs.lemmas.List.{ext_get_or, length-map}
 use Rattle.aig_graph.specs.Circuits.{Netlist}
 use Rattle.aig_graph.specs.Graph.{Graph}
@@ -53,14 +54,6 @@ module _ (g : Graph) (c d : Netlist) (sides : Sides) (shape : SameShape c d) (ar
   pub agreement-says : (h : Graph) (lit : ℕ) → SaysThat h lit (AreEqualIn g sides.second.props.items sides.first.props.items) → SaysThat h lit (AgreeIn c d)
   agreement-says h lit says = says-same h lit (AreEqualIn g sides.second.props.items sides.first.props.items) (AgreeIn c d) props-same says
 
-both-true : (a b : Bool) → (a && b) ≡ true → (a ≡ true) × (b ≡ true)
-both-true true b h = (refl, h)
-both-true false b h = absurd (cc)
-
-true-both : (a b : Bool) → a ≡ true → b ≡ true → (a && b) ≡ true
-true-both true b h i = i
-true-both false b h i = absurd (cc)
-
 -- what says that the constraints of a map are 1 for a state, and that its outputs are what literals hold
 module _ (m : Netlist) (image : Image) (g h i : Graph) (given : List ℕ) (s t : Held) (long : length given ≡ length m.props.outputs) (is : IsImage g m s image) (held : HoldAs g given t) where
   outputs-same : (z : Digits) (u : State) → AreEqualIn g image.outputs.items given z u ↔ ((j : ℕ) → j < length m.props.outputs → mapped m (s z u) j ≡ t z u j)
@@ -85,9 +78,9 @@ module _ (m : Netlist) (image : Image) (g h i : Graph) (given : List ℕ) (s t :
         let value : value_within i z u both ≡ (value_within g z u image.kept && value_within h z u equal) =
         conjunction.is z u ∙ ap (λ (b : Bool). b && value_within i z u equal) kept ∙ ap (λ (b : Bool). value_within g z u image.kept && b) same in (
           λ e.
-              let parts = both-true (value_within g z u image.kept) (value_within h z u equal) (sym value ∙ e) in
+              let parts = and_parts (value_within g z u image.kept) (value_within h z u equal) (sym value ∙ e) in
               ((is.kept z u).0 parts.0, (outputs-same z u).0 ((says.is z u).0 parts.1)),
-          λ holds. value ∙ true-both (value_within g z u image.kept) (value_within h z u equal) ((is.kept z u).1 holds.0) ((says.is z u).1 ((outputs-same z u).1 holds.1)),
+          λ holds. value ∙ and_from (value_within g z u image.kept) (value_within h z u equal) ((is.kept z u).1 holds.0) ((says.is z u).1 ((outputs-same z u).1 holds.1)),
         );
   }
 

@@ -9,6 +9,7 @@ use Rattle.aig_graph.specs.Circuits.{AreLiteralsOf, AreNamesBelow, IsNetlist, Ne
 use Rattle.aig_graph.specs.Graph.{Graph, IsGraph, IsLiteralOf}
 use Rattle.aig_graph.specs.Value.{value_within}
 use Rattle.state_maps.specs.States.{Digits, State}
+use Rattle.witness_circuits.proofs.FinishLaws.{no-names}
 use Rattle.witness_circuits.proofs.ViewLaws.{input-value, table-within}
 use Rattle.map_miters.specs.declared.leaves.Leaves.{Leaves}
 use Rattle.map_miters.specs.Asking.{AreLeaves, asked_digits, asked_state}
@@ -54,9 +55,6 @@ leaves-grow g h c leaves more p = record {
   long = p.long;
   latches = holds-grow g h leaves.latches.items (asked_state c) more p.latches;
 }
-
-no-names : (n : ℕ) → AreNamesBelow n []
-no-names n = record { rising = λ k less. absurd (omega (arith, less)); below = λ k a less. absurd (omega (arith, less)) }
 
 names-below : AreNamesBelow 4 question_names
 names-below = record {

@@ -8,7 +8,7 @@ use Rattle.aig_graph.specs.Graph.{Graph, IsGraph}
 use Rattle.aig_graph.specs.Value.{value_within}
 use Rattle.aig_graph.proofs.KindLaws.{element}
 use Rattle.state_maps.specs.States.{Digits, State}
-use Rattle.state_maps.specs.MapCircuits.{mapped}
+use Rattle.state_maps.specs.MapCircuits.{FreeStay, mapped}
 use Rattle.state_maps.proofs.WithinLaws.{within_laws}
 use Rattle.map_circuits.specs.Growing.{Extends, IsConjunction}
 use Rattle.map_circuits.proofs.GrowingLaws.{negated-value}
@@ -18,7 +18,7 @@ use Rattle.map_miters.specs.declared.leaves.Leaves.{Leaves}
 use Rattle.map_miters.specs.Asking.{AreLeaves, asked_state}
 use Rattle.map_miters.specs.Holding.{AreResets, Held, HoldAs, IsImage, reset_at, reset_state}
 use Rattle.map_miters.proofs.HoldingLaws.{resets-hold}
-use Rattle.map_miters.specs.Questions.{Begins, FreeStay, IsFirst}
+use Rattle.map_miters.specs.Questions.{Begins, IsFirst}
 use Rattle.map_circuits.proofs.ConjunctionLaws.{both}
 
 -- outputs that are what latches hold at step 0 are a first state

@@ -4,21 +4,22 @@ use Rattle.std.specs.List.{All}
 use Rattle.std.proofs.lemmas.Bool.{cases_lt}
 use Rattle.std.proofs.lemmas.List.{get_or-map, get_or_append_left, get_or_push, length_push}
 use Rattle.std.proofs.lemmas.List.Elements.{All-cons, All-nil, All-push}
-use Rattle.std.proofs.lemmas.Option.{none-some, same_Some, slice_get_past}
+use Rattle.std.proofs.lemmas.Option.{none-some, same_Some}
 use Rattle.aig_graph.specs.declared.graph.Latch.{Latch}
 use Rattle.aig_graph.specs.Circuits.{Netlist}
 use Rattle.aig_graph.specs.Graph.{Graph, IsGraph, IsLiteralOf, first_latch, is_free, is_free_latch, variable}
 use Rattle.aig_graph.specs.Value.{value_within}
-use Rattle.state_maps.specs.MapCircuits.{mapped}
+use Rattle.state_maps.specs.MapCircuits.{IsFreeInput, free_outputs, mapped}
 use Rattle.state_maps.specs.States.{Digits, State}
 use Rattle.state_maps.proofs.FrameMapLaws.{agrees-is, is-agrees}
+use Rattle.state_maps.proofs.FreeLaws.{free-within}
 use Rattle.state_maps.proofs.WithinLaws.{within_laws}
 use Rattle.map_circuits.specs.Growing.{Extends, IsEquality}
 use Rattle.map_circuits.proofs.GrowingLaws.{negated-value}
 use Rattle.map_circuits.specs.Instances.{AreAll}
 use Rattle.witness_circuits.proofs.ViewLaws.{input-value, latch-value}
 use Rattle.map_miters.specs.Comparing.{FailsBut, SaysThat}
-use Rattle.map_miters.specs.Questions.{IsAskable, IsFreeInput, free_outputs}
+use Rattle.map_miters.specs.Questions.{IsAskable}
 use Rattle.map_miters.specs.Products.{IsTied, StartsAlike, second_state}
 use Rattle.map_miters.specs.Ties.{AreConstraints, AreTies, HasLatches}
 use Rattle.map_miters.proofs.LeafLaws.{latches-room, length-resets}
@@ -38,17 +39,6 @@ module _ (P : ℕ → Type 0) where
   free-each (l ∷ ls) [] k latch all there free less = absurd (omega (arith, less))
   free-each (l ∷ ls) (x ∷ xs) zero latch all there free less = head-free (is_free l) x (free_outputs ls xs) (ap is_free (same_Some l latch there) ∙ free) all
   free-each (l ∷ ls) (x ∷ xs) (suc k) latch all there free less = free-each ls xs k latch (tail-free (is_free l) x (free_outputs ls xs) all) there free (omega (arith, less))
-
--- a free latch is one of the latches
-pub free-within : (latches : List Latch) (k : ℕ) → is_free_latch (slice_get latches k) ≡ true → k < length latches
-free-within latches k free = elim (cases_lt k (length latches)) [
-  | inl short ↦ short
-  | inr past ↦ (let none : is_free_latch (slice_get latches k) ≡ false = ap is_free_latch (slice_get_past latches k past) in absurd (clash (is_free_latch (slice_get latches k)) free none))
-]
-  where
-    clash : (b : Bool) → b ≡ true → b ≡ false → ⊥
-    clash true one none = absurd (cc)
-    clash false one none = absurd (cc)
 
 module _ (c d m : Netlist) (askable : IsAskable c d m) (map_graph : IsGraph m.aig) (h : Graph) (valid : IsGraph h) (has : HasLatches c.aig d.aig true h) where
   -- of a free latch the literal of what it is in the second circuit

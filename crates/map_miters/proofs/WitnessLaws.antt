@@ -9,7 +9,7 @@ use Rattle.variable_tables.proofs.ListLaws.{count_by-cons, slice_get-map_some}
 use Rattle.variable_tables.proofs.PlacesLaws.{slice_get-append_left, slice_get-append_right}
 use Rattle.aig_graph.specs.declared.graph.Latch.{Latch}
 use Rattle.aig_graph.specs.declared.graph.Reset.{Reset}
-use Rattle.aig_graph.specs.declared.graph.Reset.TheVariants.{Zero, One, Free}
+use Rattle.aig_graph.specs.declared.graph.Reset.TheVariants.{Zero, Free}
 use Rattle.aig_graph.specs.Circuits.{AreLiteralsOf, IsNetlist, Netlist}
 use Rattle.aig_graph.specs.Graph.{IsGraph, free_before, free_latches, is_free, is_free_latch}
 use Rattle.aig_graph.specs.Streams.{property_literals}
@@ -18,7 +18,7 @@ use Rattle.aig_graph.proofs.KindLaws.{element}
 use Rattle.state_maps.specs.MapCircuits.{image, is_kept, mapped}
 use Rattle.state_maps.specs.States.{Digits, IsAllowed, State, after_step, opening_state}
 use Rattle.witness_circuits.specs.Witnesses.{AreJoint, GoesOn, HasResets, IsGood, IsSharing, IsWitness, bad_states}
-use Rattle.witness_circuits.proofs.OpeningLaws.{opening-known, opening-twice}
+use Rattle.witness_circuits.proofs.OpeningLaws.{free-where, opening-known, opening-twice}
 use Rattle.witness_circuits.specs.LiftedLaws.{first_places, first_shared}
 use Rattle.witness_circuits.proofs.AgreeLaws.{HaveSame, after_step-alike, alike-itself, literals-alike}
 use Rattle.witness_circuits.proofs.CarrierLaws.{bad-within}
@@ -52,13 +52,6 @@ same-truth : (a b : Bool) → (a ≡ true → b ≡ true) → (b ≡ true → a 
 same-truth true b f g = sym (f refl)
 same-truth false true f g = g refl
 same-truth false false f g = refl
-
--- a latch whose reset is free is free
-pub free-where : (latch : Latch) → latch.reset ≡ Free → is_free latch ≡ true
-free-where latch e = ap by_reset e
-  where
-    by_reset : Reset → Bool
-    by_reset r = elim r [ Zero ↦ false | One ↦ false | Free ↦ true ]
 
 module _ (c d m p w : Netlist) (first_graph : IsGraph c.aig) (second_graph : IsGraph d.aig) (second_net : IsNetlist d) (map_graph : IsGraph m.aig) (map_net : IsNetlist m) (model_graph : IsGraph p.aig)
     (graph : IsGraph w.aig) (net : IsNetlist w) (askable : IsAskable c d m) (meets : MeetsQuestions c d m) (model : IsProduct Agree c d m p) (machine : IsProduct Mapped c d m w) where

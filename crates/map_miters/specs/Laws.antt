@@ -3,11 +3,11 @@ use Rattle.std.specs.Prelude.{ℕ, ◌-◌, ◌<◌, ◌≡◌, false, List, map
 use Rattle.aig_graph.specs.Circuits.{IsNetlist, Netlist}
 use Rattle.aig_graph.specs.Graph.{Graph, IsGraph, free_before, variable}
 use Rattle.aig_graph.specs.Streams.{SameStreams}
-use Rattle.state_maps.specs.MapCircuits.{IsMapCircuit}
+use Rattle.state_maps.specs.MapCircuits.{FreeStay, IsMapCircuit, free_outputs}
 use Rattle.state_maps.specs.States.{Digits, State}
 use Rattle.witness_circuits.specs.Witnesses.{IsSharing, IsWitness}
 use Rattle.witness_circuits.specs.LiftedLaws.{first_shared}
-use Rattle.map_miters.specs.Questions.{Begins, FreeStay, IsAskable, Keeps, Reads, Steps, free_outputs}
+use Rattle.map_miters.specs.Questions.{Begins, IsAskable, Keeps, Reads, Steps}
 use Rattle.map_miters.specs.declared.goals.Goal.TheVariants.{Agree, Mapped}
 use Rattle.map_miters.specs.Miters.{IsMiter, output_in}
 use Rattle.map_miters.specs.Products.{IsProduct}
@@ -43,3 +43,7 @@ IsNeverOne r = (z : Digits) (k : ℕ) → k < 4 → output_in r k z ≡ false
 -- a miter that is never 1 says that the map has the answers
 abbrev pub MitersAnswer : Netlist → Netlist → Netlist → Netlist → Type 0
 MitersAnswer c d m r = IsGraph c.aig → IsNetlist c → IsGraph d.aig → IsNetlist d → IsAskable c d m → IsMiter c d m r → IsNeverOne r → MeetsQuestions c d m
+
+-- the miter of a map of states is never 1, where the map gives for each free latch of d a free latch of c, in their order
+abbrev pub MapsAreNeverOne : Netlist → Netlist → List ℕ → Netlist → Netlist → Type 0
+MapsAreNeverOne c d kept m r = IsMapCircuit c d kept m → FreeStay c d m → IsMiter c d m r → IsNeverOne r

@@ -1,13 +1,12 @@
 -- The questions of a map of states: each is answered by a literal that is 1 where it fails.
-use Rattle.std.specs.Prelude.{ℕ, ◌+◌, ◌*◌, ◌<◌, ◌≡◌, true, List, [], ◌∷◌, length, map, All, slice_get, Some, if◌then◌else◌}
-use Rattle.std.specs.List.Sorted.{IsStrictlyIncreasing}
+use Rattle.std.specs.Prelude.{ℕ, ◌<◌, ◌≡◌, [], length, map, slice_get, Some}
 use Rattle.aig_graph.specs.declared.graph.Latch.{Latch}
 use Rattle.aig_graph.specs.Circuits.{Netlist}
-use Rattle.aig_graph.specs.Graph.{Graph, is_free, is_free_latch}
+use Rattle.aig_graph.specs.Graph.{Graph}
 use Rattle.aig_graph.specs.Streams.{SameShape, property_literals}
 use Rattle.aig_graph.specs.Value.{opening, value_within}
 use Rattle.state_maps.specs.States.{Digits, State, after_step}
-use Rattle.state_maps.specs.MapCircuits.{is_kept, mapped}
+use Rattle.state_maps.specs.MapCircuits.{FreeStay, is_kept, mapped}
 use Rattle.map_miters.specs.Comparing.{FailsBut}
 use Rattle.map_miters.specs.Holding.{Held, reset_state}
 use Rattle.map_miters.specs.declared.questions.Compared.{Compared}
@@ -19,23 +18,6 @@ pub record IsAskable (c d m : Netlist) : Type 0 where
   pub inputs : m.aig.inputs ≡ length c.aig.latches
   pub latches : m.aig.latches ≡ []
   pub outputs : length m.props.outputs ≡ length d.aig.latches
-
--- the outputs that stand for free latches
-abbrev pub free_outputs : List Latch → List ℕ → List ℕ
-free_outputs [] lits = []
-free_outputs (latch ∷ latches) [] = []
-free_outputs (latch ∷ latches) (lit ∷ lits) = if is_free latch then lit ∷ free_outputs latches lits else free_outputs latches lits
-
--- the literal is that of the input that stands for a free latch of c
-pub record IsFreeInput (c : Graph) (lit : ℕ) : Type 0 where
-  pub place : ℕ
-  pub is : lit ≡ 2 * (1 + place)
-  pub free : is_free_latch (slice_get c.latches place) ≡ true
-
--- each free latch of d is one of c, in their order
-pub record FreeStay (c d m : Netlist) : Type 0 where
-  pub are : All (IsFreeInput c.aig) (free_outputs d.aig.latches m.props.outputs)
-  pub rising : IsStrictlyIncreasing (free_outputs d.aig.latches m.props.outputs)
 
 -- in the state each latch whose reset is known holds that
 abbrev pub IsFirst : Graph → State → Type 0

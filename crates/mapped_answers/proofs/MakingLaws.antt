@@ -21,7 +21,7 @@ use Rattle.aig_binary.proofs.SpellingLaws.{the_spelling_law}
 use Rattle.retimed_circuits.specs.declared.report.Retimed.{Retimed}
 use Rattle.retimed_circuits.specs.Retiming.{IsRetimedWith}
 use Rattle.retimed_circuits.proofs.LimitLaws.{stays-within}
-use Rattle.state_maps.specs.MapCircuits.{IsMapCircuit}
+use Rattle.state_maps.specs.MapCircuits.{FreeStay, IsMapCircuit}
 use Rattle.mapped_answers.specs.declared.making.Made.{Made}
 use Rattle.mapped_answers.specs.declared.mapped.Mapped.{Mapped}
 use Rattle.mapped_answers.specs.declared.errors.AnswerError.{AnswerError}
@@ -42,7 +42,7 @@ unheld options c (NoSuchLatch place) missing no_latch = no_latch place refl
 
 -- what was made of a circuit that has latches of all names and positions is what is asked for
 pub is-made : (options : Options) (c : Netlist) (m : Made) → AreLatchesBy options c → NoneMissingBy options c → IsRetimedMapped options c m → IsMade options c m
-is-made options c m latches none is = record { latches = latches; names = none; held = is.held; map = is.map }
+is-made options c m latches none is = record { latches = latches; names = none; held = is.held; map = is.map; free = is.free }
 
 -- of the same retiming the same is notified
 pub same-notified : {W E : Type 0} (was_notified : W → List Notification → Type 0) (limit : ℕ) (a b : W) (r : Retimed) (result : Result Made E) → Notifies was_notified a b (looks_of limit r)
@@ -65,7 +65,8 @@ pub written-answer : (options : Options) (spelt : SpeltCircuit) (made : Made) (s
 written-answer options spelt made spelling old new m same is written =
     let text : Spelling = unwrap_or options.spelling spelt.spelling in
     let P : Retimed → Type 0 = λ r. IsWritten options spelt old new r in
-    let Q : Retimed → Netlist → Type 0 = λ r map. IsMapCircuit spelt.circuit r.circuit r.kept_free map in
+    let Q : Retimed → Netlist → Type 0 = λ r map. IsMapCircuit spelt.circuit r.circuit r.kept_free map × FreeStay spelt.circuit r.circuit map in
+    let both : Q m.retimed m.map.circuit = subst (λ (r : Retimed). Q r m.map.circuit) (sym written.same) (subst (λ (map : Netlist). Q made.retimed map) (sym written.map) (is.map, is.free)) in
     let whole : P made.retimed = record {
       answer = record { latches = is.latches; names = is.names; retimed = is.held.retimed };
       writes = subst (λ (s : Spelling). WritesAll old new (text_in s made.retimed.circuit)) same written.writes;
@@ -75,7 +76,8 @@ written-answer options spelt made spelling old new m same is written =
     record {
       written = subst P (sym written.same) whole;
       held = subst (λ (r : Retimed). IsRetimedHeld options spelt.circuit r m.keep) (sym written.same) (subst (IsRetimedHeld options spelt.circuit made.retimed) (sym written.keep) is.held);
-      map = subst (λ (r : Retimed). Q r m.map.circuit) (sym written.same) (subst (λ (map : Netlist). Q made.retimed map) (sym written.map) is.map);
+      map = both.0;
+      free = both.1;
       spelling = written.spelt ∙ same;
     }
 

@@ -6,7 +6,7 @@ use Rattle.aig_graph.specs.Circuits.{IsNetlist, Netlist}
 use Rattle.aig_graph.specs.Graph.{IsGraph}
 use Rattle.aig_binary.specs.declared.reading.SpeltCircuit.{SpeltCircuit}
 use Rattle.aig_binary.specs.Spellings.{text_in}
-use Rattle.state_maps.specs.MapCircuits.{IsMapCircuit}
+use Rattle.state_maps.specs.MapCircuits.{FreeStay, IsMapCircuit}
 use Rattle.frames.specs.Answering.{IsStop, IsWritten}
 use Rattle.frames.specs.Named.{AreLatchesBy, IsFirstMissingBy, IsFirstNoLatchBy, NoneMissingBy}
 use Rattle.frames.specs.Retiming.{IsRetimedHeld}
@@ -18,17 +18,19 @@ use Rattle.mapped_answers.specs.declared.mapped.Mapped.{Mapped}
 use Rattle.mapped_answers.specs.declared.errors.AnswerError.{AnswerError}
 use Rattle.mapped_answers.specs.declared.errors.AnswerError.TheVariants.{Bytes, MapTooLarge}
 
--- the circuit retimed by the options, where its held latches stand then, and its map
+-- the circuit retimed by the options, where its held latches stand then, and its map, in which free latches stay
 pub record IsMade (options : Options) (c : Netlist) (m : Made) : Type 0 where
   pub latches : AreLatchesBy options c
   pub names : NoneMissingBy options c
   pub held : IsRetimedHeld options c m.retimed m.keep
   pub map : IsMapCircuit c m.retimed.circuit m.retimed.kept_free m.map
+  pub free : FreeStay c m.retimed.circuit m.map
 
 -- the same, whether the latches can be held or not
 pub record IsRetimedMapped (options : Options) (c : Netlist) (m : Made) : Type 0 where
   pub held : IsRetimedHeld options c m.retimed m.keep
   pub map : IsMapCircuit c m.retimed.circuit m.retimed.kept_free m.map
+  pub free : FreeStay c m.retimed.circuit m.map
 
 -- why there is no map of a retiming
 abbrev pub IsMapError : AnswerError → Type 0
@@ -60,11 +62,12 @@ IsMadeCutOff made spelling old new (Bytes (Read e)) = ⊥
 IsMadeCutOff made spelling old new (Bytes (Retime e)) = ⊥
 IsMadeCutOff made spelling old new (Bytes (Write e)) = WritesPart old new (text_in spelling made.retimed.circuit)
 
--- the answer was written, the held latches stand where it is said, and the map is that of its circuit, in its spelling
+-- the answer was written, the held latches stand where it is said, and the map is that of its circuit, in its spelling; free latches stay in it
 pub record IsMappedOf (options : Options) (spelt : SpeltCircuit) (old new : Output) (m : Mapped) : Type 0 where
   pub written : IsWritten options spelt old new m.retimed
   pub held : IsRetimedHeld options spelt.circuit m.retimed m.keep
   pub map : IsMapCircuit spelt.circuit m.retimed.circuit m.retimed.kept_free m.map.circuit
+  pub free : FreeStay spelt.circuit m.retimed.circuit m.map.circuit
   pub spelling : m.map.spelling ≡ unwrap_or options.spelling spelt.spelling
 
 -- nothing is written where there is no map

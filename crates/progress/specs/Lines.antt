@@ -2,7 +2,7 @@
 use Rattle.std.specs.Prelude.{ℕ, List, [], ◌∷◌, ◌++◌, Option, Some, None, decimal, codes}
 use Rattle.progress.specs.declared.lines.Frame.{Frame}
 use Rattle.progress.specs.declared.lines.State.{State}
-use Rattle.progress.specs.declared.lines.State.TheVariants.{Cleaning, Looking, Moving, Writing}
+use Rattle.progress.specs.declared.lines.State.TheVariants.{Cleaning, Looking, Moving, Checking, Writing}
 
 -- the seconds since the beginning, where a clock told them
 abbrev pub seconds_text : Option ℕ → List ℕ
@@ -23,6 +23,7 @@ abbrev pub state_text : State → List ℕ
 state_text Cleaning = codes "cleaning"
 state_text (Looking frame) = frame_text (codes "looking, ") frame
 state_text (Moving frame) = frame_text (codes "moving, ") frame
+state_text Checking = codes "checking"
 state_text Writing = codes "writing"
 
 -- to the beginning of the line, which is cleared

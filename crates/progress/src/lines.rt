@@ -26,6 +26,8 @@ pub enum State {
     Looking(Frame),
     /// Moves latches over the set of a frame, and cleans.
     Moving(Frame),
+    /// Checks the circuit that latches were moved backward in.
+    Checking,
     /// Writes the circuit.
     Writing,
 }
@@ -62,6 +64,7 @@ fn put_state<W: CountedWrite>(out: &mut Buffered<'_, W>, state: State)
         State::Cleaning => out.put(b"cleaning"),
         State::Looking(frame) => put_frame(out, b"looking, ", frame),
         State::Moving(frame) => put_frame(out, b"moving, ", frame),
+        State::Checking => out.put(b"checking"),
         State::Writing => out.put(b"writing"),
     }
 }

@@ -5,7 +5,8 @@ ghost use Rattle.progress.specs.Shows as wanted;
 use crate::lines::{Frame, State, clear_line, write_in_place, write_line};
 use crate::stopwatch::Stopwatch;
 use aig_graph::Aig;
-use command_line::{Retiming, Shown};
+use backward_moves::{MoveStage, MoveWatcher};
+use command_line::Shown;
 use counted_io::CountedWrite;
 use frames::{FrameWatcher, Stage};
 use json_reports::Times;
@@ -61,22 +62,22 @@ pub struct Progress<'a, R, E> {
 }
 
 impl<'a, R: Clock, E: CountedWrite> Progress<'a, R, E> {
-    /// Shows a run on `err` as the task asks, and takes its times where it prints an object; `is_terminal` is whether `err` is a
-    /// terminal.
+    /// Shows a run on `err` as it is asked, and takes its times where these are wanted; `is_terminal` is whether `err` is a terminal.
     pub fn new(
-        task: &Retiming<'_>,
+        shown: Shown,
+        is_timed: bool,
         is_terminal: bool,
         clock: &'a R,
         alloc: Global,
         err: &'a mut E,
     ) -> Progress<'a, R, E> {
-        let watch = if task.json {
+        let watch = if is_timed {
             Stopwatch::start(clock, alloc)
         } else {
             None
         };
         Progress {
-            show: show_for(task.shown, is_terminal),
+            show: show_for(shown, is_terminal),
             clock,
             began: Instant::now(clock).ok(),
             err,
@@ -108,13 +109,11 @@ impl<'a, R: Clock, E: CountedWrite> Progress<'a, R, E> {
     }
 
     /// Writes the line over, where the run has taken a second.
-    fn write_over(&mut self, stage: Stage<'_>) {
+    fn write_over(&mut self, state: State) {
         let seconds = self.seconds();
-        if let Some(state) = self.state_in(stage) {
-            if seconds.unwrap_or(0) > 0 {
-                let _ = write_in_place(state, seconds, self.err);
-                self.on_line = true;
-            }
+        if seconds.unwrap_or(0) > 0 {
+            let _ = write_in_place(state, seconds, self.err);
+            self.on_line = true;
         }
     }
 
@@ -141,17 +140,44 @@ impl<'a, R: Clock, E: CountedWrite> Progress<'a, R, E> {
         }
     }
 
-    /// Shows that the stage begins.
-    fn show_stage(&mut self, stage: Stage<'_>) {
+    /// Shows what the run does from now on.
+    fn show_state(&mut self, state: State) {
         match self.show {
             Show::Nothing => {}
             Show::EachFrame => {
-                if let Stage::Looking { taken, aig } = stage {
-                    self.write_frame(frame_of(taken, aig));
+                if let State::Looking(frame) = state {
+                    self.write_frame(frame);
                 }
             }
-            Show::InPlace => self.write_over(stage),
+            Show::InPlace => self.write_over(state),
         }
+    }
+
+    /// Shows that the stage begins.
+    fn show_stage(&mut self, stage: Stage<'_>) {
+        if let Show::Nothing = self.show {
+            return;
+        }
+        if let Some(state) = self.state_in(stage) {
+            self.show_state(state);
+        }
+    }
+}
+
+/// What a run that moves latches backward does in this stage.
+fn state_of(stage: MoveStage) -> State {
+    match stage {
+        MoveStage::Looking {
+            taken,
+            latches,
+            gates,
+        } => State::Looking(Frame {
+            number: (taken as u64).saturating_add(1),
+            latches,
+            gates: gates as u64,
+        }),
+        MoveStage::Checking => State::Checking,
+        MoveStage::Writing => State::Writing,
     }
 }
 
@@ -164,5 +190,11 @@ impl<R: Clock, E: CountedWrite> FrameWatcher for Progress<'_, R, E> {
             watch.enter(self.clock, stage);
         }
         self.show_stage(stage);
+    }
+}
+
+impl<R: Clock, E: CountedWrite> MoveWatcher for Progress<'_, R, E> {
+    fn begin(&mut self, stage: MoveStage) {
+        self.show_state(state_of(stage));
     }
 }

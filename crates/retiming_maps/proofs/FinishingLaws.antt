@@ -1,12 +1,14 @@
 -- The finished parts are a map as a circuit.
 use Rattle.std.proofs.Common.{ℕ, List, [], length, arith, refl, sym, subst}
 use Rattle.aig_graph.specs.Circuits.{AreNamesBelow, IsNetlist, Netlist}
-use Rattle.state_maps.specs.MapCircuits.{IsMapCircuit}
+use Rattle.state_maps.specs.MapCircuits.{FreeStay, IsMapCircuit}
 use Rattle.retiming_maps.specs.declared.parts.MapParts.{MapParts}
 use Rattle.retiming_maps.specs.Mapping.{IsMapTo, map_of, map_symbols}
 use Rattle.retiming_maps.specs.Plain.{IsPlainMap}
+use Rattle.retiming_maps.proofs.FreeLaws.{free-stay}
 
-no-names : (n : ℕ) → AreNamesBelow n []
+-- no names are names of places
+pub no-names : (n : ℕ) → AreNamesBelow n []
 no-names n = record { rising = λ k less. absurd (omega (arith, less)); below = λ k a less. absurd (omega (arith, less)) }
 
 module _ (c d : Netlist) (kept : List ℕ) (m : MapParts) (one : IsNetlist c) (two : IsNetlist d) (map : IsMapTo c d kept m) where
@@ -38,3 +40,7 @@ module _ (c d : Netlist) (kept : List ℕ) (m : MapParts) (one : IsNetlist c) (t
   -- the parts of a map with the names are a map as a circuit
   pub map-circuit : IsMapCircuit c d kept (map_of m (map_symbols c d))
   map-circuit = record { graph = map.graph; netlist = map-netlist; inputs = map.inputs; latches = map.latches; outputs = map.many; maps = map.maps }
+
+  -- in it free latches stay
+  pub map-free : FreeStay c d (map_of m (map_symbols c d))
+  map-free = free-stay c d (map_of m (map_symbols c d)) kept map.places map.many map.free

@@ -1,3 +1,4 @@
+pub mod FreeLaws
 pub mod StartLaws
 pub mod SubstitutesLaws
 pub mod StepLaws

@@ -2,12 +2,12 @@
 use Rattle.std.proofs.Common.{ℕ, ◌≡◌, ◌<◌, List, length, Ok, ap, sym, ◌∙◌, subst}
 use Rattle.std.specs.List.{All}
 use Rattle.std.proofs.lemmas.List.{length-map}
-use Rattle.std.proofs.lemmas.List.FromFn.{length-range_with_len}
 use Rattle.aig_graph.specs.Circuits.{Netlist}
 use Rattle.aig_graph.specs.Graph.{Graph, first_latch, free_latches}
 use Rattle.aig_graph.specs.Laws.{all_free, composed}
-use Rattle.aig_graph.specs.Streams.{SameStreams}
+use Rattle.aig_graph.specs.Streams.{AreKept, SameStreams}
 use Rattle.clean.specs.declared.cleaning.Cleaned.{Cleaned}
+use Rattle.cleaned_circuits.specs.Merged.{replaced_circuit}
 use Rattle.cleaned_circuits.proofs.MergedLaws.{length-replaced_latches}
 use Rattle.cleaned_circuits.proofs.PassLaws.{IsCircuit, IsCircuit-cleans, cleans-streams}
 use Rattle.latch_merging.specs.declared.start.MergedStart.{MergedStart}
@@ -21,12 +21,14 @@ use Rattle.map_circuits.specs.Following.{state_of}
 use Rattle.map_circuits.specs.Steps.{read_functions}
 use Rattle.map_circuits.proofs.ReadFunctionLaws.{merged-step, read-within}
 use Rattle.state_maps.specs.States.{IsStateMap}
+use Rattle.state_maps.proofs.MergedRunMapLaws.{composed-every}
 use Rattle.retimed_circuits.specs.Frames.{CleansTo}
 use Rattle.retimed_circuits.specs.Names.{StayHeld}
 use Rattle.retimed_circuits.proofs.HeldLaws.{cleaning-keeps}
 use Rattle.retiming_maps.specs.declared.parts.MapParts.{MapParts}
 use Rattle.retiming_maps.specs.Mapping.{IsCleanedAlong, IsMapBy, LeadsOn}
 use Rattle.retiming_maps.specs.Merging.{IsMergedAfter, IsStartAlong}
+use Rattle.retiming_maps.proofs.FreeLaws.{free-merged, kept-then}
 
 module _ (b d e : Netlist) (held kept reads : List ℕ) (g h : Graph) (functions old new : List ℕ) where
   -- a map to a circuit, with the constraints of what its latches read as, is one to what the circuit is merged to, by the functions of what they read as
@@ -39,8 +41,9 @@ module _ (b d e : Netlist) (held kept reads : List ℕ) (g h : Graph) (functions
     functions_within = read-within d.aig held reads functions coarsest.kept.reading p.many g h old new p.graph p.functions_within adds;
     constraints_within = adds.within;
     many = length-map reads (substitute_function (first_latch d.aig) functions) ∙ coarsest.kept.reading.long ∙ sym (ap (λ (n : Netlist). length n.aig.latches) merged.circuit ∙ length-replaced_latches (substitutes_by d.aig merged.reads) d.aig);
-    each = p.each ∙ sym (length-range_with_len 0 (free_latches d.aig)) ∙ streams.places.each;
-    maps = subst Q one (merged-step b d e held kept g h functions old new valid.graph valid.netlist merged p.graph p.functions_within p.many p.each p.maps (subst P (sym one) adds));
+    places = subst (AreKept b e) (composed-every kept (free_latches d.aig) p.places.each) (kept-then b d e kept (all_free d.aig) p.places streams.places);
+    free = free-merged b d e held kept reads functions coarsest.kept.reading (subst (λ (xs : List ℕ). e ≡ replaced_circuit (substitutes_by d.aig xs) d) one merged.circuit) coarsest.kept.reading.long p.free;
+    maps = subst Q one (merged-step b d e held kept g h functions old new valid.graph valid.netlist merged p.graph p.functions_within p.many p.places.each p.maps (subst P (sym one) adds));
   }
     where
       streams : SameStreams d e (all_free d.aig)

@@ -4,7 +4,7 @@ use Rattle.std.specs.List.{All}
 use Rattle.std.proofs.Math.ListN.{get_or-eq_default}
 use Rattle.std.proofs.lemmas.Bool.{cases_lt}
 use Rattle.std.proofs.lemmas.List.{get_or-map, length-map}
-use Rattle.std.proofs.lemmas.List.FromFn.{get_or-range_with_len, length-range_with_len}
+use Rattle.std.proofs.lemmas.List.FromFn.{get_or-range_with_len}
 use Rattle.std.proofs.lemmas.Option.{none-some, slice_get_within}
 use Rattle.aig_graph.specs.declared.graph.Latch.{Latch}
 use Rattle.aig_graph.specs.declared.literal.TheConstants.{MAX_VARIABLES}
@@ -27,7 +27,8 @@ use Rattle.state_maps.proofs.WithinLaws.{within_laws}
 use Rattle.map_circuits.specs.Constraining.{AreOne}
 use Rattle.map_circuits.specs.Following.{state_of}
 use Rattle.retiming_maps.specs.Mapping.{IsMapBy}
-use Rattle.aig_graph.proofs.StreamLaws.{funext}
+use Rattle.retiming_maps.proofs.FreeLaws.{free-start}
+use Rattle.aig_graph.proofs.StreamLaws.{funext, same_streams-reflexive}
 
 -- the values of a step rest on what the latches hold alone
 module _ (g : Graph) (valid : IsGraph g) (x : Digits) (s t : State) (same : (j : ℕ) → j < length g.latches → s j ≡ t j) where
@@ -167,7 +168,8 @@ identity-map c g functions constraints valid graph built filled none =
           omega (arith, at, below);
       constraints_within = λ k d less. absurd (omega (arith, less));
       many = length-table 0 n (λ j. 2 * (1 + j));
-      each = length-range_with_len 0 (free_latches c.aig);
+      places = (same_streams-reflexive c).places;
+      free = free-start c;
       maps = identity-maps c valid here;
     } in
     subst (λ (h : Graph). Q h functions constraints) (sym built)

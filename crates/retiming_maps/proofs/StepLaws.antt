@@ -1,7 +1,6 @@
 -- A map that follows passes and moves is one to what they make.
-use Rattle.std.proofs.Common.{ℕ, ◌+◌, ◌<◌, ◌≤◌, ◌≡◌, Bool, slice_get, List, length, get_or, ap, sym, ◌∙◌, subst, zero-add}
-use Rattle.std.specs.List.{All, range_with_len}
-use Rattle.std.proofs.lemmas.List.{length-map}
+use Rattle.std.proofs.Common.{ℕ, ◌<◌, ◌≤◌, ◌≡◌, Bool, slice_get, List, length, get_or, ap, sym, ◌∙◌, subst}
+use Rattle.std.specs.List.{All}
 use Rattle.aig_graph.specs.declared.literal.TheConstants.{MAX_VARIABLES}
 use Rattle.aig_graph.specs.Circuits.{Netlist}
 use Rattle.aig_graph.specs.Closed.{IsClosedSet}
@@ -10,19 +9,18 @@ use Rattle.aig_graph.specs.Laws.{all_free, composed}
 use Rattle.aig_graph.specs.Move.{Move}
 use Rattle.aig_graph.specs.Streams.{AreKept, SameStreams}
 use Rattle.cleaned_circuits.specs.Cleaned.{IsPass}
-use Rattle.cleaned_circuits.specs.Merged.{merged_of, replaced_graph, replaced_latch, substitutes_of}
+use Rattle.cleaned_circuits.specs.Merged.{merged_of}
 use Rattle.cleaned_circuits.proofs.MergedLaws.{IsGraph-merged}
 use Rattle.cleaned_circuits.proofs.PassLaws.{IsCircuit, IsCircuit-pass, pass-streams}
 use Rattle.rebuild.specs.Moved.{moved_graph, moved_of}
 use Rattle.rebuild.proofs.MovedLaws.{IsGraph-moved}
 use Rattle.variable_tables.specs.Counting.{places}
-use Rattle.variable_tables.specs.Tables.{table}
-use Rattle.variable_tables.proofs.TableLaws.{table-from}
 use Rattle.state_maps.specs.States.{IsStateMap, State}
 use Rattle.state_maps.specs.Cleaning.{SubstitutesHold, held_by, trimmed_state}
 use Rattle.state_maps.specs.Moving.{moved_state}
 use Rattle.state_maps.proofs.FrameMapLaws.{restated}
 use Rattle.state_maps.proofs.MapLaws.{maps-compose, moving-maps}
+use Rattle.state_maps.proofs.MergedRunMapLaws.{composed-every}
 use Rattle.state_maps.proofs.PassStepLaws.{cleaning-maps, small-many}
 use Rattle.map_circuits.specs.Constraining.{AddsSubstitutes, AreOne}
 use Rattle.map_circuits.specs.Following.{state_of}
@@ -32,15 +30,10 @@ use Rattle.map_circuits.proofs.ConstrainingLaws.{ones-before, ones-later}
 use Rattle.map_circuits.proofs.SteppingLaws.{state-kept}
 use Rattle.retiming_maps.specs.declared.parts.MapParts.{MapParts}
 use Rattle.retiming_maps.specs.Mapping.{IsMapBy, IsMapTo, LeadsOn}
+use Rattle.retiming_maps.proofs.FreeLaws.{free-moved, free-passed, kept-then, pass-places}
 use Rattle.retiming_maps.proofs.SubstitutesLaws.{latch_substitutes, substitutes-below, substitutes-hold}
 use Rattle.clean.proofs.CleaningLaws.{composed-then}
 use Rattle.aig_graph.proofs.StreamLaws.{funext}
-
--- a merged circuit has the latches that stay where the circuit has them
-pass-places : (d : Netlist) (held : List ℕ) (r : ℕ → Bool)
-    → places (λ j. r (first_latch (merged_of held d).aig + j)) (length (merged_of held d).aig.latches) ≡ places (λ j. r (first_latch d.aig + j)) (length d.aig.latches)
-unfolding replaced_graph
-pass-places d held r = ap (places (λ j. r (first_latch d.aig + j))) (length-map d.aig.latches (replaced_latch (substitutes_of d.aig held)))
 
 module _ (c d e : Netlist) (held kept second still : List ℕ) (g h : Graph) (functions new old constraints : List ℕ) where
   -- a map that goes on through a pass, with constraints of what stands for each latch, is a map to what the pass makes
@@ -54,7 +47,8 @@ module _ (c d e : Netlist) (held kept second still : List ℕ) (g h : Graph) (fu
     functions_within = passed.within;
     constraints_within = adds.within;
     many = passed.many ∙ sym (ap (λ (n : Netlist). length n.aig.latches) pass.circuit ∙ small-many m held r (IsGraph-merged d.aig held valid.graph) pass.are_reached.holds ∙ ap (λ (js : List ℕ). length js) (pass-places d held r));
-    each = length-map second (λ i. get_or kept i 0) ∙ streams.places.each;
+    places = kept-then c d e kept second p.places streams.places;
+    free = free-passed c d e held kept second still h functions new pass streams passed p.free;
     maps = subst (λ (to : State → State). IsStateMap c e (composed kept second) (AreOne h constraints) to) (sym whole) (restated c e (composed kept second)
         (λ s. AreOne g old s × SubstitutesHold d.aig held (state_of g functions s)) (AreOne h constraints) (λ s. trimmed_state m.aig r (state_of g functions s))
         (λ s both. (adds.says s).1 (both.0, substitutes-below d.aig held functions p.many g p.graph valid.graph s both.1))
@@ -80,23 +74,19 @@ module _ (c d e : Netlist) (held kept second still : List ℕ) (g h : Graph) (fu
           passed.states s ∙ ap (trimmed_state d.aig r) (state-kept g h functions adds.extends p.functions_within s)
           ∙ sym (ap (λ (js : List ℕ). λ (k : ℕ). held_by (state_of g functions s) (slice_get js k)) (pass-places d held r)))
 
--- all places, composed with a list, are the list
-pub composed-all : (n : ℕ) (kept : List ℕ) → length kept ≡ n → composed kept (range_with_len 0 n) ≡ kept
-unfolding table
-composed-all n kept many = sym (table-from 0 n (λ i. get_or kept i 0) kept 0 many (λ k less. ap (λ (i : ℕ). get_or kept i 0) (sym (zero-add k))))
-
 module _ (c : Netlist) (m : Move) (kept : List ℕ) (g h : Graph) (functions new constraints : List ℕ) where
   -- a map that goes on through a move is a map to the moved circuit
   pub move-map : IsCircuit m.circuit → IsClosedSet m.circuit.aig m.held m.set → variables_end (moved_graph m) ≤ MAX_VARIABLES → AreKept m.circuit (moved_of m) (all_free m.circuit.aig)
       → IsMapBy c m.circuit kept g functions constraints → Extends g h → AreMoved g functions m h new → IsMapBy c (moved_of m) kept h new constraints
-  move-map valid set room free p extends moved = subst (λ (js : List ℕ). IsMapBy c (moved_of m) js h new constraints) (composed-all (free_latches m.circuit.aig) kept p.each) (record {
+  move-map valid set room free p extends moved = subst (λ (js : List ℕ). IsMapBy c (moved_of m) js h new constraints) (composed-every kept (free_latches m.circuit.aig) p.places.each) (record {
     graph = extends.graph;
     inputs = extends.inputs ∙ p.inputs;
     latches = extends.latches ∙ p.latches;
     functions_within = moved.within;
     constraints_within = λ k a less. extends.literals (get_or constraints k a) (p.constraints_within k a less);
     many = moved.many;
-    each = length-map (all_free m.circuit.aig) (λ i. get_or kept i 0) ∙ free.each;
+    places = kept-then c m.circuit (moved_of m) kept (all_free m.circuit.aig) p.places free;
+    free = free-moved c m kept g h functions new set free moved p.free;
     maps = subst (λ (to : State → State). IsStateMap c (moved_of m) (composed kept (all_free m.circuit.aig)) (AreOne h constraints) to) (sym (funext _ _ moved.states))
         (restated c (moved_of m) (composed kept (all_free m.circuit.aig)) (λ s. AreOne g constraints s × Unit {0}) (AreOne h constraints) (λ s. moved_state m (state_of g functions s))
         (λ s both. ones-later g h extends constraints p.constraints_within s both.0)

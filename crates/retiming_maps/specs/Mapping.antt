@@ -1,19 +1,33 @@
 -- A map of states that grows with a retiming.
-use Rattle.std.specs.Prelude.{ℕ, ◌≡◌, ◌<◌, All, List, [], length}
+use Rattle.std.specs.Prelude.{ℕ, ◌≡◌, ◌<◌, true, All, List, [], length, slice_get}
+use Rattle.std.specs.List.{slice_index_or}
 use Rattle.aig_graph.specs.Circuits.{AreLiteralsOf, Netlist}
 use Rattle.aig_graph.specs.declared.properties.Symbols.{Symbols}
-use Rattle.aig_graph.specs.Graph.{Graph, IsGraph, free_latches}
+use Rattle.aig_graph.specs.Graph.{Graph, IsGraph, free_before, is_free_latch}
 use Rattle.aig_graph.specs.Laws.{composed}
+use Rattle.aig_graph.specs.Streams.{AreKept}
 use Rattle.clean.specs.declared.cleaning.Cleaned.{Cleaned}
 use Rattle.clean.specs.declared.tracing.TracedPass.{TracedPass}
 use Rattle.cleaned_circuits.specs.Cleaned.{Cleans, IsPass}
 use Rattle.cleaned_circuits.specs.Held.{HeldAfter}
 use Rattle.map_circuits.specs.Constraining.{AreOne}
 use Rattle.map_circuits.specs.Following.{state_of}
+use Rattle.state_maps.specs.MapCircuits.{IsFreeInput}
 use Rattle.state_maps.specs.States.{IsStateMap}
 use Rattle.retiming_maps.specs.declared.parts.MapParts.{MapParts}
 
--- Gates over an input for each latch of c. Where the constraints are 1, the functions are the state of d: a map of c's states.
+-- the literal is that of the input for a free latch of c, before which there are so many free ones
+pub record IsInputAt (c : Graph) (before lit : ℕ) : Type 0 where
+  pub input : IsFreeInput c lit
+  pub at : free_before c input.place ≡ before
+
+-- the function of each free latch of d is the input for a free latch of c: for that one which kept has for it
+abbrev pub AreFreeInputs : Netlist → Netlist → List ℕ → List ℕ → Type 0
+AreFreeInputs c d kept functions = (j : ℕ) → is_free_latch (slice_get d.aig.latches j) ≡ true
+    → IsInputAt c.aig (slice_index_or kept (free_before d.aig j) 0) (slice_index_or functions j 0)
+
+-- Gates over an input for each latch of c. Where the constraints are 1, the functions are the state of d: a map of c's states, which gives
+-- for each free latch of d a free latch of c.
 pub record IsMapBy (c d : Netlist) (kept : List ℕ) (g : Graph) (functions constraints : List ℕ) : Type 0 where
   pub graph : IsGraph g
   pub inputs : g.inputs ≡ length c.aig.latches
@@ -21,7 +35,8 @@ pub record IsMapBy (c d : Netlist) (kept : List ℕ) (g : Graph) (functions cons
   pub functions_within : AreLiteralsOf g functions
   pub constraints_within : AreLiteralsOf g constraints
   pub many : length functions ≡ length d.aig.latches
-  pub each : length kept ≡ free_latches d.aig
+  pub places : AreKept c d kept
+  pub free : AreFreeInputs c d kept functions
   pub maps : IsStateMap c d kept (AreOne g constraints) (state_of g functions)
 
 -- the parts are a map of c's states to those of d

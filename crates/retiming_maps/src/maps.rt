@@ -1,6 +1,6 @@
 //! A map that has come to the end of a retiming, as a circuit.
 ghost use Rattle.std.specs.Prelude.{ℕ, ◌≡◌, IfOk, List};
-ghost use Rattle.state_maps.specs.MapCircuits.{IsMapCircuit};
+ghost use Rattle.state_maps.specs.MapCircuits.{FreeStay, IsMapCircuit};
 ghost use Rattle.retiming_maps.specs.Mapping.{IsMapTo, map_of, map_symbols};
 ghost use Rattle.retiming_maps.specs.Plain.{IsPlainMap};
 
@@ -48,7 +48,8 @@ fn finished(alloc: Global, parts: MapParts, symbols: Symbols) -> StateMap
 }
 
 /// The parts of a map, as a circuit: its inputs are the latches of the circuit that was read, its outputs what the latches of the
-/// retimed circuit hold, where its constraints are 1. Both have the names of their latches. Of gates none is copied.
+/// retimed circuit hold, where its constraints are 1; the output of a free latch is the input of one. Both have the names of their latches.
+/// Of gates none is copied.
 ///
 /// # Errors
 ///
@@ -62,6 +63,7 @@ pub fn state_map(
     requires { (kept : List ℕ) × IsMapTo circuit.now retimed.now kept parts }
     ensures map { IfOk result (λ map. (kept : List ℕ) → IsMapTo circuit.now retimed.now kept parts
         → IsMapCircuit circuit.now retimed.now kept map) }
+    ensures free { IfOk result (FreeStay circuit.now retimed.now) }
     ensures names { IfOk result (λ map. map.symbols ≡ map_symbols circuit.now retimed.now) }
 {
     circuit.known();

@@ -8,7 +8,7 @@ ghost use Rattle.retiming_maps.specs.Mapping.{IsCleanedAlong, IsNextAlong, IsPas
 
 use crate::parts::MapParts;
 use aig_graph::{Circuit, Keep, Sequence};
-use clean::{Cleaned, TracedPass, composed, has_more, picked, traced_pass};
+use clean::{Cleaned, TracedPass, composed, has_more, kept_twice, traced_pass};
 use map_circuits::{MapError, add_constraints};
 use std::alloc::Global;
 
@@ -77,13 +77,9 @@ fn pass_after(
     last.circuit.known();
     let mut next = passed(alloc, parts, &last.circuit, last.held.as_slice())?;
     let places = composed(alloc, last.kept_free.as_slice(), next.kept_free.as_slice())?;
-    let gates = picked(
-        alloc,
-        last.kept_gates.as_slice(),
-        next.kept_gates.as_slice(),
-    )?;
+    let kept = kept_twice(alloc, last.kept.as_slice(), next.kept.as_slice())?;
     next.kept_free = places;
-    next.kept_gates = gates;
+    next.kept = kept;
     Ok(next)
 }
 
@@ -110,14 +106,14 @@ fn cleaned_by(last: TracedPass) -> Cleaned
         circuit,
         kept_free,
         held,
-        kept_gates,
+        kept,
         ..
     } = last;
     Cleaned {
         circuit,
         keep: Keep::new(held),
         kept_free: Sequence::from_vec(kept_free),
-        kept_gates,
+        kept,
     }
 }
 

@@ -182,7 +182,8 @@ literals-read p a =
     let e4 = map-append a (p.outputs ++ p.bad ++ p.constraints ++ flat) p.fairness in
     cc
 
-all-read : (c d : Netlist) (x : Digits) (s t : State) → SameReads c d x s t
+-- all properties have the same values where those of each kind have
+pub all-read : (c d : Netlist) (x : Digits) (s t : State) → SameReads c d x s t
     → map (value_within d.aig x t) (property_literals d.props) ≡ map (value_within c.aig x s) (property_literals c.props)
 all-read c d x s t same =
     let one = literals-read d.props (value_within d.aig x t) in

@@ -32,7 +32,7 @@ compose-has c d e kept left valid places p q = (
 )
 
 -- a list with all its places is itself
-composed-every : (kept : List ℕ) (n : ℕ) → length kept ≡ n → composed kept (range_with_len 0 n) ≡ kept
+pub composed-every : (kept : List ℕ) (n : ℕ) → length kept ≡ n → composed kept (range_with_len 0 n) ≡ kept
 composed-every kept n long =
     let f : ℕ → ℕ = λ place. get_or kept place 0 in
     let places : List ℕ = range_with_len 0 n in

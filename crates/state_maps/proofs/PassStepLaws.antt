@@ -193,7 +193,8 @@ module _ (g : Graph) (r : ℕ → Bool) where
   abbrev remains : ℕ → Bool
   remains j = r (first_latch g + j)
 
-  new-rank : (j : ℕ) → new_variable g r (first_latch g + j) ≡ first_latch g + count_below remains j
+  -- past the inputs, the new variable of a latch is the number of latches before it that stay
+  pub new-rank : (j : ℕ) → new_variable g r (first_latch g + j) ≡ first_latch g + count_below remains j
   new-rank zero =
       let place : first_latch g + 0 ≡ first_latch g = omega arith in
       omega (arith, ap (new_variable g r) place, new-low g r (first_latch g) (omega arith), count-zero remains)

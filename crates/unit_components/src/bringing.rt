@@ -1,26 +1,34 @@
-//! The flow of a region by its parts: each worker works on those that it owns and hands their flow back, then the crew works on the large ones.
+//! The flow of a region by its parts: each worker draws one part after another, which it then owns, and hands their flows back; then the crew works on the
+//! large ones. Who draws which part hangs on how fast each worker is; what flows in a part doesn't.
 
 use crate::gathering::{PartFlow, gathered};
 use crate::part_flows::{Cut, part_flow};
-use crate::shares::{Share, Sharing};
+use crate::shares::Sharing;
 use aig_graph::NoMemory;
 use pulse::{Crew, OpenGate, PhaseGate};
 use std::alloc::Global;
+use std::sync::atomic::{AtomicU64, Ordering};
 use std::thread;
 use std::thread::Threads;
 use unit_flows::GateFlow;
+use unit_starts::narrow;
 
-/// The flow of each of a worker's parts.
-fn share_flows<R: Threads + Sync>(
+/// The flow of each part that a worker draws: the next one, of which this is the number, until none is left.
+fn drawn_flows<R: Threads + Sync>(
     rt: &R,
     alloc: Global,
     cut: &Cut,
     sharing: &Sharing,
-    share: Share,
+    next: &AtomicU64,
 ) -> Result<Vec<PartFlow>, NoMemory> {
     let crew = Crew::new(1, OpenGate);
+    let parts = cut.parts.count();
     let mut found = Vec::new(alloc);
-    for part in share.first..share.end {
+    for _ in 0..parts {
+        let part = next.fetch_add(1, Ordering::SeqCst) as usize;
+        if part >= parts {
+            return Ok(found);
+        }
         if !sharing.is_large(part) {
             let flows = part_flow(rt, alloc, cut, part, &crew)?;
             found.push(PartFlow { part, flows })?;
@@ -29,8 +37,8 @@ fn share_flows<R: Threads + Sync>(
     Ok(found)
 }
 
-/// Brings the units of the parts that workers own, each in one thread. A worker passes the gate of the crew as it begins, and leaves it as it ends.
-fn bring_shares<R: Threads + Sync, G: PhaseGate>(
+/// Brings the units of the parts that workers draw, each in one thread. A worker passes the gate of the crew as it begins, and leaves it as it ends.
+fn bring_drawn<R: Threads + Sync, G: PhaseGate>(
     rt: &R,
     alloc: Global,
     cut: &Cut,
@@ -39,14 +47,14 @@ fn bring_shares<R: Threads + Sync, G: PhaseGate>(
     found: &mut Vec<PartFlow>,
 ) -> Result<(), NoMemory> {
     let gate = crew.gate();
-    let work = |share: Share| -> Result<Vec<PartFlow>, NoMemory> {
-        gate.pass(0, share.worker);
-        let flows = share_flows(rt, alloc, cut, sharing, share);
-        gate.leave(0, share.worker);
+    let next = AtomicU64::new(0);
+    let work = |worker: usize| -> Result<Vec<PartFlow>, NoMemory> {
+        gate.pass(0, narrow(worker));
+        let flows = drawn_flows(rt, alloc, cut, sharing, &next);
+        gate.leave(0, narrow(worker));
         flows
     };
-    let shares = sharing.shares(alloc)?;
-    for flows in thread::map_vec(rt, shares, &work)? {
+    for flows in thread::map_indices(rt, alloc, crew.workers() as usize, &work)? {
         found.append(&mut flows?)?;
     }
     Ok(())
@@ -83,7 +91,7 @@ pub(crate) fn flow_of_parts<R: Threads + Sync, G: PhaseGate>(
     crew: &Crew<G>,
 ) -> Result<Vec<GateFlow>, NoMemory> {
     let mut found = Vec::with_capacity(alloc, cut.parts.count())?;
-    bring_shares(rt, alloc, cut, sharing, crew, &mut found)?;
+    bring_drawn(rt, alloc, cut, sharing, crew, &mut found)?;
     bring_large(rt, alloc, cut, sharing, crew, &mut found)?;
     gathered(rt, alloc, cut, found.as_slice(), crew.workers() as usize)
 }

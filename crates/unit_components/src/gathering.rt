@@ -1,4 +1,4 @@
-//! The flows of parts put in the place of each gate, by workers that each make the flow of a range of gates.
+//! The flows of parts put in the place of each gate, by workers that each have a range of gates.
 
 use crate::part_flows::Cut;
 use crate::ranges::{border, count_before, entries};
@@ -35,30 +35,11 @@ fn put(cut: &Cut, found: &PartFlow, first: usize, table: &mut [GateFlow]) {
     }
 }
 
-/// The flow at the gates of a worker, one of so many.
-fn flow_of_worker(
-    alloc: Global,
-    cut: &Cut,
-    found: &[PartFlow],
-    worker: usize,
-    workers: usize,
-) -> Result<Vec<GateFlow>, NoMemory> {
-    let gates = cut.region.gates.len();
-    let first = border(worker, workers, gates);
-    let end = border(worker.saturating_add(1), workers, gates);
-    let many = end.saturating_sub(first);
-    let mut table = vec![in alloc; GateFlow::none(); many]?;
-    for part in found {
-        put(cut, part, first, table.as_mut_slice());
-    }
-    Ok(table)
-}
-
 /// The flow at each gate of a region, of which these parts are found, by so many workers. Where no part has a gate, nothing flows.
 ///
 /// # Errors
 ///
-/// `NoMemory` where a table or a thread's memory is refused.
+/// `NoMemory` where the table is refused.
 pub(crate) fn gathered<R: Threads + Sync>(
     rt: &R,
     alloc: Global,
@@ -66,12 +47,14 @@ pub(crate) fn gathered<R: Threads + Sync>(
     found: &[PartFlow],
     workers: usize,
 ) -> Result<Vec<GateFlow>, NoMemory> {
-    let work = |worker: usize| -> Result<Vec<GateFlow>, NoMemory> {
-        flow_of_worker(alloc, cut, found, worker, workers)
+    let gates = cut.region.gates.len();
+    let work = |first: usize, range: &mut [GateFlow]| {
+        for part in found {
+            put(cut, part, first, range);
+        }
     };
-    let mut table = Vec::with_capacity(alloc, cut.region.gates.len())?;
-    for flows in thread::map_indices(rt, alloc, workers, &work)? {
-        table.append(&mut flows?)?;
-    }
+    let mut table = vec![in alloc; GateFlow::none(); gates]?;
+    let range = border(1, workers, gates).max(1);
+    thread::for_each_chunk_mut(rt, table.as_mut_slice(), range, &work);
     Ok(table)
 }

@@ -15,7 +15,8 @@ use Rattle.witness_circuits.specs.Lifting.{HasRoomFor, IsLiftedOver, IsNamedAs, 
 abbrev pub named : Graph → Symbols
 named g = record no_symbols { inputs = literal_names 1 g.inputs; latches = literal_names (first_latch g) (length g.latches) }
 
-no-names : (n : ℕ) → AreNamesBelow n []
+-- no names are names of places
+pub no-names : (n : ℕ) → AreNamesBelow n []
 no-names n = record { rising = λ k less. absurd (omega (arith, less)); below = λ k a less. absurd (omega (arith, less)) }
 
 literal-names-below : (first n all : ℕ) → n ≤ all → AreNamesBelow all (literal_names first n)

@@ -26,7 +26,8 @@ opening-known Zero a b same holds = holds
 opening-known One a b same holds = holds
 opening-known Free a b same holds = same refl
 
-free-where : (latch : Latch) → latch.reset ≡ Free → is_free latch ≡ true
+-- a latch whose reset is free is free
+pub free-where : (latch : Latch) → latch.reset ≡ Free → is_free latch ≡ true
 free-where latch e = ap by_reset e
   where
     by_reset : Reset → Bool

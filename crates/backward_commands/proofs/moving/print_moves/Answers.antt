@@ -1,6 +1,5 @@
 use Rattle.backward_commands.proofs.MovingLaws.{by_stream, prints_moves}
 use Rattle.command_line.specs.StreamUses.{moving_takes_stdout}
-use Rattle.command_endings.proofs.PrintingLaws.{of_device}
 use Rattle.backward_commands.proofs.moving.print_moves.Goals as goal
 
 pub returns-in-Ok-clause-moves : goal.returns-in-Ok-clause-moves
@@ -8,14 +7,11 @@ returns-in-Ok-clause-moves g c =
     let out = g.O.CountedWrite.output in
     let err = g.E.CountedWrite.output in
     let printed = c.print_answer-ended in
-    prints_moves _ c.args.task.now (g.I.CountedRead.input c.args.stdin.now) (g.I.CountedRead.input c.answer_for.new.stdin) (out c.args.out.now) (out c.write_answer.new.out) (out printed.new.out)
-    (err c.args.err.now) (err printed.new.err) c.in_ok-answer.answer printed.result c.in_ok-answer.ensures c.in-Ok.ensures.written printed.ensures.aside printed.ensures.says printed.ensures.moves
+    prints_moves _ c.args.task.now (g.I.CountedRead.input c.args.stdin.now) (g.I.CountedRead.input c.write_shown.new.stdin) (out c.args.out.now) (out c.write_shown.new.out) (out printed.new.out)
+    (err c.write_shown.new.err) (err printed.new.err) c.in-Ok.answer printed.result c.in-Ok.ensures.answer c.in-Ok.ensures.written printed.ensures.aside printed.ensures.says printed.ensures.moves
 
 pub returns-in-Ok-clause-prints : goal.returns-in-Ok-clause-prints
 returns-in-Ok-clause-prints g c =
     let out = g.O.CountedWrite.output in
     let printed = c.print_answer-ended in
-    by_stream (moving_takes_stdout c.args.task.now) (out c.args.out.now) (out c.write_answer.new.out) (out printed.new.out) printed.result c.in-Ok.ensures.file printed.ensures.aside printed.ensures.prints
-
-pub returns-in-Err-clause-prints : goal.returns-in-Err-clause-prints
-returns-in-Err-clause-prints g c = of_device c.in-Err.failure _ _ c.in-Err.ensures.err
+    by_stream (moving_takes_stdout c.args.task.now) (out c.args.out.now) (out c.write_shown.new.out) (out printed.new.out) printed.result c.in-Ok.ensures.file printed.ensures.aside printed.ensures.prints

@@ -20,8 +20,8 @@ loop-var-init c =
       next = first ∙ sym (new-low g s (first_latch g) (omega arith)) ∙ ap (new_variable g s) (sym first);
     }
 
-pub new-requires-in-loop-var : goal.new-requires-in-loop-var
-new-requires-in-loop-var c =
+pub new-requires : goal.new-requires
+new-requires c =
     let g : Graph = c.args.aig.now in
     omega (arith, c.loop-var.invariant.next, new-bound g (is_marked c.args.reached.now) c.loop-var.var, c.loop-var-test.true, c.variables-var-end.ensures.value, c.first_latch-first.ensures.graph.small)
 
@@ -42,9 +42,9 @@ loop-var-preserved c =
     let g : Graph = c.args.aig.now in
     let s : ℕ → Bool = is_marked c.args.reached.now in
     let from : first_latch g ≤ c.loop-var.var = omega (arith, c.loop-var.auto.var, c.first_latch-first.ensures.value) in
-    let lit : c.new-in-loop-var.result ≡ 2 * new_variable g s c.loop-var.var = omega (arith, c.new-in-loop-var.ensures, c.loop-var.invariant.next) in
+    let lit : c.new.result ≡ 2 * new_variable g s c.loop-var.var = omega (arith, c.new.ensures, c.loop-var.invariant.next) in
     record {
-      literals = new-more g s c.loop-var.var c.new-in-loop-var.result c.loop-var.literals c.push.new.self c.loop-var.invariant.literals c.in_ok-push.ensures lit;
+      literals = new-more g s c.loop-var.var c.new.result c.loop-var.literals c.push.new.self c.loop-var.invariant.literals c.in_ok-push.ensures lit;
       next = new-next g s c.loop-var.var c.loop-var.next c.from-next.result c.has.result from c.loop-var.invariant.next c.has.ensures (search rules);
     }
 

@@ -5,7 +5,7 @@ use Rattle.aig_graph.specs.declared.graph.Latch.{Latch}
 use Rattle.aig_graph.specs.declared.properties.Props.{Props}
 use Rattle.aig_graph.specs.Circuits.{Netlist}
 use Rattle.aig_graph.specs.Graph.{Graph}
-use Rattle.map_miters.specs.Questions.{IsFreeInput, free_outputs}
+use Rattle.state_maps.specs.MapCircuits.{IsFreeInput, free_outputs}
 use Rattle.map_miters.proofs.FreeLaws.{stay-says}
 use Rattle.map_miters.proofs.free.free_stay.Goals as goal
 

@@ -1,14 +1,15 @@
 use Rattle.std.proofs.Common.{◌∙◌}
 use Rattle.std.proofs.lemmas.Result.{err_from_is_err_and}
 use Rattle.file_words.proofs.ReadingLaws.{line_fails, line_taken, no_lines}
-use Rattle.fretime.specs.Names.{texts, with_line}
-use Rattle.fretime.proofs.name_files.push_lines.Goals as goal
+use Rattle.command_endings.specs.HeldNames.{texts_of}
+use Rattle.command_endings.specs.NameFiles.{with_line}
+use Rattle.command_endings.proofs.name_files.push_names.Goals as goal
 
 pub returns-in_err-push_line : goal.returns-in_err-push_line
 returns-in_err-push_line c =
     let p = err_from_is_err_and c.from_residual.result c.from_residual.ensures.1 in
     let line = c.in-Some.ensures.line in
-    rw (p.1, p.2) (line_fails with_line _ _ (texts c.loop-line.all.items) _ _ _ _ _ line.1 line.0 c.loop-line.invariant c.in_err-push_line.ensures)
+    rw (p.1, p.2) (line_fails with_line _ _ (texts_of c.loop-line.names.items) _ _ _ _ _ line.1 line.0 c.loop-line.invariant c.in_err-push_line.ensures)
 
 pub loop-line-preserved : goal.loop-line-preserved
 loop-line-preserved c =
