@@ -19,6 +19,7 @@ use progress::Progress;
 use std::alloc::Global;
 use std::rt::Files;
 use std::time::Clock;
+use stream_paths::Streams;
 
 /// Writes the map of an answer where it is asked for.
 fn write_map<'a, R: Files, O: CountedWrite>(
@@ -91,21 +92,32 @@ fn write_shown<'a, R: Files + Clock, I: CountedRead, O: CountedWrite, E: Counted
     rt: &R,
     alloc: Global,
     task: &Moving<'a>,
-    is_terminal: bool,
-    stdin: &mut I,
-    out: &mut O,
-    err: &mut E,
+    streams: &mut Streams<I, O, E>,
 ) -> Result<Answer, Failure<'a>>
-    ensures answer { IfOk result (AnswersTask task.now (I.input stdin.old) (I.input stdin.new)) }
+    ensures answer { IfOk result (AnswersTask task.now (I.input streams.old.stdin) (I.input streams.new.stdin)) }
     ensures written { IfOk result (λ answer. WritesMoves (IsFileGiven R R.Dir R.File.contents)
-        task.now answer (O.output out.old) (O.output out.new)) }
+        task.now answer (O.output streams.old.out) (O.output streams.new.out)) }
     ensures file { OnOk result (moving_takes_stdout task.now ≡ false
-        → O.output out.new ≡ O.output out.old) }
-    ensures prints { IfErr result (λ failure. Prints (outcome_of failure) (O.output out.old)
-        (O.output out.new)) }
+        → O.output streams.new.out ≡ O.output streams.old.out) }
+    ensures prints { IfErr result (λ failure. Prints (outcome_of failure) (O.output streams.old.out)
+        (O.output streams.new.out)) }
 {
-    let mut progress = Progress::new(task.shown, false, is_terminal, rt, alloc, err);
-    let answer = write_moved(rt, alloc, task, stdin, out, &mut progress);
+    let mut progress = Progress::new(
+        task.shown,
+        false,
+        streams.is_terminal,
+        rt,
+        alloc,
+        &mut streams.err,
+    );
+    let answer = write_moved(
+        rt,
+        alloc,
+        task,
+        &mut streams.stdin,
+        &mut streams.out,
+        &mut progress,
+    );
     drop(progress.end());
     answer
 }
@@ -113,24 +125,21 @@ fn write_shown<'a, R: Files + Clock, I: CountedRead, O: CountedWrite, E: Counted
 /// Reads a circuit, moves its latches backward, writes it, and its map where that is asked for, and then prints the frames that were
 /// taken, as an object of JSON or in lines.
 ///
-/// Shows how far the run is as the task asks; `is_terminal` is whether standard error is a terminal.
+/// Shows how far the run is as the task asks.
 pub fn print_moves<'a, R: Files + Clock, I: CountedRead, O: CountedWrite, E: CountedWrite>(
     rt: &R,
     alloc: Global,
     task: &Moving<'a>,
-    is_terminal: bool,
-    stdin: &mut I,
-    out: &mut O,
-    err: &mut E,
+    streams: &mut Streams<I, O, E>,
 ) -> Result<Outcome, Failure<'a>>
     ensures moves { IfOk result (PrintsMoves (IsFileGiven R R.Dir R.File.contents) task.now
-        (I.input stdin.old) (I.input stdin.new) (O.output out.old) (O.output out.new)
-        (E.output err.new)) }
-    ensures prints { Prints (ending result) (O.output out.old) (O.output out.new) }
+        (I.input streams.old.stdin) (I.input streams.new.stdin) (O.output streams.old.out) (O.output streams.new.out)
+        (E.output streams.new.err)) }
+    ensures prints { Prints (ending result) (O.output streams.old.out) (O.output streams.new.out) }
 {
-    match write_shown(rt, alloc, task, is_terminal, stdin, out, err) {
+    match write_shown(rt, alloc, task, streams) {
         Ok(answer) => {
-            let ended = print_answer(alloc, task, &answer, out, err);
+            let ended = print_answer(alloc, task, &answer, &mut streams.out, &mut streams.err);
             drop(answer);
             ended
         }

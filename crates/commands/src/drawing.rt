@@ -19,7 +19,7 @@ use pictures::{View, write_dot};
 use std::alloc::Global;
 use std::rt::Files;
 use std::thread::Threads;
-use stream_paths::Target;
+use stream_paths::{Streams, Target};
 
 /// What a terminal is told where the next frame was to be shown and there is none.
 const NO_FRAME: &[u8] = b"no set of gates leaves fewer latches, so no frame is shown\n";
@@ -125,8 +125,8 @@ fn tell_no_frame<E: CountedWrite>(scene: &Scene, task: &Drawing<'_>, is_terminal
     }
 }
 
-/// Reads a circuit, and writes its picture. A file is made once all that can be refused was found right. Where `is_terminal`, that
-/// standard error is a terminal, it is told there that no frame helps, if one was to be shown.
+/// Reads a circuit, and writes its picture. A file is made once all that can be refused was found right. Where standard
+/// error is a terminal, it is told there that no frame helps, if one was to be shown.
 pub fn write_picture<
     'a,
     R: Files + Threads + Sync,
@@ -137,19 +137,16 @@ pub fn write_picture<
     rt: &R,
     alloc: Global,
     task: &Drawing<'a>,
-    is_terminal: bool,
-    stdin: &mut I,
-    out: &mut O,
-    err: &mut E,
+    streams: &mut Streams<I, O, E>,
 ) -> Result<Outcome, Failure<'a>>
     ensures picture { IfOk result (PrintsPicture (IsFileGiven R R.Dir R.File.contents) task.now
-        (I.input stdin.old) (I.input stdin.new) (O.output out.old) (O.output out.new)) }
-    ensures file { is_stdout task.now.output ≡ false → O.output out.new ≡ O.output out.old }
-    ensures prints { Prints (ending result) (O.output out.old) (O.output out.new) }
+        (I.input streams.old.stdin) (I.input streams.new.stdin) (O.output streams.old.out) (O.output streams.new.out)) }
+    ensures file { is_stdout task.now.output ≡ false → O.output streams.new.out ≡ O.output streams.old.out }
+    ensures prints { Prints (ending result) (O.output streams.old.out) (O.output streams.new.out) }
 {
-    let scene = scene_for(rt, alloc, task, stdin)?;
-    let drawn = draw_to(rt, alloc, &scene, task, out);
-    tell_no_frame(&scene, task, is_terminal, err);
+    let scene = scene_for(rt, alloc, task, &mut streams.stdin)?;
+    let drawn = draw_to(rt, alloc, &scene, task, &mut streams.out);
+    tell_no_frame(&scene, task, streams.is_terminal, &mut streams.err);
     drop(scene);
     match drawn {
         Ok(()) => Ok(Outcome::Done),

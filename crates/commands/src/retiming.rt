@@ -31,7 +31,7 @@ use std::mem;
 use std::rt::Files;
 use std::thread::Threads;
 use std::time::Clock;
-use stream_paths::Target;
+use stream_paths::{Streams, Target};
 
 /// Writes the circuit that was read, retimed, to what the task writes.
 fn retime_by<'a, R: Files + Threads + Sync, O: CountedWrite, V: FrameWatcher>(
@@ -234,23 +234,34 @@ fn certified<
     rt: &R,
     alloc: Global,
     task: &Retiming<'a>,
-    is_terminal: bool,
-    stdin: &mut I,
-    out: &mut O,
-    err: &mut E,
+    streams: &mut Streams<I, O, E>,
 ) -> Result<Timed, Failure<'a>>
     ensures reported { IfOk result (λ timed. IsReportOf (IsFileGiven R R.Dir R.File.contents) task.now
-        (I.input stdin.old) (O.output out.old) (O.output out.new) timed.retimed timed.keep
+        (I.input streams.old.stdin) (O.output streams.old.out) (O.output streams.new.out) timed.retimed timed.keep
         timed.levels timed.map) }
-    ensures file { takes_stdout task.now ≡ false → O.output out.new ≡ O.output out.old }
-    ensures prints { IfErr result (λ failure. Prints (outcome_of failure) (O.output out.old)
-        (O.output out.new)) }
+    ensures file { takes_stdout task.now ≡ false → O.output streams.new.out ≡ O.output streams.old.out }
+    ensures prints { IfErr result (λ failure. Prints (outcome_of failure) (O.output streams.old.out)
+        (O.output streams.new.out)) }
 {
-    let mut progress = Progress::new(task.shown, task.json, is_terminal, rt, alloc, err);
-    let ended = retimed(rt, alloc, task, stdin, out, &mut progress);
+    let mut progress = Progress::new(
+        task.shown,
+        task.json,
+        streams.is_terminal,
+        rt,
+        alloc,
+        &mut streams.err,
+    );
+    let ended = retimed(
+        rt,
+        alloc,
+        task,
+        &mut streams.stdin,
+        &mut streams.out,
+        &mut progress,
+    );
     let times = progress.end();
     let mut answer = ended?;
-    match write_beside(rt, alloc, task, &mut answer, out) {
+    match write_beside(rt, alloc, task, &mut answer, &mut streams.out) {
         Ok(()) => Ok(with_times(answer, times)),
         Err(failure) => {
             drop(answer);
@@ -385,8 +396,7 @@ fn print_frames<'a, O: CountedWrite, E: CountedWrite>(
 /// Reads a circuit, writes it, retimed, its map and the certificates where they are asked for, and then prints the frames that were taken,
 /// as an object of JSON or in lines.
 ///
-/// Shows how far the run is as the task asks, and on a terminal why no more latches go; `is_terminal` is whether standard error is
-/// one.
+/// Shows how far the run is as the task asks, and on a terminal why no more latches go.
 pub fn print_retimed<
     'a,
     R: Files + Threads + Sync + Clock,
@@ -397,21 +407,19 @@ pub fn print_retimed<
     rt: &R,
     alloc: Global,
     task: &Retiming<'a>,
-    is_terminal: bool,
-    stdin: &mut I,
-    out: &mut O,
-    err: &mut E,
+    streams: &mut Streams<I, O, E>,
 ) -> Result<Outcome, Failure<'a>>
     ensures frames { IfOk result (λ ended. PrintsRetiming (IsFileGiven R R.Dir R.File.contents)
-        task.now is_terminal (I.input stdin.old) (O.output out.old) (O.output out.new)
-        (E.output err.new) (Ok ended)) }
+        task.now streams.old.is_terminal (I.input streams.old.stdin) (O.output streams.old.out) (O.output streams.new.out)
+        (E.output streams.new.err) (Ok ended)) }
     ensures pipe { IfOk result (λ _. IsPipe task.now
-        → WritesPipe task.now (I.input stdin.old) (O.output out.old) (O.output out.new)) }
-    ensures prints { Prints (ending result) (O.output out.old) (O.output out.new) }
+        → WritesPipe task.now (I.input streams.old.stdin) (O.output streams.old.out) (O.output streams.new.out)) }
+    ensures prints { Prints (ending result) (O.output streams.old.out) (O.output streams.new.out) }
 {
-    let timed = certified(rt, alloc, task, is_terminal, stdin, out, err)?;
-    let ended = print_frames(alloc, task, &timed, out, err);
-    tell_remaining(alloc, task, &timed, is_terminal, err);
+    let is_terminal = streams.is_terminal;
+    let timed = certified(rt, alloc, task, streams)?;
+    let ended = print_frames(alloc, task, &timed, &mut streams.out, &mut streams.err);
+    tell_remaining(alloc, task, &timed, is_terminal, &mut streams.err);
     drop(timed);
     ended
 }

@@ -26,6 +26,7 @@ use reports::{JobReport, print_job};
 use std::alloc::Global;
 use std::rt::Files;
 use std::thread::Threads;
+use stream_paths::Streams;
 
 /// The most workers of a crew.
 const MOST_WORKERS: u32 = 64;
@@ -247,136 +248,114 @@ fn finish_entries<'a, R: Files, O: CountedWrite>(
     }
 }
 
-/// A batch, and whether standard error is a terminal.
-#[derive(Clone, Copy)]
-struct Run<'t> {
-    task: &'t Batch<'t>,
-    is_terminal: bool,
-}
-
 /// Reports why the batch ended, also as an object of JSON where that is asked for, and with a hint on a terminal.
-fn refuse<R: Files, O: CountedWrite, E: CountedWrite>(
+fn refuse<R: Files, I, O: CountedWrite, E: CountedWrite>(
     rt: &R,
     alloc: Global,
-    run: &Run<'_>,
+    task: &Batch<'_>,
     failure: Failure<'_>,
     is_written: bool,
-    out: &mut O,
-    err: &mut E,
+    streams: &mut Streams<I, O, E>,
 ) -> Outcome
     ensures outcome { result ≡ outcome_of failure.entry }
-    ensures prints { PrintsFailure run.now.task.now.json (outcome_of failure.entry)
-        (O.output out.old) (O.output out.new) }
-    ensures says { SaysFailureBy run.now.task.now.json (codes "batch") failure.entry
-        (O.output out.old) (O.output out.new) }
+    ensures prints { PrintsFailure task.now.json (outcome_of failure.entry)
+        (O.output streams.old.out) (O.output streams.new.out) }
+    ensures says { SaysFailureBy task.now.json (codes "batch") failure.entry
+        (O.output streams.old.out) (O.output streams.new.out) }
 {
-    let is_terminal = run.is_terminal;
-    let outcome = report_failure_as(
-        alloc,
-        "batch",
-        failure,
-        run.task.json,
-        is_terminal,
-        out,
-        err,
-    );
+    let outcome = report_failure_as(alloc, "batch", failure, task.json, streams);
     let told = told_of(failure, false, is_written);
-    give_hint(rt, alloc, &told, is_terminal, err);
+    give_hint(rt, alloc, &told, streams.is_terminal, &mut streams.err);
     outcome
 }
 
 /// Writes and prints what became of the files of the entries, or reports why that failed.
-fn finish_or_refuse<R: Files, O: CountedWrite, E: CountedWrite>(
+fn finish_or_refuse<R: Files, I, O: CountedWrite, E: CountedWrite>(
     rt: &R,
     alloc: Global,
     entries: &[Entry<'_>],
     outcomes: &[batch_pool::Outcome],
-    run: &Run<'_>,
-    out: &mut O,
-    err: &mut E,
+    task: &Batch<'_>,
+    streams: &mut Streams<I, O, E>,
 ) -> Outcome
     requires each { length outcomes.now ≡ length entries.now }
     requires own { HaveOwnFiles entries.now }
-    ensures { PrintsList run.now.task.now.json result (O.output out.old) (O.output out.new) }
+    ensures { PrintsList task.now.json result (O.output streams.old.out) (O.output streams.new.out) }
 {
-    match finish_entries(rt, alloc, entries, outcomes, run.task.json, out) {
+    match finish_entries(rt, alloc, entries, outcomes, task.json, &mut streams.out) {
         Ok(ended) => ended,
-        Err(failure) => refuse(rt, alloc, run, failure, true, out, err),
+        Err(failure) => refuse(rt, alloc, task, failure, true, streams),
     }
 }
 
 /// Does the jobs of the entries, each of which writes a file of its own.
-fn retime_entries<R: Files + Threads + Sync, O: CountedWrite, E: CountedWrite>(
+fn retime_entries<R: Files + Threads + Sync, I, O: CountedWrite, E: CountedWrite>(
     rt: &R,
     alloc: Global,
     entries: &[Entry<'_>],
-    run: &Run<'_>,
-    out: &mut O,
-    err: &mut E,
+    task: &Batch<'_>,
+    streams: &mut Streams<I, O, E>,
 ) -> Outcome
     requires { HaveOwnFiles entries.now }
-    ensures { PrintsList run.now.task.now.json result (O.output out.old) (O.output out.new) }
+    ensures { PrintsList task.now.json result (O.output streams.old.out) (O.output streams.new.out) }
 {
-    match outcomes(rt, alloc, entries, run.task) {
+    match outcomes(rt, alloc, entries, task) {
         Ok(outcomes) => {
-            let ended = finish_or_refuse(rt, alloc, entries, outcomes.as_slice(), run, out, err);
+            let ended = finish_or_refuse(rt, alloc, entries, outcomes.as_slice(), task, streams);
             drop(outcomes);
             ended
         }
-        Err(failure) => refuse(rt, alloc, run, failure, false, out, err),
+        Err(failure) => refuse(rt, alloc, task, failure, false, streams),
     }
 }
 
 /// Refuses a list: nothing was written.
-fn refuse_list<R: Files, O: CountedWrite, E: CountedWrite>(
+fn refuse_list<R: Files, I, O: CountedWrite, E: CountedWrite>(
     rt: &R,
     alloc: Global,
     error: ListError,
-    run: &Run<'_>,
-    out: &mut O,
-    err: &mut E,
+    task: &Batch<'_>,
+    streams: &mut Streams<I, O, E>,
 ) -> Outcome
-    ensures { PrintsList run.now.task.now.json result (O.output out.old) (O.output out.new) }
+    ensures { PrintsList task.now.json result (O.output streams.old.out) (O.output streams.new.out) }
 {
-    let failure = Failure::of_list(error, run.task.list.name());
-    refuse(rt, alloc, run, failure, false, out, err)
+    let failure = Failure::of_list(error, task.list.name());
+    refuse(rt, alloc, task, failure, false, streams)
 }
 
 /// Does the jobs of the entries, unless two of them write one file.
-fn retime_apart<R: Files + Threads + Sync, O: CountedWrite, E: CountedWrite>(
+fn retime_apart<R: Files + Threads + Sync, I, O: CountedWrite, E: CountedWrite>(
     rt: &R,
     alloc: Global,
     entries: &[Entry<'_>],
-    run: &Run<'_>,
-    out: &mut O,
-    err: &mut E,
+    task: &Batch<'_>,
+    streams: &mut Streams<I, O, E>,
 ) -> Outcome
-    ensures { PrintsList run.now.task.now.json result (O.output out.old) (O.output out.new) }
+    ensures { PrintsList task.now.json result (O.output streams.old.out) (O.output streams.new.out) }
 {
     match check_outputs(rt, alloc, entries) {
-        Ok(()) => retime_entries(rt, alloc, entries, run, out, err),
-        Err(error) => refuse_list(rt, alloc, error, run, out, err),
+        Ok(()) => retime_entries(rt, alloc, entries, task, streams),
+        Err(error) => refuse_list(rt, alloc, error, task, streams),
     }
 }
 
 /// Does the jobs of a list's bytes.
-fn retime_lines<R: Files + Threads + Sync, O: CountedWrite, E: CountedWrite>(
+fn retime_lines<R: Files + Threads + Sync, I, O: CountedWrite, E: CountedWrite>(
     rt: &R,
     alloc: Global,
     bytes: &[u8],
-    run: &Run<'_>,
-    out: &mut O,
-    err: &mut E,
+    task: &Batch<'_>,
+    streams: &mut Streams<I, O, E>,
 ) -> Outcome
-    ensures { PrintsList run.now.task.now.json result (O.output out.old) (O.output out.new) }
+    ensures { PrintsList task.now.json result (O.output streams.old.out) (O.output streams.new.out) }
 {
     match read_list(alloc, bytes) {
         Ok(entries) => {
-            let ended = retime_apart(rt, alloc, entries.as_slice(), run, out, err);
+            let ended = retime_apart(rt, alloc, entries.as_slice(), task, streams);
             drop(entries);
             ended
         }
-        Err(error) => refuse_list(rt, alloc, error, run, out, err),
+        Err(error) => refuse_list(rt, alloc, error, task, streams),
     }
 }
 
@@ -386,20 +365,16 @@ pub fn retime_list<R: Files + Threads + Sync, I: CountedRead, O: CountedWrite, E
     rt: &R,
     alloc: Global,
     task: &Batch<'_>,
-    is_terminal: bool,
-    stdin: &mut I,
-    out: &mut O,
-    err: &mut E,
+    streams: &mut Streams<I, O, E>,
 ) -> Outcome
-    ensures { PrintsList task.now.json result (O.output out.old) (O.output out.new) }
+    ensures { PrintsList task.now.json result (O.output streams.old.out) (O.output streams.new.out) }
 {
-    let run = Run { task, is_terminal };
-    match bytes_at(rt, alloc, task.list, stdin) {
+    match bytes_at(rt, alloc, task.list, &mut streams.stdin) {
         Ok(bytes) => {
-            let ended = retime_lines(rt, alloc, bytes.as_slice(), &run, out, err);
+            let ended = retime_lines(rt, alloc, bytes.as_slice(), task, streams);
             drop(bytes);
             ended
         }
-        Err(failure) => refuse(rt, alloc, &run, failure, false, out, err),
+        Err(failure) => refuse(rt, alloc, task, failure, false, streams),
     }
 }

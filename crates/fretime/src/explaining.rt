@@ -13,6 +13,7 @@ use circuit_files::{Failure, Outcome};
 use counted_io::{Buffered, CountedWrite, WriteError};
 use fault_pages::{Fault, Message};
 use std::alloc::Global;
+use stream_paths::Streams;
 
 /// Puts a byte of a file, and four spaces where it ends a line.
 fn put_indented<W: CountedWrite>(out: &mut Buffered<'_, W>, byte: u8)
@@ -115,22 +116,20 @@ fn report_missing<'a, E: CountedWrite>(
 }
 
 /// Prints the page of the fault with this name.
-pub fn explain<'a, O: CountedWrite, E: CountedWrite>(
+pub fn explain<'a, I, O: CountedWrite, E: CountedWrite>(
     alloc: Global,
     name: &str,
-    is_terminal: bool,
-    out: &mut O,
-    err: &mut E,
+    streams: &mut Streams<I, O, E>,
 ) -> Result<Outcome, Failure<'a>>
-    ensures page { IfOk result (Explains name.now (O.output out.old) (O.output out.new)) }
-    ensures device { IfErr result (FailsToExplain name.now (O.output out.old) (O.output out.new)) }
-    ensures prints { Prints (ending result) (O.output out.old) (O.output out.new) }
+    ensures page { IfOk result (Explains name.now (O.output streams.old.out) (O.output streams.new.out)) }
+    ensures device { IfErr result (FailsToExplain name.now (O.output streams.old.out) (O.output streams.new.out)) }
+    ensures prints { Prints (ending result) (O.output streams.old.out) (O.output streams.new.out) }
 {
     match Fault::named(name) {
-        Some(fault) => match print_page(fault, out) {
+        Some(fault) => match print_page(fault, &mut streams.out) {
             Ok(()) => Ok(Outcome::Done),
             Err(_) => Err(Failure::Device("stdout")),
         },
-        None => report_missing(alloc, name, is_terminal, err),
+        None => report_missing(alloc, name, streams.is_terminal, &mut streams.err),
     }
 }

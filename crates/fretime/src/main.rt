@@ -21,6 +21,7 @@ use std::rt::Files;
 use std::thread::Threads;
 use std::time::Clock;
 use std::{env, io};
+use stream_paths::Streams;
 
 /// The command-line arguments, the program's own name first.
 fn words<R: Env + AllocGlobal>(rt: &R) -> io::Result<Vec<String>> {
@@ -41,23 +42,15 @@ fn run_program<
     I: CountedRead,
     O: CountedWrite,
     E: CountedWrite,
->(rt: &R, is_terminal: bool, stdin: &mut I, out: &mut O, err: &mut E) -> u8 {
+>(rt: &R, streams: &mut Streams<I, O, E>) -> u8 {
     match words(rt) {
         Ok(words) => {
-            let status = run_words(
-                rt,
-                rt.alloc(),
-                words.as_slice(),
-                is_terminal,
-                stdin,
-                out,
-                err,
-            );
+            let status = run_words(rt, rt.alloc(), words.as_slice(), streams);
             drop(words);
             status
         }
         Err(error) => {
-            let status = report_unreadable_arguments(&error, err);
+            let status = report_unreadable_arguments(&error, &mut streams.err);
             drop(error);
             status
         }
@@ -65,9 +58,11 @@ fn run_program<
 }
 
 fn main(rt: HostRuntime) -> ExitCode {
-    let mut stdin = Counted::new(rt.stdin());
-    let mut out = Counted::new(rt.stdout());
-    let mut err = Counted::new(rt.stderr());
-    let is_terminal = rt.stderr().is_terminal() && !is_dumb(&rt);
-    ExitCode::from(run_program(&rt, is_terminal, &mut stdin, &mut out, &mut err))
+    let mut streams = Streams {
+        stdin: Counted::new(rt.stdin()),
+        out: Counted::new(rt.stdout()),
+        err: Counted::new(rt.stderr()),
+        is_terminal: rt.stderr().is_terminal() && !is_dumb(&rt),
+    };
+    ExitCode::from(run_program(&rt, &mut streams))
 }

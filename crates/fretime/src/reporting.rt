@@ -15,6 +15,7 @@ use fault_pages::{Message, Told, give_hint, tell_returns};
 use std::alloc::Global;
 use std::fmt::Write;
 use std::rt::Files;
+use stream_paths::Streams;
 
 /// Reports a failure on one line, and returns how the run ends. A failed write changes nothing.
 pub fn report_failure<E: CountedWrite>(
@@ -50,23 +51,21 @@ fn print_failure_as<O: CountedWrite>(
 
 /// Reports a failure of this command on one line, and prints it as an object of JSON where that is asked for; returns how the run
 /// ends. A failed write changes nothing.
-pub fn report_failure_as<O: CountedWrite, E: CountedWrite>(
+pub fn report_failure_as<I, O: CountedWrite, E: CountedWrite>(
     alloc: Global,
     command: &str,
     failure: Failure<'_>,
     json: bool,
-    is_terminal: bool,
-    out: &mut O,
-    err: &mut E,
+    streams: &mut Streams<I, O, E>,
 ) -> Outcome
     ensures outcome { result ≡ outcome_of failure.entry }
-    ensures prints { PrintsFailure json (outcome_of failure.entry) (O.output out.old)
-        (O.output out.new) }
-    ensures says { SaysFailure json command.entry failure.entry (O.output out.old)
-        (O.output out.new) }
+    ensures prints { PrintsFailure json (outcome_of failure.entry) (O.output streams.old.out)
+        (O.output streams.new.out) }
+    ensures says { SaysFailure json command.entry failure.entry (O.output streams.old.out)
+        (O.output streams.new.out) }
 {
-    print_failure_as(alloc, command, failure, json, out);
-    report_failure(failure, is_terminal, err)
+    print_failure_as(alloc, command, failure, json, &mut streams.out);
+    report_failure(failure, streams.is_terminal, &mut streams.err)
 }
 
 /// The name of a task's command, where its failures are printed as objects; a batch prints its own.
@@ -195,33 +194,32 @@ fn tell_of_name_files<R: Files, E: CountedWrite>(
 }
 
 /// How a task ends. Where it failed, reports why: as an object too where the task asks for objects, and with a hint on a terminal.
-pub fn reported<'a, R: Files, O: CountedWrite, E: CountedWrite>(
+pub fn reported<'a, R: Files, I, O: CountedWrite, E: CountedWrite>(
     rt: &R,
     alloc: Global,
     task: &Task<'a>,
     ended: Result<Outcome, Failure<'a>>,
-    is_terminal: bool,
-    out: &mut O,
-    err: &mut E,
+    streams: &mut Streams<I, O, E>,
 ) -> Outcome
     ensures outcome { result ≡ ending ended.entry }
-    ensures prints { MayRefuse ended.entry (O.output out.old) (O.output out.new) }
-    ensures says { IfErr ended.entry (λ failure. SaysWhy task.now failure (O.output out.old)
-        (O.output out.new)) }
+    ensures prints { MayRefuse ended.entry (O.output streams.old.out) (O.output streams.new.out) }
+    ensures says { IfErr ended.entry (λ failure. SaysWhy task.now failure (O.output streams.old.out)
+        (O.output streams.new.out)) }
 {
-    tell_of_list(rt, task, is_terminal, err);
+    let is_terminal = streams.is_terminal;
+    tell_of_list(rt, task, is_terminal, &mut streams.err);
     match ended {
         Ok(outcome) => {
-            advise(task, outcome, is_terminal, err);
+            advise(task, outcome, is_terminal, &mut streams.err);
             outcome
         }
         Err(failure) => {
-            print_object(alloc, task, failure, out, err);
-            let outcome = report_failure(failure, is_terminal, err);
+            print_object(alloc, task, failure, &mut streams.out, &mut streams.err);
+            let outcome = report_failure(failure, is_terminal, &mut streams.err);
             let of_all = is_of_all(task, failure);
             let told = told_of(failure, of_all, is_of_written(task, failure));
-            give_hint(rt, alloc, &told, is_terminal, err);
-            tell_of_name_files(rt, task, outcome, is_terminal, err);
+            give_hint(rt, alloc, &told, is_terminal, &mut streams.err);
+            tell_of_name_files(rt, task, outcome, is_terminal, &mut streams.err);
             outcome
         }
     }

@@ -32,23 +32,28 @@ use std::io;
 use std::rt::Files;
 use std::thread::Threads;
 use std::time::Clock;
+use stream_paths::Streams;
 
 /// Checks certificates; what is told of a file that has none is shown as a terminal may have it.
 fn verify<'a, R: Files, I: CountedRead, O: CountedWrite, E: CountedWrite>(
     rt: &R,
     alloc: Global,
     task: &Verification<'a>,
-    is_terminal: bool,
-    stdin: &mut I,
-    out: &mut O,
-    err: &mut E,
+    streams: &mut Streams<I, O, E>,
 ) -> Result<Outcome, Failure<'a>>
-    ensures audit { IfOk result (PrintsAuditOf task.now (I.input stdin.old) (I.input stdin.new)
-        (O.output out.old) (O.output out.new)) }
-    ensures prints { Prints (ending result) (O.output out.old) (O.output out.new) }
+    ensures audit { IfOk result (PrintsAuditOf task.now (I.input streams.old.stdin) (I.input streams.new.stdin)
+        (O.output streams.old.out) (O.output streams.new.out)) }
+    ensures prints { Prints (ending result) (O.output streams.old.out) (O.output streams.new.out) }
 {
-    let mut told = Message::new(err, is_terminal);
-    let printed = print_verification(rt, alloc, task, stdin, out, &mut told);
+    let mut told = Message::new(&mut streams.err, streams.is_terminal);
+    let printed = print_verification(
+        rt,
+        alloc,
+        task,
+        &mut streams.stdin,
+        &mut streams.out,
+        &mut told,
+    );
     told.send();
     printed
 }
@@ -64,38 +69,82 @@ fn run_task<
     rt: &R,
     alloc: Global,
     task: &Task<'a>,
-    is_terminal: bool,
-    stdin: &mut I,
-    out: &mut O,
-    err: &mut E,
+    streams: &mut Streams<I, O, E>,
 ) -> Result<Outcome, Failure<'a>>
-    ensures does { IfOk result (Does (IsFileGiven R R.Dir R.File.contents) task.now is_terminal
-        (I.input stdin.old) (I.input stdin.new) (O.output out.old) (O.output out.new)
-        (E.output err.new)) }
-    ensures prints { MayGive result (O.output out.old) (O.output out.new) }
+    ensures does { IfOk result (Does (IsFileGiven R R.Dir R.File.contents) task.now
+        streams.old.is_terminal
+        (I.input streams.old.stdin) (I.input streams.new.stdin) (O.output streams.old.out) (O.output streams.new.out)
+        (E.output streams.new.err)) }
+    ensures prints { MayGive result (O.output streams.old.out) (O.output streams.new.out) }
 {
     match task {
-        Task::Retime(retiming) => {
-            print_retimed(rt, alloc, retiming, is_terminal, stdin, out, err)
-        }
-        Task::Backward(moving) => { print_moves(rt, alloc, moving, is_terminal, stdin, out, err) }
-        Task::Batch(batch) => { Ok(retime_list(rt, alloc, batch, is_terminal, stdin, out, err)) }
-        Task::Stat(counting) => print_statistics(rt, alloc, counting, stdin, out),
+        Task::Retime(retiming) => { print_retimed(rt, alloc, retiming, streams) }
+        Task::Backward(moving) => { print_moves(rt, alloc, moving, streams) }
+        Task::Batch(batch) => { Ok(retime_list(rt, alloc, batch, streams)) }
+        Task::Stat(counting) => print_statistics(
+            rt,
+            alloc,
+            counting,
+            &mut streams.stdin,
+            &mut streams.out,
+        ),
         Task::Convert(input, output, spelling) => {
-            convert(rt, alloc, *input, *output, *spelling, stdin, out)
+            convert(
+                rt,
+                alloc,
+                *input,
+                *output,
+                *spelling,
+                &mut streams.stdin,
+                &mut streams.out,
+            )
         }
-        Task::Sim(simulation) => print_simulation(rt, alloc, simulation, stdin, out),
-        Task::Same(comparison) => print_comparison(rt, alloc, comparison, stdin, out),
-        Task::Verify(verification) => {
-            verify(rt, alloc, verification, is_terminal, stdin, out, err)
-        }
-        Task::Check(checking) => print_check(rt, alloc, checking, stdin, out),
-        Task::Miter(asking) => write_miter(rt, alloc, asking, stdin, out),
-        Task::Product(asking) => write_miter(rt, alloc, asking, stdin, out),
-        Task::Lift(lifting) => write_lifted(rt, alloc, lifting, stdin, out),
-        Task::Dot(drawing) => { write_picture(rt, alloc, drawing, is_terminal, stdin, out, err) }
-        Task::Witness(carrying) => print_witness_back(rt, alloc, carrying, stdin, out),
-        Task::Explain(name) => explain(alloc, *name, is_terminal, out, err),
+        Task::Sim(simulation) => print_simulation(
+            rt,
+            alloc,
+            simulation,
+            &mut streams.stdin,
+            &mut streams.out,
+        ),
+        Task::Same(comparison) => print_comparison(
+            rt,
+            alloc,
+            comparison,
+            &mut streams.stdin,
+            &mut streams.out,
+        ),
+        Task::Verify(verification) => { verify(rt, alloc, verification, streams) }
+        Task::Check(checking) => print_check(
+            rt,
+            alloc,
+            checking,
+            &mut streams.stdin,
+            &mut streams.out,
+        ),
+        Task::Miter(asking) => write_miter(rt, alloc, asking, &mut streams.stdin, &mut streams.out),
+        Task::Product(asking) => write_miter(
+            rt,
+            alloc,
+            asking,
+            &mut streams.stdin,
+            &mut streams.out,
+        ),
+        Task::Lift(lifting) => write_lifted(
+            rt,
+            alloc,
+            lifting,
+            &mut streams.stdin,
+            &mut streams.out,
+        ),
+        Task::Dot(drawing) => { write_picture(rt, alloc, drawing, streams) }
+        Task::Witness(carrying) => print_witness_back(
+            rt,
+            alloc,
+            carrying,
+            &mut streams.stdin,
+            &mut streams.out,
+        ),
+        Task::Explain(name) => explain(alloc, *name, streams),
     }
 }
 
@@ -153,34 +202,24 @@ fn finish_task<
     I: CountedRead,
     O: CountedWrite,
     E: CountedWrite,
->(
-    rt: &R,
-    alloc: Global,
-    task: &Task<'a>,
-    is_terminal: bool,
-    stdin: &mut I,
-    out: &mut O,
-    err: &mut E,
-) -> Outcome
-    ensures { MayPrint result (O.output out.old) (O.output out.new) }
+>(rt: &R, alloc: Global, task: &Task<'a>, streams: &mut Streams<I, O, E>) -> Outcome
+    ensures { MayPrint result (O.output streams.old.out) (O.output streams.new.out) }
 {
-    let ended = run_task(rt, alloc, task, is_terminal, stdin, out, err);
-    reported(rt, alloc, task, ended, is_terminal, out, err)
+    let ended = run_task(rt, alloc, task, streams);
+    reported(rt, alloc, task, ended, streams)
 }
 
 /// Reports why the names that a task holds can't be read, and returns how the run ends.
-fn report_without_names<'a, R: Files, O: CountedWrite, E: CountedWrite>(
+fn report_without_names<'a, R: Files, I, O: CountedWrite, E: CountedWrite>(
     rt: &R,
     alloc: Global,
     task: &Task<'a>,
     failure: Failure<'a>,
-    is_terminal: bool,
-    out: &mut O,
-    err: &mut E,
+    streams: &mut Streams<I, O, E>,
 ) -> Outcome
-    ensures { MayPrint result (O.output out.old) (O.output out.new) }
+    ensures { MayPrint result (O.output streams.old.out) (O.output streams.new.out) }
 {
-    reported(rt, alloc, task, Err(failure), is_terminal, out, err)
+    reported(rt, alloc, task, Err(failure), streams)
 }
 
 /// A task with the names of these files held too, or why it can't hold them.
@@ -199,32 +238,22 @@ fn run_with_names<
     I: CountedRead,
     O: CountedWrite,
     E: CountedWrite,
->(
-    rt: &R,
-    alloc: Global,
-    task: Task<'_>,
-    is_terminal: bool,
-    stdin: &mut I,
-    out: &mut O,
-    err: &mut E,
-) -> Outcome
-    ensures { MayPrint result (O.output out.old) (O.output out.new) }
+>(rt: &R, alloc: Global, task: Task<'_>, streams: &mut Streams<I, O, E>) -> Outcome
+    ensures { MayPrint result (O.output streams.old.out) (O.output streams.new.out) }
 {
-    match read_name_files(rt, alloc, task.name_files(), stdin) {
+    match read_name_files(rt, alloc, task.name_files(), &mut streams.stdin) {
         Ok(files) => {
             let (named, held) = with_names(files.as_slice(), task);
             let outcome = match held {
-                Ok(()) => finish_task(rt, alloc, &named, is_terminal, stdin, out, err),
-                Err(failure) => {
-                    report_without_names(rt, alloc, &named, failure, is_terminal, out, err)
-                }
+                Ok(()) => finish_task(rt, alloc, &named, streams),
+                Err(failure) => { report_without_names(rt, alloc, &named, failure, streams) }
             };
             drop(named);
             drop(files);
             outcome
         }
         Err(failure) => {
-            let outcome = report_without_names(rt, alloc, &task, failure, is_terminal, out, err);
+            let outcome = report_without_names(rt, alloc, &task, failure, streams);
             drop(task);
             outcome
         }
@@ -236,19 +265,16 @@ fn run_apart<R: Files + Threads + Sync + Clock, I: CountedRead, O: CountedWrite,
     rt: &R,
     alloc: Global,
     task: Task<'_>,
-    is_terminal: bool,
-    stdin: &mut I,
-    out: &mut O,
-    err: &mut E,
+    streams: &mut Streams<I, O, E>,
 ) -> Outcome
-    ensures { MayPrint result (O.output out.old) (O.output out.new) }
+    ensures { MayPrint result (O.output streams.old.out) (O.output streams.new.out) }
 {
     match clash_error(rt, alloc, &task) {
         Some(error) => {
             drop(task);
-            refuse_line(error, is_terminal, err)
+            refuse_line(error, streams.is_terminal, &mut streams.err)
         }
-        None => run_with_names(rt, alloc, task, is_terminal, stdin, out, err),
+        None => run_with_names(rt, alloc, task, streams),
     }
 }
 
@@ -265,47 +291,36 @@ fn run_line<R: Files + Threads + Sync + Clock, I: CountedRead, O: CountedWrite, 
     rt: &R,
     alloc: Global,
     words: &[String],
-    is_terminal: bool,
-    stdin: &mut I,
-    out: &mut O,
-    err: &mut E,
+    streams: &mut Streams<I, O, E>,
 ) -> Outcome
-    ensures { MayPrint result (O.output out.old) (O.output out.new) }
+    ensures { MayPrint result (O.output streams.old.out) (O.output streams.new.out) }
 {
     match parse_arguments(alloc, without_flag_of_help(words)) {
-        Ok(task) => run_apart(rt, alloc, task, is_terminal, stdin, out, err),
-        Err(error) => refuse_line(error, is_terminal, err),
+        Ok(task) => run_apart(rt, alloc, task, streams),
+        Err(error) => refuse_line(error, streams.is_terminal, &mut streams.err),
     }
 }
 
 /// Runs the program on these arguments, its own name first, and returns the exit status: 0 done, 1 a file that is refused, or
 /// circuits that can't be compared, 2 command line, 3 device, 4 memory, 5 circuits that differ, or a certificate that is rejected.
 ///
-/// `stdin`, `out` and `err` are the standard streams. What was done is printed to `out` once the file is written; of a batch, file by
-/// file. Where a circuit or certificates are written to `out`, that is printed to `err`. Why nothing was done goes to `err`, and so do
-/// help and the version; a failed write to `err` doesn't change the status. Where `is_terminal`, that standard error is a terminal,
-/// a refused circuit's line at fault follows there, and a retiming shows how far it is. The texts on `err` are only tested.
+/// What was done is printed to standard output once the file is written; of a batch, file by file. Where a circuit or certificates
+/// are written there, that is printed to standard error. Why nothing was done goes to standard error, and so do help and the version;
+/// a failed write there doesn't change the status. On a terminal a refused circuit's line at fault follows, and a retiming shows how
+/// far it is. The texts on standard error are only tested.
 pub fn run_words<
     R: Files + Threads + Sync + Clock,
     I: CountedRead,
     O: CountedWrite,
     E: CountedWrite,
->(
-    rt: &R,
-    alloc: Global,
-    words: &[String],
-    is_terminal: bool,
-    stdin: &mut I,
-    out: &mut O,
-    err: &mut E,
-) -> u8
+>(rt: &R, alloc: Global, words: &[String], streams: &mut Streams<I, O, E>) -> u8
     ensures status { result ≤ 5 }
-    ensures refused { (result ≡ 1) → (O.output out.new ≡ O.output out.old)
-        ⊎ PrintsShapes (O.output out.old) (O.output out.new)
-        ⊎ PrintsFilesOrRefusal Refused (O.output out.old) (O.output out.new) }
-    ensures quiet { (result ≡ 2) → O.output out.new ≡ O.output out.old }
-    ensures memory { (result ≡ 4) → (O.output out.new ≡ O.output out.old)
-        ⊎ PrintsFilesOrRefusal Memory (O.output out.old) (O.output out.new) }
+    ensures refused { (result ≡ 1) → (O.output streams.new.out ≡ O.output streams.old.out)
+        ⊎ PrintsShapes (O.output streams.old.out) (O.output streams.new.out)
+        ⊎ PrintsFilesOrRefusal Refused (O.output streams.old.out) (O.output streams.new.out) }
+    ensures quiet { (result ≡ 2) → O.output streams.new.out ≡ O.output streams.old.out }
+    ensures memory { (result ≡ 4) → (O.output streams.new.out ≡ O.output streams.old.out)
+        ⊎ PrintsFilesOrRefusal Memory (O.output streams.old.out) (O.output streams.new.out) }
 {
-    run_line(rt, alloc, words, is_terminal, stdin, out, err).status()
+    run_line(rt, alloc, words, streams).status()
 }

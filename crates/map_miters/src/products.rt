@@ -1,5 +1,5 @@
 //! A product machine, put together in one graph.
-ghost use Rattle.std.specs.Prelude.{◌≡◌, ◌↔◌, ◌∷◌, [], IfOk, IsTrue, OnOk, length};
+ghost use Rattle.std.specs.Prelude.{◌≡◌, ◌↔◌, IfOk, IsTrue, OnOk, length};
 ghost use Rattle.aig_graph.specs.Circuits.{AreLiteralsOf, IsNetlist};
 ghost use Rattle.aig_graph.specs.Graph.{IsGraph};
 ghost use Rattle.witness_circuits.specs.Latches.{with_nexts};
@@ -15,9 +15,9 @@ use crate::errors::MiterError;
 use crate::goals::{Goal, add_good};
 use crate::sides::{Sides, add_sides, nexts_of};
 use crate::ties::{add_constraints, are_tied};
-use aig_graph::{AigBuilder, Circuit, Lit, NoMemory, Props, Sequence, Symbols};
+use aig_graph::{AigBuilder, Circuit, NoMemory, Props, Symbols};
 use std::alloc::Global;
-use witness_circuits::set_nexts;
+use witness_circuits::{safety_props, set_nexts};
 
 /// What is asked for, and whether free latches are to start alike.
 #[derive(Clone, Copy)]
@@ -31,24 +31,6 @@ struct Wanted {
 struct Built {
     gates: AigBuilder,
     props: Props,
-}
-
-/// One bad state, and constraints.
-fn props_of(alloc: Global, bad: Lit, constraints: Vec<Lit>) -> Result<Props, NoMemory>
-    ensures { IfOk result (λ props. props ≡ record {
-      outputs = [];
-      bad = bad ∷ [];
-      constraints = constraints.items;
-      justice = [];
-      fairness = [];
-    }) }
-{
-    let mut all = Vec::new(alloc);
-    all.push(bad)?;
-    let mut props = Props::of_outputs(alloc, Vec::new(alloc));
-    props.bad = Sequence::from_vec(all);
-    props.constraints = Sequence::from_vec(constraints);
-    Ok(props)
 }
 
 /// Adds what the bad state and the constraint are made of.
@@ -71,7 +53,7 @@ fn add_props(
 {
     let good = add_good(alloc, gates, wanted.goal, sides, first, second, map)?;
     let constraints = add_constraints(alloc, gates, wanted.tied, first, second, map)?;
-    let props = props_of(alloc, good.not(), constraints)?;
+    let props = safety_props(alloc, good.not(), constraints)?;
     Ok(props)
 }
 

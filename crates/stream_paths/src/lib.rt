@@ -2,7 +2,9 @@
 #![tactic(auto)]
 
 mod source;
+mod streams;
 mod target;
 
 pub use source::Source;
+pub use streams::Streams;
 pub use target::Target;

@@ -30,6 +30,7 @@ pub use lift_laws::lift_law;
 pub use lifting::{lifted_witness, witness_lifted_over};
 pub use literals::{leaves, numbered, push_substitutes};
 pub use placing::first_places;
+pub use properties::safety_props;
 pub use shared_names::sharing_of;
 pub use sharing::Sharing;
 pub use sharing_errors::SharingError;

@@ -62,8 +62,12 @@ fn demands_of(
     Ok(demands)
 }
 
-/// One bad state, and constraints.
-fn props_of(alloc: Global, bad: Lit, constraints: Vec<Lit>) -> Result<Props, NoMemory>
+/// The properties of a circuit that is checked for safety: one bad state, and constraints.
+///
+/// # Errors
+///
+/// `NoMemory` where memory is refused.
+pub fn safety_props(alloc: Global, bad: Lit, constraints: Vec<Lit>) -> Result<Props, NoMemory>
     ensures { IfOk result (λ props. props ≡ record {
       outputs = [];
       bad = bad ∷ [];
@@ -103,6 +107,6 @@ pub(crate) fn add_props(
     let demands = demands_of(alloc, parts, map, witness)?;
     let good = add_conjunction_of(gates, demands.as_slice())?;
     let constraints = constraints_of(alloc, parts, first)?;
-    let props = props_of(alloc, good.signed_as(Lit::TRUE), constraints)?;
+    let props = safety_props(alloc, good.signed_as(Lit::TRUE), constraints)?;
     Ok(props)
 }

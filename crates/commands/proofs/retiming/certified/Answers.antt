@@ -3,13 +3,13 @@ use Rattle.commands.proofs.retiming.certified.Goals as goal
 
 pub returns-clause-file : goal.returns-clause-file
 returns-clause-file g c =
-    kept c.args.task.now (g.O.CountedWrite.output c.args.out.now) (g.O.CountedWrite.output c.retimed-ended.new.out) (g.O.CountedWrite.output c.write_beside.new.out) c.retimed-ended.ensures.file c.write_beside.ensures.file
+    kept c.args.task.now (g.O.CountedWrite.output c.args.streams.now.out) (g.O.CountedWrite.output c.retimed-ended.new.out) (g.O.CountedWrite.output c.write_beside.new.out) c.retimed-ended.ensures.file c.write_beside.ensures.file
 
 pub returns-in-Ok-clause-reported : goal.returns-in-Ok-clause-reported
 returns-in-Ok-clause-reported g c =
     let beside = c.in-Ok.ensures in
     let reported = c.with_times in
-    report_of _ c.args.task.now (g.I.CountedRead.input c.args.stdin.now) (g.O.CountedWrite.output c.args.out.now) (g.O.CountedWrite.output c.retimed-ended.new.out)
+    report_of _ c.args.task.now (g.I.CountedRead.input c.args.streams.now.stdin) (g.O.CountedWrite.output c.args.streams.now.out) (g.O.CountedWrite.output c.retimed-ended.new.out)
     (g.O.CountedWrite.output c.write_beside.new.out) c.in_ok-answer.answer c.write_beside.new.answer reported.result.retimed reported.result.keep reported.result.levels reported.result.map
     reported.ensures.keep beside.keep reported.ensures.levels beside.levels reported.ensures.retimed beside.frames reported.ensures.map beside.map c.in_ok-answer.ensures.answer beside.written
 
@@ -20,4 +20,4 @@ returns-clause-prints g c =
 
 pub returns-in-Ok-clause-file : goal.returns-in-Ok-clause-file
 returns-in-Ok-clause-file g c =
-    kept c.args.task.now (g.O.CountedWrite.output c.args.out.now) (g.O.CountedWrite.output c.retimed-ended.new.out) (g.O.CountedWrite.output c.write_beside.new.out) c.retimed-ended.ensures.file c.write_beside.ensures.file
+    kept c.args.task.now (g.O.CountedWrite.output c.args.streams.now.out) (g.O.CountedWrite.output c.retimed-ended.new.out) (g.O.CountedWrite.output c.write_beside.new.out) c.retimed-ended.ensures.file c.write_beside.ensures.file
