@@ -70,6 +70,8 @@ complete -c fretime -n '__fish_seen_subcommand_from backward' -x -l frames -d 'T
 complete -c fretime -n '__fish_seen_subcommand_from backward' -x -l levels -d 'Let no move make a path of more than n gates'
 complete -c fretime -n '__fish_seen_subcommand_from backward' -l no-longer -d 'Let no path get longer than the longest of IN'
 complete -c fretime -n '__fish_seen_subcommand_from backward' -r -l map -d 'Write how IN\'s latches follow from OUT\'s to MAP'
+complete -c fretime -n '__fish_seen_subcommand_from backward' -l progress -d 'Write a line to standard error as each frame begins'
+complete -c fretime -n '__fish_seen_subcommand_from backward' -l quiet -d 'Show no progress on a terminal either'
 complete -c fretime -n '__fish_seen_subcommand_from backward' -x -l keep -d 'Hold each latch with this name; may be repeated'
 complete -c fretime -n '__fish_seen_subcommand_from backward' -r -l keep-from -d 'Hold the latches that the lines of FILE name'
 complete -c fretime -n '__fish_seen_subcommand_from backward' -x -l keep-latch -d 'Hold the latch at position n, from 0; may be repeated'

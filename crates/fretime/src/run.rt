@@ -72,78 +72,29 @@ fn run_task<
     streams: &mut Streams<I, O, E>,
 ) -> Result<Outcome, Failure<'a>>
     ensures does { IfOk result (Does (IsFileGiven R R.Dir R.File.contents) task.now
-        streams.old.is_terminal
-        (I.input streams.old.stdin) (I.input streams.new.stdin) (O.output streams.old.out) (O.output streams.new.out)
-        (E.output streams.new.err)) }
+        streams.old.is_terminal (I.input streams.old.stdin) (I.input streams.new.stdin)
+        (O.output streams.old.out) (O.output streams.new.out) (E.output streams.new.err)) }
     ensures prints { MayGive result (O.output streams.old.out) (O.output streams.new.out) }
 {
+    let stdin = &mut streams.stdin;
+    let out = &mut streams.out;
     match task {
-        Task::Retime(retiming) => { print_retimed(rt, alloc, retiming, streams) }
-        Task::Backward(moving) => { print_moves(rt, alloc, moving, streams) }
-        Task::Batch(batch) => { Ok(retime_list(rt, alloc, batch, streams)) }
-        Task::Stat(counting) => print_statistics(
-            rt,
-            alloc,
-            counting,
-            &mut streams.stdin,
-            &mut streams.out,
-        ),
+        Task::Retime(retiming) => print_retimed(rt, alloc, retiming, streams),
+        Task::Backward(moving) => print_moves(rt, alloc, moving, streams),
+        Task::Batch(batch) => Ok(retime_list(rt, alloc, batch, streams)),
+        Task::Stat(counting) => print_statistics(rt, alloc, counting, stdin, out),
         Task::Convert(input, output, spelling) => {
-            convert(
-                rt,
-                alloc,
-                *input,
-                *output,
-                *spelling,
-                &mut streams.stdin,
-                &mut streams.out,
-            )
+            convert(rt, alloc, *input, *output, *spelling, stdin, out)
         }
-        Task::Sim(simulation) => print_simulation(
-            rt,
-            alloc,
-            simulation,
-            &mut streams.stdin,
-            &mut streams.out,
-        ),
-        Task::Same(comparison) => print_comparison(
-            rt,
-            alloc,
-            comparison,
-            &mut streams.stdin,
-            &mut streams.out,
-        ),
-        Task::Verify(verification) => { verify(rt, alloc, verification, streams) }
-        Task::Check(checking) => print_check(
-            rt,
-            alloc,
-            checking,
-            &mut streams.stdin,
-            &mut streams.out,
-        ),
-        Task::Miter(asking) => write_miter(rt, alloc, asking, &mut streams.stdin, &mut streams.out),
-        Task::Product(asking) => write_miter(
-            rt,
-            alloc,
-            asking,
-            &mut streams.stdin,
-            &mut streams.out,
-        ),
-        Task::Lift(lifting) => write_lifted(
-            rt,
-            alloc,
-            lifting,
-            &mut streams.stdin,
-            &mut streams.out,
-        ),
-        Task::Dot(drawing) => { write_picture(rt, alloc, drawing, streams) }
-        Task::Witness(carrying) => print_witness_back(
-            rt,
-            alloc,
-            carrying,
-            &mut streams.stdin,
-            &mut streams.out,
-        ),
+        Task::Sim(simulation) => print_simulation(rt, alloc, simulation, stdin, out),
+        Task::Same(comparison) => print_comparison(rt, alloc, comparison, stdin, out),
+        Task::Verify(verification) => verify(rt, alloc, verification, streams),
+        Task::Check(checking) => print_check(rt, alloc, checking, stdin, out),
+        Task::Miter(asking) => write_miter(rt, alloc, asking, stdin, out),
+        Task::Product(asking) => write_miter(rt, alloc, asking, stdin, out),
+        Task::Lift(lifting) => write_lifted(rt, alloc, lifting, stdin, out),
+        Task::Dot(drawing) => write_picture(rt, alloc, drawing, streams),
+        Task::Witness(carrying) => print_witness_back(rt, alloc, carrying, stdin, out),
         Task::Explain(name) => explain(alloc, *name, streams),
     }
 }
