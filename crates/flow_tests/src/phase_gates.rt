@@ -1,5 +1,6 @@
-//! That each worker of a crew passes the gate of each phase once, and then leaves it once, before it passes the next; that phases count
-//! on after a pulse by ranges; and that a later pulse is handed to the crew too.
+//! That each worker of a crew passes the gate of each phase once, and then leaves it once, before it passes the next; that two of them are in a
+//! phase at once; that phases count on after a pulse by ranges; and that a later pulse is handed to the crew too.
+use crate::meeting_gates::MeetingGate;
 use crate::starts::start;
 use crate::worked_pulses::{pulse, pulse_by_ranges};
 use frame_net::Net;
@@ -128,6 +129,15 @@ pub(crate) fn each_crew_passes<R: Threads + Sync>(rt: &R, alloc: Global, net: &N
     let two = sees_all(rt, alloc, net, 2, false);
     let many = sees_all(rt, alloc, net, 7, false);
     one & two & many & sees_all(rt, alloc, net, 1, true)
+}
+
+/// Whether two workers are in each phase of the first pulse at once.
+pub(crate) fn two_workers_meet<R: Threads + Sync>(rt: &R, alloc: Global, net: &Net) -> bool {
+    let crew = Crew::new(2, MeetingGate::new());
+    let ended = run_to_end(rt, alloc, net, &crew);
+    let has_ended = ended.is_ok();
+    drop(ended);
+    has_ended & crew.gate().saw_both(0) & crew.gate().saw_both(1)
 }
 
 /// How many phases of the second pulse the second worker passed.

@@ -1,9 +1,9 @@
 //! A frame that is cut: workers that own whole components are at work at once, a crew shares the pulses of a large one, and the flow that they find is
-//! the same for every number of workers.
+//! the same for every number of workers. So is that of a frame that isn't cut, whose pulses a crew shares.
 ghost use Rattle.std.specs.Prelude.{◌<◌, ◌≤◌};
 
 use crate::meeting_gates::MeetingGate;
-use crate::wide_circuits::{text_of_blocks, text_of_two_chains};
+use crate::wide_circuits::{text_of_blocks, text_of_races, text_of_two_chains};
 use aag_text::read_aag;
 use aig_graph::{Choice, Circuit, Keep};
 use pulse::{Crew, OpenGate, PhaseGate};
@@ -26,6 +26,24 @@ const SHARED: Sizes = Sizes {
     part: 8,
     large: 1 << 24,
 };
+
+/// No circuit is cut.
+const WHOLE: Sizes = Sizes {
+    circuit: 1 << 24,
+    part: 8,
+    large: 64,
+};
+
+/// Each circuit is cut, and each component with three places is a part.
+const EACH: Sizes = Sizes {
+    circuit: 1,
+    part: 3,
+    large: 64,
+};
+
+/// Six pairs of latches, and the gate of each pair, which is an output. So is the second latch of each second pair.
+const SIX_PAIRS: &[u8] =
+    b"aag 30 12 12 9 6\n2\n4\n6\n8\n10\n12\n14\n16\n18\n20\n22\n24\n26 2\n28 4\n30 6\n32 8\n34 10\n36 12\n38 14\n40 16\n42 18\n44 20\n46 22\n48 24\n50\n52\n54\n56\n58\n60\n32\n40\n48\n50 28 26\n52 32 30\n54 36 34\n56 40 38\n58 44 42\n60 48 46\n";
 
 /// How many gates the greatest least set has that a crew shows, or none.
 fn shown_gates<R: Threads + Sync, G: PhaseGate>(
@@ -94,6 +112,7 @@ fn finds<R: Threads + Sync>(
     alloc: Global,
     circuit: &Circuit,
     workers: u32,
+    sizes: Sizes,
     gates: usize,
     wanted: &[GateFlow],
 ) -> bool
@@ -102,9 +121,9 @@ fn finds<R: Threads + Sync>(
 {
     let crew = Crew::new(workers, OpenGate);
     let mut flow = UnitFlow::none(alloc);
-    let shown = shown_gates(rt, alloc, circuit, &crew, SHARED, &mut flow);
+    let shown = shown_gates(rt, alloc, circuit, &crew, sizes, &mut flow);
     let same = flow.gates.as_slice() == wanted;
-    let again = shown_gates(rt, alloc, circuit, &crew, SHARED, &mut flow);
+    let again = shown_gates(rt, alloc, circuit, &crew, sizes, &mut flow);
     drop(flow);
     (shown == Some(gates)) & same & (again == Some(gates))
 }
@@ -114,16 +133,38 @@ fn find_the_same<R: Threads + Sync>(
     rt: &R,
     alloc: Global,
     circuit: &Circuit,
+    sizes: Sizes,
     gates: usize,
 ) -> bool {
     let crew = Crew::new(2, OpenGate);
     let mut flow = UnitFlow::none(alloc);
-    let shown = shown_gates(rt, alloc, circuit, &crew, SHARED, &mut flow);
-    let same = finds(rt, alloc, circuit, 3, gates, flow.gates.as_slice())
-        & finds(rt, alloc, circuit, 7, gates, flow.gates.as_slice())
-        & finds(rt, alloc, circuit, 64, gates, flow.gates.as_slice());
+    let shown = shown_gates(rt, alloc, circuit, &crew, sizes, &mut flow);
+    let same = finds(rt, alloc, circuit, 3, sizes, gates, flow.gates.as_slice())
+        & finds(rt, alloc, circuit, 7, sizes, gates, flow.gates.as_slice())
+        & finds(rt, alloc, circuit, 64, sizes, gates, flow.gates.as_slice());
     drop(flow);
     (shown == Some(gates)) & same
+}
+
+/// Whether they do so on the circuit of a text, if that was made.
+fn find_the_same_in<R: Threads + Sync>(
+    rt: &R,
+    alloc: Global,
+    text: &Result<Vec<u8>, AllocError>,
+    sizes: Sizes,
+    gates: usize,
+) -> bool {
+    let Ok(text) = text else {
+        return false;
+    };
+    match read_aag(alloc, text.as_slice()) {
+        Ok(circuit) => {
+            let same = find_the_same(rt, alloc, &circuit, sizes, gates);
+            drop(circuit);
+            same
+        }
+        Err(_) => false,
+    }
 }
 
 #[test]
@@ -144,14 +185,40 @@ fn two_workers_share_the_pulses_of_a_large_component(rt: HostRuntime) {
 
 #[test]
 fn parts_have_the_same_flow_for_every_number_of_workers(rt: HostRuntime) {
-    let circuit = match text_of_blocks(rt.alloc(), 64) {
-        Ok(text) => read_aag(rt.alloc(), text.as_slice()),
-        Err(_) => read_aag(rt.alloc(), b""),
-    };
-    let same = match &circuit {
-        Ok(circuit) => find_the_same(&rt, rt.alloc(), circuit, 192),
+    let text = text_of_blocks(rt.alloc(), 64);
+    let same = find_the_same_in(&rt, rt.alloc(), &text, SHARED, 192);
+    drop(text);
+    assert!(rt; same);
+}
+
+// In the fourth pulse two units are before the third gate of each of 2048 races, and one is before the sixth. So 4096 nodes are active, and the pulse is
+// shared out. The third gate keeps a unit, and the sixth pushes there. It has to see the label of before, in whichever range that is.
+#[test]
+fn pulses_leave_the_same_flow_for_every_number_of_workers(rt: HostRuntime) {
+    let text = text_of_races(rt.alloc(), 2048);
+    let same = find_the_same_in(&rt, rt.alloc(), &text, WHOLE, 16_384);
+    drop(text);
+    assert!(rt; same);
+}
+
+// A gate takes the unit of its second latch where both wait. With the marks of another pair it does so where that latch is an output. Then the first
+// latch's unit stays, since it can go nowhere but through the gate, and one unit fewer leaves.
+// In all, six leave at gates and three at latches. As many latches are left where all gates move, so the greatest least set has these.
+#[test]
+fn each_part_has_marks_of_its_own(rt: HostRuntime) {
+    let circuit = read_aag(rt.alloc(), SIX_PAIRS);
+    let holds = match &circuit {
+        Ok(circuit) => meet(&rt, rt.alloc(), circuit, EACH, 0, 6),
         Err(_) => false,
     };
     drop(circuit);
-    assert!(rt; same);
+    assert!(rt; holds);
+}
+
+// As the head of `chosen_least_in_parts` says. A circuit of 2^19 latches and gates is cut into parts of 2^13, and a part of over 2^16 is large. A size
+// that nothing reaches would change no set.
+#[test]
+fn a_run_cuts_from_the_sizes_that_are_told(rt: HostRuntime) {
+    let sizes = Sizes::OF_RUN;
+    assert!(rt; sizes.circuit == 524_288 && sizes.part == 8192 && sizes.large == 65_536);
 }

@@ -1,4 +1,5 @@
-//! Texts of wide circuits: many blocks of three latches and three gates each, side by side, or joined so that they are two components.
+//! Texts of wide circuits: many blocks of three latches and three gates each, side by side, or joined so that they are two components. Also many
+//! races of three units for one gate.
 use std::alloc::{AllocError, Global};
 
 /// The literal of the variable with a number, from 0.
@@ -119,5 +120,81 @@ pub(crate) fn text_of_two_chains(alloc: Global, blocks: u32) -> Result<Vec<u8>, 
             next = next.saturating_add(1);
         }
     }
+    Ok(text)
+}
+
+/// Puts the gates of a kind, one for each race: the larger and the smaller fan-in, a latch of the race or the gate of an earlier kind.
+fn put_kind(
+    alloc: Global,
+    text: &mut Vec<u8>,
+    races: u32,
+    kind: u32,
+    fan_ins: [FanIn; 2],
+) -> Result<(), AllocError> {
+    for race in 0..races {
+        let own = races.saturating_mul(kind.saturating_add(14));
+        let gate = literal(own.saturating_add(race));
+        let [larger, smaller] = fan_ins;
+        let line = &[gate, larger.of(races, race), smaller.of(races, race)];
+        put_line(alloc, text, line)?;
+    }
+    Ok(())
+}
+
+/// A fan-in of a race's gate: a latch of the race, or its gate of a kind.
+#[derive(Clone, Copy)]
+enum FanIn {
+    Latch(u32),
+    Kind(u32),
+}
+
+impl FanIn {
+    /// Its literal in one of so many races.
+    fn of(self, races: u32, race: u32) -> u32 {
+        let number = match self {
+            FanIn::Latch(latch) => races
+                .saturating_add(race)
+                .saturating_mul(7)
+                .saturating_add(latch),
+            FanIn::Kind(kind) => races
+                .saturating_mul(kind.saturating_add(14))
+                .saturating_add(race),
+        };
+        literal(number)
+    }
+}
+
+/// Puts the gates of so many races, kind by kind.
+fn put_races(alloc: Global, text: &mut Vec<u8>, races: u32) -> Result<(), AllocError> {
+    let kinds = [
+        [FanIn::Latch(1), FanIn::Latch(0)],
+        [FanIn::Latch(3), FanIn::Latch(2)],
+        [FanIn::Latch(3), FanIn::Latch(1)],
+        [FanIn::Latch(5), FanIn::Latch(5)],
+        [FanIn::Latch(6), FanIn::Latch(5)],
+        [FanIn::Kind(2), FanIn::Latch(4)],
+        [FanIn::Kind(5), FanIn::Latch(4)],
+        [FanIn::Kind(6), FanIn::Latch(4)],
+    ];
+    let mut kind = 0u32;
+    for fan_ins in kinds {
+        put_kind(alloc, text, races, kind, fan_ins)?;
+        kind = kind.saturating_add(1);
+    }
+    Ok(())
+}
+
+/// So many races of seven latches and eight gates, the first five of which are outputs. A start takes the units of the second and the fourth latch
+/// through the first two gates. It takes that of the fifth up the last three, which lead nowhere. Then three are left that could all come to before
+/// the third gate, and one of them can go through. The start from the sink down brings that one, but loses one at the fourth and fifth gate.
+pub(crate) fn text_of_races(alloc: Global, races: u32) -> Result<Vec<u8>, AllocError> {
+    let latches = races.saturating_mul(7);
+    let (gates, outputs) = (races.saturating_mul(8), races.saturating_mul(5));
+    let variables = latches.saturating_mul(2).saturating_add(gates);
+    let mut text = Vec::new(alloc);
+    let head = format!(in alloc; "aag {variables} {latches} {latches} {outputs} {gates}\n")?;
+    text.extend_from_slice(head.as_bytes())?;
+    put_latches(alloc, &mut text, latches, outputs)?;
+    put_races(alloc, &mut text, races)?;
     Ok(text)
 }

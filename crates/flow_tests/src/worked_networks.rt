@@ -3,7 +3,7 @@ use crate::arcs::are_as_worked;
 use crate::between_pulses::sends_both_units;
 use crate::distances::start_as_worked;
 use crate::nets::{FOUR_LATCHES, TWO_LATCHES, net_of_text};
-use crate::phase_gates::{each_crew_passes, second_pulse_is_shared};
+use crate::phase_gates::{each_crew_passes, second_pulse_is_shared, two_workers_meet};
 use crate::runs::end_as_worked;
 use crate::worked_pulses::{follow_after_eleven, follow_states};
 use frame_net::Net;
@@ -16,7 +16,7 @@ fn is_first_as_worked<R: Threads + Sync>(rt: &R, alloc: Global, net: &Net) -> bo
     let arcs = are_as_worked(net);
     let distances = start_as_worked(alloc, net);
     let pulses = follow_states(rt, alloc, net) & sends_both_units(alloc, net);
-    let phases = each_crew_passes(rt, alloc, net);
+    let phases = each_crew_passes(rt, alloc, net) & two_workers_meet(rt, alloc, net);
     arcs & distances & pulses & phases & end_as_worked(rt, alloc, net)
 }
 

@@ -42,6 +42,8 @@ mod retiming;
 #[cfg(test)]
 mod tables;
 #[cfg(test)]
+mod units_alone;
+#[cfg(test)]
 mod watched;
 #[cfg(test)]
 mod wide_runs;
