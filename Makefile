@@ -16,7 +16,7 @@ MANDIR = $(PREFIX)/share/man/man1
 DOCDIR = $(PREFIX)/share/doc/fretime
 DATADIR = $(PREFIX)/share/fretime
 # of this version
-DATE = 2026-11-28
+DATE = 2026-11-29
 
 VERSION := $(shell sed -n 's/.*\.version("\([^"]*\)").*/\1/p' crates/*/src/*.rt)
 INSTALLED = $(addprefix $(PREFIX)/bin/,$(COMMANDS)) $(addprefix $(MANDIR)/,$(COMMANDS:=.1)) $(addprefix $(BASHDIR)/,$(COMMANDS)) \

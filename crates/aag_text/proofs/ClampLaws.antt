@@ -25,6 +25,7 @@ use Rattle.reader_parts.specs.declared.symbols.SymbolText.{SymbolText}
 use Rattle.reader_parts.specs.declared.symbols.SymbolText.TheVariants.{NoSymbol, Comment, Malformed, Name}
 use Rattle.reader_parts.specs.Rows.{clamped, up_to_nine, row_of}
 use Rattle.reader_parts.specs.Symbols.{unnamed, text_without, text_of_item, text_of}
+use Rattle.reader_parts.proofs.SymbolLaws.{without_comment}
 use Rattle.aag_text.specs.Items.{only, item_in}
 use Rattle.aag_text.proofs.CountLaws.{symbols_next}
 
@@ -251,15 +252,6 @@ module _ (h : Header) (raw : Raw) (at : ℕ) (within : IsHeaderWithin h) where
   line_by_text e line no_comment =
       ap (λ (s : Section). take_item h raw at (malformed s at line) (item_of s line)) (symbols_next h raw e) ∙ by_item line (symbol_of line) refl
       ∙ ap (by_text h raw at) (sym (cond-false (begins_comment line) Comment (text_of_item line (symbol_of line)) no_comment))
-
--- the text of a line that begins no comment isn't that of a comment
-without_comment : (line : List ℕ) → text_without line ≡ Comment → ⊥
-without_comment [] is = absurd cc
-without_comment (letter ∷ bytes) is = by_kind (kind_of letter) is
-  where
-    by_kind : (kind : Option SymbolKind) → unnamed kind ≡ Comment → ⊥
-    by_kind None is = absurd cc
-    by_kind (Some kind) is = absurd cc
 
 item_no_comment : (line : List ℕ) (found : Option Item) → text_of_item line found ≡ Comment → ⊥
 item_no_comment line None is = without_comment line is

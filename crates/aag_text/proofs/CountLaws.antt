@@ -1,12 +1,13 @@
 -- The next section by how many items there are.
-use Rattle.std.proofs.Common.{ℕ, ◌<◌, ◌≤◌, ◌≡◌, inl, inr, length, nat_lt, cond, true, false, refl, sym, subst, arith}
-use Rattle.std.proofs.lemmas.Bool.{cases_lt, lt-ltb, le-ltb, cond-true, cond-false, both_ways}
+use Rattle.std.proofs.Common.{ℕ, ◌<◌, ◌≤◌, ◌≡◌, inl, inr, length, nat_lt, cond, true, sym, subst, arith}
+use Rattle.std.proofs.lemmas.Bool.{cases_lt, lt-ltb, le-ltb, cond-true, cond-false}
 use Rattle.ascii_file.specs.declared.header.Header.{Header}
 use Rattle.ascii_file.specs.declared.raw.Section.{Section}
 use Rattle.ascii_file.specs.declared.raw.Section.TheVariants.{Inputs, Latches, Safety, Sizes, Liveness, Gates, Symbols}
 use Rattle.ascii_file.specs.Raw.{Raw, safety_count, liveness_count}
-use Rattle.ascii_file.specs.Reading.{next_section, is_symbols, is_complete}
+use Rattle.ascii_file.specs.Reading.{next_section, is_complete}
 use Rattle.ascii_file.specs.Files.{IsCountedBy}
+use Rattle.ascii_file.proofs.StepLaws.{symbols_are}
 use Rattle.aag_text.specs.Filling.{IsFilling}
 
 -- the sections before this one are full, and it has room
@@ -45,18 +46,9 @@ room h raw =
 pub room_in : (h : Header) (raw : Raw) (section : Section) → next_section h raw ≡ section → HasRoom h raw section
 room_in h raw section e = subst (HasRoom h raw) e (room h raw)
 
-at_symbols : (section : Section) → is_symbols section ≡ true → section ≡ Symbols
-at_symbols Inputs e = absurd (both_ways false refl e)
-at_symbols Latches e = absurd (both_ways false refl e)
-at_symbols Safety e = absurd (both_ways false refl e)
-at_symbols Sizes e = absurd (both_ways false refl e)
-at_symbols Liveness e = absurd (both_ways false refl e)
-at_symbols Gates e = absurd (both_ways false refl e)
-at_symbols Symbols e = refl
-
 -- where all items but symbols have been read, symbols come next
 pub symbols_next : (h : Header) (raw : Raw) → is_complete h raw ≡ true → next_section h raw ≡ Symbols
-symbols_next h raw e = at_symbols (next_section h raw) e
+symbols_next h raw e = symbols_are (next_section h raw) e
 
 -- what has all its items has as many as the header says
 pub counted : (h : Header) (raw : Raw) → IsFilling h raw → is_complete h raw ≡ true → IsCountedBy h raw

@@ -1,5 +1,5 @@
 -- The properties of a raw circuit are as many as its header says.
-use Rattle.std.proofs.Common.{ℕ, suc, ◌+◌, ◌^◌, ◌≡◌, ◌≤◌, List, [], ◌∷◌, length, map, take, drop, refl, ap, arith}
+use Rattle.std.proofs.Common.{ℕ, ◌+◌, ◌^◌, ◌≡◌, ◌≤◌, List, [], ◌∷◌, length, map, take, drop, arith}
 use Rattle.std.specs.List.{sum}
 use Rattle.std.proofs.lemmas.List.{length-take, length-drop}
 use Rattle.std.proofs.lemmas.List.Sums.{sum_by-cons}
@@ -7,10 +7,7 @@ use Rattle.aig_graph.specs.declared.properties.Props.{Props}
 use Rattle.ascii_file.specs.declared.header.Header.{Header}
 use Rattle.ascii_file.specs.Raw.{safety_count}
 use Rattle.ascii_file.specs.Meaning.{split_by, props_of}
-
-split-count : (sizes xs : List ℕ) → length (split_by sizes xs) ≡ length sizes
-split-count [] xs = refl
-split-count (n ∷ sizes) xs = ap suc (split-count sizes (drop n xs))
+use Rattle.ascii_file.proofs.OwnLiteralLaws.{length-split}
 
 split-sum : (sizes xs : List ℕ) → sum (map length (split_by sizes xs)) ≤ sum sizes
 split-sum [] xs = omega arith
@@ -58,7 +55,7 @@ props-within h safety sizes liveness small first second third few =
       outputs = omega (arith, small.outputs, length-take h.outputs safety);
       bad = omega (arith, small.bad, length-take h.bad (drop h.outputs safety));
       constraints = omega (arith, small.constraints, length-drop (h.outputs + h.bad) safety, first);
-      justice = omega (arith, small.justice, split-count sizes liveness, second);
+      justice = omega (arith, small.justice, length-split sizes liveness, second);
       justice_literals = omega (arith, parts, few);
       fairness = omega (arith, small.fairness, length-drop (sum sizes) liveness, third);
     }

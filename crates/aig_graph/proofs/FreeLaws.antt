@@ -1,8 +1,11 @@
 -- Free latches, counted by variables.
-use Rattle.std.proofs.Common.{ℕ, ◌+◌, ◌≤◌, ◌≡◌, inl, inr, suc, zero, length, take, count_by, Bool, arith, ap, sym, ◌∙◌, add-one}
+use Rattle.std.proofs.Common.{ℕ, ◌+◌, ◌≤◌, ◌≡◌, inl, inr, suc, zero, length, take, count_by, Bool, arith, ap, sym, ◌∙◌, add-one, ◌<◌, cond, Some, slice_get, get_or, true, false}
 use Rattle.std.proofs.lemmas.Bool.{cases_Bool}
-use Rattle.std.proofs.lemmas.Option.{get_or_from_slice_get}
+use Rattle.std.proofs.lemmas.Option.{get_or_from_slice_get, slice_get_within}
 use Rattle.std.proofs.lemmas.List.Sums.{count_by_more_no, count_by_more_yes}
+use Rattle.aig_graph.specs.declared.graph.Latch.{Latch}
+use Rattle.aig_graph.specs.declared.graph.Reset.{Reset}
+use Rattle.aig_graph.specs.declared.graph.Reset.TheVariants.{Zero, One, Free}
 use Rattle.aig_graph.specs.Graph.{Graph, first_latch, first_gate, variables_end, latch_at, is_free, is_free_latch, free_before, free_latches}
 use Rattle.variable_tables.specs.Counting.{count_below}
 use Rattle.variable_tables.proofs.PlacesLaws.{count-pass, count-fail}
@@ -46,3 +49,24 @@ free-count_rest g (suc k) =
 -- the free latches counted over all variables are the free latches
 pub free-count_all : (g : Graph) → count_below (is_free_at g) (variables_end g) ≡ free_latches g
 free-count_all g = free-count_rest g (length g.gates)
+
+-- one latch further there is one free latch more where it is free
+pub free-more : (g : Graph) (k free one : ℕ) (latch : Latch) → slice_get g.latches k ≡ Some latch → free ≡ free_before g k → one ≡ cond (is_free latch) 1 0 → free + one ≡ free_before g (k + 1)
+free-more g k free one latch there is step =
+    let within : k < length g.latches = slice_get_within g.latches k latch there in
+    let read : get_or g.latches k latch ≡ latch = get_or_from_slice_get g.latches k latch latch there in
+    elim (cases_Bool (is_free latch)) [
+      | inl open_latch ↦ (
+          let here : one ≡ 1 = step ∙ ap (λ (b : Bool). cond {A = ℕ} b 1 0) open_latch in
+          omega (arith, is, here, count_by_more_yes is_free g.latches k latch within (ap is_free read ∙ open_latch)))
+      | inr known ↦ (
+          let here : one ≡ 0 = step ∙ ap (λ (b : Bool). cond {A = ℕ} b 1 0) known in
+          omega (arith, is, here, count_by_more_no is_free g.latches k latch within (ap is_free read ∙ known)))
+    ]
+
+-- a latch whose reset is free is free
+pub free-where : (latch : Latch) → latch.reset ≡ Free → is_free latch ≡ true
+free-where latch e = ap by_reset e
+  where
+    by_reset : Reset → Bool
+    by_reset r = elim r [ Zero ↦ false | One ↦ false | Free ↦ true ]

@@ -11,7 +11,8 @@ use Rattle.aig_graph.specs.declared.graph.Latch.{Latch}
 use Rattle.aig_graph.specs.Graph.{Graph, IsGraph, IsGateAt, IsLiteralOf, variable, variables_end, first_latch, first_gate, is_free, free_latches, known_latches}
 use Rattle.aig_graph.specs.Building.{gate_of, with_gate, next_at, with_next}
 
-gate_of-at : (v a b : ℕ) → variable a < v → variable b < v → IsGateAt v (gate_of a b)
+-- the gate of two literals of variables below one stands there
+pub gate_of-at : (v a b : ℕ) → variable a < v → variable b < v → IsGateAt v (gate_of a b)
 gate_of-at v a b p q = record { ordered = omega arith; below = omega arith }
 
 -- g is the fields, and h the value, of a struct that is seen as a graph

@@ -87,6 +87,10 @@ held-fail names symbols i s before after h there other held same =
     append_nil [] = refl
     append_nil (x ∷ xs) = ap (λ (ys : List ℕ). x ∷ ys) (append_nil xs)
 
+-- no names are names of places
+pub no-names : (n : ℕ) → AreNamesBelow n []
+no-names n = record { rising = λ k less. absurd (omega (arith, less)); below = λ k a less. absurd (omega (arith, less)) }
+
 -- the positions that names hold rise strictly, as the symbols' positions do
 pub held-rising : (names : List (List ℕ)) (symbols : List Symbol) (n : ℕ) → AreNamesBelow n symbols → IsStrictlyIncreasing (held_by names symbols)
 unfolding held_by

@@ -16,3 +16,4 @@ pub mod ClosedBorderLaws
 pub mod SetLaws
 pub mod StreamLaws
 pub mod ChosenLaws
+pub mod ShapeLaws

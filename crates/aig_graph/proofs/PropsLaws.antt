@@ -5,7 +5,7 @@ use Rattle.std.proofs.lemmas.List.{map-append, get_or_append_left, get_or-append
 use Rattle.std.proofs.lemmas.List.Elements.{All-nil, All-cons, All-head, All-tail, All-append, All-map, All-weaker}
 use Rattle.aig_graph.specs.declared.properties.Props.{Props}
 use Rattle.aig_graph.specs.Graph.{Graph, IsLiteralOf}
-use Rattle.aig_graph.specs.Circuits.{Netlist, ArePropsOf}
+use Rattle.aig_graph.specs.Circuits.{AreLiteralsOf, ArePropsOf, IsNetlist, Netlist}
 use Rattle.aig_graph.specs.Streams.{property_literals, SameShape}
 use Rattle.aig_graph.specs.Mapped.{OfProps, mapped_props}
 
@@ -101,6 +101,10 @@ mapped-shape f c d inputs props = record {
 pub literals_within : (g : Graph) (p : Props) → ArePropsOf g p → All (λ lit. IsLiteralOf g lit) (property_literals p)
 literals_within g p props =
     to_literals (λ lit. IsLiteralOf g lit) p (record { outputs = props.outputs; bad = props.bad; constraints = props.constraints; justice = props.justice; fairness = props.fairness })
+
+-- the property literals of a circuit are literals of its graph
+pub properties-within : (c : Netlist) → IsNetlist c → AreLiteralsOf c.aig (property_literals c.props)
+properties-within c net = literals_within c.aig c.props net.props
 
 -- where f takes each property literal to one of d
 pub mapped-props : (f : ℕ → ℕ) (P : ℕ → Type 0) (g : Graph) (p : Props) → All P (property_literals p) → ((lit : ℕ) → P lit → IsLiteralOf g (f lit)) → ArePropsOf g (mapped_props f p)

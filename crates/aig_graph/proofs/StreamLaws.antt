@@ -1,7 +1,8 @@
 -- Equal streams are reflexive and transitive.
-use Rattle.std.proofs.Common.{ℕ, ◌+◌, ◌<◌, ◌≡◌, Bool, true, false, List, [], ◌∷◌, length, get_or, map, take, Option, Some, None, refl, arith, ap, ◌∙◌, suc, zero, slice_get, count_by, cond, zero-add}
+use Rattle.std.proofs.Common.{ℕ, ◌+◌, ◌<◌, ◌≡◌, Bool, true, false, List, [], ◌∷◌, length, get_or, map, take, Option, Some, None, refl, arith, ap, ◌∙◌, suc, zero, slice_get, count_by, cond, zero-add, sym}
+use Rattle.std.specs.List.{range_with_len}
 use Rattle.std.specs.List.Sorted.{IsStrictlyIncreasing}
-use Rattle.std.proofs.lemmas.List.{get_or-map, length-map, get_or_default}
+use Rattle.std.proofs.lemmas.List.{get_or-map, length-map, get_or_default, ext_get_or}
 use Rattle.std.proofs.lemmas.List.FromFn.{get_or-range_with_len, length-range_with_len}
 use Rattle.std.proofs.lemmas.List.Kept.{AllPairs-from_increasing}
 use Rattle.std.proofs.lemmas.List.Sums.{sum_by-cons}
@@ -65,8 +66,15 @@ pub value-same : (g : Graph) (x : Inputs) (f h : Choice) → ((j : ℕ) → j < 
 unfolding value
 value-same g x f h same t lit = ap (λ (latches : ℕ → Bool). value_within g (x t) latches lit) (latch_value-same g x f h same t)
 
-values-same : (g : Graph) (x : Inputs) (f h : Choice) (t : ℕ) (lits : List ℕ) → ((j : ℕ) → j < free_latches g → f j ≡ h j) → map (value g x f t) lits ≡ map (value g x h t) lits
+-- and so do the values of a list of literals
+pub values-same : (g : Graph) (x : Inputs) (f h : Choice) (t : ℕ) (lits : List ℕ) → ((j : ℕ) → j < free_latches g → f j ≡ h j) → map (value g x f t) lits ≡ map (value g x h t) lits
 values-same g x f h t lits same = ap (λ (v : ℕ → Bool). map v lits) (funext (value g x f t) (value g x h t) (value-same g x f h same t))
+
+-- a latch opens with the same where it is known, or where the choices for it are the same
+pub opening-same : (r : Reset) (next : ℕ) (a b : Bool) → (is_free (record { next = next; reset = r }) ≡ true → a ≡ b) → opening r a ≡ opening r b
+opening-same Zero next a b same = refl
+opening-same One next a b same = refl
+opening-same Free next a b same = same refl
 
 -- a circuit has its own streams, with each free latch in its place
 pub same_streams-reflexive : (c : Netlist) → IsReflexive c
@@ -115,3 +123,14 @@ same_streams-transitive c d e first second p q =
           values-same e.aig x (chosen (composed first second) f) (chosen second (chosen first f)) t (property_literals e.props) (λ j h. ap f (at j (omega (arith, q.places.each))))
           ∙ q.values x (chosen first f) t ∙ p.values x f t;
     }
+
+-- a list with all its places is itself
+pub composed-every : (kept : List ℕ) (n : ℕ) → length kept ≡ n → composed kept (range_with_len 0 n) ≡ kept
+composed-every kept n long =
+    let f : ℕ → ℕ = λ place. get_or kept place 0 in
+    let places : List ℕ = range_with_len 0 n in
+    let all : length (composed kept places) ≡ n = length-map places f ∙ length-range_with_len 0 n in
+    ext_get_or 0 (composed kept places) kept (all ∙ sym long) (λ j h.
+    let within : j < n = omega (arith, h, all) in
+    let there : j < length places = omega (arith, within, length-range_with_len 0 n) in
+    get_or-map f places j 0 0 there ∙ ap f (get_or-range_with_len 0 n j 0 within ∙ zero-add j))

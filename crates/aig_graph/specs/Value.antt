@@ -38,7 +38,13 @@ opening Zero b = false
 opening One b = true
 opening Free b = b
 
--- the same of the latch with this number
+-- the literal of what a latch with this reset holds at step 0, where own is its own literal
+abbrev pub opening_literal : Reset → ℕ → ℕ
+opening_literal Zero own = 0
+opening_literal One own = 1
+opening_literal Free own = own
+
+-- what the latch with this number holds at step 0
 abbrev pub opening_at : Graph → Choice → ℕ → Option Latch → Bool
 opening_at g f j None = false
 opening_at g f j (Some latch) = opening latch.reset (f (free_before g j))

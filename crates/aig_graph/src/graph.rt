@@ -5,7 +5,7 @@ ghost use Rattle.std.specs.Prelude.{◌≡◌, ◌-◌, ◌<◌, ◌≤◌, fals
 ghost use Rattle.std.specs.List.{slice_index_or};
 ghost use Rattle.aig_graph.specs.declared.literal.TheConstants.{MAX_VARIABLES};
 ghost use Rattle.aig_graph.specs.Graph.{Graph, variable, first_latch};
-ghost use Rattle.aig_graph.specs.Value.{signed, reset_to};
+ghost use Rattle.aig_graph.specs.Value.{opening_literal, reset_to, signed};
 
 use crate::literal::Lit;
 use std::marker::Model;
@@ -222,6 +222,17 @@ impl Aig {
             .iter()
             .filter(|latch| latch.reset != Reset::Free)
             .count() as u32
+    }
+}
+
+/// The literal of what a latch with this reset holds at step 0, where `own` is its own literal.
+pub fn opening_literal(reset: Reset, own: Lit) -> Lit
+    ensures { result ≡ opening_literal reset own }
+{
+    match reset {
+        Reset::Zero => Lit::FALSE,
+        Reset::One => Lit::TRUE,
+        Reset::Free => own,
     }
 }
 

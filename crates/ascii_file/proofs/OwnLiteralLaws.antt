@@ -160,6 +160,11 @@ gate_kept c graph k gate there =
 
 -- ---- the properties
 
+-- a list is split into as many lists as there are lengths
+pub length-split : (sizes xs : List ℕ) → length (split_by sizes xs) ≡ length sizes
+length-split [] xs = refl
+length-split (n ∷ sizes) xs = ap suc (length-split sizes (drop n xs))
+
 -- lists that were joined are split again
 split_again : (lists : List (List ℕ)) (rest : List ℕ) → split_by (map length lists) (flat_map (λ lits. lits) lists ++ rest) ≡ lists
 split_again [] rest = refl

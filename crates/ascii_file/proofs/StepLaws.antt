@@ -169,6 +169,16 @@ line_was_read h raw more at line e = by_item (item_of (next_section h raw) line)
           grown = same_ok (with_item raw item) more checked.1;
         }
 
+-- the section of symbols is the one that passes their test
+pub symbols_are : (section : Section) → is_symbols section ≡ true → section ≡ Symbols
+symbols_are Inputs e = absurd cc
+symbols_are Latches e = absurd cc
+symbols_are Safety e = absurd cc
+symbols_are Sizes e = absurd cc
+symbols_are Liveness e = absurd cc
+symbols_are Gates e = absurd cc
+symbols_are Symbols e = refl
+
 -- the line of an item begins no comment
 item_no_comment : (section : Section) (line : List ℕ) (item : Item) → section ≡ section_of item → Spells line item → (is_symbols section && begins_comment line) ≡ false
 unfolding item_of

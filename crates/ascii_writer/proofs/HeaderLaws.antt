@@ -11,7 +11,8 @@ list_all-zero : (ns : List ℕ) → list_all (λ m. m == 0) (ns ++ 0 ∷ []) ≡
 list_all-zero [] = refl
 list_all-zero (n ∷ ns) = ap (λ b. (n == 0) && b) (list_all-zero ns)
 
-not_zero : (n : ℕ) → n ≢ 0 → (n == 0) ≡ false
+-- the test for zero fails on any other number
+pub not_zero : (n : ℕ) → n ≢ 0 → (n == 0) ≡ false
 not_zero n h = search rules
 
 list_all-other : (ns : List ℕ) (n : ℕ) → n ≢ 0 → list_all (λ m. m == 0) (ns ++ n ∷ []) ≡ false

@@ -57,7 +57,7 @@ module _ (c m : Netlist) (netlist : IsNetlist c) (wires : IsWires c m) where
   -- a circuit is what it may become
   pub moved-itself : (held : List ℕ) (bound : Option ℕ) → IsMovedBack c held bound c m
   moved-itself held bound = record {
-    turned = record { streams = same_streams-reflexive c; map = wires.map };
+    turned = record { streams = same_streams-reflexive c; map = wires.map; free = wires.free };
     fit = fits-itself held;
     within = within-itself bound c;
   }

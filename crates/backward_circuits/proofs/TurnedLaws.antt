@@ -1,15 +1,14 @@
 -- Equal streams the other way, where both circuits have as many free latches.
-use Rattle.std.proofs.Common.{ℕ, ◌+◌, ◌-◌, ◌<◌, ◌≤◌, ◌≡◌, Bool, List, length, get_or, map, sym, arith, ap, ◌∙◌, subst, suc, zero, zero-add}
+use Rattle.std.proofs.Common.{ℕ, ◌+◌, ◌-◌, ◌<◌, ◌≤◌, ◌≡◌, List, length, get_or, sym, arith, ap, ◌∙◌, subst, suc, zero, zero-add}
 use Rattle.std.specs.List.Sorted.{IsStrictlyIncreasing}
 use Rattle.std.proofs.lemmas.Grind.{same_number_lists}
 use Rattle.std.proofs.lemmas.List.FromFn.{get_or-range_with_len, length-range_with_len}
-use Rattle.aig_graph.specs.Graph.{Graph, free_latches}
+use Rattle.aig_graph.specs.Graph.{free_latches}
 use Rattle.aig_graph.specs.Circuits.{Netlist}
-use Rattle.aig_graph.specs.Value.{Inputs, Choice, value}
 use Rattle.aig_graph.specs.Streams.{SameStreams, property_literals, chosen}
 use Rattle.aig_graph.specs.Laws.{all_free}
-use Rattle.aig_graph.proofs.StreamLaws.{funext, same_streams-reflexive, value-same}
-use Rattle.state_maps.specs.MapCircuits.{IsMapCircuit}
+use Rattle.aig_graph.proofs.StreamLaws.{same_streams-reflexive, values-same}
+use Rattle.state_maps.specs.MapCircuits.{FreeStay, IsMapCircuit}
 use Rattle.map_checks.specs.Answers.{IsAnswer}
 use Rattle.map_checks.specs.declared.answer.Answer.{Answer}
 use Rattle.map_checks.specs.declared.answer.Answer.TheVariants.{Retiming}
@@ -41,9 +40,6 @@ each-kept l rising below k m e =
     let least : k ≤ get_or l k 0 = at-least l rising k (omega (arith, e)) in
     let most : get_or l k 0 ≤ k = at-most l rising below m k e in
     omega (arith, least, most)
-
-values-same : (g : Graph) (x : Inputs) (f h : Choice) (t : ℕ) (lits : List ℕ) → ((j : ℕ) → j < free_latches g → f j ≡ h j) → map (value g x f t) lits ≡ map (value g x h t) lits
-values-same g x f h t lits same = ap (λ (v : ℕ → Bool). map v lits) (funext (value g x f t) (value g x h t) (value-same g x f h same t))
 
 module _ (c d : Netlist) (kept : List ℕ) (p : SameStreams c d kept) (many : free_latches d.aig ≡ free_latches c.aig) where
   long : length kept ≡ free_latches c.aig
@@ -78,13 +74,18 @@ module _ (c d : Netlist) (kept : List ℕ) (p : SameStreams c d kept) (many : fr
             ∙ values-same d.aig x (chosen kept f) f t (property_literals d.props) (λ j h. ap f (place j (omega (arith, many, h))));
       }
 
--- where the check answers that c is a retiming of d, with as many free latches, the map turns around
-turned-by : (c d m : Netlist) (kept : List ℕ) → IsAnswer d c m (Retiming kept) → free_latches d.aig ≡ free_latches c.aig → IsTurned c d m
-turned-by c d m kept answer many = record {
+-- where the check answers that c is a retiming of d, with as many free latches, of which each stays, the map turns around
+turned-by : (c d m : Netlist) (kept : List ℕ) → IsAnswer d c m (Retiming kept) → free_latches d.aig ≡ free_latches c.aig → FreeStay d c m → IsTurned c d m
+turned-by c d m kept answer many stay = record {
   streams = same_streams-back d c kept answer.1 (sym many);
   map = subst (λ (places : List ℕ). IsMapCircuit d c places m) (all-kept d c kept answer.1 (sym many)) answer.0;
+  free = stay;
 }
 
 -- the same of an answer that is one
-pub turned-answer : (c d m : Netlist) (answer : Answer) (kept : List ℕ) → answer ≡ Retiming kept → IsAnswer d c m answer → free_latches d.aig ≡ free_latches c.aig → IsTurned c d m
-turned-answer c d m answer kept is holds many = turned-by c d m kept (subst (λ (a : Answer). IsAnswer d c m a) is holds) many
+pub turned-answer : (c d m : Netlist) (answer : Answer) (kept : List ℕ) → answer ≡ Retiming kept → IsAnswer d c m answer → free_latches d.aig ≡ free_latches c.aig → FreeStay d c m → IsTurned c d m
+turned-answer c d m answer kept is holds many stay = turned-by c d m kept (subst (λ (a : Answer). IsAnswer d c m a) is holds) many stay
+
+-- in the map of such an answer each latch of c has an output
+pub outputs-of : (c d m : Netlist) (answer : Answer) (kept : List ℕ) → answer ≡ Retiming kept → IsAnswer d c m answer → length m.props.outputs ≡ length c.aig.latches
+outputs-of c d m answer kept is holds = let parts : IsAnswer d c m (Retiming kept) = subst (λ (a : Answer). IsAnswer d c m a) is holds in parts.0.outputs

@@ -10,8 +10,9 @@ use Rattle.aig_graph.specs.Building.{without_gates}
 use Rattle.aig_graph.specs.Circuits.{AreNamesBelow, IsNetlist, Netlist, outputs_alone}
 use Rattle.aig_graph.specs.Graph.{Graph, IsGraph}
 use Rattle.aig_graph.specs.Laws.{all_free}
+use Rattle.aig_graph.proofs.HoldingLaws.{no-names}
 use Rattle.retiming_maps.specs.Mapping.{IsMapBy}
-use Rattle.retiming_maps.proofs.FinishingLaws.{no-names}
+use Rattle.retiming_maps.proofs.FreeLaws.{free-stay}
 use Rattle.retiming_maps.proofs.StartLaws.{identity-map, inputs-graph}
 use Rattle.variable_tables.specs.Tables.{table}
 use Rattle.backward_circuits.specs.Drawn.{IsWires, map_names}
@@ -67,6 +68,7 @@ module _ (c : Netlist) (graph : IsGraph c.aig) (netlist : IsNetlist c) where
       outputs = by-inputs.many;
       maps = by-inputs.maps;
     };
+    free = free-stay c c (wires_of c) (all_free c.aig) by-inputs.places by-inputs.many by-inputs.free;
     outputs = refl;
   }
 

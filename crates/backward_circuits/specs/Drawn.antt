@@ -4,7 +4,7 @@ use Rattle.aig_graph.specs.declared.properties.Symbol.{Symbol}
 use Rattle.aig_graph.specs.declared.properties.Symbols.{Symbols}
 use Rattle.aig_graph.specs.Circuits.{Netlist}
 use Rattle.aig_graph.specs.Laws.{all_free}
-use Rattle.state_maps.specs.MapCircuits.{IsMapCircuit}
+use Rattle.state_maps.specs.MapCircuits.{FreeStay, IsMapCircuit}
 use Rattle.variable_tables.specs.Tables.{table}
 
 -- all names but those of latches are the same
@@ -18,4 +18,5 @@ map_names inputs outputs = record { inputs = inputs; latches = []; outputs = out
 -- the map of a circuit's states to themselves, in which each latch is its own input
 pub record IsWires (c m : Netlist) : Type 0 where
   pub map : IsMapCircuit c c (all_free c.aig) m
+  pub free : FreeStay c c m
   pub outputs : m.props.outputs ≡ table 0 (length c.aig.latches) (λ j. 2 * (1 + j))

@@ -6,7 +6,7 @@ use Rattle.aig_graph.specs.Circuits.{Netlist}
 use Rattle.aig_graph.specs.Laws.{all_free}
 use Rattle.aig_graph.specs.Streams.{SameStreams}
 use Rattle.path_levels.specs.Levels.{levels}
-use Rattle.state_maps.specs.MapCircuits.{IsMapCircuit}
+use Rattle.state_maps.specs.MapCircuits.{FreeStay, IsMapCircuit}
 
 -- output k of the map m is this latch of d, which starts as latch k of c does
 pub record IsHeldAt (c d m : Netlist) (k place : ℕ) : Type 0 where
@@ -39,10 +39,11 @@ abbrev pub IsWithin : Option ℕ → Netlist → Netlist → Type 0
 IsWithin None c d = Unit {0}
 IsWithin (Some bound) c d = levels d ≤ max bound (levels c)
 
--- a map of d's states to those of c, with each free latch of c, and so the streams of c
+-- a map of d's states to those of c, with each free latch of c, which is one of d as it is, and so the streams of c
 pub record IsTurned (c d m : Netlist) : Type 0 where
   pub streams : SameStreams c d (all_free c.aig)
   pub map : IsMapCircuit d c (all_free d.aig) m
+  pub free : FreeStay d c m
 
 -- no more latches, and held ones are where they were
 pub record IsFit (c : Netlist) (held : List ℕ) (d m : Netlist) : Type 0 where

@@ -1,12 +1,14 @@
 //! The judge: what is asked of the finished circuit and map, by proved code alone.
-ghost use Rattle.std.specs.Prelude.{◌≡◌, IfOk, IsTrue};
+ghost use Rattle.std.specs.Prelude.{◌≡◌, IfOk, IsTrue, length};
 ghost use Rattle.aig_graph.specs.Graph.{free_latches};
+ghost use Rattle.state_maps.specs.MapCircuits.{FreeStay};
 ghost use Rattle.backward_circuits.specs.MovedBack.{IsFit, IsMovedBack, IsTurned};
 
 use crate::bounds::is_within;
 use crate::held::are_held_back;
 use aig_graph::{Circuit, Keep, NoMemory};
 use map_checks::{Answer, CheckError, check_map};
+use map_circuits::free_stay;
 use std::alloc::Global;
 
 /// Whether both have as many free latches.
@@ -16,7 +18,26 @@ fn have_same_free(circuit: &Circuit, after: &Circuit) -> bool
     after.aig().free_latches() == circuit.aig().free_latches()
 }
 
-/// Whether the map shows that the circuit of before is a retiming of the new one, with all of its free latches.
+/// Whether both have the same free latches in the same order: the output of each is the input of one.
+fn keeps_free(
+    alloc: Global,
+    circuit: &Circuit,
+    after: &Circuit,
+    map: &Circuit,
+) -> Result<bool, NoMemory>
+    requires { length map.now.props.outputs ≡ length circuit.now.aig.latches }
+    ensures { IfOk result (λ kept. IsTrue kept
+        → (free_latches after.now.aig ≡ free_latches circuit.now.aig)
+        × FreeStay after.now circuit.now map.now) }
+{
+    if have_same_free(circuit, after) {
+        free_stay(alloc, after, circuit, map)
+    } else {
+        Ok(false)
+    }
+}
+
+/// Whether the map shows that the circuit of before is a retiming of the new one, with all of its free latches, each as it is.
 fn is_mapped(
     alloc: Global,
     circuit: &Circuit,
@@ -28,7 +49,7 @@ fn is_mapped(
     match check_map(alloc, after, circuit, map) {
         Ok(Answer::Retiming(kept)) => {
             drop(kept);
-            Ok(have_same_free(circuit, after))
+            keeps_free(alloc, circuit, after, map)
         }
         Ok(Answer::NotShown(_)) => Ok(false),
         Err(CheckError::NoMemory) => Err(NoMemory),

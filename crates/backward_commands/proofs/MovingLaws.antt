@@ -1,5 +1,5 @@
 -- What a move backward gives standard output.
-use Rattle.std.proofs.Common.{◌≡◌, ◌||◌, Bool, true, false, List, ℕ, Result, Ok, Err, refl, sym, ◌∙◌, subst}
+use Rattle.std.proofs.Common.{◌≡◌, ◌||◌, true, false, List, ℕ, Result, Ok, Err, ◌∙◌}
 use Rattle.std.specs.Result.{IfOk}
 use Rattle.std.proofs.lemmas.Bool.{or_parts}
 use Rattle.counted_io.specs.Input.{Input}
@@ -10,8 +10,7 @@ use Rattle.command_line.specs.declared.task.Moving.{Moving}
 use Rattle.circuit_files.specs.declared.outcome.Outcome.{Outcome}
 use Rattle.circuit_files.specs.declared.outcome.Outcome.TheVariants.{Done}
 use Rattle.circuit_files.specs.declared.outcome.Failure.{Failure}
-use Rattle.command_endings.specs.Printing.{EndsAside, Prints, ending}
-use Rattle.command_endings.proofs.PrintingLaws.{prints_after}
+use Rattle.command_endings.specs.Printing.{EndsAside}
 use Rattle.backward_commands.specs.Moving.{AnswersTask, PrintsMoves, WritesMoves}
 use Rattle.backward_commands.specs.Printing.{EndsPrintingMoves, SaysMoves}
 use Rattle.backward_commands.specs.declared.answering.Answer.{Answer}
@@ -47,12 +46,3 @@ module _ (FileGiven : List ℕ → List ℕ → Type 0) (task : Moving) (before 
       → (moving_takes_stdout task ≡ false → EndsPrintingMoves task.json task answer mid new result) → IfOk result (PrintsMoves FileGiven task before after old new said)
   prints_moves shown said answer result answers written aside says moves =
       if_printed shown said answer result answers written (λ taken. stays_quiet mid new result (aside taken)) says moves
-
-ends_aside : (old mid new : Output) (result : Result Outcome Failure) → EndsAside Done mid new result → Prints (ending result) old new
-ends_aside old mid new result aside = subst (λ (e : Outcome). Prints e old new) (sym aside.ends) tt
-
--- it is printed after the circuit and the map are written
-pub by_stream : (taken : Bool) (old mid new : Output) (result : Result Outcome Failure)
-    → (taken ≡ false → mid ≡ old) → (taken ≡ true → EndsAside Done mid new result) → (taken ≡ false → Prints (ending result) mid new) → Prints (ending result) old new
-by_stream true old mid new result before aside prints = ends_aside old mid new result (aside refl)
-by_stream false old mid new result before aside prints = prints_after (ending result) old mid new (before refl) (prints refl)

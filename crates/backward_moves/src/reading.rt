@@ -1,6 +1,6 @@
 //! A circuit as a draft. Inputs that nothing reads are left out, since a file of thirty bytes can have hundreds of millions of them.
 
-use aig_graph::{Circuit, Keep, Latch, Lit, NoMemory, Props, Reset};
+use aig_graph::{Circuit, Keep, Latch, Lit, NoMemory, Reset, property_literals};
 use backward_sets::{Draft, DraftLatch, DraftReset, Literal, Pair, number};
 use std::alloc::Global;
 
@@ -18,19 +18,6 @@ fn note(read: &mut Vec<u32>, inputs: u32, lit: Lit) -> Result<(), NoMemory> {
         read.push(lit.var())?;
     }
     Ok(())
-}
-
-/// The literals of properties, in their order.
-fn property_literals(alloc: Global, props: &Props) -> Result<Vec<Lit>, NoMemory> {
-    let mut lits = Vec::new(alloc);
-    lits.extend_from_slice(props.outputs.as_slice())?;
-    lits.extend_from_slice(props.bad.as_slice())?;
-    lits.extend_from_slice(props.constraints.as_slice())?;
-    for property in props.justice.as_slice() {
-        lits.extend_from_slice(property.as_slice())?;
-    }
-    lits.extend_from_slice(props.fairness.as_slice())?;
-    Ok(lits)
 }
 
 /// The inputs that are read, each as often as it is.

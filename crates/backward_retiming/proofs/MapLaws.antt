@@ -1,13 +1,11 @@
 -- The circuit of a map.
-use Rattle.std.proofs.Common.{ℕ, List, [], length, arith, sym, subst}
+use Rattle.std.proofs.Common.{ℕ, List, length, arith, sym, subst}
 use Rattle.aig_graph.specs.declared.properties.Symbol.{Symbol}
 use Rattle.aig_graph.specs.Circuits.{AreNamesBelow, IsNetlist, outputs_alone}
 use Rattle.aig_graph.specs.Graph.{Graph, variables_end}
+use Rattle.aig_graph.proofs.HoldingLaws.{no-names}
 use Rattle.backward_circuits.specs.Drawn.{map_names}
 use Rattle.backward_retiming.specs.Sealed.{AreStanding, IsSealed}
-
-no-names : (n : ℕ) → AreNamesBelow n []
-no-names n = record { rising = λ k less. absurd (omega (arith, less)); below = λ k a less. absurd (omega (arith, less)) }
 
 -- a graph without latches, with outputs and with names of its inputs and outputs, is a circuit
 pub map-netlist : (g : Graph) (n k m : ℕ) (outputs : List ℕ) (inside outside : List Symbol) → IsSealed n 0 m g → AreStanding k (variables_end g) outputs → AreNamesBelow n inside → AreNamesBelow k outside

@@ -8,7 +8,7 @@ use Rattle.aig_graph.specs.declared.properties.Props.{Props}
 use Rattle.aig_graph.specs.Circuits.{AreLiteralsOf, IsNetlist, Netlist, no_symbols}
 use Rattle.aig_graph.specs.Graph.{Graph, IsGraph, IsLiteralOf}
 use Rattle.aig_graph.specs.Value.{value_within}
-use Rattle.witness_circuits.proofs.FinishLaws.{no-names}
+use Rattle.aig_graph.proofs.HoldingLaws.{no-names}
 use Rattle.witness_circuits.proofs.ViewLaws.{input-value, table-within}
 use Rattle.map_miters.specs.Holding.{HoldAs}
 use Rattle.backward_witnesses.specs.Turned.{IsTurned, IsTurnedIn}

@@ -136,10 +136,12 @@ delta_laws n small = record {
   shortest = bytes-shortest 4 n;
 }
 
-first-same : {a b : ℕ} {xs ys : List ℕ} → a ∷ xs ≡ b ∷ ys → a ≡ b
+-- the same lists have the same first elements
+pub first-same : {a b : ℕ} {xs ys : List ℕ} → a ∷ xs ≡ b ∷ ys → a ≡ b
 first-same e = ap (λ l. get_or l 0 0) e
 
-rest-same : {a b : ℕ} {xs ys : List ℕ} → a ∷ xs ≡ b ∷ ys → xs ≡ ys
+-- and the same rests
+pub rest-same : {a b : ℕ} {xs ys : List ℕ} → a ∷ xs ≡ b ∷ ys → xs ≡ ys
 rest-same e = ap rest_of e
   where
     rest_of : List ℕ → List ℕ

@@ -12,7 +12,7 @@ use Rattle.ascii_file.specs.Raw.{Raw, nothing_yet}
 use Rattle.ascii_file.specs.Items.{Item, InputItem, LatchItem, SafetyItem, SizeItem, LivenessItem, GateItem, SymbolItem, begins_comment}
 use Rattle.ascii_file.specs.Reading.{with_item, is_symbols}
 use Rattle.ascii_file.proofs.CheckLaws.{same_ok}
-use Rattle.ascii_file.proofs.StepLaws.{bind_ok}
+use Rattle.ascii_file.proofs.StepLaws.{bind_ok, symbols_are}
 use Rattle.binary_file.specs.Headers.{header_of}
 use Rattle.binary_file.specs.Items.{next_section, first_line, after_line}
 use Rattle.binary_file.specs.Reading.{State, InLine, InFirst, InComment, is_gates, before_item, read_header, end_header, read_line, end_line, feed, finish, read_raw, circuit_of, read_binary}
@@ -40,15 +40,6 @@ not_gates Sizes other = refl
 not_gates Liveness other = refl
 not_gates Gates other = absurd (other refl)
 not_gates Symbols other = refl
-
-symbols_are : (section : Section) → is_symbols section ≡ true → section ≡ Symbols
-symbols_are Inputs e = absurd cc
-symbols_are Latches e = absurd cc
-symbols_are Safety e = absurd cc
-symbols_are Sizes e = absurd cc
-symbols_are Liveness e = absurd cc
-symbols_are Gates e = absurd cc
-symbols_are Symbols e = refl
 
 before_line : (h : Header) (raw : Raw) (at : ℕ) → is_gates (next_section h raw) ≡ false → before_item h raw at ≡ InLine h raw at []
 before_line h raw at other = cond-false (is_gates (next_section h raw)) (InFirst h raw at []) (InLine h raw at []) other

@@ -1,29 +1,21 @@
 -- Lines after the gates.
-use Rattle.std.proofs.Common.{ℕ, ◌≡◌, List, [], ◌∷◌, Option, Some, None, Bool, true, false, cond, refl, ap, ◌∙◌}
+use Rattle.std.proofs.Common.{ℕ, ◌≡◌, List, [], Option, Some, None, Bool, true, false, cond, refl, ap, ◌∙◌}
 use Rattle.std.proofs.lemmas.List.{append-nil}
-use Rattle.ascii_file.specs.declared.raw.SymbolKind.{SymbolKind}
-use Rattle.ascii_file.specs.Items.{Item, InputItem, LatchItem, SafetyItem, SizeItem, LivenessItem, GateItem, SymbolItem, kind_of, symbol_of, begins_comment}
+use Rattle.ascii_file.specs.Items.{Item, InputItem, LatchItem, SafetyItem, SizeItem, LivenessItem, GateItem, SymbolItem, symbol_of, begins_comment}
 use Rattle.reader_parts.specs.declared.symbols.SymbolText.TheVariants.{Comment}
 use Rattle.reader_parts.specs.declared.symbols.SymbolLine.{SymbolLine}
-use Rattle.reader_parts.specs.Symbols.{unnamed, text_without, text_of_item, text_of, text_with}
+use Rattle.reader_parts.specs.Symbols.{text_of_item, text_of, text_with}
+use Rattle.reader_parts.proofs.SymbolLaws.{without_comment}
 use Rattle.binary_reader.specs.Opened.{IsText}
 
-unnamed_isnt : (kind : Option SymbolKind) → unnamed kind ≡ Comment → ⊥
-unnamed_isnt None e = absurd cc
-unnamed_isnt (Some kind) e = absurd cc
-
-without_isnt : (line : List ℕ) → text_without line ≡ Comment → ⊥
-without_isnt [] e = absurd cc
-without_isnt (letter ∷ bytes) e = unnamed_isnt (kind_of letter) e
-
 item_isnt : (line : List ℕ) (item : Option Item) → text_of_item line item ≡ Comment → ⊥
-item_isnt line None e = without_isnt line e
-item_isnt line (Some (InputItem lit)) e = without_isnt line e
-item_isnt line (Some (LatchItem latch)) e = without_isnt line e
-item_isnt line (Some (SafetyItem lit)) e = without_isnt line e
-item_isnt line (Some (SizeItem size)) e = without_isnt line e
-item_isnt line (Some (LivenessItem lit)) e = without_isnt line e
-item_isnt line (Some (GateItem gate)) e = without_isnt line e
+item_isnt line None e = without_comment line e
+item_isnt line (Some (InputItem lit)) e = without_comment line e
+item_isnt line (Some (LatchItem latch)) e = without_comment line e
+item_isnt line (Some (SafetyItem lit)) e = without_comment line e
+item_isnt line (Some (SizeItem size)) e = without_comment line e
+item_isnt line (Some (LivenessItem lit)) e = without_comment line e
+item_isnt line (Some (GateItem gate)) e = without_comment line e
 item_isnt line (Some (SymbolItem symbol)) e = absurd cc
 
 -- a line is the comment's exactly where it begins as one

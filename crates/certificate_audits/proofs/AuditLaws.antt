@@ -16,9 +16,9 @@ use Rattle.certificate_audits.specs.declared.outcome.Audit.{Audit}
 use Rattle.certificate_audits.specs.declared.outcome.End.{End}
 use Rattle.certificate_audits.specs.declared.outcome.End.TheVariants.{NoBlocks, Certified, Open, BlocksFollow, Objected}
 use Rattle.certificate_audits.specs.declared.outcome.Replay.{Replay}
-use Rattle.certificate_audits.specs.Audits.{Audits, IsConfirmed, IsVerdictBy, Saves, IsNext, IsAudit, IsMergedAudit, no_blocks, objected, open_end, certified_end, past_end, goes_on}
+use Rattle.certificate_audits.specs.Audits.{Audits, IsConfirmed, IsVerdictBy, Saves, IsNext, IsAudit, no_blocks, objected, open_end, certified_end, past_end, goes_on}
 use Rattle.certificate_audits.specs.Findings.{EndsWith, GoesOn, IsLastOf}
-use Rattle.certificate_audits.specs.Replays.{EndIn, IsLast, IsMergedReplay, IsReplay, Replays, no_more, at_end, after_move}
+use Rattle.certificate_audits.specs.Replays.{EndIn, IsLast, IsReplay, Replays, no_more, at_end, after_move}
 use Rattle.certificate_audits.specs.Laws.{IsLeastIn, NoneSmallerIn, AreLeast, IsCertified, itself, last, move, narrowed}
 
 -- a list whose length isn't 0 isn't empty
@@ -162,10 +162,6 @@ still-saves bound held c block rest n end ends is_open = let is : EndsWith bound
 -- the audit of a replay
 pub replay-audit : (bound : Option ℕ) (held : List ℕ) (c : Netlist) (blocks : List Certificate) (replay : Replay) → IsReplay bound held c blocks replay → IsAudit bound held c blocks replay.audit
 replay-audit bound held c blocks replay is = record { first = is.first; kept = is.kept; now = is.now; cleaned = is.cleaned; audits = is.replays.audits }
-
--- and that of one of what c is merged to
-pub merged-replay-audit : (bound : Option ℕ) (held : List ℕ) (c : Netlist) (blocks : List Certificate) (replay : Replay) → IsMergedReplay bound held c blocks replay → IsMergedAudit bound held c blocks replay.audit
-merged-replay-audit bound held c blocks replay is = record { start = is.start; kept = is.kept; start_held = is.start_held; counts = is.counts; merges = is.merges; of_start = replay-audit bound is.start_held is.start blocks replay is.of_start }
 
 -- ---- what an audit shows
 

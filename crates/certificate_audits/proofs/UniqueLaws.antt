@@ -17,8 +17,10 @@ use Rattle.certificate_audits.specs.declared.judging.Finding.TheVariants.{Object
 use Rattle.certificate_audits.specs.declared.outcome.Audit.{Audit}
 use Rattle.certificate_audits.specs.declared.outcome.End.{End}
 use Rattle.certificate_audits.specs.declared.outcome.End.TheVariants as ending
-use Rattle.certificate_audits.specs.Audits.{FailsWithin, IsVerdictBy, IsMergedAudit, Audits, IsNext, IsAudit, no_blocks, objected, open_end, certified_end, past_end, goes_on}
+use Rattle.certificate_audits.specs.Audits.{FailsWithin, IsVerdictBy, Audits, IsNext, IsAudit, no_blocks, objected, open_end, certified_end, past_end, goes_on}
 use Rattle.certificate_audits.specs.Findings.{IsFinding}
+use Rattle.certificate_audits.specs.Laws.{MergedAuditLaw}
+use Rattle.certificate_audits.proofs.AuditLaws.{replay-audit}
 
 verdict-one : (c : Netlist) (held : List ℕ) (cert : Certificate) (v w : Verdict) → IsVerdict c held cert v → IsVerdict c held cert w → v ≡ w
 verdict-one c held cert Yes Yes p q = refl
@@ -172,10 +174,11 @@ audit-one bound held c blocks a b p q =
     let ends = audits-one bound blocks p.now p.first a.confirmed b.confirmed a.end b.end p.audits audits in
     λ i. record { confirmed = ends.0 i; end = ends.1 i }
 
--- and so that of what a circuit is merged to
-pub merged-audit-one : (bound : Option ℕ) (held : List ℕ) (c : Netlist) (blocks : List Certificate) (a b : Audit) → IsMergedAudit bound held c blocks a → IsMergedAudit bound held c blocks b → a ≡ b
+-- and so are those of two replays of what a circuit is merged to
+pub merged-audit-one : (bound : Option ℕ) (held : List ℕ) (c : Netlist) (blocks : List Certificate) → MergedAuditLaw bound held c blocks
 merged-audit-one bound held c blocks a b p q =
     let start = merges-one held c p.start q.start p.kept q.kept p.start_held q.start_held p.counts q.counts p.merges q.merges in
-    let P : List ℕ → Netlist → Type 0 = λ now d. IsAudit bound now d blocks b in
-    let other : P p.start_held p.start = subst (λ (now : List ℕ). P now p.start) (sym start.held) (subst (P q.start_held) (sym start.circuit) q.of_start) in
-    audit-one bound p.start_held p.start blocks a b p.of_start other
+    let P : List ℕ → Netlist → Type 0 = λ now d. IsAudit bound now d blocks b.audit in
+    let of_q : P q.start_held q.start = replay-audit bound q.start_held q.start blocks b q.of_start in
+    let other : P p.start_held p.start = subst (λ (now : List ℕ). P now p.start) (sym start.held) (subst (P q.start_held) (sym start.circuit) of_q) in
+    audit-one bound p.start_held p.start blocks a.audit b.audit (replay-audit bound p.start_held p.start blocks a p.of_start) other

@@ -8,11 +8,9 @@ use Rattle.certificates.specs.declared.verdict.Objection.{Objection}
 use Rattle.certificates.specs.declared.verdict.Verdict.{Verdict}
 use Rattle.certificates.specs.declared.verdict.Verdict.TheVariants.{Yes, No}
 use Rattle.certificates.specs.Verdicts.{IsVerdict}
-use Rattle.merged_latches.specs.declared.counts.MergeCounts.{MergeCounts}
 use Rattle.path_levels.specs.Bounded.{bounded}
 use Rattle.retimed_circuits.specs.Frames.{CleansTo, count_over, held_over, moved_over}
 use Rattle.retimed_circuits.specs.Certified.{PassesWithin}
-use Rattle.retimed_circuits.specs.Merging.{MergesIn}
 use Rattle.certificate_audits.specs.declared.outcome.Audit.{Audit}
 use Rattle.certificate_audits.specs.declared.outcome.End.{End}
 use Rattle.certificate_audits.specs.declared.outcome.End.TheVariants.{NoBlocks, Certified, Open, BlocksFollow, Objected}
@@ -68,12 +66,3 @@ pub record IsAudit (bound : Option ℕ) (held : List ℕ) (c : Netlist) (blocks 
   pub now : List ℕ
   pub cleaned : CleansTo held c first kept now
   pub audits : Audits bound now first blocks audit.confirmed audit.end
-
--- the audit of blocks, as a circuit was retimed whose latches were merged first: that of what c is merged to
-pub record IsMergedAudit (bound : Option ℕ) (held : List ℕ) (c : Netlist) (blocks : List Certificate) (audit : Audit) : Type 0 where
-  pub start : Netlist
-  pub kept : List ℕ
-  pub start_held : List ℕ
-  pub counts : MergeCounts
-  pub merges : MergesIn held c start kept start_held counts
-  pub of_start : IsAudit bound start_held start blocks audit

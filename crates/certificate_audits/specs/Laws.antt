@@ -12,7 +12,7 @@ use Rattle.retimed_circuits.specs.Frames.{CleansTo}
 use Rattle.certificate_audits.specs.declared.outcome.Audit.{Audit}
 use Rattle.certificate_audits.specs.declared.outcome.End.TheVariants.{Certified}
 use Rattle.certificate_audits.specs.declared.outcome.Replay.{Replay}
-use Rattle.certificate_audits.specs.Audits.{IsAudit, IsMergedAudit, IsNext}
+use Rattle.certificate_audits.specs.Audits.{IsAudit, IsNext}
 use Rattle.certificate_audits.specs.Replays.{IsMergedReplay, IsReplay}
 
 -- d is c or, under a bound, c bounded, of which the closed sets are those of c whose gates arrive within the bound
@@ -54,10 +54,10 @@ AuditLaw bound held c blocks = (a b : Audit) → IsAudit bound held c blocks a �
 
 -- where it ends certified, so does that of what c is merged to
 abbrev pub MergedCertifiedLaw : Option ℕ → List ℕ → Netlist → List Certificate → Type 0
-MergedCertifiedLaw bound held c blocks = (audit : Audit) (is : IsMergedAudit bound held c blocks audit) → audit.end ≡ Certified → IsCertified bound is.start_held is.start blocks audit
+MergedCertifiedLaw bound held c blocks = (replay : Replay) (is : IsMergedReplay bound held c blocks replay) → replay.audit.end ≡ Certified → IsCertified bound is.start_held is.start blocks replay.audit
 
 abbrev pub MergedAuditLaw : Option ℕ → List ℕ → Netlist → List Certificate → Type 0
-MergedAuditLaw bound held c blocks = (a b : Audit) → IsMergedAudit bound held c blocks a → IsMergedAudit bound held c blocks b → a ≡ b
+MergedAuditLaw bound held c blocks = (a b : Replay) → IsMergedReplay bound held c blocks a → IsMergedReplay bound held c blocks b → a.audit ≡ b.audit
 
 -- d has the values of all properties of c, step by step, by some of c's free latches
 abbrev pub HasStreamsOf : Netlist → Netlist → Type 0

@@ -10,6 +10,6 @@ mod outcome;
 mod run;
 
 pub use laws::{audit_law, certified_law, merged_audit_laws, replay_laws};
-pub use merged::{audit_merged, replay_merged};
+pub use merged::replay_merged;
 pub use outcome::{Audit, End, Replay};
 pub use run::{audit_blocks, replay_blocks};

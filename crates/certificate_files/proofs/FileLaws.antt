@@ -1,15 +1,16 @@
 -- The lines before the blocks, and a file as a whole.
-use Rattle.std.proofs.Common.{ℕ, ◌+◌, ◌-◌, ◌≤◌, ◌≡◌, ◌⊎◌, inl, inr, length, List, [], Option, Some, None, Result, Ok, Err, refl, arith, Bool, true, false, ◌==◌, cond, ap, ap₂, ◌∙◌, subst, codes}
+use Rattle.std.proofs.Common.{ℕ, ◌+◌, ◌-◌, ◌≤◌, ◌≡◌, ◌⊎◌, inl, inr, length, List, [], Option, Some, None, Result, Ok, Err, arith, Bool, true, false, ◌==◌, cond, ap, ap₂, ◌∙◌, subst, codes}
 use Rattle.std.proofs.lemmas.Bool.{eqb-true, and_parts}
-use Rattle.file_words.specs.Lines.{lines}
+use Rattle.file_words.specs.Lines.{lines, is_word}
 use Rattle.file_words.specs.Cuts.{IsFirst}
+use Rattle.file_words.proofs.FirstLaws.{no_lines}
 use Rattle.certificates.specs.declared.certificate.Certificate.{Certificate}
 use Rattle.certificate_files.specs.declared.fault.CertError.{CertError}
 use Rattle.certificate_files.specs.declared.fault.CertError.TheVariants.{BadHeader, BadLine, Truncated}
 use Rattle.aig_graph.specs.declared.choice.Choice.{Choice}
 use Rattle.aig_graph.specs.declared.choice.Choice.TheVariants.{Greatest}
 use Rattle.certificate_files.specs.declared.file.CertFile.{CertFile}
-use Rattle.certificate_files.specs.Files.{is_word, choice_of, nothing_read, read_blocks, read_chosen, read_second, read_file, read_text, with_choice}
+use Rattle.certificate_files.specs.Files.{choice_of, nothing_read, read_blocks, read_chosen, read_second, read_file, read_text, with_choice}
 use Rattle.certificate_files.specs.Steps.{read_rest}
 use Rattle.certificate_files.proofs.StepLaws.{same_start}
 
@@ -21,15 +22,11 @@ behind end text line more at first within here = by_case first.starts
     by_case (inl none) = inl none
     by_case (inr long) = inr (omega (arith, long, within, here))
 
-no_first : lines [] ≡ []
-unfolding lines
-no_first = refl
-
 -- ---- the second line
 
 -- a file of the second version without a second line is truncated
 pub second_missing : (at end : ℕ) (rest : List ℕ) → rest ≡ [] → read_second at end (lines rest) ≡ Err (Truncated end)
-second_missing at end rest none = ap (read_second at end) (ap lines none ∙ no_first)
+second_missing at end rest none = ap (read_second at end) (ap lines none ∙ no_lines)
 
 -- a second line that names a choice gives the file this choice, and the blocks follow
 pub second_chosen : (at end : ℕ) (text line more : List ℕ) (choice : Choice) → IsFirst text line more → length text ≤ end → at ≡ end - length text → choice_of line ≡ Some choice
@@ -47,7 +44,7 @@ second_other at end text line more first is =
 
 -- a file without a line has a bad header
 pub first_missing : (end : ℕ) (rest : List ℕ) → rest ≡ [] → read_file end (lines rest) ≡ Err (BadHeader 0)
-first_missing end rest none = ap (read_file end) (ap lines none ∙ no_first)
+first_missing end rest none = ap (read_file end) (ap lines none ∙ no_lines)
 
 word_length : (text word : List ℕ) → is_word text word ≡ true → length word ≡ length text
 word_length text word is = eqb-true (length word) (length text) (and_parts (length word == length text) _ is).0

@@ -4,7 +4,7 @@ use Rattle.std.proofs.lemmas.Bool.{and_parts, and_from, leb-true, le-leb, ne_eqb
 use Rattle.std.proofs.lemmas.List.Folds.{list_all-append}
 use Rattle.std.specs.List.{list_all}
 use Rattle.file_words.specs.Answering.{◌>>=◌}
-use Rattle.file_words.specs.Lines.{with_front, lines, pieces, numbers_of}
+use Rattle.file_words.specs.Lines.{with_front, lines, pieces, numbers_of, is_word}
 use Rattle.frame_net.specs.declared.net.Point.{Point}
 use Rattle.certificates.specs.declared.certificate.Certificate.{Certificate}
 use Rattle.certificate_files.specs.declared.fault.CertError.{CertError}
@@ -12,7 +12,7 @@ use Rattle.certificate_files.specs.declared.fault.CertError.TheVariants.{BadHead
 use Rattle.aig_graph.specs.declared.choice.Choice.{Choice}
 use Rattle.aig_graph.specs.declared.choice.Choice.TheVariants.{Greatest}
 use Rattle.certificate_files.specs.declared.file.CertFile.{CertFile}
-use Rattle.certificate_files.specs.Files.{is_word, begins_with, is_point, point_of, is_small, Saying, Frame, Gate, Route, frame_of, gate_of, route_of, saying_of, Progress, settled, after, sized, taken, ended, read_blocks, nothing_read, with_choice, choice_of, read_chosen, read_second, read_file, read_text}
+use Rattle.certificate_files.specs.Files.{begins_with, is_point, point_of, is_small, Saying, Frame, Gate, Route, frame_of, gate_of, route_of, saying_of, Progress, settled, after, sized, taken, ended, read_blocks, nothing_read, with_choice, choice_of, read_chosen, read_second, read_file, read_text}
 use Rattle.certificate_files.specs.Forms.{are_small}
 use Rattle.certificate_files.specs.Laws.{is_writable_route, is_writable_block, is_writable, RereadingLaw}
 use Rattle.certificate_files.specs.Steps.{block_of, with_gate, with_route}

@@ -2,7 +2,7 @@
 use Rattle.std.specs.Prelude.{ℕ, ◌+◌, ◌-◌, ◌^◌, ◌==◌, ◌&&◌, ◌||◌, Bool, nat_le, List, [], ◌∷◌, ◌++◌, length, map, take, drop, slice_index_or, Option, Some, None, Result, Ok, Err, codes, if◌then◌else◌, zero, suc}
 use Rattle.std.specs.List.{list_all, starts_with}
 use Rattle.file_words.specs.Answering.{◌>>=◌}
-use Rattle.file_words.specs.Lines.{lines, pieces, is_number, digits_value, numbers_of}
+use Rattle.file_words.specs.Lines.{lines, pieces, is_number, digits_value, numbers_of, is_word}
 use Rattle.frame_net.specs.declared.net.Point.{Point}
 use Rattle.certificates.specs.declared.certificate.Certificate.{Certificate}
 use Rattle.certificate_files.specs.declared.fault.CertError.{CertError}
@@ -10,9 +10,6 @@ use Rattle.certificate_files.specs.declared.fault.CertError.TheVariants.{BadHead
 use Rattle.aig_graph.specs.declared.choice.Choice.{Choice}
 use Rattle.aig_graph.specs.declared.choice.Choice.TheVariants.{Greatest, Smallest}
 use Rattle.certificate_files.specs.declared.file.CertFile.{CertFile}
-
-abbrev pub is_word : List ℕ → List ℕ → Bool
-is_word text word = length word == length text && starts_with (λ a b. a == b) text word
 
 -- ---- the lines of a block
 

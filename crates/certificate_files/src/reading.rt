@@ -4,7 +4,7 @@ ghost use Rattle.std.specs.Prelude.{ℕ, [], ◌≡◌, ◌⊎◌, ◌-◌, leng
 ghost use Rattle.file_words.specs.Lines as format;
 ghost use Rattle.certificate_files.specs.declared.fault.CertError.TheVariants.{NoMemory};
 ghost use Rattle.file_words.specs.Answering.{Gives, Leads};
-ghost use Rattle.certificate_files.specs.Files.{is_word, choice_of, nothing_read, read_file, read_second, read_text, with_choice};
+ghost use Rattle.certificate_files.specs.Files.{choice_of, nothing_read, read_file, read_second, read_text, with_choice};
 ghost use Rattle.certificate_files.specs.Steps.{read_rest};
 
 use crate::blocks::read_blocks;
@@ -12,14 +12,8 @@ use crate::fault::CertError;
 use crate::file::CertFile;
 use crate::lines::next_line;
 use aig_graph::Choice;
-use file_words::Lines;
+use file_words::{Lines, is_word};
 use std::alloc::Global;
-
-fn is_word(text: &[u8], word: &[u8]) -> bool
-    ensures { result ≡ is_word text.now word.now }
-{
-    word.len() == text.len() && text.starts_with(word)
-}
 
 fn choice(text: &[u8]) -> Option<Choice>
     ensures { result ≡ choice_of text.now }

@@ -1,13 +1,10 @@
 -- Numbers no two of which are equal, counted.
 use Rattle.std.proofs.Common.{◌≡◌, ℕ, suc, zero, ◌+◌, ◌≤◌, ◌==◌, Bool, true, false, ◌&&◌, nat_lt, cond, List, [], ◌∷◌, ◌++◌, arith, refl, ap, sym, ◌∙◌, inl, inr}
 use Rattle.std.specs.List.{count_by, IsDistinct, AllByRecursion}
-use Rattle.std.proofs.lemmas.Bool.{cases_Bool, cond-true, cond-false, eqb-true, eq-eqb, cases_lt, le-ltb, lt-ltb, and_left, and_right}
+use Rattle.std.proofs.lemmas.Bool.{cases_Bool, cond-true, cond-false, eqb-true, eq-eqb, cases_lt, le-ltb, lt-ltb, and_left, and_right, true≢false, false≢true}
 use Rattle.variable_tables.specs.Counting.{count_below}
-use Rattle.variable_tables.proofs.PlacesLaws.{count-pass, count-fail}
+use Rattle.variable_tables.proofs.PlacesLaws.{count-pass, count-fail, one_at_most}
 use Rattle.variable_tables.proofs.ListLaws.{count_by-cons}
-
-true_false : true ≡ false → ⊥
-true_false e = absurd (cc)
 
 -- where what passes one test passes one of two others, it counts at most as many numbers as these two together
 pub count-le : (p q r : ℕ → Bool) → ((v : ℕ) → cond {A = ℕ} (p v) 1 0 ≤ cond (q v) 1 0 + cond (r v) 1 0) → (xs : List ℕ) → count_by p xs ≤ count_by q xs + count_by r xs
@@ -28,7 +25,7 @@ count-absent x n (y ∷ ys) e all =
   where
     apart : (x n y : ℕ) → (x == n) ≡ true → (x == y) ≡ false → (y == n) ≡ false
     apart x n y e d = elim (cases_Bool (y == n)) [
-      | inl yes' ↦ absurd (true_false (sym e ∙ sym (ap (λ (k : ℕ). x == k) (eqb-true y n yes')) ∙ d))
+      | inl yes' ↦ absurd (true≢false (sym e ∙ sym (ap (λ (k : ℕ). x == k) (eqb-true y n yes')) ∙ d))
       | inr no' ↦ no'
     ]
 
@@ -40,16 +37,9 @@ count-once n (x ∷ xs) d = elim (cases_Bool (x == n)) [
   | inr no' ↦ omega (arith, count_by-cons (λ v. v == n) x xs, cond-false {A = ℕ} (x == n) 1 0 no', count-once n xs d.1)
 ]
 
-at_most : (b : Bool) → cond {A = ℕ} b 1 0 ≤ 1
-at_most true = omega arith
-at_most false = omega arith
-
-false_true : false ≡ true → ⊥
-false_true e = absurd (cc)
-
 less : (b : Bool) (v n : ℕ) → (v ≡ n → ⊥) → cond {A = ℕ} (b && nat_lt v (suc n)) 1 0 ≤ cond {A = ℕ} (b && nat_lt v n) 1 0
 less b v n other = elim (cases_lt v n) [
-  | inl below ↦ omega (arith, at_most (b && nat_lt v (suc n)), same b (nat_lt v (suc n)) (nat_lt v n) (lt-ltb v (suc n) (omega (arith, below))) (lt-ltb v n below))
+  | inl below ↦ omega (arith, one_at_most (b && nat_lt v (suc n)), same b (nat_lt v (suc n)) (nat_lt v n) (lt-ltb v (suc n) (omega (arith, below))) (lt-ltb v n below))
   | inr above ↦ omega (arith, cond-false {A = ℕ} (b && nat_lt v (suc n)) 1 0 (and_right b (nat_lt v (suc n)) (le-ltb v (suc n) (omega (arith, above, other)))))
 ]
   where
@@ -81,14 +71,14 @@ count-distinct p xs d (suc n) = elim (cases_Bool (p n)) [
   where
     split : (b : Bool) (v n : ℕ) → cond {A = ℕ} (b && nat_lt v (suc n)) 1 0 ≤ cond (b && nat_lt v n) 1 0 + cond (v == n) 1 0
     split b v n = elim (cases_Bool (v == n)) [
-      | inl yes' ↦ omega (arith, cond-true {A = ℕ} (v == n) 1 0 yes', at_most (b && nat_lt v (suc n)))
-      | inr no' ↦ omega (arith, less b v n (λ e. false_true (sym no' ∙ eq-eqb v n e)))
+      | inl yes' ↦ omega (arith, cond-true {A = ℕ} (v == n) 1 0 yes', one_at_most (b && nat_lt v (suc n)))
+      | inr no' ↦ omega (arith, less b v n (λ e. false≢true (sym no' ∙ eq-eqb v n e)))
     ]
 
     split_off : (b : Bool) (v n : ℕ) → (v ≡ n → b ≡ false) → cond {A = ℕ} (b && nat_lt v (suc n)) 1 0 ≤ cond (b && nat_lt v n) 1 0 + cond {A = ℕ} false 1 0
     split_off b v n h = elim (cases_Bool (v == n)) [
       | inl yes' ↦ omega (arith, cond-false {A = ℕ} (b && nat_lt v (suc n)) 1 0 (and_left b (nat_lt v (suc n)) (h (eqb-true v n yes'))))
-      | inr no' ↦ omega (arith, less b v n (λ e. false_true (sym no' ∙ eq-eqb v n e)))
+      | inr no' ↦ omega (arith, less b v n (λ e. false≢true (sym no' ∙ eq-eqb v n e)))
     ]
 
 -- of two lists that are joined, those that pass are counted in each

@@ -1,15 +1,13 @@
 -- Points no two of which are after one variable.
-use Rattle.std.proofs.Common.{◌≡◌, ℕ, suc, ◌+◌, ◌-◌, ◌<◌, ◌≤◌, ◌==◌, ◌||◌, ◌&&◌, Bool, true, false, List, [], ◌∷◌, ◌++◌, length, take, drop, slice_index_or, All, arith, refl, ap, sym, ◌∙◌, subst, inl, inr}
+use Rattle.std.proofs.Common.{◌≡◌, ℕ, suc, ◌+◌, ◌-◌, ◌<◌, ◌≤◌, ◌==◌, ◌||◌, ◌&&◌, Bool, true, false, List, [], ◌∷◌, ◌++◌, length, take, drop, slice_index_or, All, arith, ap, sym, ◌∙◌, subst, inl, inr}
 use Rattle.std.specs.List.{AllByRecursion, IsDistinct}
-use Rattle.std.proofs.lemmas.Bool.{or_cases, or_parts, le-leb}
+use Rattle.std.proofs.lemmas.Bool.{or_cases, or_parts, le-leb, false≢true}
 use Rattle.std.proofs.lemmas.List.Elements.{recursion_from_All}
 use Rattle.variable_tables.specs.Marking.{has, mark_at, Marks}
+use Rattle.variable_tables.proofs.MemberLaws.{has-push}
 use Rattle.frame_net.specs.declared.net.Point.{Point}
 use Rattle.certificates.specs.Routes.{passed}
 use Rattle.certificates.proofs.PassedLaws.{passed-more, passed-split}
-
-false_true : false ≡ true → ⊥
-false_true e = absurd (cc)
 
 all-push : (P : ℕ → Type 0) (xs : List ℕ) (x : ℕ) → AllByRecursion P xs → P x → AllByRecursion P (xs ++ x ∷ [])
 all-push P [] x all p = (p, tt)
@@ -32,22 +30,9 @@ pub distinct-not : (xs ys : List ℕ) (x : ℕ) → has xs x ≡ true → IsDist
 unfolding IsDistinct
 distinct-not [] ys x h d = absurd (cc)
 distinct-not (y ∷ xs) ys x h d = elim (or_cases (y == x) (has xs x) h) [
-  | inl here ↦ absurd (false_true (sym (all-mid (λ v. (y == v) ≡ false) xs ys x d.0) ∙ here))
+  | inl here ↦ absurd (false≢true (sym (all-mid (λ v. (y == v) ≡ false) xs ys x d.0) ∙ here))
   | inr later ↦ distinct-not xs ys x later d.1
 ]
-
--- a list with one more number at its end has that one too
-has-append : (xs : List ℕ) (x v : ℕ) → has (xs ++ x ∷ []) v ≡ (has xs v || (x == v))
-has-append [] x v = or_nil (x == v)
-  where
-    or_nil : (b : Bool) → (b || false) ≡ (false || b)
-    or_nil true = refl
-    or_nil false = refl
-has-append (y ∷ xs) x v = ap (λ (b : Bool). (y == v) || b) (has-append xs x v) ∙ assoc (y == v) (has xs v) (x == v)
-  where
-    assoc : (a b c : Bool) → (a || (b || c)) ≡ ((a || b) || c)
-    assoc true b c = refl
-    assoc false b c = refl
 
 -- the marks after one more
 pub mark-more : (first : ℕ) (old new : List Bool) (x v : ℕ) → Marks first old new (λ w. x == w) → first ≤ v → v < first + length old → mark_at first new v ≡ (mark_at first old v || (x == v))
@@ -79,7 +64,7 @@ module _ (points : List Point) (k : ℕ) (d : Point) (within : k < length points
 
   -- the variables of one point more
   pub has-more : (v : ℕ) → has (passed (take (k + 1) points)) v ≡ (has (passed (take k points)) v || (var == v))
-  has-more v = ap (λ (xs : List ℕ). has xs v) (passed-more points k d within behind) ∙ has-append (passed (take k points)) var v
+  has-more v = ap (λ (xs : List ℕ). has xs v) (passed-more points k d within behind) ∙ has-push (passed (take k points)) var v
 
   -- what holds of all variables that are passed holds of this one
   pub all-here : (P : ℕ → Type 0) → All P (passed points) → P var

@@ -1,9 +1,7 @@
 -- What routes pass are latches and gates.
-use Rattle.std.proofs.Common.{◌≡◌, ℕ, suc, ◌-◌, ◌<◌, ◌≤◌, true, false, nat_le, List, [], ◌∷◌, replicate, get_or, All, arith, sym, subst, inl, inr}
-use Rattle.std.proofs.lemmas.Bool.{cases_Bool, cases_lt, or_left, and_right, and_parts}
-use Rattle.std.proofs.lemmas.List.{get_or-replicate, length-replicate, get_or_past}
+use Rattle.std.proofs.Common.{◌≡◌, ℕ, suc, ◌<◌, ◌≤◌, true, List, [], ◌∷◌, All, arith, sym, subst, inl, inr}
+use Rattle.std.proofs.lemmas.Bool.{cases_Bool, or_left, and_parts}
 use Rattle.std.proofs.lemmas.List.Elements.{All-nil, All-cons, All-append}
-use Rattle.variable_tables.specs.Marking.{mark_at}
 use Rattle.aig_graph.specs.Graph.{Graph, first_latch, variables_end, latch_at, is_known}
 use Rattle.aig_graph.specs.Circuits.{Netlist}
 use Rattle.frame_net.specs.declared.net.Point.{Point}
@@ -43,14 +41,3 @@ module _ (c : Netlist) (held : List ℕ) where
   routes-in [] all = All-nil (IsIn c.aig)
   routes-in (route ∷ routes) all =
       All-append (IsIn c.aig) (passed route) (all_passed routes) (route-in route (all 0 [] (omega arith))) (routes-in routes (λ k d h. all (suc k) d (omega (arith, h))))
-
--- no mark of a fresh table is set
-pub none-marked : (first n v : ℕ) → mark_at first (replicate n false) v ≡ false
-unfolding mark_at
-none-marked first n v = and_right (nat_le first v) (get_or (replicate n false) (v - first) false) (fresh n (v - first))
-  where
-    fresh : (n k : ℕ) → get_or (replicate n false) k false ≡ false
-    fresh n k = elim (cases_lt k n) [
-      | inl below ↦ get_or-replicate n k false false below
-      | inr past ↦ get_or_past (replicate n false) k false (omega (arith, past, length-replicate n false))
-    ]

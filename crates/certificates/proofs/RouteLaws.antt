@@ -1,7 +1,7 @@
 -- On each route there is a variable of each closed set's border.
 use Rattle.std.proofs.Common.{◌≡◌, ℕ, suc, ◌+◌, ◌<◌, ◌≤◌, ◌==◌, Bool, true, false, not, ◌&&◌, ◌||◌, nat_lt, cond, IsTrue, is_some, List, [], ◌∷◌, length, Option, Some, None, arith, refl, ap, sym, ◌∙◌, subst, inl, inr}
 use Rattle.std.specs.List.{count_by}
-use Rattle.std.proofs.lemmas.Bool.{cases_Bool, cond-true, cond-false, eqb-true, lt-ltb, and_from, or_cases, or_left, or_right, and_parts, not-true}
+use Rattle.std.proofs.lemmas.Bool.{cases_Bool, cond-true, cond-false, eqb-true, lt-ltb, and_from, or_cases, or_left, or_right, and_parts, not-true, true≢false}
 use Rattle.std.proofs.lemmas.Option.{none-some}
 use Rattle.variable_tables.specs.Marking.{has}
 use Rattle.variable_tables.proofs.ListLaws.{count_by-cons}
@@ -24,9 +24,6 @@ use Rattle.frame_net.proofs.NetLaws.{gate-range}
 use Rattle.certificates.specs.Routes.{begins_at, passes, enters, returns_to, may_step, goes_on, is_route, passed, all_passed}
 use Rattle.certificates.specs.Verdicts.{AreRoutes, AreApart, LeastLaw, YesLaw}
 use Rattle.certificates.proofs.ApartLaws.{count-le, count-none, count-distinct, count-append}
-
-true_false : true ≡ false → ⊥
-true_false e = absurd (cc)
 
 -- the parts of a conjunction of four
 abbrev pub Four : (a b c d : Bool) → Type 0
@@ -80,7 +77,7 @@ module _ (c : Netlist) (held t : List ℕ) (set : IsClosedSet c.aig held t) wher
         | inl yes' ↦ yes'
         | inr no' ↦ (
             let q = read-split c.aig c.props (is_passable c.aig held) (has t) v read no' in
-            absurd (true_false (sym (members-pass q.0 q.3) ∙ q.2)))
+            absurd (true≢false (sym (members-pass q.0 q.3) ∙ q.2)))
       ]
 
   enters-borders : (v w : ℕ) → holds v ≡ true → gate_reads v (gate_at c.aig w) ≡ true → has t w ≡ false → borders v ≡ true

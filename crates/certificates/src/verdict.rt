@@ -1,5 +1,5 @@
 ghost use Rattle.std.specs.Prelude.{◌≡◌};
-ghost use Rattle.certificates.specs.Objections.{code_of};
+ghost use Rattle.certificates.specs.Objections.{code_of, objection_name};
 
 /// What a certificate is worth for a circuit.
 #[derive(Clone, Copy, Debug, PartialEq, Eq)]
@@ -33,6 +33,18 @@ impl Objection {
             Objection::BadRoute => 2,
             Objection::UsedTwice => 3,
             Objection::CountDiffers => 4,
+        }
+    }
+
+    /// Its name, as reports print it.
+    pub fn name(self) -> &'static str
+        ensures { result.now ≡ objection_name self }
+    {
+        match self {
+            Objection::NotClosed => "NotClosed",
+            Objection::BadRoute => "BadRoute",
+            Objection::UsedTwice => "UsedTwice",
+            Objection::CountDiffers => "CountDiffers",
         }
     }
 }

@@ -1,14 +1,12 @@
 -- What is written to a target is written to the stream, or to the file, that it is.
 use Rattle.std.proofs.Common.{ℕ, ◌≡◌, Bool, true, false, List, refl, sym, subst}
 use Rattle.std.specs.Borrow.{Bor}
+use Rattle.std.proofs.lemmas.Bool.{true≢false}
 use Rattle.counted_io.specs.Output.{Output, WritesAll}
 use Rattle.stream_paths.specs.Streams.{is_stdout}
 use Rattle.stream_paths.specs.declared.target.Target.{Target}
 use Rattle.stream_paths.specs.declared.target.Target.TheVariants as targets
 use Rattle.circuit_files.specs.WrittenFiles.{IsTargetGiven}
-
-true_false : true ≡ false → ⊥
-true_false e = absurd (cc)
 
 -- what it means that a file was given a text
 module _ (FileGiven : List ℕ → List ℕ → Type 0) where
@@ -23,9 +21,9 @@ module _ (FileGiven : List ℕ → List ℕ → Type 0) where
   -- what goes to standard output was written to it
   pub of_stdout : (target : Target) (old new : Output) (text : List ℕ) → is_stdout target ≡ true → IsTargetGiven FileGiven target old new text → WritesAll old new text
   of_stdout targets.Stdout old new text is given = given
-  of_stdout (targets.File path) old new text is given = absurd (true_false (sym is))
+  of_stdout (targets.File path) old new text is given = absurd (true≢false (sym is))
 
   -- what goes to a file leaves it as it was
   pub of_file : (target : Target) (old new : Output) (text : List ℕ) → is_stdout target ≡ false → IsTargetGiven FileGiven target old new text → new ≡ old
-  of_file targets.Stdout old new text is given = absurd (true_false is)
+  of_file targets.Stdout old new text is given = absurd (true≢false is)
   of_file (targets.File path) old new text is given = given.0

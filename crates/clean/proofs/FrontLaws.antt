@@ -1,8 +1,8 @@
 -- What reaching one variable, and one after another, does.
-use Rattle.std.proofs.Common.{ℕ, zero, ◌+◌, ◌-◌, ◌*◌, ◌<◌, ◌≤◌, ◌≡◌, inl, inr, List, [], ◌∷◌, ◌++◌, length, map, take, reverse, Bool, true, false, cond, nat_lt, nat_le, ◌||◌, ◌&&◌, set, get_or, count_by, refl, arith, ap, sym, ◌∙◌}
+use Rattle.std.proofs.Common.{ℕ, zero, ◌+◌, ◌-◌, ◌*◌, ◌<◌, ◌≤◌, ◌≡◌, inl, inr, List, [], ◌∷◌, ◌++◌, length, map, take, Bool, true, false, cond, nat_lt, nat_le, ◌||◌, ◌&&◌, set, get_or, count_by, refl, arith, ap, sym, ◌∙◌}
 use Rattle.std.specs.List.{All, flat_map}
 use Rattle.std.proofs.lemmas.Bool.{cases_Bool, cases_lt, cond-true, cond-false, lt-ltb, le-ltb, le-leb, lt-leb, or_left, or_right}
-use Rattle.std.proofs.lemmas.List.{length-set, take_more, take_all, map_push, flat_map_more, reverse-append}
+use Rattle.std.proofs.lemmas.List.{length-set, take_more, take_all, map_push, flat_map_more}
 use Rattle.std.proofs.lemmas.List.Elements.{All-head, All-tail}
 use Rattle.std.proofs.lemmas.List.Sums.{sum_by-set, count_by-le-length}
 use Rattle.aig_graph.specs.Graph.{variable}
@@ -10,10 +10,6 @@ use Rattle.variable_tables.specs.Marking.{mark_at}
 use Rattle.clean.specs.Sweep.{Front, front_end, is_marked, mark, with_next, reach, reach_in_sweep, reach_all}
 
 -- ---- one variable
-
--- what is put at the end of a list is first in the list from its end
-pub reverse-push : (xs : List ℕ) (v : ℕ) → reverse (xs ++ v ∷ []) ≡ v ∷ reverse xs
-reverse-push xs v = reverse-append xs (v ∷ [])
 
 -- the front with one more variable
 abbrev pub reach_new : Front → ℕ → Front

@@ -1,14 +1,11 @@
 -- What stays of a graph, latch by latch and gate by gate.
-use Rattle.std.proofs.Common.{ℕ, inl, inr, ◌+◌, ◌*◌, ◌<◌, ◌≤◌, ◌≡◌, suc, List, [], ◌∷◌, ◌++◌, length, map, take, Bool, true, false, cond, Some, slice_get, get_or, refl, arith, ap, sym, ◌∙◌, zero-add, add-one, add-zero}
-use Rattle.std.proofs.lemmas.Bool.{cases_Bool}
-use Rattle.std.proofs.lemmas.Option.{slice_get_within, get_or_from_slice_get}
-use Rattle.std.proofs.lemmas.List.Sums.{count_by_more_no, count_by_more_yes}
+use Rattle.std.proofs.Common.{ℕ, ◌+◌, ◌*◌, ◌<◌, ◌≤◌, ◌≡◌, suc, List, [], ◌∷◌, ◌++◌, length, map, take, Bool, true, false, cond, Some, slice_get, get_or, refl, arith, ap, sym, ◌∙◌, zero-add, add-one, add-zero}
 use Rattle.std.proofs.lemmas.List.{map_push, take_more, length-take, append-nil, take_all}
 use Rattle.std.specs.List.{All}
 use Rattle.aig_graph.specs.declared.graph.Gate.{Gate}
 use Rattle.aig_graph.specs.declared.graph.Latch.{Latch}
 use Rattle.aig_graph.specs.declared.properties.Props.{Props}
-use Rattle.aig_graph.specs.Graph.{is_free, free_before, Graph, IsGraph, IsLiteralOf, variable, variables_end, first_latch, first_gate}
+use Rattle.aig_graph.specs.Graph.{free_before, Graph, IsGraph, IsLiteralOf, variable, variables_end, first_latch, first_gate}
 use Rattle.aig_graph.specs.declared.properties.Symbols.{Symbols}
 use Rattle.aig_graph.specs.Circuits.{Netlist}
 use Rattle.aig_graph.specs.Value.{signed_as}
@@ -172,20 +169,6 @@ module _ (g : Graph) (s : ℕ → Bool) where
   pub kept-end : (k : ℕ) (items : List ℕ) → k ≡ length g.latches → items ≡ map (free_before g) (places (is_kept_free g s) k) → items ≡ kept_free g s
   unfolding kept_free
   kept-end k items end e = e ∙ ap (λ (n : ℕ). map (free_before g) (places (is_kept_free g s) n)) end
-
--- one latch further there is one free latch more where it is free
-pub free-more : (g : Graph) (k free one : ℕ) (latch : Latch) → slice_get g.latches k ≡ Some latch → free ≡ free_before g k → one ≡ cond (is_free latch) 1 0 → free + one ≡ free_before g (k + 1)
-free-more g k free one latch there is step =
-    let within : k < length g.latches = slice_get_within g.latches k latch there in
-    let read : get_or g.latches k latch ≡ latch = get_or_from_slice_get g.latches k latch latch there in
-    elim (cases_Bool (is_free latch)) [
-      | inl open_latch ↦ (
-          let here : one ≡ 1 = step ∙ ap (λ (b : Bool). cond {A = ℕ} b 1 0) open_latch in
-          omega (arith, is, here, count_by_more_yes is_free g.latches k latch within (ap is_free read ∙ open_latch)))
-      | inr known ↦ (
-          let here : one ≡ 0 = step ∙ ap (λ (b : Bool). cond {A = ℕ} b 1 0) known in
-          omega (arith, is, here, count_by_more_no is_free g.latches k latch within (ap is_free read ∙ known)))
-    ]
 
 -- a trimmed graph, its renumbered properties and trimmed symbols are the trimmed circuit
 pub netlist-is : (c : Netlist) (s : ℕ → Bool) (g : Graph) (p : Props) (names : Symbols) → g ≡ trimmed_graph c.aig s → p ≡ mapped_props (renumbered c.aig s) c.props → names ≡ trimmed_symbols c.aig s c.symbols

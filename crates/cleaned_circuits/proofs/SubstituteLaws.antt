@@ -2,7 +2,7 @@
 use Rattle.std.proofs.Common.{zero-add, ℕ, ◌+◌, ◌*◌, ◌<◌, ◌≤◌, ◌≡◌, ◌⊎◌, inl, inr, suc, List, [], ◌∷◌, ◌++◌, length, Bool, true, false, not, ◌&&◌, cond, nat_eq, Option, Some, None, slice_get, get_or, refl, arith, ap, sym, ◌∙◌, subst}
 use Rattle.std.proofs.Math.Bool.{and-false, and-not_self, and-true, and_self, not-and_self}
 use Rattle.std.specs.Map.{lookup}
-use Rattle.std.proofs.lemmas.Bool.{cases_Bool, cases_lt, cases_eq, eqb-true, eqb-false, and_parts, cond-true, cond-false}
+use Rattle.std.proofs.lemmas.Bool.{cases_Bool, cases_lt, cases_eq, eqb-true, eqb-false, and_parts, cond-true, cond-false, and_from, eq-eqb}
 use Rattle.std.proofs.lemmas.Option.{none-some, same_Some}
 use Rattle.std.proofs.lemmas.List.{length_push, get_or_append_left, get_or_push}
 use Rattle.aig_graph.specs.declared.graph.Gate.{Gate}
@@ -39,6 +39,10 @@ same_fan_ins-is gate other e =
     let one : ℕ → Gate = λ n. record { rhs0 = n; rhs1 = gate.rhs1 } in
     let two : ℕ → Gate = λ n. record { rhs0 = other.rhs0; rhs1 = n } in
     ap one (eqb-true gate.rhs0 other.rhs0 parts.0) ∙ ap two (eqb-true gate.rhs1 other.rhs1 parts.1)
+
+-- a gate has its own literals
+pub same_fan_ins-self : (gate : Gate) → same_fan_ins gate gate ≡ true
+same_fan_ins-self gate = and_from (nat_eq gate.rhs0 gate.rhs0) (nat_eq gate.rhs1 gate.rhs1) (eq-eqb gate.rhs0 gate.rhs0 refl) (eq-eqb gate.rhs1 gate.rhs1 refl)
 
 -- why a literal stands for a gate
 pub data GateSubstitutes (kept : List (Gate × ℕ)) (gate : Gate) (o : Option ℕ) : Type 0 where

@@ -2,11 +2,9 @@
 use Rattle.std.proofs.Common.{ℕ, ◌+◌, ◌-◌, ◌*◌, ◌<◌, ◌≤◌, ◌≡◌, suc, zero, List, length, map, Bool, true, ◌&&◌, Some, slice_get, refl, arith, ap, sym, ◌∙◌, subst, add-one}
 use Rattle.std.proofs.lemmas.Option.{slice_get_within}
 use Rattle.aig_graph.specs.declared.graph.Latch.{Latch}
-use Rattle.aig_graph.specs.declared.graph.Reset.{Reset}
-use Rattle.aig_graph.specs.declared.graph.Reset.TheVariants.{Zero, One, Free}
 use Rattle.aig_graph.specs.Graph.{IsGraph, IsGateAt, IsLiteralOf, variable, first_latch, first_gate, variables_end, is_free, free_before}
 use Rattle.aig_graph.specs.Circuits.{Netlist, IsNetlist}
-use Rattle.aig_graph.specs.Value.{Inputs, Choice, value, signed, opening}
+use Rattle.aig_graph.specs.Value.{Inputs, Choice, value, signed}
 use Rattle.aig_graph.specs.Streams.{property_literals, chosen, SameStreams}
 use Rattle.aig_graph.specs.Laws.{ValueLaws}
 use Rattle.aig_graph.proofs.ValueLaws.{value_laws}
@@ -16,13 +14,9 @@ use Rattle.cleaned_circuits.specs.Reached.{stays, HoldsReads}
 use Rattle.cleaned_circuits.specs.Trimmed.{new_variable, renumbered, renumbered_latch, renumbered_gate, trimmed_graph, trimmed_of, kept_free}
 use Rattle.variable_tables.proofs.ListLaws.{map-map, map-same}
 use Rattle.aig_graph.proofs.PropsLaws.{mapped-literals, mapped-shape, literals_within}
+use Rattle.aig_graph.proofs.StreamLaws.{opening-same}
 use Rattle.cleaned_circuits.proofs.TrimmedLaws.{stays-past, new-low, new-from, new-rises, trimmed-inputs, trimmed-first_latch, trimmed-first_gate, latch_in, gate_in, next-reached, fan_ins-reached, IsGraph-trimmed}
 use Rattle.cleaned_circuits.proofs.KeptFreeLaws.{free-rank, kept_free-at, are_kept}
-
-opening-same : (r : Reset) (next : ℕ) (a b : Bool) → (is_free (record { next = next; reset = r }) ≡ true → a ≡ b) → opening r a ≡ opening r b
-opening-same Zero next a b same = refl
-opening-same One next a b same = refl
-opening-same Free next a b same = same refl
 
 module _ (c : Netlist) (held : List ℕ) (s : ℕ → Bool) (valid : IsGraph c.aig) (holds : HoldsReads c.aig c.props held s) (x : Inputs) (f : Choice) where
   abbrev before : ℕ → ℕ → Bool

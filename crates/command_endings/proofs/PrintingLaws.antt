@@ -1,15 +1,15 @@
 -- What a command prints, by how it ends.
-use Rattle.std.proofs.Common.{ℕ, ◌≡◌, inl, inr, IfOk, List, Result, Ok, Err, refl, sym, subst}
+use Rattle.std.proofs.Common.{ℕ, ◌≡◌, inl, inr, IfOk, List, Result, Ok, Err, refl, sym, subst, Bool, true, false}
 use Rattle.counted_io.specs.Output.{Output, WritesAll}
 use Rattle.serde_json.specs.Data.{Data}
 use Rattle.json_reports.specs.Lines.{json_line}
 use Rattle.circuit_files.specs.Outcomes.{outcome_of}
 use Rattle.circuit_files.specs.declared.outcome.Outcome.{Outcome}
-use Rattle.circuit_files.specs.declared.outcome.Outcome.TheVariants.{Device}
+use Rattle.circuit_files.specs.declared.outcome.Outcome.TheVariants.{Device, Done}
 use Rattle.circuit_files.specs.declared.outcome.Failure.{Failure}
 use Rattle.circuit_files.specs.declared.outcome.Failure.TheVariants as fails
 use Rattle.command_endings.specs.Objects.{EndsPrintingObject, FailsPrintingObject}
-use Rattle.command_endings.specs.Printing.{EndsPrinting, EndsWith, Prints, ending}
+use Rattle.command_endings.specs.Printing.{EndsPrinting, EndsWith, Prints, ending, EndsAside}
 
 -- one that failed, and gave standard output nothing
 pub failing : (f : Failure) (s : Output) → Prints (outcome_of f) s s
@@ -67,3 +67,12 @@ ends_with_object_line outcome value old new (Err failure) p = tt
 -- what was printed to standard output after nothing else
 pub prints_after : (o : Outcome) (old mid new : Output) → mid ≡ old → Prints o mid new → Prints o old new
 prints_after o old mid new same p = subst (λ (s : Output). Prints o s new) same p
+
+ends_aside : (old mid new : Output) (result : Result Outcome Failure) → EndsAside Done mid new result → Prints (ending result) old new
+ends_aside old mid new result aside = subst (λ (e : Outcome). Prints e old new) (sym aside.ends) tt
+
+-- one that is printed after others, of which some may have taken standard output
+pub by_stream : (taken : Bool) (old mid new : Output) (result : Result Outcome Failure)
+    → (taken ≡ false → mid ≡ old) → (taken ≡ true → EndsAside Done mid new result) → (taken ≡ false → Prints (ending result) mid new) → Prints (ending result) old new
+by_stream true old mid new result before aside prints = ends_aside old mid new result (aside refl)
+by_stream false old mid new result before aside prints = prints_after (ending result) old mid new (before refl) (prints refl)

@@ -116,7 +116,7 @@ fn with_number<'a>(
 /// The program without its commands.
 fn bare_program<'a>(alloc: Global) -> Command<'a> {
     Command::new(alloc, "fretime")
-        .version("0.7.0")
+        .version("0.7.1")
         .about(texts::ABOUT)
         .long_about(texts::LONG_ABOUT)
         .after_help(texts::EXAMPLE)

@@ -1,5 +1,5 @@
 -- What a retiming gives standard output, where that is what it writes to.
-use Rattle.std.proofs.Common.{ℕ, ◌≡◌, ◌||◌, ◌⊎◌, inl, inr, Bool, List, true, false, Option, Some, None, Result, Ok, Err, refl, sym, ap, ◌∙◌, subst}
+use Rattle.std.proofs.Common.{ℕ, ◌≡◌, ◌||◌, ◌⊎◌, inl, inr, Bool, List, true, false, Option, Some, None, Result, Ok, Err, sym, ap, ◌∙◌, subst}
 use Rattle.std.specs.Prelude.{is_some, option_map}
 use Rattle.std.specs.Borrow.{Bor}
 use Rattle.std.specs.Result.{IfOk}
@@ -39,7 +39,7 @@ use Rattle.commands.specs.declared.answer.Answer.{Answer as Answered}
 use Rattle.commands.specs.Pipes.{AnswersPipe, IsAnswerTo, IsMapOf, IsPipe, IsReportOf, PrintsRetiming, WritesAnswer, WritesBeside, WritesCertificates, WritesMap, WritesPipe, WritesRetiming, blocks_text}
 use Rattle.command_endings.specs.Printing.{EndsAside, Prints, ending}
 use Rattle.commands.specs.RetimingTasks.{EndsPrintingFrames, HasFailed, IsFailureOf, IsMapFailureOf, PrintsAlike, SaysFrames, counts_of, levels_reported}
-use Rattle.command_endings.proofs.PrintingLaws.{failing_after, prints_after}
+use Rattle.command_endings.proofs.PrintingLaws.{failing_after, by_stream}
 use Rattle.commands.proofs.FrameLaws.{frames_alike, says_alike}
 
 -- why there is no whole answer of what was read, as the failure of the task
@@ -195,14 +195,6 @@ writes_pipe FileGiven task input old mid new r held levels mapped result ended o
       levels = answer.levels;
       answers = subst (λ (s : Output). AnswersPipe task input old s answer.retimed answer.levels) (sym (still pipe)) (answers_pipe FileGiven task input old mid answer pipe of.written);
     })
-
-ends_aside : (old mid new : Output) (result : Result Outcome Failure) → EndsAside Done mid new result → Prints (ending result) old new
-ends_aside old mid new result aside = subst (λ (e : Outcome). Prints e old new) (sym aside.ends) tt
-
-by_stream : (b : Bool) (old mid new : Output) (result : Result Outcome Failure)
-    → (b ≡ false → mid ≡ old) → (b ≡ true → EndsAside Done mid new result) → (b ≡ false → Prints (ending result) mid new) → Prints (ending result) old new
-by_stream true old mid new result before aside prints = ends_aside old mid new result (aside refl)
-by_stream false old mid new result before aside prints = prints_after (ending result) old mid new (before refl) (prints refl)
 
 -- the frames are printed after the circuit and the certificates are written
 pub prints_frames : (task : Retiming) (old mid new : Output) (result : Result Outcome Failure) → (takes_stdout task ≡ false → mid ≡ old)

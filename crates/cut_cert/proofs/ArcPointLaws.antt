@@ -1,6 +1,6 @@
 -- What an arc with a capacity says of the points at its ends.
 use Rattle.std.proofs.Common.{◌≡◌, ℕ, ◌<◌, ◌≤◌, ◌==◌, Bool, true, false, ◌&&◌, is_some, cond, List, [], Option, Some, None, arith, refl, ap, sym, ◌∙◌, subst, inl, inr}
-use Rattle.std.proofs.lemmas.Bool.{cases_lt, eqb-true, and_from, or_left, and_parts}
+use Rattle.std.proofs.lemmas.Bool.{cases_lt, eqb-true, and_from, or_left, and_parts, true≢false}
 use Rattle.std.proofs.lemmas.Option.{none-some, same_Some}
 use Rattle.aig_graph.specs.declared.graph.Latch.{Latch}
 use Rattle.aig_graph.specs.declared.properties.Props.{Props}
@@ -104,10 +104,7 @@ module _ (g : Graph) (props : Props) (held : List ℕ) where
   not-both : (v w : ℕ) → 0 < cond {A = ℕ} (is_known (latch_at g v)) 1 0 → 0 < cond {A = ℕ} (w == v) 1 0 → first_gate g ≤ w → ⊥
   not-both v w known same from =
       let no-latch : latch_at g v ≡ None = latch_at-gates g v (subst (λ (x : ℕ). first_gate g ≤ x) (eqb-true w v (positive (w == v) 1 same)) from) in
-      true_false (sym (positive (is_known (latch_at g v)) 1 known) ∙ ap (λ (o : Option Latch). is_known o) no-latch)
-    where
-      true_false : true ≡ false → ⊥
-      true_false e = absurd (cc)
+      true≢false (sym (positive (is_known (latch_at g v)) 1 known) ∙ ap (λ (o : Option Latch). is_known o) no-latch)
 
   -- the arcs with a capacity to after a variable have one tail
   pub same-tail : (x y : ℕ) (a b : Node) (v : ℕ) → IsRight g held x a → IsRight g held y b → 0 < arc_capacity g props held a (after v) → 0 < arc_capacity g props held b (after v) → x ≡ y

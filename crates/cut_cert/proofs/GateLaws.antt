@@ -1,5 +1,5 @@
 -- The gates of a set of nodes, in the order of the nodes, rise.
-use Rattle.std.proofs.Common.{ℕ, zero, suc, ◌+◌, ◌<◌, ◌≤◌, ◌≡◌, ◌⊎◌, ◌==◌, ◌||◌, inl, inr, List, [], ◌∷◌, ◌++◌, length, Bool, true, false, IsTrue, if◌then◌else◌, Option, Some, None, slice_index, get_or, refl, arith, ap, ap₂, sym, ◌∙◌, subst}
+use Rattle.std.proofs.Common.{ℕ, zero, suc, ◌+◌, ◌<◌, ◌≤◌, ◌≡◌, ◌⊎◌, ◌==◌, ◌||◌, inl, inr, List, [], ◌∷◌, ◌++◌, length, Bool, true, false, if◌then◌else◌, Option, Some, None, slice_index, get_or, refl, arith, ap, ap₂, sym, ◌∙◌, subst}
 use Rattle.std.specs.List.Sorted.{IsStrictlyIncreasing}
 use Rattle.std.proofs.lemmas.Bool.{cases_lt, cases_eq, cond-true, cond-false, or_cases, or_left, or_right, eqb-true, eq-eqb}
 use Rattle.std.proofs.lemmas.Option.{none-some, same_Some}
@@ -22,6 +22,7 @@ use Rattle.frame_net.specs.Capacity.{has_node}
 use Rattle.frame_net.proofs.NodeLaws.{rank-gate, view}
 use Rattle.frame_net.specs.Cuts.{AreGatesOf, IsNetworkOf}
 use Rattle.frame_net.proofs.NetLaws.{gate-range, nodes, point-before}
+use Rattle.frame_net.proofs.PassableLaws.{is_true}
 use Rattle.cut_cert.specs.Gates.{gate_after, gate_of, and_gate, gates_below}
 
 abbrev point : ℕ → Bool → Point
@@ -147,10 +148,6 @@ module _ (net : FlowNet) (side : ℕ → Bool) where
 
 -- ---- the gates rise
 
-is-true : (b : Bool) → IsTrue b → b ≡ true
-is-true true t = refl
-is-true false t = absurd (cc)
-
 push-rising : (xs : List ℕ) (g : ℕ) → IsStrictlyIncreasing xs → ((k : ℕ) → k < length xs → slice_index xs k < g) → IsStrictlyIncreasing (xs ++ g ∷ [])
 push-rising xs g rising below k h = elim (cases_lt (k + 1) (length xs)) [
   | inl less ↦ (
@@ -192,7 +189,7 @@ module _ (c : Netlist) (held : List ℕ) (net : FlowNet) (is : IsNetworkOf c hel
         let last = gate-means net side m some.0 some.1 in
         subst IsStrictlyIncreasing (sym (gates-take net side m some.0 some.1)) (push-rising xs some.0 (gates-rise m (omega (arith, h))) (λ k l.
         let v : ℕ = slice_index xs k in
-        let member : has xs v ≡ true = is-true (has xs v) ((has_iff_contains xs v).1 (k, l, entry xs k l)) in
+        let member : has xs v ≡ true = is_true (has xs v) ((has_iff_contains xs v).1 (k, l, entry xs k l)) in
         let t = member-node net side m v member in
         points-rise t.0 m v some.0 (omega (arith, t.1.0, h)) (omega (arith, h)) t.1.0 t.1.1.1 last.1)))
   ]

@@ -1,7 +1,7 @@
 -- Walk after walk.
 use Rattle.std.proofs.Common.{◌≡◌, ℕ, ◌+◌, ◌<◌, ◌≤◌, ◌==◌, ◌||◌, inl, inr, Bool, true, false, All, List, [], ◌∷◌, ◌++◌, length, replicate, take, drop, append_assoc, slice_index, Some, arith, refl, ap, sym, ◌∙◌, subst}
 use Rattle.std.specs.List.{AllByRecursion, IsDistinct}
-use Rattle.std.proofs.lemmas.Bool.{cases_Bool, cases_lt, cases_eq, eq-eqb, ne_eqb, or_cases, or_parts}
+use Rattle.std.proofs.lemmas.Bool.{cases_Bool, cases_lt, cases_eq, eq-eqb, ne_eqb, or_cases, or_parts, false≢true}
 use Rattle.std.proofs.lemmas.Option.{none-some}
 use Rattle.std.proofs.lemmas.List.{append-nil, drop_all, length_push, length-replicate, get_or-replicate}
 use Rattle.std.proofs.Math.Seq.{take-length}
@@ -25,9 +25,6 @@ use Rattle.cut_cert.proofs.WalkLaws.{Distinct, none-is, Walking, walking-start, 
 use Rattle.cut_cert.proofs.ArcPointLaws.{no-point}
 use Rattle.cut_cert.proofs.TrailLaws.{marked-in, suffix-absent, in-front, points-cons, points-append, point-cases, once-each}
 use Rattle.cut_cert.proofs.FlowValueLaws.{least-count, holds-first, reached-is, nothing-comes}
-
-false_true : false ≡ true → ⊥
-false_true e = absurd (cc)
 
 -- ---- one walk
 
@@ -84,7 +81,7 @@ module _ (net : FlowNet) (ok : IsFlowNet net) where
             | inl e ↦ e
             | inr other ↦ absurd (walking.inner (omega (arith, other, no-point c held net is at none walking.node)))
           ] in
-          absurd (false_true (sym zero_off ∙ ap (λ (vs : List ℕ). has vs 0) back.1 ∙ ap (λ (v : ℕ). has (back.0 ++ v ∷ trail) 0) source ∙ in-front back.0 trail 0)))
+          absurd (false≢true (sym zero_off ∙ ap (λ (vs : List ℕ). has vs 0) back.1 ∙ ap (λ (v : ℕ). has (back.0 ++ v ∷ trail) 0) source ∙ in-front back.0 trail 0)))
     ]
   ]
 
@@ -174,7 +171,7 @@ distinct-join (x ∷ xs) ys a b off =
 
     absent : has ys x ≡ false
     absent = elim (cases_Bool (has ys x)) [
-      | inl member ↦ absurd (false_true (sym (or_parts (x == x) (has xs x) (off x member)).0 ∙ itself))
+      | inl member ↦ absurd (false≢true (sym (or_parts (x == x) (has xs x) (off x member)).0 ∙ itself))
       | inr new ↦ new
     ]
 
@@ -212,7 +209,7 @@ module _ (net : FlowNet) (ok : IsFlowNet net) (m : RunEnd) where
     long = carried.long;
     done = λ k l h. absurd (omega (arith, h));
     gathered = λ c held is. record {
-      ready = record { holds = holds-first net ok m end xs carried; spent = λ v member. absurd (false_true (ap (λ (vs : List ℕ). has vs v) (sym all-none) ∙ member)) };
+      ready = record { holds = holds-first net ok m end xs carried; spent = λ v member. absurd (false≢true (ap (λ (vs : List ℕ). has vs v) (sym all-none) ∙ member)) };
       right = λ k d h. absurd (omega (arith, h));
       apart = subst Distinct (sym all-none) distinct-none;
       once = λ k d h. absurd (omega (arith, h));

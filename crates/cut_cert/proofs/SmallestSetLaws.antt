@@ -1,5 +1,5 @@
 -- The gates of the smallest least cut are the smallest least set.
-use Rattle.std.proofs.Common.{◌≡◌, ℕ, ◌≤◌, Bool, true, false, IsTrue, List, [], arith, refl, sym, subst}
+use Rattle.std.proofs.Common.{ℕ, ◌≤◌, Bool, IsTrue, List, [], arith, refl, sym, subst}
 use Rattle.variable_tables.specs.Marking.{has}
 use Rattle.aig_graph.specs.Circuits.{Netlist}
 use Rattle.aig_graph.specs.Closed.{IsClosedSet}
@@ -13,6 +13,7 @@ use Rattle.frame_net.specs.Cuts.{NoUnboundedLeaves, AreGatesOf, IsNetworkOf, lea
 use Rattle.frame_net.proofs.NetLaws.{cuts_are_closed-law}
 use Rattle.frame_net.proofs.SetCutLaws.{closed_sets_are_cuts-law}
 use Rattle.frame_net.proofs.LeastCutLaws.{empty-border, arc-counts}
+use Rattle.frame_net.proofs.PassableLaws.{is_true}
 use Rattle.cut_cert.specs.Cuts.{IsSmallestLeastCut, SmallestCutIsSmallestSet}
 
 module _ (c : Netlist) (held : List ℕ) (net : FlowNet) (side : ℕ → Bool) (s : List ℕ) (is : IsNetworkOf c held net)
@@ -33,10 +34,6 @@ module _ (c : Netlist) (held : List ℕ) (net : FlowNet) (side : ℕ → Bool) (
     closed = found.0;
     least = λ r set. let t = closed_sets_are_cuts-law c held net r is set in omega (arith, found.1, least.least t.0 t.1.is_cut, t.1.count);
   }
-
-  is_true : (b : Bool) → IsTrue b → b ≡ true
-  is_true true t = refl
-  is_true false t = absurd (cc)
 
   -- the gates of the smallest least cut of the network are the smallest least set of its circuit
   pub smallest-set : IsSmallestLeast c held s

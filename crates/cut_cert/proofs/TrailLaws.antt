@@ -1,8 +1,8 @@
 -- The nodes of a walk, and their marks.
-use Rattle.std.proofs.Common.{◌≡◌, ℕ, ◌<◌, ◌==◌, ◌||◌, ◌⊎◌, Bool, true, false, List, [], ◌∷◌, ◌++◌, length, reverse, replicate, append_assoc, set, slice_index_or, Option, Some, None, arith, refl, ap, sym, ◌∙◌, subst, inl, inr}
+use Rattle.std.proofs.Common.{◌≡◌, ℕ, ◌<◌, ◌==◌, ◌||◌, ◌⊎◌, Bool, true, false, List, [], ◌∷◌, ◌++◌, length, replicate, append_assoc, set, slice_index_or, Option, Some, None, arith, refl, ap, sym, ◌∙◌, subst, inl, inr}
 use Rattle.std.specs.List.{AllByRecursion, IsDistinct}
-use Rattle.std.proofs.lemmas.Bool.{cases_Bool, cases_lt, cases_eq, eq-eqb, ne_eqb, eqb-true, or_parts, or_left, or_right}
-use Rattle.std.proofs.lemmas.List.{length-set, get_or-set_same, get_or-set_other, get_or_past, reverse-append, length-replicate, get_or-replicate}
+use Rattle.std.proofs.lemmas.Bool.{cases_Bool, cases_lt, cases_eq, eq-eqb, ne_eqb, eqb-true, or_parts, or_left, or_right, false≢true}
+use Rattle.std.proofs.lemmas.List.{length-set, get_or-set_same, get_or-set_other, get_or_past, length-replicate, get_or-replicate}
 use Rattle.variable_tables.specs.Marking.{has}
 use Rattle.aig_graph.specs.Circuits.{Netlist}
 use Rattle.frame_net.specs.declared.net.Point.{Point}
@@ -14,15 +14,12 @@ use Rattle.cut_cert.specs.Walks.{AreOn, ComesTo, and_point, points_of}
 use Rattle.cut_cert.proofs.ArcPointLaws.{one-point}
 use Rattle.cut_cert.proofs.WalkLaws.{Distinct, distinct-cons}
 
-false_true : false ≡ true → ⊥
-false_true e = absurd (cc)
-
 -- ---- marks
 
 absent : (v : ℕ) (xs : List ℕ) → AllByRecursion (λ w. (v == w) ≡ false) xs → has xs v ≡ false
 absent v [] all = refl
 absent v (x ∷ xs) all = elim (cases_Bool (x == v)) [
-  | inl same ↦ absurd (false_true (sym all.0 ∙ eq-eqb v x (sym (eqb-true x v same))))
+  | inl same ↦ absurd (false≢true (sym all.0 ∙ eq-eqb v x (sym (eqb-true x v same))))
   | inr other ↦ ap (λ (b : Bool). b || has xs v) other ∙ absent v xs all.1
 ]
 
@@ -39,7 +36,7 @@ rest-distinct v xs d = d.1
 pub marked-in : (n : ℕ) (marks : List Bool) (trail : List ℕ) (v : ℕ) → AreOn n marks trail → has trail v ≡ true → v < n
 marked-in n marks trail v on member = elim (cases_lt v (length marks)) [
   | inl less ↦ omega (arith, less, on.long)
-  | inr past ↦ absurd (false_true (sym (get_or_past marks v false past) ∙ on.each v ∙ member))
+  | inr past ↦ absurd (false≢true (sym (get_or_past marks v false past) ∙ on.each v ∙ member))
 ]
 
 -- a node that isn't on the trail, once it is marked, may stand in front of it
@@ -70,10 +67,6 @@ on-pop n marks trail v on = record {
 }
 
 -- ---- a list that is read from its end
-
--- a list with a node at its end is, read from its end, that node and then the list so read
-pub reverse-push : (xs : List ℕ) (v : ℕ) → reverse (xs ++ v ∷ []) ≡ v ∷ reverse xs
-reverse-push xs v = reverse-append xs (v ∷ [])
 
 -- what isn't in two joined lists isn't in the second
 pub suffix-absent : (xs ys : List ℕ) (v : ℕ) → has (xs ++ ys) v ≡ false → has ys v ≡ false
@@ -124,7 +117,7 @@ module _ (c : Netlist) (held : List ℕ) (net : FlowNet) (is : IsNetworkOf c hel
       elim (point-cases net w) [
         | inl none ↦ subst (AllByRecursion (λ q. p ≡ q → ⊥)) (sym (points-skip net w nodes none)) rest
         | inr some ↦ subst (AllByRecursion (λ q. p ≡ q → ⊥)) (sym (points-cons net w nodes some.0 some.1)) (
-          (λ same. false_true (sym all.0
+          (λ same. false≢true (sym all.0
               ∙ eq-eqb v w (one-point c held net is v w p h (within w (or_left (w == w) (has nodes w) (eq-eqb w w refl))) e (some.1 ∙ ap (λ (q : Point). Some q) (sym same))))),
           rest,
         )

@@ -1,7 +1,7 @@
 -- A walk back from the sink, and what it leaves.
 use Rattle.std.proofs.Common.{◌≡◌, ℕ, ◌+◌, ◌<◌, ◌==◌, Bool, true, false, ◌⊎◌, inl, inr, List, [], ◌∷◌, ◌++◌, Some, None, arith, refl, ap, sym, ◌∙◌, subst}
 use Rattle.std.specs.List.{AllByRecursion, IsDistinct}
-use Rattle.std.proofs.lemmas.Bool.{cases_Bool, cases_lt, cases_eq, and_from, or_cases, or_parts, or_right, eqb-true, eq-eqb, and_parts}
+use Rattle.std.proofs.lemmas.Bool.{cases_Bool, cases_lt, cases_eq, and_from, or_cases, or_parts, or_right, eqb-true, eq-eqb, and_parts, false≢true}
 use Rattle.std.proofs.lemmas.Option.{none-some, same_Some}
 use Rattle.variable_tables.specs.Marking.{has}
 use Rattle.aig_graph.specs.Circuits.{Netlist}
@@ -20,9 +20,6 @@ use Rattle.cut_cert.proofs.ArcPointLaws.{point, step-at, begin-at, end-at, end-i
 abbrev pub Distinct : List ℕ → Type 0
 Distinct vars = IsDistinct (λ v w. v == w) vars
 
-false_true : false ≡ true → ⊥
-false_true e = absurd (cc)
-
 -- what isn't in a list equals none of its elements
 pub none-is : (v : ℕ) (xs : List ℕ) → has xs v ≡ false → AllByRecursion (λ w. (v == w) ≡ false) xs
 none-is v [] absent = tt
@@ -32,7 +29,7 @@ none-is v (x ∷ xs) absent =
   where
     turned : (v == x) ≡ false
     turned = elim (cases_Bool (v == x)) [
-      | inl same ↦ absurd (false_true (sym (or_parts (x == v) (has xs v) absent).0 ∙ eq-eqb x v (sym (eqb-true v x same))))
+      | inl same ↦ absurd (false≢true (sym (or_parts (x == v) (has xs v) absent).0 ∙ eq-eqb x v (sym (eqb-true v x same))))
       | inr other ↦ other
     ]
 
@@ -120,7 +117,7 @@ module _ (c : Netlist) (held : List ℕ) (net : FlowNet) (ok : IsFlowNet net) (i
         inner = end-inner c held net is u from two to-sink
 
         no-member : (v : ℕ) → has (passed []) v ≡ true → ⊥
-        no-member v member = false_true (ap (λ (vs : List ℕ). has vs v) (sym passed-none) ∙ member)
+        no-member v member = false≢true (ap (λ (vs : List ℕ). has vs v) (sym passed-none) ∙ member)
 
     module _ (past : List ℕ) (reached : ℕ) (rest : List Point) (walking : Walking c held net past reached xs w rest) (p : Point) (at : point_of net w ≡ Some p) where
       goes-step : (q : Point) → point_of net u ≡ Some q → goes_on c held q (p ∷ rest) ≡ true

@@ -16,7 +16,8 @@ lines-at_end b (c ∷ line) clean =
     cond-false (nat_eq b 10) ([] ∷ lines (c ∷ line)) (with_front b (lines (c ∷ line))) (not-true (nat_eq b 10) parts.0)
     ∙ ap (with_front b) (lines-at_end c line parts.1)
 
-no_lines : lines [] ≡ []
+-- an empty text has no lines
+pub no_lines : lines [] ≡ []
 unfolding lines
 no_lines = refl
 

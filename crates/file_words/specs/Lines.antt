@@ -1,7 +1,7 @@
 -- Lines, and the numbers of a line.
 use Rattle.std.specs.Prelude.{ℕ, ◌+◌, ◌-◌, ◌*◌, ◌==◌, ◌&&◌, Bool, not, List, [], ◌∷◌, length, map, fold, Option, Some, None, if◌then◌else◌}
 use Rattle.std.specs.Char.{is_ascii_digit}
-use Rattle.std.specs.List.{list_all}
+use Rattle.std.specs.List.{list_all, starts_with}
 
 -- a byte more in front of the first piece
 abbrev pub with_front : ℕ → List (List ℕ) → List (List ℕ)
@@ -29,3 +29,7 @@ digits_value digits = fold (λ value digit. 10 * value + (digit - 48)) 0 digits
 -- the numbers of a line, where it is numbers with one space between
 unfoldable pub numbers_of : List ℕ → Option (List ℕ)
 numbers_of line = if list_all is_number (pieces line) then Some (map digits_value (pieces line)) else None
+
+-- whether a text is this word
+abbrev pub is_word : List ℕ → List ℕ → Bool
+is_word text word = length word == length text && starts_with (λ a b. a == b) text word

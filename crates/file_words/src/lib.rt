@@ -7,9 +7,11 @@ mod fault;
 mod lines;
 mod numbers;
 mod spelling;
+mod word;
 
 pub use cutting::{cut, first_line};
 pub use fault::ReadError;
 pub use lines::{Line, Lines};
 pub use numbers::number;
 pub use spelling::Spelling;
+pub use word::is_word;

@@ -1,11 +1,11 @@
 -- Cuts that no unbounded arc leaves are closed sets, and the other way round.
-use Rattle.std.proofs.Common.{◌≡◌, ℕ, suc, zero, ◌+◌, ◌<◌, ◌≤◌, ◌==◌, Bool, true, false, not, ◌&&◌, ◌||◌, cond, IsTrue, List, Option, Some, None, arith, refl, ap, ap₂, sym, ◌∙◌, subst, inl, inr}
+use Rattle.std.proofs.Common.{◌≡◌, ℕ, ◌<◌, ◌≤◌, ◌==◌, Bool, true, false, not, ◌&&◌, ◌||◌, cond, IsTrue, List, Option, Some, None, arith, refl, ap, ap₂, sym, ◌∙◌, subst, inl, inr}
 use Rattle.std.specs.List.{Contains}
-use Rattle.std.proofs.lemmas.Bool.{cases_lt, cases_Bool, cond-true, cond-false, eq-eqb, or_left, or_right, or_parts, false_from_ne_true, and_parts}
+use Rattle.std.proofs.lemmas.Bool.{cases_lt, cases_Bool, cond-true, eq-eqb, or_left, or_right, or_parts, false_from_ne_true, and_parts, true≢false}
 use Rattle.flow_theory.specs.Flow.{IsCut, cut_value}
 use Rattle.variable_tables.specs.Counting.{count_below}
 use Rattle.variable_tables.specs.Marking.{has}
-use Rattle.variable_tables.proofs.PlacesLaws.{count-pass, count-fail, count-zero}
+use Rattle.variable_tables.proofs.CountingLaws.{count-within}
 use Rattle.aig_graph.specs.declared.graph.Gate.{Gate}
 use Rattle.aig_graph.specs.declared.graph.Latch.{Latch}
 use Rattle.aig_graph.specs.declared.properties.Props.{Props}
@@ -19,32 +19,11 @@ use Rattle.frame_net.specs.Passable.{is_passable}
 use Rattle.frame_net.specs.FlowNet.{node_at}
 use Rattle.frame_net.specs.FlowNet.Node.{sink, before, after}
 use Rattle.frame_net.specs.Capacity.{has_node, node_variables, latch_count, unbounded, gate_reads, is_observed, capacity, latch_number, before_number, after_number, node_total}
-use Rattle.frame_net.proofs.PassableLaws.{passable-before, passable-means, passable-at_gate, settled-split}
+use Rattle.frame_net.proofs.PassableLaws.{passable-before, passable-means, passable-at_gate, settled-split, is_true}
 use Rattle.frame_net.proofs.NodeLaws.{has_node-latch, has_node-gate, rank-latch, rank-gate, rank-below, at-latch, at-before, at-after}
 use Rattle.frame_net.proofs.ArcLaws.{cap-at}
 use Rattle.frame_net.proofs.ReadLaws.{read-split}
 use Rattle.frame_net.proofs.CutSumLaws.{crosses, crosses-latch, crosses-gate, cut-counted}
-
--- true isn't false
-pub true_false : true ≡ false → ⊥
-true_false e = absurd (cc)
-
-one_more : (a b : Bool) → (a ≡ true → b ≡ true) → cond {A = ℕ} a 1 0 ≤ cond b 1 0
-one_more true true h = omega arith
-one_more true false h = absurd (true_false (sym (h refl)))
-one_more false true h = omega arith
-one_more false false h = omega arith
-
-count-next : (p : ℕ → Bool) (v : ℕ) → count_below p (suc v) ≡ count_below p v + cond (p v) 1 0
-count-next p v = elim (cases_Bool (p v)) [
-  | inl yes' ↦ count-pass p v yes' ∙ ap (λ (b : Bool). count_below p v + cond b 1 0) (sym yes')
-  | inr no' ↦ omega (arith, count-fail p v no', cond-false {A = ℕ} (p v) 1 0 no')
-]
-
--- where each number that passes one test passes another, the other counts no fewer
-pub count-more : (p q : ℕ → Bool) (n : ℕ) → ((v : ℕ) → v < n → p v ≡ true → q v ≡ true) → count_below p n ≤ count_below q n
-count-more p q zero h = omega (arith, count-zero p, count-zero q)
-count-more p q (suc n) h = omega (arith, count-next p n, count-next q n, count-more p q n (λ v k. h v (omega (arith, k))), one_more (p n) (q n) (h n (omega arith)))
 
 cond-pos : (t : Bool) (m : ℕ) → t ≡ true → cond t m 0 ≡ m
 cond-pos t m e = cond-true t m 0 e
@@ -81,7 +60,7 @@ module _ (g : Graph) (props : Props) (held : List ℕ) (valid : IsGraph g) (side
           let read : is_read_outside g props (has s) v ≡ true = sym (ap (λ (b : Bool). b || is_read_outside g props (has s) v) parts.0) ∙ out in
           let w = read-split g props (has s) (is_passable g held) v read parts.1 in
           let p = passable-place w.0 w.3 in
-          let off : side (before_number g held w.0) ≡ false = false_from_ne_true (side (before_number g held w.0)) (λ q. true_false (sym (gates' w.0 w.3 q) ∙ w.2)) in
+          let off : side (before_number g held w.0) ≡ false = false_from_ne_true (side (before_number g held w.0)) (λ q. true≢false (sym (gates' w.0 w.3 q) ∙ w.2)) in
           omega (
             arith,
             no_great x (before_number g held w.0) h (omega (arith, rank-gate g held w.0 p.2, rank-below g held w.0 p.4 p.3)) inside off,
@@ -94,7 +73,7 @@ module _ (g : Graph) (props : Props) (held : List ℕ) (valid : IsGraph g) (side
       let parts = and_parts (is_known (latch_at g v) || has s v) (is_held g held v || is_read_outside g props (has s) v) e in
       elim (cases_lt v (first_gate g)) [
         | inl low ↦ (
-            let no : has s v ≡ false = false_from_ne_true (has s v) (λ q. true_false (sym (gates v q).0 ∙ passable-before g held v low)) in
+            let no : has s v ≡ false = false_from_ne_true (has s v) (λ q. true≢false (sym (gates v q).0 ∙ passable-before g held v low)) in
             let node : has_node g held v ≡ true = has_node-latch g held v low ∙ (known (is_known (latch_at g v)) (has s v) parts.0 no) in
             crosses-latch g held side v node low
             ∙ ap (λ (b : Bool). not b) (outside-after (latch_number g held v) v (omega (arith, rank-latch g held v node low)) (at-latch g held v node low) parts.1))
@@ -110,7 +89,7 @@ module _ (g : Graph) (props : Props) (held : List ℕ) (valid : IsGraph g) (side
     where
       known : (a b : Bool) → (a || b) ≡ true → b ≡ false → a ≡ true
       known true b e q = refl
-      known false true e q = absurd (true_false q)
+      known false true e q = absurd (true≢false q)
       known false false e q = e
 
   -- the border of the gates of a cut that no unbounded arc leaves has at most as many variables as the cut's value
@@ -119,7 +98,7 @@ module _ (g : Graph) (props : Props) (held : List ℕ) (valid : IsGraph g) (side
   border-below = omega (
     arith,
     cut-counted g props held valid side cut no_great,
-    count-more (λ v. (is_known (latch_at g v) || has s v) && (is_held g held v || is_read_outside g props (has s) v)) (crosses g held side) (variables_end g) border-crosses,
+    count-within (λ v. (is_known (latch_at g v) || has s v) && (is_held g held v || is_read_outside g props (has s) v)) (crosses g held side) (variables_end g) border-crosses,
   )
 
   -- a gate's gate fan-ins are in the set with it
@@ -142,12 +121,12 @@ module _ (g : Graph) (props : Props) (held : List ℕ) (valid : IsGraph g) (side
   ]
     where
       moves : (a h k : Bool) → a ≡ false → (a || (not h && k)) ≡ true → k ≡ true
-      moves true h k e t = absurd (true_false e)
-      moves false true k e t = absurd (true_false (sym t))
+      moves true h k e t = absurd (true≢false e)
+      moves false true k e t = absurd (true≢false (sym t))
       moves false false k e t = t
 
       latch-there : (o : Option Latch) → is_known o ≡ true → (latch : Latch) × (o ≡ Some latch)
-      latch-there None e = absurd (true_false (sym e))
+      latch-there None e = absurd (true≢false (sym e))
       latch-there (Some latch) e = (latch, refl)
 
   -- the gates of a cut that no unbounded arc leaves are a closed set
@@ -165,7 +144,3 @@ module _ (g : Graph) (props : Props) (held : List ℕ) (valid : IsGraph g) (side
     where
       in-list : (v : ℕ) → Contains s v → has s v ≡ true
       in-list v member = is_true (has s v) ((has_iff_contains s v).1 member)
-        where
-          is_true : (b : Bool) → IsTrue b → b ≡ true
-          is_true true t = refl
-          is_true false t = absurd (cc)

@@ -1,6 +1,6 @@
 -- The capacity of a cut, variable by variable.
 use Rattle.std.proofs.Common.{◌≡◌, ◌≢◌, ℕ, suc, zero, ◌+◌, ◌-◌, ◌*◌, ◌<◌, ◌≤◌, ◌==◌, nat_lt, Bool, true, false, not, ◌&&◌, cond, List, Option, arith, refl, ap, sym, ◌∙◌, subst, inl, inr}
-use Rattle.std.proofs.lemmas.Bool.{cases_lt, cases_Bool, cases_eq, cond-true, cond-false, ne_eqb, eq-eqb, lt-ltb, le-ltb}
+use Rattle.std.proofs.lemmas.Bool.{cases_lt, cases_Bool, cases_eq, cond-true, cond-false, ne_eqb, eq-eqb, lt-ltb, le-ltb, true≢false}
 use Rattle.flow_theory.specs.Flow.{sum_below, IsCut, cut_value}
 use Rattle.flow_theory.proofs.SumLaws.{sum_below-add, sum_below-same, sum_below-zero}
 use Rattle.flow_theory.proofs.SparseRowLaws.{sum_one}
@@ -220,7 +220,7 @@ module _ (g : Graph) (props : Props) (held : List ℕ) (valid : IsGraph g) (side
     at_sink = omega (
       arith,
       share-past 1 (omega arith),
-      row-zero 1 (λ y h a b. absurd (true_false (sym a ∙ cut.without_sink))),
+      row-zero 1 (λ y h a b. absurd (true≢false (sym a ∙ cut.without_sink))),
       zero-either (side 0 && not (side 1)) (capacity g props held 0 1) (to 1 sink refl),
     );
     none = λ v p. crosses-none g held side v p;
@@ -249,9 +249,6 @@ module _ (g : Graph) (props : Props) (held : List ℕ) (valid : IsGraph g) (side
               (to (after_number g held v) (after v) (at-after g held v p from below) ∙ cond-false (is_known (latch_at g v)) 1 0 (ap (λ (o : Option Latch). is_known o) (latch_at-gates g v from))),
         );
   }
-    where
-      true_false : true ≡ false → ⊥
-      true_false e = absurd (cc)
 
   -- the rows of all nodes are the shares of all nodes
   pub cut-counted : cut_value (node_total g held) (capacity g props held) side ≡ count_below (crosses g held side) (variables_end g)

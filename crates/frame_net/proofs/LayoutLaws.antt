@@ -1,6 +1,6 @@
 -- The tables by which a network is built.
 use Rattle.std.proofs.Common.{◌≡◌, ℕ, ◌+◌, ◌-◌, ◌/◌, ◌<◌, ◌≤◌, ◌^◌, Bool, true, false, not, ◌&&◌, ◌||◌, List, length, replicate, take, slice_get, get_or, Option, Some, None, arith, refl, ap, ap₂, sym, ◌∙◌, subst, inl, inr}
-use Rattle.std.proofs.lemmas.Bool.{cases_lt, and_parts}
+use Rattle.std.proofs.lemmas.Bool.{cases_lt, and_parts, true≢false, false≢true}
 use Rattle.std.proofs.lemmas.Option.{slice_get-get_or}
 use Rattle.std.proofs.lemmas.List.{get_or-take, length-take}
 use Rattle.variable_tables.specs.Tables.{table}
@@ -119,12 +119,9 @@ gate-rank l v u from h past is = place-of l.aig.now l.keep.now l.variables.items
 -- what has a node is after the inputs
 pub node-from : (g : Graph) (held : List ℕ) (u : ℕ) → has_node g held u ≡ true → first_latch g ≤ u
 node-from g held u p = elim (cases_lt u (first_latch g)) [
-  | inl lt ↦ absurd (true_false (sym p ∙ node-before g held u lt))
+  | inl lt ↦ absurd (true≢false (sym p ∙ node-before g held u lt))
   | inr ge ↦ ge
 ]
-  where
-    true_false : true ≡ false → ⊥
-    true_false e = absurd (cc)
 
 -- ---- the fan-ins of a passable gate have nodes
 
@@ -184,10 +181,7 @@ fan_ins-facts g held valid w gate there from below p =
 
 -- a variable from the first gate on that has nodes is a gate
 pub no-gate : (g : Graph) (held : List ℕ) (w : ℕ) → gate_at g w ≡ None → first_gate g ≤ w → has_node g held w ≡ true → ⊥
-no-gate g held w none from p = false_true (sym (passable-no_gate g held w none) ∙ sym (has_node-gate g held w from) ∙ p)
-  where
-    false_true : false ≡ true → ⊥
-    false_true e = absurd (cc)
+no-gate g held w none from p = false≢true (sym (passable-no_gate g held w none) ∙ sym (has_node-gate g held w from) ∙ p)
 
 -- the number of a variable's node, counted as a latch's, is below 2^30
 pub number-fits : (g : Graph) (held : List ℕ) → IsGraph g → (v : ℕ) → v < variables_end g → latch_number g held v < 2 ^ 30

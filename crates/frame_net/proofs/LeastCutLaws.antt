@@ -1,12 +1,13 @@
 -- The gates of the greatest least cut are the greatest least set.
 use Rattle.std.proofs.Common.{◌≡◌, ℕ, suc, zero, ◌<◌, ◌≤◌, Bool, true, false, not, ◌&&◌, ◌||◌, cond, IsTrue, List, [], Option, arith, refl, ap, ap₂, sym, ◌∙◌, subst, inl, inr}
-use Rattle.std.proofs.lemmas.Bool.{cases_lt, cases_Bool, cases_eq}
+use Rattle.std.proofs.lemmas.Bool.{cases_lt, cases_Bool, cases_eq, true≢false}
 use Rattle.flow_theory.specs.Flow.{cut_value, sum_below}
 use Rattle.flow_theory.specs.Laws.{IsGreatestLeastCut}
 use Rattle.flow_theory.proofs.SumLaws.{term-le-sum_below}
 use Rattle.variable_tables.specs.Counting.{count_below}
 use Rattle.variable_tables.specs.Marking.{has}
 use Rattle.variable_tables.proofs.PlacesLaws.{count-fail}
+use Rattle.variable_tables.proofs.CountingLaws.{count-within}
 use Rattle.aig_graph.specs.declared.graph.Latch.{Latch}
 use Rattle.aig_graph.specs.Graph.{first_gate, variables_end, latch_at, is_known}
 use Rattle.aig_graph.specs.Circuits.{Netlist}
@@ -21,14 +22,14 @@ use Rattle.frame_net.specs.FlowNet.{FlowNet, node_count, capacity_between}
 use Rattle.frame_net.specs.Capacity.{has_node, latch_count}
 use Rattle.frame_net.proofs.NodeLaws.{has_node-latch}
 use Rattle.frame_net.specs.Cuts.{NoUnboundedLeaves, AreGatesOf, IsNetworkOf, leaving, GreatestCutIsGreatestSet}
-use Rattle.frame_net.proofs.CutLaws.{true_false, count-more}
 use Rattle.frame_net.proofs.NetLaws.{cuts_are_closed-law}
 use Rattle.frame_net.proofs.SetCutLaws.{at_border, closed_sets_are_cuts-law}
+use Rattle.frame_net.proofs.PassableLaws.{is_true}
 
 count-front : (p q : ℕ → Bool) (m n : ℕ) → m ≤ n → ((v : ℕ) → p v ≡ true → (v < m) × (q v ≡ true)) → count_below p n ≤ count_below q m
-count-front p q m zero h only = let same : m ≡ 0 = omega arith in subst (λ (k : ℕ). count_below p 0 ≤ count_below q k) (sym same) (count-more p q 0 (λ v k e. (only v e).1))
+count-front p q m zero h only = let same : m ≡ 0 = omega arith in subst (λ (k : ℕ). count_below p 0 ≤ count_below q k) (sym same) (count-within p q 0 (λ v k e. (only v e).1))
 count-front p q m (suc n) h only = elim (cases_eq m (suc n)) [
-  | inl same ↦ subst (λ (k : ℕ). count_below p (suc n) ≤ count_below q k) (sym same) (count-more p q (suc n) (λ v k e. (only v e).1))
+  | inl same ↦ subst (λ (k : ℕ). count_below p (suc n) ≤ count_below q k) (sym same) (count-within p q (suc n) (λ v k e. (only v e).1))
   | inr other ↦ elim (cases_Bool (p n)) [
     | inl yes' ↦ absurd (omega (arith, (only n yes').0, h, other))
     | inr no' ↦ omega (arith, count-fail p n no', count-front p q m n (omega (arith, h, other)) only)
@@ -41,12 +42,12 @@ empty-border c held = subst (λ (n : ℕ). n ≤ latch_count c.aig held) (sym (c
     let known : is_known (latch_at c.aig v) ≡ true = first (is_known (latch_at c.aig v)) _ e in
     elim (cases_lt v (first_gate c.aig)) [
       | inl low ↦ (low, has_node-latch c.aig held v low ∙ known)
-      | inr high ↦ absurd (true_false (sym known ∙ ap (λ (o : Option Latch). is_known o) (latch_at-gates c.aig v high)))
+      | inr high ↦ absurd (true≢false (sym known ∙ ap (λ (o : Option Latch). is_known o) (latch_at-gates c.aig v high)))
     ]))
   where
     first : (a r : Bool) → ((a || false) && r) ≡ true → a ≡ true
     first true r e = refl
-    first false r e = absurd (true_false (sym e))
+    first false r e = absurd (true≢false (sym e))
 
 -- an arc that leaves adds to the cut
 pub arc-counts : (n : ℕ) (capacity : ℕ → ℕ → ℕ) (side : ℕ → Bool) (x y : ℕ) → x < n → y < n → side x ≡ true → side y ≡ false → capacity x y ≤ cut_value n capacity side
@@ -88,10 +89,6 @@ module _ (c : Netlist) (held : List ℕ) (net : FlowNet) (side : ℕ → Bool) (
         let inside = least.greatest t.0 t.1.is_cut (omega (arith, t.1.count, other.least s found.0, found.1)) at.0 at.1.0 at.1.1.0 in
         (has_iff_contains s v).0 (subst (λ (b : Bool). IsTrue b) (sym ((gates.each v).1 (at.0, (at.1.0, (inside, at.1.1.1))))) refl);
   }
-    where
-      is_true : (b : Bool) → IsTrue b → b ≡ true
-      is_true true t = refl
-      is_true false t = absurd (cc)
 
 -- of each circuit's network the gates of the greatest least cut are the greatest least set
 pub greatest_cut_is_greatest_set-law : GreatestCutIsGreatestSet

@@ -19,6 +19,11 @@ use Rattle.aig_graph.proofs.KindLaws.{latch_at-gates, GatePlace, gate_place}
 use Rattle.aig_graph.proofs.ClosedLaws.{is_settled-gate}
 use Rattle.frame_net.specs.Passable.{is_passable, passable_gates}
 
+-- a test that holds is true
+pub is_true : (b : Bool) → IsTrue b → b ≡ true
+is_true true t = refl
+is_true false t = absurd (cc)
+
 -- there is a gate at a variable, or none
 pub gate_cases : (g : Graph) (v : ℕ) → (gate_at g v ≡ None) ⊎ ((gate : Gate) × (gate_at g v ≡ Some gate))
 gate_cases g v = cases (gate_at g v)
@@ -65,7 +70,8 @@ passable-means g held v = elim (gate_cases g v) [
     no_true true e t = absurd (cc)
     no_true false e t = absurd (cc)
 
-settled-leaf : (g : Graph) (held : List ℕ) (v : ℕ) → gate_at g v ≡ None → is_settled g held v ≡ may_move g held v
+-- what is no gate is settled exactly where it may move
+pub settled-leaf : (g : Graph) (held : List ℕ) (v : ℕ) → gate_at g v ≡ None → is_settled g held v ≡ may_move g held v
 unfolding is_settled
 settled-leaf g held v e = fold_gates-leaf g (may_move g held) both v e
 
@@ -91,7 +97,8 @@ settled-marked g held n v marks filled h =
     ap (λ (b : Bool). b || may_move g held v) (mark_at-all (first_latch g) marks (is_passable g held) v (pass-marks g held n marks filled) (omega (arith, long, h)))
     ∙ sym (settled-split g held v)
 
-mark_at-past : (first : ℕ) (marks : List Bool) (v : ℕ) → first + length marks ≤ v → mark_at first marks v ≡ false
+-- nothing is marked past the marks
+pub mark_at-past : (first : ℕ) (marks : List Bool) (v : ℕ) → first + length marks ≤ v → mark_at first marks v ≡ false
 unfolding mark_at
 mark_at-past first marks v h = ap (λ (b : Bool). nat_le first v && b) (get_or_past marks (v - first) false (omega (arith, h))) ∙ and_right (nat_le first v) false refl
 

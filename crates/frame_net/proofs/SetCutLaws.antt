@@ -1,6 +1,6 @@
 -- A cut for each closed set.
 use Rattle.std.proofs.Common.{◌≡◌, ℕ, suc, zero, ◌<◌, ◌==◌, Bool, true, false, not, ◌&&◌, ◌||◌, cond, IsTrue, List, Option, Some, None, arith, refl, ap, ap₂, sym, ◌∙◌, subst, inl, inr}
-use Rattle.std.proofs.lemmas.Bool.{cases_lt, cases_Bool, or_cases, or_parts, eqb-true, and_parts}
+use Rattle.std.proofs.lemmas.Bool.{cases_lt, cases_Bool, or_cases, or_parts, eqb-true, and_parts, true≢false}
 use Rattle.std.proofs.lemmas.Option.{none-some}
 use Rattle.flow_theory.specs.Flow.{IsCut, cut_value}
 use Rattle.variable_tables.specs.Counting.{count_below}
@@ -21,19 +21,14 @@ use Rattle.frame_net.specs.Passable.{is_passable}
 use Rattle.frame_net.specs.FlowNet.{Node, node_at}
 use Rattle.frame_net.specs.FlowNet.Node.{source, sink, before, after}
 use Rattle.frame_net.specs.Capacity.{has_node, node_variables, latch_count, unbounded, gate_reads, is_observed, arc_capacity, capacity, before_number, node_total}
-use Rattle.frame_net.proofs.PassableLaws.{passable-before, passable-means, passable-at_gate, settled-split, gate_cases}
+use Rattle.frame_net.proofs.PassableLaws.{passable-before, passable-means, passable-at_gate, settled-split, gate_cases, is_true}
 use Rattle.frame_net.proofs.NodeLaws.{has_node-latch, has_node-gate, rank-latch, rank-gate, rank-below, at-latch, at-before, at-after, View, view}
 use Rattle.frame_net.proofs.NodeLaws.View.{the_source, the_sink, a_latch, a_before, an_after}
 use Rattle.frame_net.proofs.ArcLaws.{cap-at}
 use Rattle.frame_net.specs.Cuts.{ClosedSetsAreCuts}
 use Rattle.frame_net.proofs.ReadLaws.{read-split, read-by_gate}
 use Rattle.frame_net.proofs.CutSumLaws.{crosses, crosses-none, crosses-latch, crosses-gate, cut-counted}
-use Rattle.frame_net.proofs.CutLaws.{true_false}
 use Rattle.frame_net.proofs.NetLaws.{gate-range, nodes, leaving-is, point-before, point-of-before}
-
-is_true : (b : Bool) → IsTrue b → b ≡ true
-is_true true t = refl
-is_true false t = absurd (cc)
 
 -- a passable gate rests on some known latch
 some-latch : (g : Graph) (held : List ℕ) → IsGraph g → (n v : ℕ) → v < n → is_passable g held v ≡ true → 0 < latch_count g held
@@ -51,13 +46,13 @@ some-latch g held valid (suc n) v h p =
     known-counts : (g : Graph) (held : List ℕ) (u : ℕ) → is_known (latch_at g u) ≡ true → 0 < latch_count g held
     known-counts g held u known = elim (cases_lt u (first_gate g)) [
       | inl low ↦ omega (arith, rank-latch g held u (has_node-latch g held u low ∙ known) low)
-      | inr high ↦ absurd (true_false (sym known ∙ ap (λ (o : Option Latch). is_known o) (latch_at-gates g u high)))
+      | inr high ↦ absurd (true≢false (sym known ∙ ap (λ (o : Option Latch). is_known o) (latch_at-gates g u high)))
     ]
 
 known-latch : (g : Graph) (held : List ℕ) (u : ℕ) → is_known (latch_at g u) ≡ true → 0 < latch_count g held
 known-latch g held u known = elim (cases_lt u (first_gate g)) [
   | inl low ↦ omega (arith, rank-latch g held u (has_node-latch g held u low ∙ known) low)
-  | inr high ↦ absurd (true_false (sym known ∙ ap (λ (o : Option Latch). is_known o) (latch_at-gates g u high)))
+  | inr high ↦ absurd (true≢false (sym known ∙ ap (λ (o : Option Latch). is_known o) (latch_at-gates g u high)))
 ]
 
 -- whether a variable is in the border of the set
@@ -104,16 +99,16 @@ module _ (g : Graph) (props : Props) (held : List ℕ) (valid : IsGraph g) (s : 
   off-border v e = or_parts (is_held g held v) (is_read_outside g props (has s) v) (go (is_known (latch_at g v) || has s v) (is_held g held v || is_read_outside g props (has s) v) e)
     where
       go : (a b : Bool) → (a && not (a && b)) ≡ true → b ≡ false
-      go true true e = absurd (true_false (sym e))
+      go true true e = absurd (true≢false (sym e))
       go true false e = refl
-      go false b e = absurd (true_false (sym e))
+      go false b e = absurd (true≢false (sym e))
 
   stays : (v : ℕ) → is_held g held v ≡ false → is_read_outside g props (has s) v ≡ false → is_observed g props held v ≡ true → ⊥
   unfolding is_observed
   stays v h r l =
       let read : is_read_outside g props (is_passable g held) v ≡ true = sym (ap (λ (b : Bool). b || is_read_outside g props (is_passable g held) v) h) ∙ l in
       let w = read-split g props (is_passable g held) (has s) v read r in
-      true_false (sym (member-passable w.0 w.3) ∙ w.2)
+      true≢false (sym (member-passable w.0 w.3) ∙ w.2)
 
   reads-member : (w v : ℕ) → has s w ≡ true → has s v ≡ false → is_passable g held v ≡ true → gate_reads v (gate_at g w) ≡ true → ⊥
   reads-member w v m out passes r = elim (gate_cases g w) [
@@ -128,18 +123,18 @@ module _ (g : Graph) (props : Props) (held : List ℕ) (valid : IsGraph g) (s : 
   ]
     where
       no : (o : Option Gate) → o ≡ None → gate_reads v o ≡ true → ⊥
-      no None e r = absurd (true_false (sym r))
+      no None e r = absurd (true≢false (sym r))
       no (Some gate) e r = none-some gate (sym e)
 
       outside : (v : ℕ) → has s v ≡ false → is_passable g held v ≡ true → IsLatchOrIn g s v → ⊥
       outside v out passes (inl latch) = none-some latch.0 (sym (latch_at-gates g v (gate-range g held v passes).0) ∙ latch.1)
-      outside v out passes (inr member) = true_false (sym (is_true (has s v) ((has_iff_contains s v).1 member)) ∙ out)
+      outside v out passes (inr member) = true≢false (sym (is_true (has s v) ((has_iff_contains s v).1 member)) ∙ out)
 
   arc-small : (a b : Node) → IsNodeOf g held a → IsNodeOf g held b → side_of g props held s a ≡ true → side_of g props held s b ≡ false → arc_capacity g props held a b < unbounded g held
   arc-small source (after v) ia ib x y = one-or-none (is_known (latch_at g v)) (λ k. known-latch g held v k)
   arc-small (before v) (after w) ia ib x y = one-or-none (v == w) (λ k. some-latch g held valid (suc v) v (omega arith) ia)
   arc-small (after v) (before w) ia ib x y =
-      at_most (gate_reads v (gate_at g w)) (unbounded g held) (omega arith) (λ r. true_false (sym (read-by_gate g props (has s) v w r y) ∙ (off-border v x).1))
+      at_most (gate_reads v (gate_at g w)) (unbounded g held) (omega arith) (λ r. true≢false (sym (read-by_gate g props (has s) v w r y) ∙ (off-border v x).1))
   arc-small (before w) (before v) ia ib x y = at_most (gate_reads v (gate_at g w)) (unbounded g held) (omega arith) (λ r. reads-member w v x y ib r)
   arc-small (after v) sink ia ib x y = at_most (is_observed g props held v) (unbounded g held) (omega arith) (λ l. stays v (off-border v x).0 (off-border v x).1 l)
   arc-small source source ia ib x y = omega arith
@@ -188,23 +183,23 @@ module _ (g : Graph) (props : Props) (held : List ℕ) (valid : IsGraph g) (s : 
   ]
     where
       not_member : (v : ℕ) → is_passable g held v ≡ false → has s v ≡ false
-      not_member v e = elim (cases_Bool (has s v)) [ inl m ↦ absurd (true_false (sym (member-passable v m) ∙ e)) | inr n ↦ n ]
+      not_member v e = elim (cases_Bool (has s v)) [ inl m ↦ absurd (true≢false (sym (member-passable v m) ∙ e)) | inr n ↦ n ]
 
       latch-case : (k m r : Bool) → k ≡ true → not ((k || m) && not ((k || m) && r)) ≡ ((k || m) && r)
       latch-case true m true e = refl
       latch-case true m false e = refl
-      latch-case false m r e = absurd (true_false (sym e))
+      latch-case false m r e = absurd (true≢false (sym e))
 
       gate-case : (k m r : Bool) → k ≡ false → (m && not ((k || m) && not ((k || m) && r))) ≡ ((k || m) && r)
       gate-case false true true e = refl
       gate-case false true false e = refl
       gate-case false false r e = refl
-      gate-case true m r e = absurd (true_false e)
+      gate-case true m r e = absurd (true≢false e)
 
       neither : (k m r : Bool) → k ≡ false → m ≡ false → ((k || m) && r) ≡ false
       neither false false r p q = refl
-      neither false true r p q = absurd (true_false q)
-      neither true m r p q = absurd (true_false p)
+      neither false true r p q = absurd (true≢false q)
+      neither true m r p q = absurd (true≢false p)
 
   -- the cut of a closed set has the source and not the sink
   pub side-cut : IsCut (side_at g props held s)

@@ -1,11 +1,8 @@
 -- The parts of the page of a fault.
-use Rattle.std.proofs.Common.{ℕ, ◌≡◌, ◌≢◌, ◌==◌, true, false, List, [], ◌∷◌, ◌++◌, length, codes, refl, sym, ap, ◌∙◌, rules}
-use Rattle.std.proofs.lemmas.Bool.{eqb-false, false≢true}
+use Rattle.std.proofs.Common.{ℕ, ◌≡◌, ◌≢◌, ◌==◌, true, false, List, [], ◌∷◌, ◌++◌, length, codes, refl, sym, ap, ◌∙◌}
+use Rattle.std.proofs.lemmas.Bool.{eqb-false, false≢true, ne_eqb}
 use Rattle.std.proofs.Math.Dec.{eqb-suc-zero}
 use Rattle.fretime.specs.Explaining.{file_part, indented, indented_byte}
-
-not_equal : (n k : ℕ) → n ≢ k → (n == k) ≡ false
-not_equal n k h = search rules
 
 -- the end of a line, and any other byte
 pub indented_byte-10 : (b : ℕ) → b ≡ 10 → codes "\n    " ≡ indented_byte b
@@ -15,7 +12,7 @@ indented_byte-10 b is = sym (ap indented_byte is)
 -- any other byte stands as it is
 pub indented_byte-other : (b : ℕ) → b ≢ 10 → b ∷ [] ≡ indented_byte b
 unfolding indented_byte
-indented_byte-other b isnt = rw (not_equal b 10 isnt) refl
+indented_byte-other b isnt = rw (ne_eqb b 10 isnt) refl
 
 -- the empty file, and any other
 pub file_part-empty : (file : List ℕ) → (length file == 0) ≡ true → codes "The smallest file that has it is the empty one.\n\n" ≡ file_part file

@@ -20,7 +20,8 @@ use Rattle.serde_json.specs.Data.{Data, null, string, object, Members, member, n
 use Rattle.serde_json.specs.View.{items_of, view}
 use Rattle.serde_json.specs.declared.value.Value.{Value}
 use Rattle.serde_json.specs.Written.{has_float, items_have_float, members_have_float}
-use Rattle.json_reports.specs.Audits.{agreement_data, audit_data, block_data, objection_at, objection_name}
+use Rattle.certificates.specs.Objections.{objection_name}
+use Rattle.json_reports.specs.Audits.{agreement_data, audit_data, block_data, objection_at}
 use Rattle.json_reports.specs.Batches.{batch_data, job_data}
 use Rattle.merged_latches.specs.declared.counts.MergeCounts.{MergeCounts}
 use Rattle.json_reports.specs.Counts.{circuit_data, map_data, merge_data, statistics_data}

@@ -2,7 +2,7 @@
 use Rattle.std.specs.Prelude.{ℕ, List, Option, Some, None, take, codes}
 use Rattle.certificates.specs.declared.certificate.Certificate.{Certificate}
 use Rattle.certificates.specs.declared.verdict.Objection.{Objection}
-use Rattle.certificates.specs.declared.verdict.Objection.TheVariants.{NotClosed, BadRoute, UsedTwice, CountDiffers}
+use Rattle.certificates.specs.Objections.{objection_name}
 use Rattle.certificate_audits.specs.declared.outcome.Audit.{Audit}
 use Rattle.certificate_audits.specs.declared.outcome.End.{End}
 use Rattle.certificate_audits.specs.declared.outcome.End.TheVariants.{NoBlocks, Certified, Open, BlocksFollow, Objected}
@@ -17,12 +17,6 @@ end_name Certified = codes "Certified"
 end_name Open = codes "Open"
 end_name BlocksFollow = codes "BlocksFollow"
 end_name (Objected objection) = codes "Objected"
-
-abbrev pub objection_name : Objection → List ℕ
-objection_name NotClosed = codes "NotClosed"
-objection_name BadRoute = codes "BadRoute"
-objection_name UsedTwice = codes "UsedTwice"
-objection_name CountDiffers = codes "CountDiffers"
 
 -- why the block after the confirmed ones isn't confirmed
 abbrev pub objection_at : End → Option Objection

@@ -1,6 +1,7 @@
 //! An audit of certificates, and what came of comparing a file with the circuit that they end in.
 ghost use Rattle.std.specs.Prelude.{◌≡◌, IfOk, OnOk, take};
 ghost use Rattle.serde_json.specs.View.{members_view, view};
+ghost use Rattle.certificates.specs.Objections.{objection_name};
 ghost use Rattle.json_reports.specs.Audits.{agreement_data, audit_data, block_data, objection_at};
 ghost use Rattle.json_reports.specs.Audits as names;
 ghost use Rattle.json_reports.specs.Members.{array_of, or_null};
@@ -8,7 +9,7 @@ ghost use Rattle.serde_json.specs.Data.{no_members, object, string};
 
 use crate::members::{Scalar, put_scalars, scalars_object, wide};
 use certificate_audits::{Audit, End};
-use certificates::{Certificate, Objection};
+use certificates::Certificate;
 use reports::Agreement;
 use serde_json::{Map, Value};
 use std::alloc::{AllocError, Global};
@@ -25,23 +26,12 @@ fn end_name(end: End) -> &'static str
     }
 }
 
-fn objection_name(objection: Objection) -> &'static str
-    ensures { result.now ≡ names.objection_name objection }
-{
-    match objection {
-        Objection::NotClosed => "NotClosed",
-        Objection::BadRoute => "BadRoute",
-        Objection::UsedTwice => "UsedTwice",
-        Objection::CountDiffers => "CountDiffers",
-    }
-}
-
 fn objection_value(alloc: Global, end: End) -> Result<Value, AllocError>
     ensures { IfOk result (λ v. view v
-        ≡ or_null (λ o. string (names.objection_name o)) (objection_at end)) }
+        ≡ or_null (λ o. string (objection_name o)) (objection_at end)) }
 {
     match end {
-        End::Objected(objection) => Value::try_from_str(alloc, objection_name(objection)),
+        End::Objected(objection) => Value::try_from_str(alloc, objection.name()),
         _ => Ok(Value::Null),
     }
 }

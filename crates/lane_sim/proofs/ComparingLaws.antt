@@ -1,5 +1,5 @@
 -- Laws of comparing rows.
-use Rattle.std.proofs.Common.{ℕ, ◌+◌, ◌-◌, ◌*◌, ◌<◌, ◌≤◌, ◌≡◌, ◌≢◌, ◌∷◌, [], zero, suc, nat_lt, Bool, true, false, not, List, length, map, drop, get_or, slice_get, Option, Some, None, refl, arith, sym, ap, ap₂, ◌∙◌, subst}
+use Rattle.std.proofs.Common.{ℕ, ◌+◌, ◌-◌, ◌*◌, ◌<◌, ◌≤◌, ◌≡◌, ◌≢◌, ◌∷◌, [], suc, nat_lt, Bool, true, false, not, List, length, drop, get_or, slice_get, Option, Some, None, refl, arith, sym, ap, ap₂, ◌∙◌, subst}
 use mathlib.Core.Bool.{beq}
 use Rattle.std.specs.Option.{option_map}
 use Rattle.std.proofs.lemmas.Bool.{false≢true, ltb-true, ltb-false}
@@ -13,20 +13,6 @@ use Rattle.lane_sim.specs.Lanes.{lane}
 use Rattle.lane_sim.specs.Blocks.{in_lane, row_in, block_of}
 use Rattle.lane_sim.specs.Traces.{row_of}
 use Rattle.lane_sim.specs.Comparing.{AreSame, AreSameAt, Compares, ComparesAt, IsFirstAt, IsFirstIn, IsFirstOf, lanes_before, later_or, rows_by, steps_below, steps_of}
-
--- as many lists, each as long as the one at its place, have the same lengths
-pub same_sizes : {X : Type 0} (xs ys : List (List X)) → length xs ≡ length ys → ((i : ℕ) → i < length xs → length (get_or xs i []) ≡ length (get_or ys i []))
-    → map length xs ≡ map length ys
-same_sizes [] [] long each = refl
-same_sizes [] (y ∷ ys) long each = absurd (omega arith)
-same_sizes (x ∷ xs) [] long each = absurd (omega arith)
-same_sizes (x ∷ xs) (y ∷ ys) long each = ap₂ (λ (n : ℕ) ns. n ∷ ns) (each 0 (omega arith)) (same_sizes xs ys (omega arith) (λ i h. each (suc i) (omega arith)))
-
--- the length at a place is that of the list at that place
-pub size_at : {X : Type 0} (xs : List (List X)) (k : ℕ) → get_or (map length xs) k 0 ≡ length (get_or xs k [])
-size_at [] k = refl
-size_at (x ∷ xs) zero = refl
-size_at (x ∷ xs) (suc k) = size_at xs k
 
 -- rows whose lanes are the same at each place
 pub rows_same : (k : ℕ) (xs ys : List (List ℕ)) → length ys ≡ length xs → ((q : ℕ) → q < length xs → lane (get_or xs q []) k ≡ lane (get_or ys q []) k) → row_in k xs ≡ row_in k ys

@@ -1,10 +1,7 @@
 -- Laws of the first difference of two traces.
 use Rattle.std.proofs.Common.{ℕ, ◌+◌, ◌-◌, ◌*◌, ◌/◌, ◌<◌, ◌≤◌, ◌≡◌, inl, inr, ◌∷◌, [], zero, suc, nat_lt, min, Bool, true, false, List, length, map, drop, get_or, slice_get, Option, Some, None, refl, arith, sym, ap, ap₂, ◌∙◌, subst}
 use Rattle.std.specs.Option.{option_map, IfNone, IfSome, IsSomeAnd, MatchOption}
-use Rattle.std.specs.List.{range_with_len, flat_map}
-use Rattle.std.proofs.Common.{length-append, ◌++◌}
-use Rattle.aig_graph.specs.declared.properties.Props.{Props}
-use Rattle.aig_graph.specs.Streams.{SameShape, property_literals}
+use Rattle.std.specs.List.{range_with_len}
 use Rattle.lane_sim.proofs.TableLaws.{map-same}
 use Rattle.std.proofs.lemmas.Bool.{ltb-true, ltb-false}
 use Rattle.std.proofs.lemmas.List.{length-take, length-drop, length-map}
@@ -15,7 +12,7 @@ use Rattle.lane_sim.specs.declared.difference.Place.{Place}
 use Rattle.lane_sim.specs.declared.stimulus.InputSequence.{InputSequence}
 use Rattle.lane_sim.specs.Blocks.{in_lane, block_of}
 use Rattle.lane_sim.specs.Traces.{row_of, trace, then_at, at_place}
-use Rattle.lane_sim.specs.Comparing.{AreAlike, HaveAsMany, IsFoundIn, AreSame, IsFirstOf, Compares, rows_by, steps_of}
+use Rattle.lane_sim.specs.Comparing.{AreAlike, IsFoundIn, AreSame, IsFirstOf, Compares, rows_by, steps_of}
 use Rattle.lane_sim.specs.Kept.{for_kept}
 use Rattle.lane_sim.specs.Differences.{IsBefore, IsFirstDifference, at}
 
@@ -80,30 +77,6 @@ map_both [] [] f g long same = refl
 map_both [] (y ∷ ys) f g long same = absurd (omega arith)
 map_both (x ∷ xs) [] f g long same = absurd (omega arith)
 map_both (x ∷ xs) (y ∷ ys) f g long same = ap₂ (λ z zs. z ∷ zs) (same 0 x y refl refl) (map_both xs ys f g (omega arith) (λ i w z at other. same (suc i) w z at other))
-
-total : List ℕ → ℕ
-total [] = 0
-total (n ∷ ns) = n + total ns
-
-pieces_long : (xss : List (List ℕ)) → length (flat_map (λ xs. xs) xss) ≡ total (map length xss)
-unfolding total
-pieces_long [] = refl
-pieces_long (xs ∷ xss) = length-append xs (flat_map (λ ys. ys) xss) ∙ ap (λ (n : ℕ). length xs + n) (pieces_long xss)
-
--- circuits of one shape have as many properties
-pub as_many : (c d : Netlist) → SameShape c d → HaveAsMany c d
-as_many c d same =
-    let p = c.props in
-    let q = d.props in
-    let pieces : length (flat_map (λ xs. xs) q.justice) ≡ length (flat_map (λ xs. xs) p.justice) = pieces_long q.justice ∙ ap total same.justice ∙ sym (pieces_long p.justice) in
-    long q ∙ omega (arith, same.outputs, same.bad, same.constraints, same.fairness, pieces) ∙ sym (long p)
-  where
-    long : (p : Props) → length (property_literals p) ≡ length p.outputs + length p.bad + length p.constraints + length (flat_map (λ xs. xs) p.justice) + length p.fairness
-    long p =
-        length-append (p.outputs ++ p.bad ++ p.constraints ++ flat_map (λ xs. xs) p.justice) p.fairness
-        ∙ ap (λ (n : ℕ). n + length p.fairness) (length-append (p.outputs ++ p.bad ++ p.constraints) (flat_map (λ xs. xs) p.justice)
-        ∙ ap (λ (n : ℕ). n + length (flat_map (λ xs. xs) p.justice)) (length-append (p.outputs ++ p.bad) p.constraints
-        ∙ ap (λ (n : ℕ). n + length p.constraints) (length-append p.outputs p.bad)))
 
 module _ (c : Netlist) (sequences : List InputSequence) where
   at_sequence : (s t p : ℕ) → s < length sequences

@@ -1,5 +1,5 @@
 -- Laws of a table of lanes by variable.
-use Rattle.std.proofs.Common.{ℕ, ◌+◌, ◌-◌, ◌*◌, ◌%◌, ◌<◌, ◌≤◌, ◌≡◌, ◌≢◌, ◌==◌, ◌&&◌, Bool, true, false, nat_lt, arith, refl, sym, ap, ap₂, ◌∙◌, subst, get_or, set, slice_get, ◌∷◌, suc, map, Some, All, List, [], length, get_or-set_same, get_or-set_other}
+use Rattle.std.proofs.Common.{ℕ, ◌+◌, ◌-◌, ◌*◌, ◌%◌, ◌<◌, ◌≤◌, ◌≡◌, ◌≢◌, ◌==◌, ◌&&◌, true, false, nat_lt, arith, refl, sym, ap, ap₂, ◌∙◌, subst, get_or, set, slice_get, ◌∷◌, suc, map, Some, All, List, [], length, get_or-set_same, get_or-set_other}
 use Rattle.std.proofs.lemmas.Bool.{eqb-true, eqb-false, ltb-true, ltb-false, cond-true, cond-false}
 use Rattle.std.proofs.lemmas.Option.{slice_get-get_or, slice_get_within, get_or_from_slice_get, slice_get_read}
 use Rattle.std.proofs.lemmas.List.Sums.{count_by_more_yes, count_by_more_no}
@@ -147,10 +147,6 @@ known_reset Free h = absurd (h refl)
 -- a latch whose reset isn't that of a free one is known
 pub known_unless_free : (latch : Latch) → latch.reset ≢ Free → is_free latch ≡ false
 known_unless_free latch h = known_reset latch.reset h
-
--- a latch whose reset is that of a free one is free
-pub free_where_free : (latch : Latch) → latch.reset ≡ Free → is_free latch ≡ true
-free_where_free latch h = ap (λ (r : Reset). elim r as (λ _. Bool) [ Zero ↦ false | One ↦ false | Free ↦ true ]) h
 
 -- after the last sequence, each lane has its sequence's digit
 pub digit_loaded : (sequences : List InputSequence) (k n t i : ℕ) → length sequences ≤ n

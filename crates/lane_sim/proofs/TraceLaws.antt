@@ -1,15 +1,13 @@
 -- Laws of what blocks hold as a trace.
-use Rattle.std.proofs.Common.{ℕ, ◌+◌, ◌*◌, ◌/◌, ◌%◌, ◌<◌, ◌≤◌, ◌≡◌, ◌++◌, ◌∷◌, [], Bool, zero, suc, min, refl, arith, sym, ap, ap₂, ◌∙◌, subst, get_or, slice_get, Option, Some, None, unwrap_or, List, length, map, take, drop, All}
+use Rattle.std.proofs.Common.{ℕ, ◌+◌, ◌*◌, ◌/◌, ◌%◌, ◌<◌, ◌≤◌, ◌≡◌, ◌∷◌, [], Bool, zero, suc, min, refl, arith, sym, ap, ap₂, ◌∙◌, subst, get_or, slice_get, Option, Some, None, unwrap_or, List, length, map, take, drop}
 use Rattle.std.specs.Option.{option_map, IsSomeAnd}
-use Rattle.std.specs.List.{flat_map, enumerate_from, range_with_len}
+use Rattle.std.specs.List.{enumerate_from, range_with_len}
 use Rattle.std.proofs.lemmas.Option.{slice_get-map, slice_get_within, get_or_from_slice_get, slice_get_past, unwrap_or-slice_get}
 use Rattle.std.proofs.lemmas.List.{length-take, length-drop, get_or-map, get_or-take}
 use Rattle.std.proofs.lemmas.List.{length-map}
 use Rattle.std.proofs.lemmas.List.FromFn.{length-enumerate_from}
-use Rattle.std.proofs.lemmas.List.Elements.{All-append}
 use Rattle.std.proofs.lemmas.Simd.{get_or-chunk}
-use Rattle.aig_graph.specs.Graph.{IsLiteralOf}
-use Rattle.aig_graph.specs.Circuits.{Netlist, IsNetlist, AreLiteralsOf}
+use Rattle.aig_graph.specs.Circuits.{Netlist}
 use Rattle.aig_graph.specs.Streams.{property_literals}
 use Rattle.lane_sim.specs.declared.stimulus.InputSequence.{InputSequence}
 use Rattle.lane_sim.specs.Lanes.{lane}
@@ -70,21 +68,6 @@ module _ (c : Netlist) (sequences : List InputSequence) (blocks : List (List (Li
       let zeroth : i ≡ 0 + i = omega arith in
       subst (λ w. steps_in blocks w (length run.steps) ≡ map (row_of c run) (range_with_len 0 (length run.steps))) zeroth
       (rows_of i run at (slice_get blocks (i / 256)) refl (each (i / 256) (omega arith))))
-
--- the property literals are literals of the graph
-all_of_lists : (P : ℕ → Type 0) (xss : List (List ℕ)) → All (All P) xss → All P (flat_map (λ xs. xs) xss)
-all_of_lists P [] each = λ k d h. absurd (omega arith)
-all_of_lists P (xs ∷ xss) each = All-append P xs (flat_map (λ ys. ys) xss) (each 0 xs (omega arith)) (all_of_lists P xss (λ k d h. each (suc k) d (omega arith)))
-
--- the literals of a circuit's properties are the graph's
-pub property_literals-in : (c : Netlist) → IsNetlist c → AreLiteralsOf c.aig (property_literals c.props)
-property_literals-in c valid =
-    let p = c.props in
-    let P : ℕ → Type 0 = IsLiteralOf c.aig in
-    let kinds = All-append P (p.outputs ++ p.bad) p.constraints (All-append P p.outputs p.bad valid.props.outputs valid.props.bad) valid.props.constraints in
-    let pieces = flat_map (λ xs. xs) p.justice in
-    All-append P (p.outputs ++ p.bad ++ p.constraints ++ pieces) p.fairness
-    (All-append P (p.outputs ++ p.bad ++ p.constraints) pieces kinds (all_of_lists P p.justice valid.props.justice)) valid.props.fairness
 
 -- ---- what stands at a place
 

@@ -22,4 +22,4 @@ pub use kernel::and_lanes;
 pub use read::read_stimulus;
 pub use steps::{State, Values};
 pub use stimulus::{InputSequence, Stimulus};
-pub use trace::{Trace, property_literals, simulate};
+pub use trace::{Trace, simulate};

@@ -7,8 +7,7 @@ ghost use Rattle.lane_sim.specs.Traces.{row_of};
 use crate::lanes::Lanes;
 use crate::steps::{State, Values, simulate_step};
 use crate::stimulus::InputSequence;
-use crate::trace::property_literals;
-use aig_graph::{Circuit, Lit, NoMemory, Sequence};
+use aig_graph::{Circuit, Lit, NoMemory, Sequence, property_literals};
 use std::alloc::Global;
 
 /// The property literals of a circuit, and where it stands.

@@ -1,14 +1,13 @@
 //! Traces.
 ghost use Rattle.std.specs.Prelude.{ℕ, ◌≡◌, ◌<◌, ◌++◌, [], All, IfOk, OnOk, length, map, take, slice_get};
 ghost use Rattle.std.specs.List.{slice_index_or};
-ghost use Rattle.aig_graph.specs.Streams.{property_literals};
 ghost use Rattle.lane_sim.specs.Traces.{at_place, then_at, trace};
 ghost use Rattle.lane_sim.specs.Blocks.{row_in};
 
 use crate::block::{Block, simulate_blocks};
 use crate::lanes::{LANES, Lanes};
 use crate::stimulus::{InputSequence, Stimulus};
-use aig_graph::{Circuit, Lit, NoMemory, Props, Sequence};
+use aig_graph::{Circuit, NoMemory, Sequence, property_literals};
 use std::alloc::Global;
 use std::marker::Model;
 use std::thread::Threads;
@@ -99,31 +98,6 @@ fn value_in_block(
     let row = rows.get(step)?;
     let lanes = row.as_slice().get(place)?;
     Some(lanes.get(lane))
-}
-
-/// Puts literals at the end.
-fn append(literals: &mut Vec<Lit>, more: &[Lit]) -> Result<(), NoMemory>
-    ensures { OnOk result (literals.new.items ≡ literals.old.items ++ more.now) }
-{
-    for lit in more {
-        literals.push(*lit)?;
-    }
-    Ok(())
-}
-
-/// The property literals in the order of their places.
-pub fn property_literals(alloc: Global, props: &Props) -> Result<Vec<Lit>, NoMemory>
-    ensures { IfOk result (λ literals. literals.items ≡ property_literals props.now) }
-{
-    let mut literals = Vec::new(alloc);
-    append(&mut literals, props.outputs.as_slice())?;
-    append(&mut literals, props.bad.as_slice())?;
-    append(&mut literals, props.constraints.as_slice())?;
-    for property in props.justice.as_slice() {
-        append(&mut literals, property.as_slice())?;
-    }
-    append(&mut literals, props.fairness.as_slice())?;
-    Ok(literals)
 }
 
 /// The number of steps of each sequence.

@@ -8,8 +8,9 @@ use Rattle.aig_graph.specs.Graph.{Graph, IsGraph, variable, first_latch}
 use Rattle.aig_graph.specs.Value.{signed_as}
 use Rattle.aig_graph.proofs.KindLaws.{element}
 use Rattle.variable_tables.specs.Counting.{count_below}
-use Rattle.variable_tables.proofs.PlacesLaws.{count-zero, count-pass, count-fail}
+use Rattle.variable_tables.proofs.PlacesLaws.{count-pass, count-fail}
 use Rattle.variable_tables.proofs.TableLaws.{length-table, table-at}
+use Rattle.variable_tables.proofs.CountingLaws.{count-within}
 use Rattle.cleaned_circuits.specs.Latches.{constant_of}
 use Rattle.cleaned_circuits.specs.Merged.{replaced}
 use Rattle.cleaned_circuits.proofs.LatchLaws.{constant-even}
@@ -25,18 +26,6 @@ use Rattle.latch_merging.specs.Names.{IsRough}
 use Rattle.latch_merging.proofs.RoundLaws.{After, alone, by_constant, by_first, after, Led, led, leader-same, leader-constant, length-round}
 
 -- where q passes as seldom as p, which passes only where q does, they pass together
-count-within : (p q : ℕ → Bool) (n : ℕ) → ((v : ℕ) → v < n → p v ≡ true → q v ≡ true) → count_below p n ≤ count_below q n
-count-within p q zero within = omega (arith, count-zero p, count-zero q)
-count-within p q (suc n) within =
-    let before : count_below p n ≤ count_below q n = count-within p q n (λ v h. within v (omega arith)) in
-    elim (cases_Bool (p n)) [
-      | inl passes ↦ omega (arith, count-pass p n passes, count-pass q n (within n (omega arith) passes), before)
-      | inr fails ↦ elim (cases_Bool (q n)) [
-        | inl other ↦ omega (arith, count-fail p n fails, count-pass q n other, before)
-        | inr neither ↦ omega (arith, count-fail p n fails, count-fail q n neither, before)
-      ]
-    ]
-
 count-together : (p q : ℕ → Bool) (n : ℕ) → ((v : ℕ) → v < n → p v ≡ true → q v ≡ true) → count_below q n ≤ count_below p n → (v : ℕ) → v < n → q v ≡ true → p v ≡ true
 count-together p q zero within few v h passes = absurd (omega arith)
 count-together p q (suc n) within few v h passes =

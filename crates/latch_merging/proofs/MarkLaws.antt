@@ -36,7 +36,3 @@ none-before marks low high within k less = elim (cases_Bool (is_marked marks k))
   | inl marked ↦ absurd (omega (arith, less, (within.each k marked).0))
   | inr unmarked ↦ unmarked
 ]
-
--- a place is marked or not
-pub clash-of : (b : Bool) → b ≡ true → b ≡ false → ⊥
-clash-of b one two = let clash : true ≡ false = sym one ∙ two in (cc)

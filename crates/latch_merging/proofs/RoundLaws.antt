@@ -10,12 +10,10 @@ use Rattle.cleaned_circuits.specs.Latches.{constant_of}
 use Rattle.cleaned_circuits.specs.Merged.{substitute_or_own}
 use Rattle.merged_latches.specs.Readings.{own_literal, read, may_merge, from_reset}
 use Rattle.merged_latches.proofs.ReadingLaws.{from_reset-twice, from_reset-zero}
+use Rattle.clean.specs.Kept.{or_else}
+use Rattle.clean.proofs.KeptLaws.{lookup-push, or_else-none}
 use Rattle.latch_merging.specs.declared.signature.Signature.{Signature}
-use Rattle.latch_merging.specs.Rounds.{has_signature, constant_signature, has_signature_at, started, or_else, first_of_signature, read_first, next_read, round_by, AreFirstOfSignature, entries_after, read_by_signature, entries_by_signature}
-
-or_else-none : (o : Option ℕ) → or_else o None ≡ o
-or_else-none None = refl
-or_else-none (Some n) = refl
+use Rattle.latch_merging.specs.Rounds.{has_signature, constant_signature, has_signature_at, started, first_of_signature, read_first, next_read, round_by, AreFirstOfSignature, entries_after, read_by_signature, entries_by_signature}
 
 -- equal classes and equal literals are one key
 pub has_signature-is : (key other : Signature) → has_signature key other ≡ true → key ≡ other
@@ -28,18 +26,6 @@ has_signature-is key other e =
 -- a key is its own
 pub has_signature-self : (key : Signature) → has_signature key key ≡ true
 has_signature-self key = and_from (nat_eq key.class key.class) (nat_eq key.literal key.literal) (eq-eqb key.class key.class refl) (eq-eqb key.literal key.literal refl)
-
-lookup-push : (test : Signature → Bool) (entries : List (Signature × ℕ)) (key : Signature) (value : ℕ)
-    → lookup test (entries ++ (key, value) ∷ []) ≡ or_else (lookup test entries) (cond (test key) (Some value) None)
-lookup-push test [] key value = refl
-lookup-push test ((k, v) ∷ entries) key value = elim (cases_Bool (test k)) [
-  | inl here ↦
-      cond-true (test k) (Some v) (lookup test (entries ++ (key, value) ∷ [])) here
-      ∙ sym (ap (λ (o : Option ℕ). or_else o (cond (test key) (Some value) None)) (cond-true (test k) (Some v) (lookup test entries) here))
-  | inr other ↦
-      cond-false (test k) (Some v) (lookup test (entries ++ (key, value) ∷ [])) other ∙ lookup-push test entries key value
-      ∙ sym (ap (λ (o : Option ℕ). or_else o (cond (test key) (Some value) None)) (cond-false (test k) (Some v) (lookup test entries) other))
-]
 
 module _ (g : Graph) (held : List ℕ) (keys : ℕ → Latch → Signature) where
   abbrev first : Signature → ℕ → Option ℕ

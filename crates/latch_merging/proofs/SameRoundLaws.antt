@@ -1,24 +1,20 @@
 -- A round over latches that read something else is the round, where they have the same signatures.
-use Rattle.std.proofs.Common.{ℕ, ◌≡◌, suc, zero, List, [], ◌∷◌, length, map, ◌&&◌, cond, Option, Some, None, slice_get, refl, ap, sym, ◌∙◌}
+use Rattle.std.proofs.Common.{ℕ, ◌≡◌, suc, zero, List, length, ◌&&◌, cond, Option, Some, None, slice_get, refl, ap, sym, ◌∙◌}
 use Rattle.aig_graph.specs.declared.graph.Latch.{Latch}
 use Rattle.aig_graph.specs.Graph.{Graph}
 use Rattle.variable_tables.specs.Tables.{table}
 use Rattle.variable_tables.proofs.TableLaws.{table-same}
+use Rattle.variable_tables.proofs.ListLaws.{slice_get-map_none}
 use Rattle.cleaned_circuits.specs.Merged.{replaced_graph, replaced_latch}
 use Rattle.cleaned_circuits.proofs.MergedLaws.{length-replaced_latches, replaced-latch}
 use Rattle.merged_latches.specs.Readings.{from_reset, may_merge, own_literal, read, substitutes_by, signature}
-use Rattle.latch_merging.specs.Rounds.{first_read, first_round, first_of_signature, has_signature, has_signature_at, next_read, next_round, or_else, read_first, round_by, started, signature_of}
-
--- what is past a list is past its map
-map-none : {A B : Type 0} (f : A → B) (xs : List A) (k : ℕ) → slice_get xs k ≡ None → slice_get (map f xs) k ≡ None
-map-none f [] k e = refl
-map-none f (x ∷ xs) zero e = absurd (cc)
-map-none f (x ∷ xs) (suc k) e = map-none f xs k e
+use Rattle.clean.specs.Kept.{or_else}
+use Rattle.latch_merging.specs.Rounds.{first_read, first_round, first_of_signature, has_signature, has_signature_at, next_read, next_round, read_first, round_by, started, signature_of}
 
 module _ (g : Graph) (held substitutes : List ℕ) where
   latch-none : (j : ℕ) → slice_get g.latches j ≡ None → slice_get (replaced_graph substitutes g).latches j ≡ None
   unfolding replaced_graph
-  latch-none j e = map-none (replaced_latch substitutes) g.latches j e
+  latch-none j e = slice_get-map_none (replaced_latch substitutes) g.latches j e
 
   module _ (other : List ℕ) (same : (j : ℕ) (latch : Latch) → slice_get g.latches j ≡ Some latch
       → signature (substitutes_by (replaced_graph substitutes g) other) (replaced_latch substitutes latch) ≡ signature (substitutes_by g other) latch) where

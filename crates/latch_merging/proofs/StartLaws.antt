@@ -1,14 +1,13 @@
 -- What a cleaned circuit is merged to.
-use Rattle.std.proofs.Common.{zero-add, ℕ, ◌<◌, ◌≡◌, List, length, get_or, Result, Ok, Err, arith, ap, sym, ◌∙◌, subst}
+use Rattle.std.proofs.Common.{ℕ, ◌<◌, ◌≡◌, List, length, Result, Ok, Err, ap, sym, ◌∙◌, subst}
 use Rattle.std.specs.Result.{IfOk}
-use Rattle.std.specs.List.{All, range_with_len}
-use Rattle.std.proofs.lemmas.List.{ext_get_or, length-map, get_or-map}
-use Rattle.std.proofs.lemmas.List.FromFn.{get_or-range_with_len, length-range_with_len}
+use Rattle.std.specs.List.{All}
+use Rattle.std.proofs.lemmas.List.{length-map}
 use Rattle.aig_graph.specs.Circuits.{Netlist}
 use Rattle.aig_graph.specs.Graph.{free_latches}
-use Rattle.aig_graph.specs.Laws.{all_free, composed}
+use Rattle.aig_graph.specs.Laws.{all_free}
 use Rattle.aig_graph.specs.Streams.{SameStreams}
-use Rattle.aig_graph.proofs.StreamLaws.{same_streams-transitive}
+use Rattle.aig_graph.proofs.StreamLaws.{same_streams-transitive, composed-every}
 use Rattle.cleaned_circuits.specs.Merged.{replaced_graph, replaced_latch}
 use Rattle.merged_latches.specs.Counts.{AreCounts}
 use Rattle.merged_latches.specs.Partitions.{IsMerged}
@@ -20,17 +19,6 @@ use Rattle.retimed_circuits.proofs.HeldLaws.{merging-keeps}
 use Rattle.retimed_circuits.proofs.StayLaws.{stays-then}
 use Rattle.clean.specs.declared.cleaning.Cleaned.{Cleaned}
 use Rattle.latch_merging.specs.declared.start.MergedStart.{MergedStart}
-
--- a list with all its places is itself
-composed-every : (kept : List ℕ) (n : ℕ) → length kept ≡ n → composed kept (range_with_len 0 n) ≡ kept
-composed-every kept n long =
-    let f : ℕ → ℕ = λ place. get_or kept place 0 in
-    let places : List ℕ = range_with_len 0 n in
-    let all : length (composed kept places) ≡ n = length-map places f ∙ length-range_with_len 0 n in
-    ext_get_or 0 (composed kept places) kept (all ∙ sym long) (λ j h.
-    let within : j < n = omega (arith, h, all) in
-    let there : j < length places = omega (arith, within, length-range_with_len 0 n) in
-    get_or-map f places j 0 0 there ∙ ap f (get_or-range_with_len 0 n j 0 within ∙ zero-add j))
 
 -- the streams of what was cleaned, and of what that was merged to
 streams-both : (c d e : Netlist) (kept : List ℕ) → SameStreams c d kept → SameStreams d e (all_free d.aig) → SameStreams c e kept

@@ -7,6 +7,7 @@ use Rattle.variable_tables.specs.Tables.{table}
 use Rattle.cleaned_circuits.specs.Latches.{constant_of}
 use Rattle.cleaned_circuits.specs.Merged.{substitute_or_own}
 use Rattle.merged_latches.specs.Readings.{from_reset, may_merge, own_literal, read, substitutes_by, signature}
+use Rattle.clean.specs.Kept.{or_else}
 use Rattle.latch_merging.specs.declared.signature.Signature.{Signature}
 
 abbrev pub has_signature : Signature → Signature → Bool
@@ -29,11 +30,6 @@ has_signature_at held keys key i (Some latch) = may_merge held i latch && has_si
 abbrev pub started : Graph → ℕ → Option Latch → ℕ
 started g i None = 0
 started g i (Some latch) = from_reset latch.reset (own_literal g i)
-
--- the first of two answers that there is
-abbrev pub or_else : Option ℕ → Option ℕ → Option ℕ
-or_else None second = second
-or_else (Some n) second = Some n
 
 -- the first of the constant and the latches below n that is of this class and signature: 0, or the latch's literal, negated where its reset is 1
 unfoldable pub first_of_signature : Graph → List ℕ → (ℕ → Latch → Signature) → Signature → ℕ → Option ℕ

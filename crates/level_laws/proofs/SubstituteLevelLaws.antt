@@ -14,14 +14,8 @@ use Rattle.cleaned_circuits.proofs.SubstituteLaws.{lookup_push, same_fan_ins-is,
 use Rattle.cleaned_circuits.proofs.MergedLaws.{IsGraph-replaced, replaced-first_gate, replaced-gate}
 use Rattle.path_levels.specs.Levels.{level}
 use Rattle.path_levels.proofs.LevelLaws.{level-no_gate, level-gate}
+use Rattle.merged_latches.proofs.CoarserLaws.{substitutes-stay}
 use Rattle.level_laws.proofs.GateLevelLaws.{gate_level, gate_level-gate_of}
-
--- an entry stays as more gates are merged
-entry-stays : (gates : List Gate) (m : Merging) (v : ℕ) → v < length m.substitutes → get_or (merge_gates gates m).substitutes v 0 ≡ get_or m.substitutes v 0
-unfolding merge_gates
-entry-stays [] m v h = refl
-entry-stays (gate ∷ gates) m v h =
-    entry-stays gates (merge_gate m gate) v (omega (arith, h, length-merge_gate m gate)) ∙ get_or_append_left m.substitutes _ 0 v h
 
 -- by the levels of variables before and after, where the constant has level 0
 module _ (before after : ℕ → ℕ) (constant : after 0 ≡ 0) where
@@ -147,7 +141,7 @@ module _ (g : Graph) (leaves : List ℕ) (begun : AreLeaves g leaves) (valid : I
   low-gates (gate ∷ gates) m each end low =
       let first : length m.substitutes + 0 ≡ length m.substitutes = omega arith in
       let stays : (v : ℕ) → v < length m.substitutes → get_or (substitutes_after g leaves) v 0 ≡ get_or m.substitutes v 0 =
-      λ v h. ap (λ (xs : List ℕ). get_or xs v 0) (sym end) ∙ entry-stays (gate ∷ gates) m v h in
+      λ v h. ap (λ (xs : List ℕ). get_or xs v 0) (sym end) ∙ substitutes-stay (gate ∷ gates) m v h in
       low-gates gates (merge_gate m gate)
       (λ i other e.
       let place : length m.substitutes + suc i ≡ length (merge_gate m gate).substitutes + i = omega (arith, length-merge_gate m gate) in

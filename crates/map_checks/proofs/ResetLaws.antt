@@ -4,7 +4,7 @@ use Rattle.aig_graph.specs.declared.graph.Latch.{Latch}
 use Rattle.aig_graph.specs.declared.graph.Reset.{Reset}
 use Rattle.aig_graph.specs.declared.graph.Reset.TheVariants.{Zero, One, Free}
 use Rattle.aig_graph.specs.Graph.{Graph, IsGraph, first_gate, first_latch, free_before, variable}
-use Rattle.aig_graph.specs.Value.{opening, opening_at, value_within}
+use Rattle.aig_graph.specs.Value.{opening, opening_at, value_within, opening_literal}
 use Rattle.aig_graph.proofs.KindLaws.{element}
 use Rattle.state_maps.specs.States.{opening_state}
 use Rattle.state_maps.proofs.WithinLaws.{within_laws}
@@ -12,7 +12,7 @@ use Rattle.map_checks.specs.Shared.{AreGates, IsNegated, IsShared, Shared, end_o
 use Rattle.map_checks.specs.Equal.{Equal}
 use Rattle.map_checks.specs.Copies.{AreShared, Copy, IsCopy}
 use Rattle.map_checks.specs.Images.{Views}
-use Rattle.map_checks.specs.Starts.{AreResets, IsResetImage, opening_literal}
+use Rattle.map_checks.specs.Starts.{AreResets, IsResetImage}
 use Rattle.map_checks.proofs.ImageLaws.{constant-same, graph-respects, leaves-follow, leaves-shared}
 use Rattle.map_checks.proofs.StepLaws.{graph_of, views-there}
 

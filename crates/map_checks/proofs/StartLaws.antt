@@ -1,10 +1,10 @@
 -- The first states of the second circuit are those that the map gives.
-use Rattle.std.proofs.Common.{inl, inr, ℕ, ◌+◌, ◌<◌, ◌≤◌, ◌≡◌, suc, zero, Bool, true, false, not, cond, List, [], ◌∷◌, ◌++◌, length, map, get_or, slice_get, Option, Some, None, refl, arith, ap, sym, ◌∙◌, subst}
+use Rattle.std.proofs.Common.{inl, inr, ℕ, ◌+◌, ◌<◌, ◌≤◌, ◌≡◌, suc, zero, Bool, true, false, not, List, [], ◌∷◌, ◌++◌, length, map, get_or, slice_get, Option, Some, None, refl, arith, ap, sym, ◌∙◌, subst}
 use Rattle.std.specs.List.{All}
 use Rattle.std.specs.List.Sorted.{IsStrictlyIncreasing}
 use Rattle.std.proofs.Math.ListN.{get_or-eq_default}
 use Rattle.std.proofs.Math.Seq.{get_or-append_seam}
-use Rattle.std.proofs.lemmas.Bool.{cases_Bool, cases_lt, cases_eq, false≢true}
+use Rattle.std.proofs.lemmas.Bool.{cases_lt, cases_eq, false≢true}
 use Rattle.std.proofs.lemmas.List.{get_or-map, get_or_append_left, get_or_default, length-map, length_push}
 use Rattle.std.proofs.lemmas.List.Sums.{count_by_more_no, count_by_more_yes}
 use Rattle.std.proofs.lemmas.Option.{get_or_from_slice_get, none-some, same_Some, slice_get_within}
@@ -209,14 +209,3 @@ module _ (c d m : Netlist) (image : Copy) (kept : List ℕ) (is : IsResetImage c
     where
       go : (k e : ℕ) → k < length kept → get_or kept k e < free_latches c.aig
       go k e h = omega (arith, starts.below k h, get_or_default kept k e 0 h)
-
--- one more free latch where the latch is free
-pub free-more : (g : Graph) (k free one : ℕ) (latch : Latch) → slice_get g.latches k ≡ Some latch → free ≡ free_before g k → one ≡ cond (is_free latch) 1 0 → free + one ≡ free_before g (k + 1)
-free-more g k free one latch there before step = elim (cases_Bool (is_free latch)) [
-  | inl is_open ↦ (
-      let here : one ≡ 1 = step ∙ ap (λ (b : Bool). cond {A = ℕ} b 1 0) is_open in
-      omega (arith, before, here, free-next g k latch there is_open))
-  | inr known ↦ (
-      let here : one ≡ 0 = step ∙ ap (λ (b : Bool). cond {A = ℕ} b 1 0) known in
-      omega (arith, before, here, known-next g k latch there known))
-]

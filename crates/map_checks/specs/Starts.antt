@@ -6,16 +6,10 @@ use Rattle.aig_graph.specs.declared.graph.Latch.{Latch}
 use Rattle.aig_graph.specs.declared.graph.Reset.{Reset}
 use Rattle.aig_graph.specs.declared.graph.Reset.TheVariants.{Zero, One, Free}
 use Rattle.aig_graph.specs.Graph.{Graph, first_latch, free_before, free_latches, is_free, variables_end}
-use Rattle.aig_graph.specs.Value.{Choice, value_within}
+use Rattle.aig_graph.specs.Value.{Choice, opening_literal, value_within}
 use Rattle.state_maps.specs.States.{opening_state}
 use Rattle.map_checks.specs.Shared.{IsNegated}
 use Rattle.map_checks.specs.Copies.{Copy, Follows, copied_end}
-
--- the literal of what a latch with this reset holds at step 0
-abbrev pub opening_literal : Reset → ℕ → ℕ
-opening_literal Zero own = 0
-opening_literal One own = 1
-opening_literal Free own = own
 
 pub record AreResets (g : Graph) (leaves : Copy) : Type 0 where
   pub first : leaves.first ≡ 1

@@ -4,8 +4,8 @@ ghost use Rattle.aig_graph.specs.Graph.{free_before};
 ghost use Rattle.variable_tables.specs.Tables.{table};
 ghost use Rattle.map_checks.specs.Starts.{Takes};
 
-use crate::starting::{free_place, opening_literal};
-use aig_graph::{Aig, Latch, Lit, NoMemory, Reset};
+use crate::starting::free_place;
+use aig_graph::{Aig, Latch, Lit, NoMemory, Reset, opening_literal};
 use std::alloc::Global;
 use std::marker::Model;
 

@@ -3,25 +3,14 @@
 ghost use Rattle.std.specs.Prelude.{◌≡◌, ◌≤◌, [], IfOk, IfSome, length, if◌then◌else◌};
 ghost use Rattle.aig_graph.specs.Graph.{free_before, is_free};
 ghost use Rattle.variable_tables.specs.Tables.{table};
-ghost use Rattle.map_checks.specs.Starts.{AreResets, IsFreeLatch, IsResetImage, opening_literal};
+ghost use Rattle.map_checks.specs.Starts.{AreResets, IsFreeLatch, IsResetImage};
 
 use crate::copied::{Copied, copy};
 use crate::equalities::Equalities;
 use crate::errors::SharingError;
 use crate::shared::SharedGates;
-use aig_graph::{Aig, Circuit, Latch, Lit, NoMemory, Reset};
+use aig_graph::{Aig, Circuit, Latch, Lit, NoMemory, Reset, opening_literal};
 use std::alloc::Global;
-
-/// The literal of what a latch with this reset holds at step 0.
-pub(crate) fn opening_literal(reset: Reset, own: Lit) -> Lit
-    ensures { result ≡ opening_literal reset own }
-{
-    match reset {
-        Reset::Zero => Lit::FALSE,
-        Reset::One => Lit::TRUE,
-        Reset::Free => own,
-    }
-}
 
 /// What each latch holds at step 0.
 fn reset_leaves(alloc: Global, aig: &Aig) -> Result<Copied, NoMemory>

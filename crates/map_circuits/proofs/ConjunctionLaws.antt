@@ -1,6 +1,6 @@
 -- Conjunctions of many literals.
-use Rattle.std.proofs.Common.{inl, inr, ℕ, ◌+◌, ◌<◌, ◌≡◌, ◌↔◌, Bool, true, false, not, ◌&&◌, List, length, get_or, refl, arith, ap, sym, ◌∙◌, subst}
-use Rattle.std.proofs.lemmas.Bool.{cases_lt}
+use Rattle.std.proofs.Common.{inl, inr, ℕ, ◌+◌, ◌<◌, ◌≡◌, ◌↔◌, Bool, true, not, ◌&&◌, List, length, get_or, arith, ap, sym, ◌∙◌, subst}
+use Rattle.std.proofs.lemmas.Bool.{cases_lt, and_parts}
 use Rattle.std.proofs.lemmas.List.{get_or_default}
 use Rattle.aig_graph.specs.Graph.{Graph, IsGraph, IsLiteralOf}
 use Rattle.aig_graph.specs.Circuits.{AreLiteralsOf}
@@ -35,11 +35,6 @@ conjunction-one g valid a b within one = record {
       sym (ap (λ (t : Bool). t && value_within g z u b) is_one);
 }
 
--- both sides of a conjunction that is true
-pub both : (a b : Bool) → (a && b) ≡ true → (a ≡ true) × (b ≡ true)
-both true b h = (refl, h)
-both false b h = absurd (cc)
-
 -- one more
 pub first-more : (g h i : Graph) (lits : List ℕ) (k before lit own : ℕ) → Extends g h → AreLiteralsOf g lits → k < length lits → own ≡ get_or lits k 0 → Extends h i → AreFirst h lits k before
     → IsConjunction i before own lit → AreFirst i lits (k + 1) lit
@@ -53,7 +48,7 @@ first-more g h i lits k before lit own one within less here more p is = record {
 
     forth : (z : Digits) (u : State) → value_within i z u lit ≡ true → (j : ℕ) → j < k + 1 → value_within i z u (get_or lits j 0) ≡ true
     forth z u is_one j short =
-        let parts = both (value_within i z u before) (value_within i z u own) (sym (is.is z u) ∙ is_one) in
+        let parts = and_parts (value_within i z u before) (value_within i z u own) (sym (is.is z u) ∙ is_one) in
         elim (cases_lt j k) [
           | inl earlier ↦
               more.values z u (get_or lits j 0) (of_h j (omega (arith, earlier, less)))

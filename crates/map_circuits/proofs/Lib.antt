@@ -10,3 +10,4 @@ pub mod MergeStepLaws
 pub mod ReadFunctionLaws
 pub mod InstanceLaws
 pub mod ConjunctionLaws
+mod FreeLaws

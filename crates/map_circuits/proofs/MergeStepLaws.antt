@@ -7,7 +7,6 @@ use Rattle.merged_latches.proofs.MergingLaws.{IsGraph-merged_latches, merged-str
 use Rattle.state_maps.specs.States.{IsStateMap, State}
 use Rattle.state_maps.proofs.FrameMapLaws.{restated}
 use Rattle.state_maps.proofs.MapLaws.{maps-compose}
-use Rattle.state_maps.proofs.MergedRunMapLaws.{composed-every}
 use Rattle.map_circuits.specs.Constraining.{AreOne}
 use Rattle.map_circuits.specs.Following.{state_of}
 use Rattle.map_circuits.proofs.SteppingLaws.{state-kept}
@@ -15,7 +14,7 @@ use Rattle.state_maps.specs.MergedStates.{ReadsHold}
 use Rattle.state_maps.proofs.MergedStepLaws.{merging-maps}
 use Rattle.map_circuits.specs.Steps.{MergingStep}
 use Rattle.map_circuits.proofs.ReadsSubstituteLaws.{reads-below, reads-hold}
-use Rattle.aig_graph.proofs.StreamLaws.{funext}
+use Rattle.aig_graph.proofs.StreamLaws.{funext, composed-every}
 
 -- the constraints of what latches read as make a map to a circuit one to what the circuit is merged to
 pub merging-step : (c d e : Netlist) (held kept : List ℕ) (g h : Graph) (functions old new : List ℕ) → MergingStep c d e held kept g h functions old new

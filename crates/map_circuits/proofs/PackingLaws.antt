@@ -9,7 +9,7 @@ use Rattle.std.proofs.lemmas.Option.{none-some}
 use Rattle.aig_graph.specs.declared.graph.Gate.{Gate}
 use Rattle.aig_graph.specs.declared.literal.TheConstants.{MAX_VARIABLES}
 use Rattle.aig_graph.specs.Building.{gate_of, with_gate}
-use Rattle.aig_graph.specs.Graph.{Graph, IsGraph, IsGateAt, IsLiteralOf, variable, first_gate}
+use Rattle.aig_graph.specs.Graph.{Graph, IsGraph, IsGateAt, IsLiteralOf, first_gate}
 use Rattle.aig_graph.proofs.GraphLaws.{IsGraph-with_gate}
 use Rattle.counted_io.specs.Line.{numbered_lines}
 use Rattle.counted_io.proofs.BufferedLaws.{enumerate_from-append}
@@ -176,7 +176,3 @@ module _ (at end number rest byte : ℕ) (old bytes : List ℕ) (from : at ≤ e
   delta-end low is =
       take_more_set bytes end byte within ∙ ap (λ (b : ℕ). take end bytes ++ b ∷ []) is
       ∙ Spells-end (take at old) (take end bytes) (end - at) rest number (omega arith) (inr low) spells
-
--- the gate of two literals of variables below one stands there
-pub gate_of-at : (v a b : ℕ) → variable a < v → variable b < v → IsGateAt v (gate_of a b)
-gate_of-at v a b p q = record { ordered = omega arith; below = omega arith }

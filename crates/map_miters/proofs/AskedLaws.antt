@@ -10,7 +10,7 @@ use Rattle.witness_circuits.proofs.AgreeLaws.{HaveSame, after_step-alike, alike-
 use Rattle.map_miters.specs.Miters.{IsMiter, state_in}
 use Rattle.map_miters.specs.Questions.{Begins, IsAskable, Keeps, Reads, Steps}
 use Rattle.map_miters.specs.Laws.{IsNeverOne, MeetsQuestions, MitersAnswer}
-use Rattle.map_miters.proofs.SideLaws.{properties-within}
+use Rattle.aig_graph.proofs.PropsLaws.{properties-within}
 
 -- the digits of n inputs, then what latches hold
 joined : ℕ → Digits → State → ℕ → Bool

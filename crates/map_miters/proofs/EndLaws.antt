@@ -10,6 +10,7 @@ use Rattle.aig_graph.specs.Circuits.{AreLiteralsOf, IsNetlist, Netlist}
 use Rattle.aig_graph.specs.Graph.{Graph, IsGraph, IsLiteralOf}
 use Rattle.aig_graph.specs.Value.{next_value, value_within}
 use Rattle.aig_graph.proofs.KindLaws.{element}
+use Rattle.aig_graph.proofs.HoldingLaws.{no-names}
 use Rattle.state_maps.specs.States.{Digits, State, after_step}
 use Rattle.state_maps.proofs.WithinLaws.{within_laws}
 use Rattle.map_circuits.specs.Growing.{Extends}
@@ -17,7 +18,6 @@ use Rattle.map_circuits.proofs.GrowingLaws.{negated-value}
 use Rattle.witness_circuits.specs.Witnesses.{bad_states}
 use Rattle.witness_circuits.specs.Latches.{with_nexts}
 use Rattle.witness_circuits.proofs.AgreeLaws.{AreAlike, literal-alike, literals-alike}
-use Rattle.witness_circuits.proofs.FinishLaws.{no-names}
 use Rattle.witness_circuits.proofs.LatchLaws.{length-with_nexts, next-read}
 use Rattle.map_miters.specs.Comparing.{SaysThat}
 use Rattle.map_miters.specs.declared.products.Built.{Built}

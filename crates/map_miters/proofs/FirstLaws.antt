@@ -4,7 +4,8 @@ use Rattle.std.proofs.lemmas.Bool.{cases_lt}
 use Rattle.std.proofs.lemmas.List.{get_or_append_left, get_or_push, length_push}
 use Rattle.std.proofs.lemmas.Option.{same_Some, slice_get_within}
 use Rattle.aig_graph.specs.declared.graph.Latch.{Latch}
-use Rattle.map_miters.specs.Holding.{AreResets, opening_literal}
+use Rattle.aig_graph.specs.Value.{opening_literal}
+use Rattle.map_miters.specs.Holding.{AreResets}
 
 pub record AreFirstResets (latches : List Latch) (own : List ℕ) (n : ℕ) (lits : List ℕ) : Type 0 where
   -- there are n literals

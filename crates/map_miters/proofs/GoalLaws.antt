@@ -14,7 +14,7 @@ use Rattle.map_miters.specs.Comparing.{AreEqualIn, SaysThat}
 use Rattle.map_miters.specs.Holding.{Held, HoldAs, IsImage}
 use Rattle.map_miters.proofs.ComparingLaws.{says-same}
 use Rattle.map_miters.proofs.HoldingLaws.{holds-grow, step-grows}
-use Rattle.map_miters.proofs.SideLaws.{as-many}
+use Rattle.aig_graph.proofs.ShapeLaws.{as-many}
 use Rattle.map_miters.specs.declared.sides.Sides.{Sides}
 use Rattle.map_miters.specs.Products.{AgreeIn, GivesState, HoldsMapped, second_state}
 use Rattle.map_miters.specs.Sides.{AreSides, beside_digits, beside_first, beside_second}

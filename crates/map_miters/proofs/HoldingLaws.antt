@@ -10,7 +10,7 @@ use Rattle.aig_graph.specs.declared.graph.Reset.TheVariants.{Zero, One, Free}
 use Rattle.aig_graph.specs.Circuits.{AreLiteralsOf, IsNetlist, Netlist}
 use Rattle.aig_graph.specs.Graph.{Graph, IsGraph, IsLiteralOf, variable, variables_end}
 use Rattle.aig_graph.specs.Streams.{property_literals}
-use Rattle.aig_graph.specs.Value.{next_value, opening, value_within}
+use Rattle.aig_graph.specs.Value.{next_value, opening, value_within, opening_literal}
 use Rattle.aig_graph.proofs.KindLaws.{element}
 use Rattle.state_maps.specs.States.{Digits, State, after_step}
 use Rattle.state_maps.specs.MapCircuits.{mapped}
@@ -22,7 +22,7 @@ use Rattle.witness_circuits.proofs.ViewLaws.{view-grows}
 use Rattle.witness_circuits.proofs.PropertyLaws.{substitutes-values, substitutes-within}
 use Rattle.map_miters.specs.declared.images.Image.{Image}
 use Rattle.map_miters.specs.declared.steps.Step.{Step}
-use Rattle.map_miters.specs.Holding.{AreResets, Held, HoldAs, IsImage, IsStep, opening_literal, read_in, reset_at}
+use Rattle.map_miters.specs.Holding.{AreResets, Held, HoldAs, IsImage, IsStep, read_in, reset_at}
 
 -- literals go on to hold what they do as the graph grows
 pub holds-grow : (g h : Graph) (lits : List ℕ) (x : Held) → Extends g h → HoldAs g lits x → HoldAs h lits x

@@ -2,6 +2,7 @@
 use Rattle.std.proofs.Common.{ℕ, ◌/◌, ◌%◌, ◌<◌, ◌≡◌, ◌≢◌, ◌↔◌, Bool, true, false, IsTrue, not, ◌&&◌, List, length, slice_get, arith, ap, sym, ◌∙◌, subst}
 use Rattle.std.proofs.Math.Bool.{not-not}
 use Rattle.std.proofs.lemmas.Option.{slice_get_within}
+use Rattle.std.proofs.lemmas.Bool.{both_ways, and_parts}
 use Rattle.aig_graph.specs.declared.graph.Latch.{Latch}
 use Rattle.aig_graph.specs.Circuits.{Netlist}
 use Rattle.aig_graph.specs.Graph.{Graph, IsGraph}
@@ -19,7 +20,6 @@ use Rattle.map_miters.specs.Asking.{AreLeaves, asked_state}
 use Rattle.map_miters.specs.Holding.{AreResets, Held, HoldAs, IsImage, reset_at, reset_state}
 use Rattle.map_miters.proofs.HoldingLaws.{resets-hold}
 use Rattle.map_miters.specs.Questions.{Begins, IsFirst}
-use Rattle.map_circuits.proofs.ConjunctionLaws.{both}
 
 -- outputs that are what latches hold at step 0 are a first state
 firsts-say : (h d : Graph) (outputs firsts : List ℕ) (t : Held) → length outputs ≡ length d.latches → length firsts ≡ length d.latches → HoldAs h outputs t
@@ -51,10 +51,6 @@ firsts-hold g d m t image latches own lits valid p many of_latches of_own resets
     subst (λ (ls : List Latch). AreResets ls image.outputs.items lits) of_latches (subst (λ (ls : List ℕ). AreResets latches ls lits) of_own resets) in
     resets-hold g valid d.aig.latches image.outputs.items lits (λ z u. mapped m (t z u)) (p.many ∙ many) here p.outputs
 
-clash : (b : Bool) → b ≡ true → b ≡ false → ⊥
-clash true one none = absurd (cc)
-clash false one none = absurd (cc)
-
 module _ (c d m : Netlist) (s : Held) where
   -- where the free latches stay, the negation of what says the rest
   pub begins-says : (h1 h2 h3 : Graph) (image : Image) (firsts : List ℕ) (equal begins other : ℕ) → length m.props.outputs ≡ length d.aig.latches → length firsts ≡ length d.aig.latches
@@ -73,7 +69,7 @@ module _ (c d m : Netlist) (s : Held) where
         let same_equal : value_within h3 z u equal ≡ value_within h2 z u equal = two.values z u equal says.within in (
           λ e.
               let yes : value_within h3 z u begins ≡ true = sym (not-not (value_within h3 z u begins)) ∙ ap not (sym turned ∙ e) in
-              let parts = both (value_within h3 z u image.kept) (value_within h3 z u equal) (sym (conjunction.is z u) ∙ yes) in
+              let parts = and_parts (value_within h3 z u image.kept) (value_within h3 z u equal) (sym (conjunction.is z u) ∙ yes) in
               record {
                 free = stay;
                 kept = (is.kept z u).0 (sym kept ∙ parts.0);
@@ -93,7 +89,7 @@ module _ (c d m : Netlist) (s : Held) where
 
   -- where the answer of the tests is false, the free latches don't stay
   pub stays-not : (b : Bool) → IsTrue b ↔ FreeStay c d m → b ≡ false → FreeStay c d m → ⊥
-  stays-not b is fails stay = clash b (is.1 stay) fails
+  stays-not b is fails stay = both_ways b fails (is.1 stay)
 
   -- where they don't, the constant 1
   pub never-begins : (h : Graph) → IsGraph h → (lit : ℕ) → lit ≡ 1 → (FreeStay c d m → ⊥) → FailsBut h lit (λ z u. Begins c d m (s z u))
@@ -101,5 +97,5 @@ module _ (c d m : Netlist) (s : Held) where
     within = omega (arith, one);
     is = λ z u.
         let value : value_within h z u lit ≡ true = ap (value_within h z u) one ∙ (within_laws h valid z u).negation 0 ∙ ap not (within_laws h valid z u).constant in
-        (λ e. absurd (clash (value_within h z u lit) value e), λ has. absurd (fails has.free));
+        (λ e. absurd (both_ways (value_within h z u lit) e value), λ has. absurd (fails has.free));
   }

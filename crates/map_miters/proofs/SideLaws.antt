@@ -1,13 +1,11 @@
 -- What is compared says what is asked.
-use Rattle.std.proofs.Common.{ℕ, ◌+◌, ◌<◌, ◌≡◌, ◌↔◌, Bool, true, false, List, [], ◌∷◌, ◌++◌, length, length-append, map, get_or, refl, arith, ap, sym, ◌∙◌}
-use Rattle.std.specs.List.{flat_map}
+use Rattle.std.proofs.Common.{ℕ, ◌<◌, ◌≡◌, ◌↔◌, Bool, true, false, List, length, map, get_or, arith, ap, sym, ◌∙◌}
 use Rattle.std.proofs.lemmas.List.{ext_get_or, length-map}
-use Rattle.aig_graph.specs.declared.properties.Props.{Props}
-use Rattle.aig_graph.specs.Circuits.{AreLiteralsOf, IsNetlist, Netlist}
+use Rattle.aig_graph.specs.Circuits.{Netlist}
 use Rattle.aig_graph.specs.Graph.{Graph, IsLiteralOf}
-use Rattle.aig_graph.specs.Streams.{SameShape, property_literals}
+use Rattle.aig_graph.specs.Streams.{property_literals}
 use Rattle.aig_graph.specs.Value.{value_within}
-use Rattle.aig_graph.proofs.PropsLaws.{to_literals}
+use Rattle.aig_graph.proofs.ShapeLaws.{as-many}
 use Rattle.state_maps.specs.States.{Digits, State, after_step}
 use Rattle.state_maps.specs.MapCircuits.{is_kept, mapped}
 use Rattle.map_miters.specs.declared.questions.Compared.{Compared}
@@ -20,40 +18,6 @@ use Rattle.map_miters.specs.Holding.{IsImage, IsStep}
 use Rattle.map_miters.specs.Questions.{AreStepFailures, IsAskable, Keeps, Reads, Steps}
 use Rattle.map_miters.proofs.ComparingLaws.{fails-grow, fails-same}
 use Rattle.map_miters.proofs.HoldingLaws.{image-grows, step-grows}
-
--- the literals of a circuit's properties are the graph's
-pub properties-within : (c : Netlist) → IsNetlist c → AreLiteralsOf c.aig (property_literals c.props)
-properties-within c net = to_literals (λ l. IsLiteralOf c.aig l) c.props (record {
-  outputs = net.props.outputs;
-  bad = net.props.bad;
-  constraints = net.props.constraints;
-  justice = net.props.justice;
-  fairness = net.props.fairness;
-})
-
-total : List ℕ → ℕ
-total [] = 0
-total (n ∷ ns) = n + total ns
-
-joined-long : (xss : List (List ℕ)) → length (flat_map (λ xs. xs) xss) ≡ total (map length xss)
-unfolding total
-joined-long [] = refl
-joined-long (xs ∷ xss) = length-append xs (flat_map (λ ys. ys) xss) ∙ ap (λ (n : ℕ). length xs + n) (joined-long xss)
-
--- circuits of one shape have as many properties
-pub as-many : (c d : Netlist) → SameShape c d → length (property_literals d.props) ≡ length (property_literals c.props)
-as-many c d same =
-    let p = c.props in
-    let q = d.props in
-    let joined : length (flat_map (λ xs. xs) q.justice) ≡ length (flat_map (λ xs. xs) p.justice) = joined-long q.justice ∙ ap total same.justice ∙ sym (joined-long p.justice) in
-    long q ∙ omega (arith, same.outputs, same.bad, same.constraints, same.fairness, joined) ∙ sym (long p)
-  where
-    long : (p : Props) → length (property_literals p) ≡ length p.outputs + length p.bad + length p.constraints + length (flat_map (λ xs. xs) p.justice) + length p.fairness
-    long p =
-        length-append (p.outputs ++ p.bad ++ p.constraints ++ flat_map (λ xs. xs) p.justice) p.fairness
-        ∙ ap (λ (n : ℕ). n + length p.fairness) (length-append (p.outputs ++ p.bad ++ p.constraints) (flat_map (λ xs. xs) p.justice)
-        ∙ ap (λ (n : ℕ). n + length (flat_map (λ xs. xs) p.justice)) (length-append (p.outputs ++ p.bad) p.constraints
-        ∙ ap (λ (n : ℕ). n + length p.constraints) (length-append p.outputs p.bad)))
 
 -- what fails, by literals of a larger graph, in terms of those of a smaller one
 pub where-kept : (g h i k : Graph) (sides : Sides) (wanted lit : ℕ) (holds : Digits → State → Type 0) → Extends g h → IsLiteralOf g sides.image.kept → SaysThat h wanted holds

@@ -18,14 +18,15 @@ use Rattle.aig_graph.proofs.KindLaws.{element}
 use Rattle.state_maps.specs.MapCircuits.{image, is_kept, mapped}
 use Rattle.state_maps.specs.States.{Digits, IsAllowed, State, after_step, opening_state}
 use Rattle.witness_circuits.specs.Witnesses.{AreJoint, GoesOn, HasResets, IsGood, IsSharing, IsWitness, bad_states}
-use Rattle.witness_circuits.proofs.OpeningLaws.{free-where, opening-known, opening-twice}
+use Rattle.witness_circuits.proofs.OpeningLaws.{opening-known, opening-twice}
 use Rattle.witness_circuits.specs.LiftedLaws.{first_places, first_shared}
 use Rattle.witness_circuits.proofs.AgreeLaws.{HaveSame, after_step-alike, alike-itself, literals-alike}
 use Rattle.witness_circuits.proofs.CarrierLaws.{bad-within}
 use Rattle.witness_circuits.proofs.PlaceLaws.{first-place, length-first_places, place-first}
 use Rattle.map_miters.specs.Holding.{reset_at, reset_state}
 use Rattle.map_miters.specs.Questions.{Begins, IsAskable}
-use Rattle.map_miters.proofs.SideLaws.{properties-within}
+use Rattle.aig_graph.proofs.PropsLaws.{properties-within}
+use Rattle.aig_graph.proofs.FreeLaws.{free-where}
 use Rattle.map_miters.specs.declared.goals.Goal.TheVariants.{Agree, Mapped}
 use Rattle.map_miters.specs.Laws.{MeetsQuestions}
 use Rattle.map_miters.specs.Products.{HoldsMapped, IsProduct, StartsAlike, product_resets, second_state, start_resets}

@@ -2,12 +2,10 @@
 use Rattle.std.specs.Prelude.{ℕ, ◌<◌, ◌≡◌, ◌↔◌, Bool, true, false, List, length, map, slice_get, Option, Some, None}
 use Rattle.std.specs.List.{slice_index_or}
 use Rattle.aig_graph.specs.declared.graph.Latch.{Latch}
-use Rattle.aig_graph.specs.declared.graph.Reset.{Reset}
-use Rattle.aig_graph.specs.declared.graph.Reset.TheVariants.{Zero, One, Free}
 use Rattle.aig_graph.specs.Circuits.{AreLiteralsOf, Netlist}
 use Rattle.aig_graph.specs.Graph.{Graph, IsLiteralOf}
 use Rattle.aig_graph.specs.Streams.{property_literals}
-use Rattle.aig_graph.specs.Value.{opening, value_within}
+use Rattle.aig_graph.specs.Value.{opening, opening_literal, value_within}
 use Rattle.state_maps.specs.States.{Digits, State, after_step}
 use Rattle.state_maps.specs.MapCircuits.{is_kept, mapped}
 use Rattle.map_miters.specs.declared.images.Image.{Image}
@@ -29,12 +27,6 @@ reset_at b (Some latch) = opening latch.reset b
 
 abbrev pub reset_state : Graph → State → State
 reset_state g s = λ j. reset_at (s j) (slice_get g.latches j)
-
--- the literal of what a latch with this reset holds at step 0
-abbrev pub opening_literal : Reset → ℕ → ℕ
-opening_literal Zero own = 0
-opening_literal One own = 1
-opening_literal Free own = own
 
 -- the same of latches, whose own literals are these
 pub record AreResets (latches : List Latch) (own lits : List ℕ) : Type 0 where

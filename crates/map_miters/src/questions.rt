@@ -8,13 +8,12 @@ ghost use Rattle.map_miters.specs.Questions.{AreFailures, AreStepFailures, IsAsk
 
 use crate::comparing::{add_each_equal, add_failure};
 use crate::errors::MiterError;
-use crate::free::free_stay;
 use crate::images::{Image, add_image};
 use crate::leaves::{Leaves, leaves_of};
 use crate::resets::resets_of;
 use crate::steps::{Step, add_step};
 use aig_graph::{AigBuilder, Circuit, Lit};
-use map_circuits::add_conjunction;
+use map_circuits::{add_conjunction, free_stay};
 use std::alloc::Global;
 
 /// What is 1 where the map fails.

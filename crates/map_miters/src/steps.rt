@@ -10,7 +10,7 @@ ghost use Rattle.map_miters.specs.Holding.{Held, HoldAs, IsStep};
 
 use crate::errors::MiterError;
 use crate::images::{add_over, substitutes_of};
-use aig_graph::{AigBuilder, Circuit, Latch, Lit, NoMemory, Props};
+use aig_graph::{AigBuilder, Circuit, Latch, Lit, NoMemory, property_literals};
 use map_circuits::Instance;
 use std::alloc::Global;
 use witness_circuits::push_nexts;
@@ -20,31 +20,6 @@ use witness_circuits::push_nexts;
 pub struct Step {
     pub nexts: Vec<Lit>,
     pub props: Vec<Lit>,
-}
-
-/// Puts literals at the end.
-fn append(literals: &mut Vec<Lit>, more: &[Lit]) -> Result<(), NoMemory>
-    ensures { OnOk result (literals.new.items ≡ literals.old.items ++ more.now) }
-{
-    for lit in more {
-        literals.push(*lit)?;
-    }
-    Ok(())
-}
-
-/// The literals of the properties, kind after kind.
-fn property_literals(alloc: Global, props: &Props) -> Result<Vec<Lit>, NoMemory>
-    ensures { IfOk result (λ literals. literals.items ≡ property_literals props.now) }
-{
-    let mut literals = Vec::new(alloc);
-    append(&mut literals, props.outputs.as_slice())?;
-    append(&mut literals, props.bad.as_slice())?;
-    append(&mut literals, props.constraints.as_slice())?;
-    for property in props.justice.as_slice() {
-        append(&mut literals, property.as_slice())?;
-    }
-    append(&mut literals, props.fairness.as_slice())?;
-    Ok(literals)
 }
 
 /// What stands for the next literals of latches.

@@ -12,9 +12,8 @@ ghost use Rattle.map_miters.specs.Ties.{AreConstraints, AreTies, HasLatches};
 
 use crate::comparing::add_failure;
 use crate::errors::MiterError;
-use crate::free::free_stay;
 use aig_graph::{AigBuilder, BuildError, Circuit, Latch, Lit, NoMemory, Reset};
-use map_circuits::{add_conjunction_of, add_equality};
+use map_circuits::{add_conjunction_of, add_equality, free_stay};
 use std::alloc::Global;
 
 /// Whether free latches are to start alike: the second circuit has some, and each is one of the first, in their order.

@@ -1,5 +1,5 @@
 -- The text of a map: its header, and its gates from their bytes.
-use Rattle.std.proofs.Common.{ℕ, ◌+◌, ◌-◌, ◌*◌, ◌/◌, ◌%◌, ◌^◌, ◌<◌, ◌≤◌, ◌≡◌, ◌≢◌, ◌⊎◌, inl, inr, zero, suc, true, false, ◌==◌, List, [], ◌∷◌, ◌++◌, length, take, drop, get_or, Result, Ok, Err, refl, arith, ap, sym, ◌∙◌, subst, rules}
+use Rattle.std.proofs.Common.{ℕ, ◌+◌, ◌-◌, ◌*◌, ◌/◌, ◌%◌, ◌^◌, ◌<◌, ◌≤◌, ◌≡◌, ◌≢◌, ◌⊎◌, inl, inr, zero, suc, true, false, ◌==◌, List, [], ◌∷◌, ◌++◌, length, take, drop, get_or, Result, Ok, Err, refl, arith, ap, sym, ◌∙◌, subst}
 use Rattle.std.specs.List.{IsFirstAndRest, flat_map, enumerate_from}
 use Rattle.std.proofs.lemmas.Bool.{cases_lt}
 use Rattle.std.proofs.lemmas.List.{append_assoc, drop_more, get_or_default, take-append-drop, take_all}
@@ -11,7 +11,7 @@ use Rattle.aig_graph.specs.declared.graph.Latch.{Latch}
 use Rattle.aig_graph.specs.declared.literal.TheConstants.{MAX_VARIABLES}
 use Rattle.aig_graph.specs.Graph.{Graph, IsGraph, IsGateAt, first_gate}
 use Rattle.binary_file.specs.Deltas.{bytes_within, delta_of}
-use Rattle.binary_file.proofs.DeltaLaws.{bytes-low, bytes-high, fewer}
+use Rattle.binary_file.proofs.DeltaLaws.{bytes-low, bytes-high, fewer, first-same, rest-same}
 use Rattle.counted_io.specs.Buffered.{Puts}
 use Rattle.counted_io.specs.Line.{line, numbered_lines}
 use Rattle.counted_io.specs.Output.{Output, Writes, WritesAll, WritesPart}
@@ -21,12 +21,10 @@ use Rattle.counted_io.proofs.BufferedLaws.{enumerate_from-append, puts-no_more, 
 use Rattle.file_words.specs.Text.{all_symbols, gate_row, header_row, numbered_rows, without_last_zeros}
 use Rattle.aig_binary.specs.Text.{gate_deltas, text_binary}
 use Rattle.retiming_maps.specs.Plain.{IsPlainMap}
+use Rattle.ascii_writer.proofs.HeaderLaws.{not_zero}
 use Rattle.mapped_answers.specs.MapText.{BeginsWith, before_gates}
 
 -- ---- the header
-
-not_zero : (n : ℕ) → n ≢ 0 → (n == 0) ≡ false
-not_zero n h = search rules
 
 some-constraints : (n : ℕ) → n ≢ 0 → without_last_zeros (0 ∷ n ∷ 0 ∷ 0 ∷ []) ≡ 0 ∷ n ∷ []
 some-constraints n some = let test : (n == 0) ≡ false = not_zero n some in rw test refl
@@ -84,12 +82,6 @@ module _ (m : Netlist) (latches : m.aig.latches ≡ []) (plain : IsPlainMap m) w
       ∙ ap first_counts (some-constraints k some))
 
 -- ---- numbers from bytes
-
-first-same : {a b : ℕ} {xs ys : List ℕ} → a ∷ xs ≡ b ∷ ys → a ≡ b
-first-same e = ap (λ (l : List ℕ). get_or l 0 0) e
-
-rest-same : {a b : ℕ} {xs ys : List ℕ} → a ∷ xs ≡ b ∷ ys → xs ≡ ys
-rest-same e = ap (λ (l : List ℕ). drop 1 l) e
 
 -- the first byte has the low bits of the number, and the others follow
 record GoesOn (n : ℕ) (tail bytes : List ℕ) : Type 0 where

@@ -3,7 +3,7 @@
 -- earlier gate of the same literals by the first has the same ones by the second.
 use Rattle.std.proofs.Common.{ℕ, ◌*◌, ◌<◌, ◌≤◌, ◌≡◌, inl, inr, List, [], ◌∷◌, ◌++◌, length, Bool, true, cond, nat_eq, Option, Some, None, get_or, refl, arith, ap, sym, ◌∙◌}
 use Rattle.std.specs.Map.{lookup}
-use Rattle.std.proofs.lemmas.Bool.{cases_Bool, cases_eq, eq-eqb, eqb-true, and_from, cond-true, cond-false}
+use Rattle.std.proofs.lemmas.Bool.{cases_Bool, cases_eq, eq-eqb, eqb-true, cond-true, cond-false}
 use Rattle.std.proofs.lemmas.Option.{none-some}
 use Rattle.std.proofs.lemmas.List.{get_or_append_left, get_or_push}
 use Rattle.aig_graph.specs.declared.graph.Gate.{Gate}
@@ -11,6 +11,7 @@ use Rattle.aig_graph.specs.Graph.{variable}
 use Rattle.aig_graph.specs.Value.{signed_as}
 use Rattle.aig_graph.specs.Building.{gate_of}
 use Rattle.cleaned_circuits.specs.Merged.{replaced, same_fan_ins, known_substitute, substitute_or_own, kept_after}
+use Rattle.cleaned_circuits.proofs.SubstituteLaws.{same_fan_ins-self}
 
 -- a literal that is found among some gates is found among more
 lookup-more : (test : Gate → Bool) (es : List (Gate × ℕ)) (gate : Gate) (v w : ℕ) → lookup test es ≡ Some w → lookup test (es ++ (gate, v) ∷ []) ≡ Some w
@@ -29,9 +30,6 @@ lookup-last test (e0 ∷ es) gate v passes none = elim (cases_Bool (test e0.0)) 
   | inr other ↦ cond-false (test e0.0) (Some e0.1) (lookup test (es ++ (gate, v) ∷ [])) other
       ∙ lookup-last test es gate v passes (sym (cond-false (test e0.0) (Some e0.1) (lookup test es) other) ∙ none)
 ]
-
-same_fan_ins-self : (gate : Gate) → same_fan_ins gate gate ≡ true
-same_fan_ins-self gate = and_from (nat_eq gate.rhs0 gate.rhs0) (nat_eq gate.rhs1 gate.rhs1) (eq-eqb gate.rhs0 gate.rhs0 refl) (eq-eqb gate.rhs1 gate.rhs1 refl)
 
 -- what a gate comes down to, where this was found among the kept gates
 abbrev or_found : Gate → Option ℕ → Option ℕ

@@ -21,16 +21,17 @@ use Rattle.merged_latches.specs.Partitions.{IsInductive}
 use Rattle.merged_latches.proofs.ReadingLaws.{leaf-low, leaf-latch, are-leaves}
 
 -- a value negated where the reset is 1
-abbrev flipped : Reset → Bool → Bool
+abbrev pub flipped : Reset → Bool → Bool
 flipped reset b = signed (constant_of reset) b
 
-flipped-twice : (reset : Reset) (b : Bool) → flipped reset (flipped reset b) ≡ b
+-- negated twice it is itself
+pub flipped-twice : (reset : Reset) (b : Bool) → flipped reset (flipped reset b) ≡ b
 flipped-twice Zero b = refl
 flipped-twice One b = not-not b
 flipped-twice Free b = refl
 
 -- a known latch begins with its reset
-opening-known : (reset : Reset) (next : ℕ) (b : Bool) → is_free (record { next = next; reset = reset }) ≡ false → opening reset b ≡ flipped reset false
+pub opening-known : (reset : Reset) (next : ℕ) (b : Bool) → is_free (record { next = next; reset = reset }) ≡ false → opening reset b ≡ flipped reset false
 opening-known Zero next b known = refl
 opening-known One next b known = refl
 opening-known Free next b known = absurd (cc)

@@ -21,7 +21,7 @@ use Rattle.cleaned_circuits.proofs.LatchLaws.{constant-even, first_where-least, 
 use Rattle.cleaned_circuits.proofs.MergedLaws.{replaced-end, replaced-first_latch}
 use Rattle.cleaned_circuits.proofs.OwnLaws.{leaf-latch, substitutes-leaf, substitutes-low}
 use Rattle.cleaned_circuits.proofs.PassLaws.{IsCircuit}
-use Rattle.cleaned_circuits.proofs.SubstituteLaws.{GateIn, IsBelow, below-merge_gate, gate_substitutes, gates-in, length-substitutes_of, merge-all, none-kept, start-below, start-length, with_earlier, with_equal, with_false, with_opposite, with_true}
+use Rattle.cleaned_circuits.proofs.SubstituteLaws.{GateIn, IsBelow, below-merge_gate, gate_substitutes, gates-in, length-substitutes_of, merge-all, none-kept, start-below, start-length, with_earlier, with_equal, with_false, with_opposite, with_true, same_fan_ins-self}
 use Rattle.cleaned_circuits.proofs.TrimmedLaws.{stays-past, trimmed-end, trimmed-first_latch}
 use Rattle.cleaned_circuits.proofs.UnchangedLaws.{count-full, reached-own, replaced_circuit-same}
 use Rattle.normalised_circuits.specs.Normalised.{IsPlain, IsNormalised}
@@ -78,10 +78,6 @@ lookup-none test (e0 ∷ es) gate v e = elim (cases_Bool (test e0.0)) [
       let rest = lookup-none test es gate v (sym (cond-false (test e0.0) (Some e0.1) (lookup test (es ++ (gate, v) ∷ [])) fails) ∙ e) in
       (cond-false (test e0.0) (Some e0.1) (lookup test es) fails ∙ rest.0, rest.1))
 ]
-
--- a gate has its own literals
-pub same_fan_ins-self : (gate : Gate) → same_fan_ins gate gate ≡ true
-same_fan_ins-self gate = and_from (nat_eq gate.rhs0 gate.rhs0) (nat_eq gate.rhs1 gate.rhs1) (eq-eqb gate.rhs0 gate.rhs0 refl) (eq-eqb gate.rhs1 gate.rhs1 refl)
 
 -- where each latch stands for itself, none that isn't held is constant or a duplicate of an earlier one
 module _ (g : Graph) (held : List ℕ) (own : (j : ℕ) (latch : Latch) → slice_get g.latches j ≡ Some latch → latch_substitute g held j (Some latch) ≡ 2 * (first_latch g + j)) where

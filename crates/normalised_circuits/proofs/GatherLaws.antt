@@ -7,11 +7,12 @@ use Rattle.std.proofs.lemmas.List.{take_all, length-drop, get_or_past}
 use Rattle.aig_graph.specs.declared.graph.Gate.{Gate}
 use Rattle.aig_graph.specs.Graph.{Graph, variable, first_gate}
 use Rattle.variable_tables.specs.Marking.{Marks, mark_at}
+use Rattle.variable_tables.proofs.ListLaws.{place_take, take_place}
 use Rattle.cleaned_circuits.specs.Merged.{same_fan_ins}
-use Rattle.cleaned_circuits.proofs.SubstituteLaws.{same_fan_ins-is, lookup_push}
+use Rattle.cleaned_circuits.proofs.SubstituteLaws.{same_fan_ins-is, lookup_push, same_fan_ins-self}
 use Rattle.normalised_circuits.specs.Normalised.{IsPlain, AreLowNormalised}
 use Rattle.normalised_circuits.specs.Gathered.{AreGathered, AreMarked, AreNew, IsLowCopy, IsShared, IsSpoilt, by_gate, by_pair, is_plain}
-use Rattle.normalised_circuits.proofs.CleanLaws.{same_fan_ins-self, lookup-none}
+use Rattle.normalised_circuits.proofs.CleanLaws.{lookup-none}
 
 -- of no copies no pairs are gathered
 pub gathered-start : (copies : List Gate) (start : ℕ) → AreGathered copies start 0 []
@@ -99,12 +100,6 @@ dropped (y ∷ ys) (suc n) k x e =
     let place : suc n + k ≡ suc (n + k) = omega arith in
     dropped ys n k x (ap (slice_get (y ∷ ys)) (sym place) ∙ e)
 
-taken : {A : Type 0} (xs : List A) (n k : ℕ) (x : A) → k < n → slice_get xs k ≡ Some x → slice_get (take n xs) k ≡ Some x
-taken xs zero k x h e = absurd (omega (arith, h))
-taken [] (suc n) k x h e = e
-taken (y ∷ ys) (suc n) zero x h e = e
-taken (y ∷ ys) (suc n) (suc k) x h e = taken ys n k x (omega (arith, h)) e
-
 -- where all low copies were gathered, and no gate before the copies has one of their pairs, the low copies are normalised
 pub normalised-where : (g : Graph) (first start : ℕ) (pairs : List (Gate × ℕ)) → start ≡ first_gate g + first
     → AreGathered (drop first g.gates) start (length (drop first g.gates)) pairs → AreNew (take first g.gates) pairs (length (take first g.gates)) → AreLowNormalised g first
@@ -115,7 +110,7 @@ normalised-where g first start pairs starts copies outside = record {
       let low_here : variable gate.rhs1 < start = omega (arith, starts, low) in
       elim (cases_lt i first) [
         | inl before ↦ (
-            let here : slice_get (take first g.gates) i ≡ Some gate = taken g.gates first i gate before e in
+            let here : slice_get (take first g.gates) i ≡ Some gate = place_take g.gates first i gate before e in
             absurd (copies.found (k - first) gate at.1 at.0 low_here (outside i gate (slice_get_within (take first g.gates) i gate here) here)))
         | inr after ↦ (
             let other = copy i gate after e in
@@ -162,12 +157,6 @@ undropped (y ∷ ys) (suc n) k x e =
     let place : suc n + k ≡ suc (n + k) = omega arith in
     ap (slice_get (y ∷ ys)) place ∙ undropped ys n k x e
 
-untaken : {A : Type 0} (xs : List A) (n k : ℕ) (x : A) → slice_get (take n xs) k ≡ Some x → (k < n) × (slice_get xs k ≡ Some x)
-untaken xs zero k x e = absurd (none-some x e)
-untaken [] (suc n) k x e = absurd (none-some x e)
-untaken (y ∷ ys) (suc n) zero x e = (omega arith, e)
-untaken (y ∷ ys) (suc n) (suc k) x e = let rest = untaken ys n k x e in (omega (arith, rest.0), rest.1)
-
 not-plain : (gate : Gate) → is_plain gate ≡ false → IsPlain gate → ⊥
 not-plain gate fails plain =
     both_ways (is_plain gate) fails
@@ -187,7 +176,7 @@ shared g first start pairs starts copies share normalised = go (lookup (same_fan
     go None e h = absurd (cc)
     go (Some w) e h =
         let low : IsLowCopy (drop first g.gates) start (length (drop first g.gates)) share.gate = copies.from share.gate w e in
-        let other = untaken g.gates first share.place share.gate share.there in
+        let other = take_place g.gates first share.place share.gate share.there in
         omega (arith, other.0, normalised.pairs share.place (first + low.place) share.gate (omega arith) other.1 (undropped g.gates first low.place share.gate low.there) (omega (arith, low.low, starts)))
 
 -- where a low copy isn't plain, or two have the same literals, the low copies aren't normalised

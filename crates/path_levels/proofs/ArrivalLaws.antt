@@ -9,9 +9,10 @@ use Rattle.aig_graph.specs.declared.graph.Latch.{Latch}
 use Rattle.aig_graph.specs.Graph.{Graph, IsGraph, variable, first_latch, first_gate, variables_end, latch_at, gate_at}
 use Rattle.aig_graph.proofs.FoldingLaws.{gate_at-before, fold_gates-leaf, fold_gates-gate}
 use Rattle.aig_graph.proofs.KindLaws.{gate_place, latch_at-before, latch_at-first_latch, latch_at-gates}
+use Rattle.frame_net.proofs.PassableLaws.{gate_cases}
 use Rattle.path_levels.specs.Levels.{one_above, level, entry_at}
 use Rattle.path_levels.specs.Arrivals.{level_of_next, next_level, arrival}
-use Rattle.path_levels.proofs.EntryLaws.{gate_cases, Rises}
+use Rattle.path_levels.proofs.EntryLaws.{Rises}
 use Rattle.path_levels.proofs.LevelLaws.{rise-bound, level-bound, entry-level}
 
 -- what is no gate arrives with its next literal

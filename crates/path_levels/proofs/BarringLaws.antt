@@ -7,13 +7,14 @@ use Rattle.std.proofs.lemmas.List.FromFn.{length-enumerate_from}
 use Rattle.std.proofs.lemmas.List.Elements.{All-nil, All-cons, All-append, All-weaker}
 use Rattle.aig_graph.specs.declared.graph.Gate.{Gate}
 use Rattle.aig_graph.specs.Graph.{Graph, IsGraph, IsGateAt, IsLiteralOf, variable, first_gate, variables_end, gate_at}
-use Rattle.aig_graph.specs.Circuits.{Netlist, IsNetlist, AreNamesBelow}
+use Rattle.aig_graph.specs.Circuits.{Netlist, IsNetlist}
 use Rattle.aig_graph.specs.Streams.{property_literals}
 use Rattle.aig_graph.proofs.FoldingLaws.{gate_at-first_gate}
 use Rattle.aig_graph.proofs.KindLaws.{element, gate_place}
 use Rattle.aig_graph.proofs.PropsLaws.{literals_within}
+use Rattle.aig_graph.proofs.HoldingLaws.{no-names}
+use Rattle.frame_net.proofs.PassableLaws.{gate_cases}
 use Rattle.path_levels.specs.Bounded.{gate_left, reads_barred, gates_left, barred_reads, graph_left, outputs_left, with_barred}
-use Rattle.path_levels.proofs.EntryLaws.{gate_cases}
 
 -- what is left at a place of a list of gates
 left-at : (test : ℕ → Bool) (first : ℕ) (gates : List Gate) (k : ℕ) (gate : Gate) → slice_get gates k ≡ Some gate
@@ -81,12 +82,6 @@ module _ (test : ℕ → Bool) (g : Graph) where
         subst (λ (x : Gate). IsGateAt (first_gate g + k) x) (sym is)
         (left-well (first_gate g + k) (test (first_gate g + k)) there.0 (omega arith) (valid.gates k there.0 there.1));
   }
-
-no-names : (n : ℕ) → AreNamesBelow n []
-no-names n = record {
-  rising = λ k less. absurd (omega (arith, less));
-  below = λ k d less. absurd (omega (arith, less));
-}
 
 reads-within : (n : ℕ) (b : Bool) (gate : Gate) → variable gate.rhs0 < n → variable gate.rhs1 < n → All (λ lit. variable lit < n) (reads_barred b gate)
 reads-within n true gate upper lower =

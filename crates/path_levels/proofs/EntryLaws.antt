@@ -1,5 +1,5 @@
 -- Tables of levels and arrivals: what the entry of a variable is, and that of the next gate.
-use Rattle.std.proofs.Common.{ℕ, ◌+◌, ◌-◌, ◌<◌, ◌≤◌, ◌≡◌, ◌∙◌, ◌++◌, ◌⊎◌, inl, inr, suc, List, [], ◌∷◌, get_or, length, Option, Some, None, refl, sym, ap, ap₂, subst, arith}
+use Rattle.std.proofs.Common.{ℕ, ◌+◌, ◌-◌, ◌<◌, ◌≤◌, ◌≡◌, ◌∙◌, ◌++◌, inl, inr, suc, List, [], ◌∷◌, get_or, length, Some, sym, ap, ap₂, subst, arith}
 use Rattle.std.specs.Prelude.{max, slice_index_or}
 use Rattle.std.proofs.lemmas.Bool.{cases_lt, cond-false, cond-true, lt-leb, le-leb}
 use Rattle.std.proofs.lemmas.List.{get_or_past}
@@ -10,14 +10,6 @@ use Rattle.aig_graph.specs.declared.graph.Gate.{Gate}
 use Rattle.aig_graph.specs.Graph.{Graph, IsGraph, IsGateAt, variable, first_gate, gate_at}
 use Rattle.aig_graph.proofs.FoldingLaws.{gate_at-first_gate, gate_at-is}
 use Rattle.path_levels.specs.Levels.{entry_at}
-
--- there is a gate at a variable, or none
-pub gate_cases : (g : Graph) (v : ℕ) → (gate_at g v ≡ None) ⊎ ((gate : Gate) × (gate_at g v ≡ Some gate))
-gate_cases g v = cases (gate_at g v)
-  where
-    cases : (o : Option Gate) → (o ≡ None) ⊎ ((gate : Gate) × (o ≡ Some gate))
-    cases None = inl refl
-    cases (Some gate) = inr (gate, refl)
 
 entry-before : (first : ℕ) (entries : List ℕ) (v : ℕ) → v < first → entry_at first entries v ≡ 0
 unfolding entry_at

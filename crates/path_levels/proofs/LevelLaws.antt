@@ -15,8 +15,9 @@ use Rattle.aig_graph.specs.Folding.{fold_step, fold_to_depth, fold_gates}
 use Rattle.aig_graph.specs.Streams.{property_literals}
 use Rattle.aig_graph.proofs.FoldingLaws.{gate_at-before, fold_gates-leaf, fold_gates-gate}
 use Rattle.aig_graph.proofs.KindLaws.{gate_place}
+use Rattle.frame_net.proofs.PassableLaws.{gate_cases}
 use Rattle.path_levels.specs.Levels.{ground_level, one_above, level, highest, read_literals, levels, entry_at}
-use Rattle.path_levels.proofs.EntryLaws.{gate_cases, entry-of, entry-past, Rises}
+use Rattle.path_levels.proofs.EntryLaws.{entry-of, entry-past, Rises}
 
 step-bound : (leaf : ℕ → ℕ) (n : ℕ) (below : ℕ → ℕ) → ((w : ℕ) → below w ≤ n) → ((w : ℕ) → leaf w ≤ suc n) → (v : ℕ) (o : Option Gate) → fold_step leaf one_above below v o ≤ suc n
 step-bound leaf n below each low v None = low v

@@ -1,5 +1,5 @@
 -- The marks of barred gates, and what passes over gates and marks make.
-use Rattle.std.proofs.Common.{ℕ, ◌+◌, ◌-◌, ◌<◌, ◌≤◌, ◌≡◌, ◌∙◌, ◌++◌, inl, inr, Bool, false, ◌&&◌, nat_lt, nat_le, List, [], ◌∷◌, length, map, take, get_or, refl, sym, ap, ap₂, arith, append_assoc, append-nil}
+use Rattle.std.proofs.Common.{ℕ, ◌+◌, ◌-◌, ◌<◌, ◌≡◌, ◌∙◌, ◌++◌, inl, inr, Bool, false, ◌&&◌, nat_lt, nat_le, List, [], ◌∷◌, length, map, take, get_or, refl, sym, ap, ap₂, arith, append_assoc, append-nil}
 use Rattle.std.specs.List.{All, enumerate_from, flat_map}
 use Rattle.std.proofs.lemmas.Bool.{cases_lt, and_right}
 use Rattle.std.proofs.lemmas.List.{get_or_past, map-append, take_more}
@@ -16,7 +16,7 @@ use Rattle.aig_graph.specs.Circuits.{Netlist}
 use Rattle.aig_graph.specs.Streams.{property_literals}
 use Rattle.frame_net.specs.declared.pass_set.PassSet.{PassSet}
 use Rattle.frame_net.specs.Passable.{is_passable, IsPassSet}
-use Rattle.frame_net.proofs.PassableLaws.{passable-before, passable-past, has-passable}
+use Rattle.frame_net.proofs.PassableLaws.{passable-before, passable-past, has-passable, mark_at-past}
 use Rattle.path_levels.specs.Levels.{entry_at}
 use Rattle.path_levels.specs.Arrivals.{arrival}
 use Rattle.path_levels.specs.Bounded.{is_barred, gate_left, reads_barred, outputs_left, with_barred, bounded, NoneBarred}
@@ -40,10 +40,6 @@ barred-more bound g held first k v time pass arrivals read marks more passes x s
     ∙ entry-of (first_latch g) (latches_and_gates g) v (arrival g) read (arrival-before g) (is_read ∙ filled) (omega (arith, place, h)) in
     entry (first_gate g) k (is_barred bound g held) marks more x marked pushed (barred-is bound g held v time passes x passable arrives is ∙ ap (is_barred bound g held) place)
 
-past-marks : (first : ℕ) (marks : List Bool) (v : ℕ) → first + length marks ≤ v → mark_at first marks v ≡ false
-unfolding mark_at
-past-marks first marks v h = ap (λ (b : Bool). nat_le first v && b) (get_or_past marks (v - first) false (omega (arith, h))) ∙ and_right (nat_le first v) false refl
-
 -- the mark of any variable says whether it is barred
 mark-barred : (bound : ℕ) (g : Graph) (held : List ℕ) (marks : List Bool) → marks ≡ table (first_gate g) (length g.gates) (is_barred bound g held) → (v : ℕ)
     → mark_at (first_gate g) marks v ≡ is_barred bound g held v
@@ -53,7 +49,7 @@ mark-barred bound g held marks filled v =
       | inl lt ↦ mark_at-all (first_gate g) marks (is_barred bound g held) v
           (AreAllMarks-table (first_gate g) (length g.gates) marks (is_barred bound g held) filled (λ w early. unbarred-other bound g held w (passable-before g held w early)))
           (omega (arith, lt, long))
-      | inr ge ↦ past-marks (first_gate g) marks v (omega (arith, ge, long)) ∙ sym (unbarred-other bound g held v (passable-past g held v ge))
+      | inr ge ↦ mark_at-past (first_gate g) marks v (omega (arith, ge, long)) ∙ sym (unbarred-other bound g held v (passable-past g held v ge))
     ]
 
 -- the circuit in which the marked gates are barred is the bounded one

@@ -7,15 +7,14 @@ use Rattle.std.proofs.lemmas.Bool.{cases_Bool, cases_lt, and_from, and_left, and
 use Rattle.aig_graph.specs.declared.graph.Gate.{Gate}
 use Rattle.aig_graph.specs.declared.graph.Latch.{Latch}
 use Rattle.aig_graph.specs.Graph.{Graph, IsGraph, IsGateAt, variable, gate_at, is_known}
-use Rattle.aig_graph.specs.Closed.{is_held, may_move, both, is_settled}
-use Rattle.aig_graph.proofs.FoldingLaws.{gate_at-before, gate_at-is, fold_gates-leaf}
+use Rattle.aig_graph.specs.Closed.{is_held, is_settled}
+use Rattle.aig_graph.proofs.FoldingLaws.{gate_at-before, gate_at-is}
 use Rattle.aig_graph.proofs.KindLaws.{latch_at-before}
 use Rattle.aig_graph.proofs.ClosedLaws.{is_settled-gate}
 use Rattle.frame_net.specs.Passable.{is_passable}
-use Rattle.frame_net.proofs.PassableLaws.{passable-at_gate, passable-no_gate}
+use Rattle.frame_net.proofs.PassableLaws.{passable-at_gate, passable-no_gate, gate_cases, settled-leaf}
 use Rattle.path_levels.specs.Arrivals.{arrival}
 use Rattle.path_levels.specs.Bounded.{is_barred, gate_left, graph_left}
-use Rattle.path_levels.proofs.EntryLaws.{gate_cases}
 use Rattle.path_levels.proofs.ArrivalLaws.{arrival-gate}
 use Rattle.path_levels.proofs.BarringLaws.{gate_at-left, is_gate-left, graph-left}
 
@@ -40,10 +39,6 @@ module _ (bound : ℕ) (g : Graph) (held : List ℕ) where
         absurd (cc))
     | inr early ↦ early
   ]
-
-settled-leaf : (g : Graph) (held : List ℕ) (v : ℕ) → gate_at g v ≡ None → is_settled g held v ≡ may_move g held v
-unfolding is_settled
-settled-leaf g held v e = fold_gates-leaf g (may_move g held) both v e
 
 -- the constant doesn't move
 settled-constant : (g : Graph) (held : List ℕ) → is_settled g held 0 ≡ false

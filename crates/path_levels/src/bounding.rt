@@ -4,11 +4,10 @@ ghost use Rattle.std.specs.List.{enumerate_from, flat_map};
 ghost use Rattle.variable_tables.specs.Marking.{mark_at};
 ghost use Rattle.aig_graph.specs.declared.literal.TheConstants.{MAX_VARIABLES};
 ghost use Rattle.aig_graph.specs.Graph.{first_gate};
-ghost use Rattle.aig_graph.specs.Streams.{property_literals};
 ghost use Rattle.path_levels.specs.Bounded.{NoneBarred, bounded, gate_left, gates_left, graph_left, outputs_left, reads_barred, with_barred};
 
 use crate::barring::barred_gates;
-use aig_graph::{Aig, Circuit, Gate, Keep, Lit, NoMemory, Props, Symbols};
+use aig_graph::{Aig, Circuit, Gate, Keep, Lit, NoMemory, Props, Symbols, property_literals};
 use std::alloc::Global;
 use variable_tables::mark_at;
 
@@ -68,21 +67,6 @@ fn push_barred(
         push_reads(outputs, mark_at(barred, first, first + k as u32), *gate)?;
     }
     Ok(())
-}
-
-/// The literals of properties, kind after kind.
-fn property_literals(alloc: Global, props: &Props) -> Result<Vec<Lit>, NoMemory>
-    ensures { IfOk result (λ literals. literals.items ≡ property_literals props.now) }
-{
-    let mut literals = Vec::new(alloc);
-    literals.extend_from_slice(props.outputs.as_slice())?;
-    literals.extend_from_slice(props.bad.as_slice())?;
-    literals.extend_from_slice(props.constraints.as_slice())?;
-    for property in props.justice.as_slice() {
-        literals.extend_from_slice(property.as_slice())?;
-    }
-    literals.extend_from_slice(props.fairness.as_slice())?;
-    Ok(literals)
 }
 
 fn outputs_left(alloc: Global, circuit: &Circuit, barred: &[bool]) -> Result<Vec<Lit>, NoMemory>

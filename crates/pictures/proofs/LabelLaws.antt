@@ -1,8 +1,9 @@
 -- Bytes of names.
-use Rattle.std.proofs.Common.{ℕ, ◌≡◌, ◌≢◌, ◌==◌, Bool, true, false, List, Result, Ok, Err, codes, refl, sym, ap, rules}
+use Rattle.std.proofs.Common.{ℕ, ◌≡◌, ◌≢◌, Bool, true, false, List, Result, Ok, Err, codes, refl, sym, ap}
 use Rattle.std.specs.Prelude.{MatchResult, IsUtf8, is_ok}
 use Rattle.std.specs.Str.{is_utf8}
 use Rattle.std.proofs.lemmas.Str.{IsUtf8-from_is_utf8, is_utf8-from_IsUtf8}
+use Rattle.std.proofs.lemmas.Bool.{ne_eqb}
 use Rattle.pictures.specs.Labels.{label_byte, other_byte}
 
 not_true : (b : Bool) → (b ≡ true → ⊥) → false ≡ b
@@ -14,9 +15,6 @@ pub utf8_test : {T E : Type 0} (P : T → Type 0) (Q : E → Type 0) (r : Result
     → MatchResult r (λ s. P s × IsUtf8 bs) (λ e. ¬ (IsUtf8 bs) × Q e) → is_ok r ≡ is_utf8 bs
 utf8_test P Q (Ok s) bs is = sym (is_utf8-from_IsUtf8 bs is.1)
 utf8_test P Q (Err e) bs is = not_true (is_utf8 bs) (λ h. is.0 (IsUtf8-from_is_utf8 bs h))
-
-not_equal : (n k : ℕ) → n ≢ k → (n == k) ≡ false
-not_equal n k h = search rules
 
 -- a quotation mark, a backslash, an ampersand
 pub label_byte-34 : (utf8 : Bool) (b : ℕ) → b ≡ 34 → codes "\\\"" ≡ label_byte utf8 b
@@ -36,4 +34,4 @@ label_byte-38 utf8 b is = sym (ap (label_byte utf8) is)
 -- a byte that is no quotation mark, backslash or ampersand
 pub label_byte-other : (utf8 : Bool) (b : ℕ) → b ≢ 34 → b ≢ 92 → b ≢ 38 → other_byte utf8 b ≡ label_byte utf8 b
 unfolding label_byte
-label_byte-other utf8 b quotation backslash ampersand = rw (not_equal b 34 quotation, not_equal b 92 backslash, not_equal b 38 ampersand) refl
+label_byte-other utf8 b quotation backslash ampersand = rw (ne_eqb b 34 quotation, ne_eqb b 92 backslash, ne_eqb b 38 ampersand) refl

@@ -1,5 +1,5 @@
 -- Marks of neighbourhoods.
-use Rattle.std.proofs.Common.{ℕ, ◌+◌, ◌-◌, ◌<◌, ◌≤◌, ◌≡◌, ◌||◌, ◌&&◌, nat_le, Bool, true, false, suc, zero, List, length, get_or, inl, inr, refl, ap, ap₂, sym, ◌∙◌, subst, arith}
+use Rattle.std.proofs.Common.{ℕ, ◌+◌, ◌-◌, ◌<◌, ◌≤◌, ◌≡◌, ◌||◌, ◌&&◌, nat_le, Bool, true, false, suc, zero, List, length, inl, inr, refl, ap, ap₂, sym, ◌∙◌, subst, arith}
 use Rattle.std.proofs.lemmas.Bool.{cases_lt, lt-ltb, le-ltb, and_right}
 use Rattle.std.proofs.lemmas.List.{get_or_past}
 use Rattle.variable_tables.specs.Marking.{Marks, mark_at}

@@ -18,6 +18,7 @@ use Rattle.ascii_file.specs.declared.raw.SymbolKind.TheVariants.{Input, Latch, O
 use Rattle.ascii_file.specs.Raw.{RawSymbol, kind_number, count_of, safety_count}
 use Rattle.ascii_file.specs.Meaning.{with_name, with_symbol, names_of, symbols_of, split_by, props_of}
 use Rattle.ascii_file.specs.Reading.{is_of_same}
+use Rattle.ascii_file.proofs.OwnLiteralLaws.{length-split}
 use Rattle.reader_parts.specs.Names.{symbol_at, symbols_in, has_position}
 use Rattle.reader_parts.specs.Lists.{Lists}
 use Rattle.reader_parts.specs.Parts.{AreNamesWithin, NetlistLaw}
@@ -158,10 +159,6 @@ names_below h kind symbols below apart = record {
 split_all : (P : ℕ → Type 0) (sizes xs : List ℕ) → All P xs → AllByRecursion (λ lits. All P lits) (split_by sizes xs)
 split_all P [] xs all = tt
 split_all P (n ∷ sizes) xs all = (All-take P n xs all, split_all P sizes (drop n xs) (All-drop P n xs all))
-
-length-split : (sizes xs : List ℕ) → length (split_by sizes xs) ≡ length sizes
-length-split [] xs = refl
-length-split (n ∷ sizes) xs = ap suc (length-split sizes (drop n xs))
 
 -- ---- the circuit
 

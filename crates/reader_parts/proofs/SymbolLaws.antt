@@ -10,8 +10,17 @@ use Rattle.ascii_file.specs.Items.{SymbolItem, kind_of, cut_at_space, symbol_in,
 use Rattle.reader_parts.specs.declared.symbols.SymbolText.{SymbolText}
 use Rattle.reader_parts.specs.declared.symbols.SymbolText.TheVariants.{NoSymbol, Comment, Malformed, Name}
 use Rattle.reader_parts.specs.Rows.{clamped, next_digit}
-use Rattle.reader_parts.specs.Symbols.{unnamed, text_of_item, text_of, is_constraint, named_at, position_with, letter_with}
+use Rattle.reader_parts.specs.Symbols.{unnamed, text_of_item, text_of, is_constraint, named_at, position_with, letter_with, text_without}
 use Rattle.reader_parts.proofs.RowLaws.{continued, continued-none, clamped-digit}
+
+-- a line with no item isn't the comment's
+pub without_comment : (line : List ℕ) → text_without line ≡ Comment → ⊥
+without_comment [] is = absurd cc
+without_comment (letter ∷ bytes) is = by_kind (kind_of letter) is
+  where
+    by_kind : (kind : Option SymbolKind) → unnamed kind ≡ Comment → ⊥
+    by_kind None is = absurd cc
+    by_kind (Some kind) is = absurd cc
 
 -- ---- one byte of a position
 

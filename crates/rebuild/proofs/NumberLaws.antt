@@ -14,6 +14,7 @@ use Rattle.rebuild.specs.Members.{ArePassable, is_latch_or_in}
 use Rattle.rebuild.specs.Moved.{advanced, copy_variable, gates_start, is_latched, is_outside, moved_literal, new_variable, next_of}
 use Rattle.variable_tables.proofs.CountingLaws.{count-none, count-split}
 use Rattle.variable_tables.proofs.TableLaws.{numbered-first, numbered-next, numbered-other}
+use Rattle.variable_tables.proofs.PlacesLaws.{one_at_most}
 use Rattle.variable_tables.specs.Counting.{count_below}
 use Rattle.variable_tables.specs.Marking.{has}
 
@@ -23,10 +24,6 @@ unfolding count_below
 count-next p first k b here =
     let next : first + (k + 1) ≡ suc (first + k) = omega arith in
     ap (count_below p) next ∙ ap (λ (x : Bool). count_below p (first + k) + cond {A = ℕ} x 1 0) here
-
-one_at_most : (b : Bool) → cond {A = ℕ} b 1 0 ≤ 1
-one_at_most true = omega arith
-one_at_most false = omega arith
 
 -- a count at another number that is the same
 pub count-at : (p : ℕ → Bool) (n m : ℕ) → n ≤ m → m ≤ n → count_below p n ≡ count_below p m

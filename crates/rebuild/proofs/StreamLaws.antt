@@ -1,5 +1,5 @@
 -- A moved circuit has the streams of the circuit.
-use Rattle.std.proofs.Common.{ℕ, ◌+◌, ◌-◌, ◌*◌, ◌<◌, ◌≡◌, inl, inr, suc, zero, map, Bool, true, false, ◌&&◌, cond, Option, Some, None, get_or, refl, arith, ap, sym, ◌∙◌, subst, add-one}
+use Rattle.std.proofs.Common.{ℕ, ◌+◌, ◌-◌, ◌*◌, ◌<◌, ◌≡◌, inl, inr, suc, zero, map, Bool, true, false, ◌&&◌, cond, Option, Some, None, get_or, arith, ap, sym, ◌∙◌, subst, add-one}
 use Rattle.std.specs.List.{All, range_with_len}
 use Rattle.std.specs.List.Sorted.{IsStrictlyIncreasing}
 use Rattle.std.proofs.lemmas.Bool.{cases_Bool}
@@ -16,11 +16,9 @@ use Rattle.aig_graph.specs.Graph.{Graph, IsGateAt, IsGraph, first_gate, first_la
 use Rattle.aig_graph.specs.Laws.{ValueLaws}
 use Rattle.aig_graph.specs.Move.{Move}
 use Rattle.aig_graph.specs.Streams.{SameStreams, chosen, property_literals}
-use Rattle.aig_graph.specs.Value.{Choice, Inputs, opening, signed, value}
+use Rattle.aig_graph.specs.Value.{Choice, Inputs, signed, value}
 use Rattle.aig_graph.specs.declared.graph.Gate.{Gate}
 use Rattle.aig_graph.specs.declared.graph.Latch.{Latch}
-use Rattle.aig_graph.specs.declared.graph.Reset.{Reset}
-use Rattle.aig_graph.specs.declared.graph.Reset.TheVariants.{Free, One, Zero}
 use Rattle.aig_graph.specs.declared.properties.Props.{Props}
 use Rattle.aig_graph.specs.declared.properties.Symbols.{Symbols}
 use Rattle.rebuild.proofs.BorderLaws.{closed-passable, latched-cases, latched-latch, latched-member, member-gate, outside_where, new_variable-latched, new_variable-leaf, new_variable-outside, read-first, read-next, read-second}
@@ -29,6 +27,7 @@ use Rattle.rebuild.proofs.FreeLaws.{moved-free, moved-free_at}
 use Rattle.rebuild.proofs.MovedLaws.{copies_start-is, copy_in, copy_variable-is, latch_in, moved-first_gate, moved-first_latch, moved-inputs, gate_in}
 use Rattle.rebuild.proofs.ReadLaws.{IsReadable, all-readable, moved-literals, moved-shape}
 use Rattle.aig_graph.proofs.SignLaws.{value-gate_of, value_signed, value_signed_as}
+use Rattle.aig_graph.proofs.StreamLaws.{opening-same}
 use Rattle.rebuild.proofs.StartLaws.{opening-reset_to, value-gate, value-latch_later, value-latch_start, value-start_value}
 use Rattle.rebuild.specs.Moved.{advanced, advanced_literal, copy_for, copy_variable, gate_between, gate_for, is_latched, is_outside, latch_for, latch_from, moved_graph, moved_literal, moved_of, moved_props, moved_symbols, new_variable, next_of}
 use Rattle.rebuild.specs.Starting.{start_value}
@@ -36,11 +35,6 @@ use Rattle.variable_tables.proofs.PlacesLaws.{count-lt}
 use Rattle.variable_tables.proofs.ListLaws.{map-map, map-same}
 use Rattle.variable_tables.specs.Counting.{count_below}
 use Rattle.variable_tables.specs.Marking.{has}
-
-opening-same : (r : Reset) (next : ℕ) (a b : Bool) → (is_free (record { next = next; reset = r }) ≡ true → a ≡ b) → opening r a ≡ opening r b
-opening-same Zero next a b same = refl
-opening-same One next a b same = refl
-opening-same Free next a b same = same refl
 
 module _ (m : Move) (valid : IsGraph m.circuit.aig) (set : IsClosedSet m.circuit.aig m.held m.set) (moved : IsGraph (moved_graph m)) (x : Inputs) (f : Choice) where
   abbrev before : ℕ → ℕ → Bool

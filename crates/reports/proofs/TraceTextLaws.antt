@@ -1,5 +1,5 @@
 -- The text of a trace, by numbers.
-use Rattle.std.proofs.Common.{ℕ, ◌+◌, ◌≡◌, ◌<◌, ◌++◌, Bool, false, suc, List, [], ◌∷◌, length, map, get_or, slice_get, Option, Some, None, unwrap_or, refl, ap, ap₂, sym, ◌∙◌, arith, subst}
+use Rattle.std.proofs.Common.{ℕ, ◌+◌, ◌≡◌, ◌<◌, ◌++◌, Bool, false, suc, List, [], ◌∷◌, length, map, get_or, slice_get, Option, Some, None, unwrap_or, refl, ap, ap₂, sym, ◌∙◌, arith, subst, zero-add}
 use Rattle.std.specs.List.{flat_map, range_with_len}
 use Rattle.std.proofs.lemmas.Option.{unwrap_or-slice_get}
 use Rattle.counted_io.specs.Output.{Output}
@@ -30,9 +30,6 @@ by_number f g d (x ∷ xs) a each =
     let there : a + 1 + i ≡ a + suc i = omega arith in
     ap g there ∙ each (suc i) (omega arith)))
 
-zeroth : (i : ℕ) → 0 + i ≡ i
-zeroth i = omega arith
-
 digits_flat : (row : List Bool) → flat_map (λ b. digit b ∷ []) row ≡ map digit row
 digits_flat [] = refl
 digits_flat (b ∷ row) = ap (λ xs. digit b ∷ xs) (digits_flat row)
@@ -40,7 +37,7 @@ digits_flat (b ∷ row) = ap (λ xs. digit b ∷ xs) (digits_flat row)
 values_are : (t : List (List (List Bool))) (s k : ℕ) → values_at t s k ≡ map digit (get_or (get_or t s []) k [])
 unfolding values_at
 values_are t s k =
-    by_number (λ b. digit b ∷ []) (digit_at t s k) false (get_or (get_or t s []) k []) 0 (λ i l. ap (digit_at t s k) (zeroth i)) ∙ digits_flat (get_or (get_or t s []) k [])
+    by_number (λ b. digit b ∷ []) (digit_at t s k) false (get_or (get_or t s []) k []) 0 (λ i l. ap (digit_at t s k) (zero-add i)) ∙ digits_flat (get_or (get_or t s []) k [])
 
 step_is : (t : List (List (List Bool))) (s k : ℕ) → step_at t s k ≡ step_line (get_or (get_or t s []) k [])
 unfolding step_at
@@ -48,7 +45,7 @@ step_is t s k = ap (λ xs. 58 ∷ (xs ++ 10 ∷ [])) (values_are t s k)
 
 steps_are : (t : List (List (List Bool))) (s : ℕ) → steps_at t s ≡ flat_map step_line (get_or t s [])
 unfolding steps_at
-steps_are t s = by_number step_line (step_at t s) [] (get_or t s []) 0 (λ i l. ap (step_at t s) (zeroth i) ∙ step_is t s i)
+steps_are t s = by_number step_line (step_at t s) [] (get_or t s []) 0 (λ i l. ap (step_at t s) (zero-add i) ∙ step_is t s i)
 
 sequence_is : (t : List (List (List Bool))) (s : ℕ) → sequence_at t s ≡ sequence_lines (get_or t s [])
 unfolding sequence_at
@@ -57,10 +54,10 @@ sequence_is t s = ap (λ xs. 61 ∷ 10 ∷ xs) (steps_are t s)
 -- the text by numbers is the text
 pub text_is : (t : List (List (List Bool))) → sequences_at t ≡ trace_text t
 unfolding sequences_at trace_text
-text_is t = by_number sequence_lines (sequence_at t) [] t 0 (λ i l. ap (sequence_at t) (zeroth i) ∙ sequence_is t i)
+text_is t = by_number sequence_lines (sequence_at t) [] t 0 (λ i l. ap (sequence_at t) (zero-add i) ∙ sequence_is t i)
 
 module _ {W : Type 0} {output : W → Output} where
   -- the text of one number more, from 0 on
   pub puts-up : {b c d : Buffered W} (f : ℕ → List ℕ) (n : ℕ) → Puts output b c (flat_map f (range_with_len 0 n)) → Puts output c d (f n)
       → Puts output b d (flat_map f (range_with_len 0 (n + 1)))
-  puts-up {c = c} {d = d} f n before text = puts-range_next f 0 n before (subst (λ k. Puts output c d (f k)) (sym (zeroth n)) text)
+  puts-up {c = c} {d = d} f n before text = puts-range_next f 0 n before (subst (λ k. Puts output c d (f k)) (sym (zero-add n)) text)

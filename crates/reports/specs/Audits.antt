@@ -3,7 +3,7 @@ use Rattle.std.specs.Prelude.{ℕ, List, [], ◌∷◌, ◌++◌, take, Option, 
 use Rattle.counted_io.specs.Line.{numbered_lines}
 use Rattle.certificates.specs.declared.certificate.Certificate.{Certificate}
 use Rattle.certificates.specs.declared.verdict.Objection.{Objection}
-use Rattle.certificates.specs.declared.verdict.Objection.TheVariants.{NotClosed, BadRoute, UsedTwice, CountDiffers}
+use Rattle.certificates.specs.Objections.{objection_name}
 use Rattle.certificate_audits.specs.declared.outcome.Audit.{Audit}
 use Rattle.certificate_audits.specs.declared.outcome.End.{End}
 use Rattle.certificate_audits.specs.declared.outcome.End.TheVariants.{NoBlocks, Certified, Open, BlocksFollow, Objected}
@@ -13,12 +13,6 @@ use Rattle.reports.specs.Agreements.{agreement_text}
 -- the line of a confirmed block
 abbrev pub block_line : ℕ → Certificate → List ℕ
 block_line number block = codes "block " ++ (decimal number ++ (codes ": yes, count " ++ (decimal block.count ++ 10 ∷ [])))
-
-abbrev pub objection_name : Objection → List ℕ
-objection_name NotClosed = codes "NotClosed"
-objection_name BadRoute = codes "BadRoute"
-objection_name UsedTwice = codes "UsedTwice"
-objection_name CountDiffers = codes "CountDiffers"
 
 -- the line of the block with this number, which isn't confirmed
 abbrev pub objection_line : ℕ → Objection → List ℕ

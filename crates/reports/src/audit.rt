@@ -4,7 +4,8 @@ ghost use Rattle.std.specs.Prelude.{◌≡◌, take};
 ghost use Rattle.counted_io.specs.Buffered.{Puts};
 ghost use Rattle.counted_io.specs.Line.{numbered_lines};
 ghost use Rattle.counted_io.specs.Output.{Writes};
-ghost use Rattle.reports.specs.Audits.{audit_text, block_line, end_text, objection_line, objection_name};
+ghost use Rattle.reports.specs.Audits.{audit_text, block_line, end_text, objection_line};
+ghost use Rattle.certificates.specs.Objections.{objection_name};
 
 use crate::agreement::{Agreement, put_agreement};
 use certificate_audits::{Audit, End};
@@ -34,12 +35,7 @@ fn put_blocks<W: CountedWrite>(out: &mut Buffered<'_, W>, blocks: &[Certificate]
 fn put_name<W: CountedWrite>(out: &mut Buffered<'_, W>, objection: Objection)
     ensures { Puts W.output out.old out.new (objection_name objection) }
 {
-    match objection {
-        Objection::NotClosed => out.put(b"NotClosed"),
-        Objection::BadRoute => out.put(b"BadRoute"),
-        Objection::UsedTwice => out.put(b"UsedTwice"),
-        Objection::CountDiffers => out.put(b"CountDiffers"),
-    }
+    out.put(objection.name().as_bytes());
 }
 
 /// Puts the line of a block that isn't confirmed, whose number counts from 0.

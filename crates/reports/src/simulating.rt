@@ -12,9 +12,9 @@ ghost use Rattle.reports.specs.Simulating.{IsRoomFor, digits_of, lines_of, seque
 ghost use Rattle.reports.specs.Traces.{trace_text};
 
 use crate::trace::digit;
-use aig_graph::{Circuit, Lit, NoMemory};
+use aig_graph::{Circuit, Lit, NoMemory, property_literals};
 use counted_io::{Buffered, CountedWrite, WriteError};
-use lane_sim::{InputSequence, State, Stimulus, Values, property_literals};
+use lane_sim::{InputSequence, State, Stimulus, Values};
 use std::alloc::Global;
 
 /// Room for simulating a circuit, step by step.

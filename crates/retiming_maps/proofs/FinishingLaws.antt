@@ -1,15 +1,12 @@
 -- The finished parts are a map as a circuit.
-use Rattle.std.proofs.Common.{ℕ, List, [], length, arith, refl, sym, subst}
+use Rattle.std.proofs.Common.{ℕ, List, length, arith, refl, sym, subst}
 use Rattle.aig_graph.specs.Circuits.{AreNamesBelow, IsNetlist, Netlist}
+use Rattle.aig_graph.proofs.HoldingLaws.{no-names}
 use Rattle.state_maps.specs.MapCircuits.{FreeStay, IsMapCircuit}
 use Rattle.retiming_maps.specs.declared.parts.MapParts.{MapParts}
 use Rattle.retiming_maps.specs.Mapping.{IsMapTo, map_of, map_symbols}
 use Rattle.retiming_maps.specs.Plain.{IsPlainMap}
 use Rattle.retiming_maps.proofs.FreeLaws.{free-stay}
-
--- no names are names of places
-pub no-names : (n : ℕ) → AreNamesBelow n []
-no-names n = record { rising = λ k less. absurd (omega (arith, less)); below = λ k a less. absurd (omega (arith, less)) }
 
 module _ (c d : Netlist) (kept : List ℕ) (m : MapParts) (one : IsNetlist c) (two : IsNetlist d) (map : IsMapTo c d kept m) where
   -- the parts of a map with the names are a netlist

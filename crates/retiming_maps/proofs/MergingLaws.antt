@@ -6,6 +6,7 @@ use Rattle.aig_graph.specs.Circuits.{Netlist}
 use Rattle.aig_graph.specs.Graph.{Graph, first_latch, free_latches}
 use Rattle.aig_graph.specs.Laws.{all_free, composed}
 use Rattle.aig_graph.specs.Streams.{AreKept, SameStreams}
+use Rattle.aig_graph.proofs.StreamLaws.{composed-every}
 use Rattle.clean.specs.declared.cleaning.Cleaned.{Cleaned}
 use Rattle.cleaned_circuits.specs.Merged.{replaced_circuit}
 use Rattle.cleaned_circuits.proofs.MergedLaws.{length-replaced_latches}
@@ -21,7 +22,6 @@ use Rattle.map_circuits.specs.Following.{state_of}
 use Rattle.map_circuits.specs.Steps.{read_functions}
 use Rattle.map_circuits.proofs.ReadFunctionLaws.{merged-step, read-within}
 use Rattle.state_maps.specs.States.{IsStateMap}
-use Rattle.state_maps.proofs.MergedRunMapLaws.{composed-every}
 use Rattle.retimed_circuits.specs.Frames.{CleansTo}
 use Rattle.retimed_circuits.specs.Names.{StayHeld}
 use Rattle.retimed_circuits.proofs.HeldLaws.{cleaning-keeps}

@@ -14,13 +14,11 @@ use Rattle.cleaned_circuits.proofs.MergedLaws.{IsGraph-merged}
 use Rattle.cleaned_circuits.proofs.PassLaws.{IsCircuit, IsCircuit-pass, pass-streams}
 use Rattle.rebuild.specs.Moved.{moved_graph, moved_of}
 use Rattle.rebuild.proofs.MovedLaws.{IsGraph-moved}
-use Rattle.variable_tables.specs.Counting.{places}
 use Rattle.state_maps.specs.States.{IsStateMap, State}
 use Rattle.state_maps.specs.Cleaning.{SubstitutesHold, held_by, trimmed_state}
 use Rattle.state_maps.specs.Moving.{moved_state}
 use Rattle.state_maps.proofs.FrameMapLaws.{restated}
 use Rattle.state_maps.proofs.MapLaws.{maps-compose, moving-maps}
-use Rattle.state_maps.proofs.MergedRunMapLaws.{composed-every}
 use Rattle.state_maps.proofs.PassStepLaws.{cleaning-maps, small-many}
 use Rattle.map_circuits.specs.Constraining.{AddsSubstitutes, AreOne}
 use Rattle.map_circuits.specs.Following.{state_of}
@@ -33,7 +31,7 @@ use Rattle.retiming_maps.specs.Mapping.{IsMapBy, IsMapTo, LeadsOn}
 use Rattle.retiming_maps.proofs.FreeLaws.{free-moved, free-passed, kept-then, pass-places}
 use Rattle.retiming_maps.proofs.SubstitutesLaws.{latch_substitutes, substitutes-below, substitutes-hold}
 use Rattle.clean.proofs.CleaningLaws.{composed-then}
-use Rattle.aig_graph.proofs.StreamLaws.{funext}
+use Rattle.aig_graph.proofs.StreamLaws.{funext, composed-every}
 
 module _ (c d e : Netlist) (held kept second still : List ℕ) (g h : Graph) (functions new old constraints : List ℕ) where
   -- a map that goes on through a pass, with constraints of what stands for each latch, is a map to what the pass makes

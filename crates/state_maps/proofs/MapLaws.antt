@@ -1,5 +1,5 @@
 -- State maps: of a move, one after another, and what comes back through them.
-use Rattle.std.proofs.Common.{ℕ, ◌+◌, ◌*◌, ◌<◌, ◌≡◌, suc, zero, map, Bool, true, false, Option, Some, None, slice_get, get_or, List, [], ◌∷◌, ◌++◌, refl, arith, ap, sym, ◌∙◌, subst}
+use Rattle.std.proofs.Common.{ℕ, ◌+◌, ◌*◌, ◌<◌, ◌≡◌, suc, zero, map, Bool, true, false, Option, Some, None, slice_get, get_or, List, ◌++◌, refl, arith, ap, sym, ◌∙◌, subst}
 use Rattle.std.specs.List.{All, flat_map}
 use Rattle.std.proofs.lemmas.List.{get_or-map, map-append}
 use Rattle.aig_graph.proofs.PropsLaws.{flat-map_map, of_literals}
@@ -20,19 +20,13 @@ use Rattle.rebuild.proofs.MovedLaws.{IsGraph-moved, moved-first_latch}
 use Rattle.rebuild.proofs.ReadLaws.{IsReadable, all-readable}
 use Rattle.rebuild.proofs.StreamLaws.{latched-start}
 use Rattle.rebuild.specs.Moved.{is_latched, latch_for, moved_graph, moved_literal, moved_of, new_variable}
-use Rattle.variable_tables.proofs.ListLaws.{map-map, map-same, slice_get-map_some}
+use Rattle.variable_tables.proofs.ListLaws.{map-map, map-same, slice_get-map_some, slice_get-map_none}
 use Rattle.variable_tables.proofs.PlacesLaws.{Ranks, rank_at}
 use Rattle.variable_tables.specs.Counting.{places}
 use Rattle.state_maps.specs.States.{Digits, IsAllowed, IsStateMap, SameReads, State, after_step, opening_state}
 use Rattle.state_maps.specs.Moving.{held_value, moved_state}
 use Rattle.state_maps.specs.Laws.{InvariantsComeBack, MapsCompose, MapsGiveStreams, MovingMaps}
 use Rattle.state_maps.proofs.MoveStepLaws.{moved_literal-value, next_latched-value}
-
--- what is past a list is past its map
-pub slice_get-map_none : {A B : Type 0} (f : A → B) (xs : List A) (k : ℕ) → slice_get xs k ≡ None → slice_get (map f xs) k ≡ None
-slice_get-map_none f [] k e = refl
-slice_get-map_none f (x ∷ xs) zero e = absurd (cc)
-slice_get-map_none f (x ∷ xs) (suc k) e = slice_get-map_none f xs k e
 
 -- properties that are mapped have the values that they had, where each literal does
 module _ (f : ℕ → ℕ) (P : ℕ → Type 0) (after before : ℕ → Bool) (same : (lit : ℕ) → P lit → after (f lit) ≡ before lit) where

@@ -1,16 +1,14 @@
 -- What a circuit is retimed to after its latches were merged has a map of the circuit's states.
-use Rattle.std.proofs.Common.{zero-add, ℕ, Bool, ◌<◌, ◌≡◌, ◌&&◌, length, List, Option, get_or, arith, ap, sym, ◌∙◌, subst}
+use Rattle.std.proofs.Common.{ℕ, Bool, ◌≡◌, ◌&&◌, length, List, Option, sym, subst}
 use Rattle.std.specs.Bool.{IsTrue}
-use Rattle.std.specs.List.{range_with_len}
 use Rattle.std.proofs.lemmas.Bool.{and_from, and_parts}
-use Rattle.std.proofs.lemmas.List.{ext_get_or, length-map, get_or-map}
-use Rattle.std.proofs.lemmas.List.FromFn.{get_or-range_with_len, length-range_with_len}
 use Rattle.aig_graph.specs.Circuits.{Netlist}
 use Rattle.aig_graph.specs.Graph.{IsGraph, free_latches}
 use Rattle.aig_graph.specs.Keep.{Holding, held_of}
 use Rattle.aig_graph.specs.Laws.{all_free, composed}
 use Rattle.aig_graph.specs.Streams.{AreKept, SameStreams}
 use Rattle.aig_graph.specs.declared.choice.Choice.{Choice}
+use Rattle.aig_graph.proofs.StreamLaws.{composed-every}
 use Rattle.cleaned_circuits.proofs.PassLaws.{IsCircuit, IsCircuit-cleans, cleans-streams}
 use Rattle.merged_latches.proofs.MergingLaws.{IsGraph-merged_latches, IsNetlist-merged_latches, merged-streams}
 use Rattle.retimed_circuits.specs.declared.report.Retimed.{Retimed}
@@ -30,17 +28,6 @@ compose-has c d e kept left valid places p q = (
       (λ s both. and_from (p.0 s) (q.0 (p.1 s)) both.0 both.1) (λ s h. and_parts (p.0 s) (q.0 (p.1 s)) h)
       (maps-compose c d e kept left (λ s. IsTrue (p.0 s)) (λ s. IsTrue (q.0 s)) p.1 q.1 valid places p.2 q.2),
 )
-
--- a list with all its places is itself
-pub composed-every : (kept : List ℕ) (n : ℕ) → length kept ≡ n → composed kept (range_with_len 0 n) ≡ kept
-composed-every kept n long =
-    let f : ℕ → ℕ = λ place. get_or kept place 0 in
-    let places : List ℕ = range_with_len 0 n in
-    let all : length (composed kept places) ≡ n = length-map places f ∙ length-range_with_len 0 n in
-    ext_get_or 0 (composed kept places) kept (all ∙ sym long) (λ j h.
-    let within : j < n = omega (arith, h, all) in
-    let there : j < length places = omega (arith, within, length-range_with_len 0 n) in
-    get_or-map f places j 0 0 there ∙ ap f (get_or-range_with_len 0 n j 0 within ∙ zero-add j))
 
 -- a retiming of a circuit that was merged first has a state map
 pub merged-retiming_maps : (bound : Option ℕ) (choice : Choice) (holding : Holding) (c : Netlist) (max_frames : ℕ) (certify : Bool) (r : Retimed) → MergedRetimingMaps bound choice holding c max_frames certify r

@@ -3,6 +3,7 @@ use Rattle.std.proofs.Common.{zero-add, ℕ, ◌+◌, ◌*◌, ◌<◌, ◌≤�
 use Rattle.std.specs.Bool.{IsTrue}
 use Rattle.std.specs.List.{range_with_len}
 use Rattle.std.proofs.lemmas.List.FromFn.{get_or-range_with_len}
+use Rattle.variable_tables.proofs.ListLaws.{slice_get-map_none}
 use Rattle.aig_graph.proofs.KindLaws.{kind_of, is_constant, is_input, is_latch, is_gate}
 use Rattle.aig_graph.proofs.PropsLaws.{literals_within, of_literals}
 use Rattle.aig_graph.proofs.SignLaws.{value_signed, value-gate_of}
@@ -21,7 +22,7 @@ use Rattle.merged_latches.proofs.ReadingLaws.{are-leaves}
 use Rattle.state_maps.specs.States.{Digits, IsStateMap, State, after_step, opening_state}
 use Rattle.state_maps.specs.Retimed.{HasStateMap}
 use Rattle.state_maps.proofs.FrameMapLaws.{restated}
-use Rattle.state_maps.proofs.MapLaws.{mapped-reads, opening-same, slice_get-map_none}
+use Rattle.state_maps.proofs.MapLaws.{mapped-reads, opening-same}
 use Rattle.state_maps.proofs.WithinLaws.{WithinLaws, within_laws}
 use Rattle.state_maps.specs.MergedStates.{ReadsHold, reads_right}
 use Rattle.state_maps.specs.MergingLaws.{HasMergingMap, MergingMaps}

@@ -23,13 +23,14 @@ use Rattle.cleaned_circuits.proofs.MergedLaws.{IsGraph-merged, IsNetlist-merged,
 use Rattle.cleaned_circuits.proofs.TrimmedLaws.{LatchFrom, latch_from, latch_in, gate_in, new-low, new-rises, stays-past, stays-reached, trimmed-inputs, trimmed-first_latch, trimmed-first_gate, next-reached, fan_ins-reached, IsGraph-trimmed}
 use Rattle.cleaned_circuits.proofs.KeptFreeLaws.{free-rank, kept_free-at}
 use Rattle.variable_tables.proofs.PlacesLaws.{Ranks, at_rank, rank_at, count-pass, count-fail, count-zero, length-places}
+use Rattle.variable_tables.proofs.ListLaws.{slice_get-map_none}
 use Rattle.variable_tables.specs.Counting.{count_below, places}
 use Rattle.state_maps.specs.States.{Digits, IsStateMap, SameReads, State, after_step, opening_state}
 use Rattle.state_maps.specs.Cleaning.{SubstitutesHold, held_by, trimmed_state}
 use Rattle.state_maps.specs.Laws.{CleaningMaps}
 use Rattle.state_maps.proofs.WithinLaws.{WithinLaws, within_laws}
-use Rattle.state_maps.proofs.MapLaws.{mapped-reads, reads-transitive, slice_get-map_none}
-use Rattle.aig_graph.proofs.StreamLaws.{funext}
+use Rattle.state_maps.proofs.MapLaws.{mapped-reads, reads-transitive}
+use Rattle.aig_graph.proofs.StreamLaws.{funext, opening-same}
 
 -- the constant of a reset has one value in all states
 pub constant-within : (g : Graph) (x y : Digits) (s t : State) → IsGraph g → (r : Reset) → value_within g x s (constant_of r) ≡ value_within g y t (constant_of r)
@@ -183,11 +184,6 @@ module _ (g : Graph) (held : List ℕ) (valid : IsGraph g) (x : Digits) (s : Sta
               ∙ ap (λ (n : ℕ). opening latch.reset (f n)) (replaced-free_before (substitutes_of g held) g j)
               ∙ sym (ap (opening_at g f j) e)
 
-opening-by : (r : Reset) (next : ℕ) (a b : Bool) → (is_free (record { next = next; reset = r }) ≡ true → a ≡ b) → opening r a ≡ opening r b
-opening-by Zero next a b same = refl
-opening-by One next a b same = refl
-opening-by Free next a b same = same refl
-
 -- the new variable of a latch, by its rank among those that stay
 module _ (g : Graph) (r : ℕ → Bool) where
   abbrev remains : ℕ → Bool
@@ -336,7 +332,7 @@ module _ (c : Netlist) (held : List ℕ) (r : ℕ → Bool) (valid : IsGraph c.a
               λ free. sym (ap (chosen (kept_free c.aig r) f) (free-rank c.aig r j k (omega (arith, ranks.below)) rank) ∙ ap f (kept_free-at c.aig r j latch there.1 free ranks.passes)) in
               ap (held_by (opening_state c.aig f)) e
               ∙ ap (opening_at c.aig f j) there.1
-              ∙ opening-by latch.reset latch.next (f (free_before c.aig j)) (chosen (kept_free c.aig r) f (free_before small k)) same
+              ∙ opening-same latch.reset latch.next (f (free_before c.aig j)) (chosen (kept_free c.aig r) f (free_before small k)) same
               ∙ sym (ap (opening_at small (chosen (kept_free c.aig r) f) k) (ap (slice_get small.latches) (sym ranks.rank) ∙ small-latch j latch there.1 ranks.passes))
 
 -- a pass maps states, where what stands for each latch is what it holds

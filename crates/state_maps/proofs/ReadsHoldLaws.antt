@@ -1,12 +1,11 @@
 -- Each latch holds what it reads as, at the start and from step to step.
 use Rattle.std.proofs.Common.{ℕ, ◌+◌, ◌-◌, ◌*◌, ◌<◌, ◌≡◌, inl, inr, suc, zero, length, List, [], ◌∷◌, Bool, true, false, not, ◌&&◌, Some, slice_get, get_or, refl, arith, ap, sym, ◌∙◌, subst}
-use Rattle.std.proofs.Math.Bool.{not-not}
 use Rattle.std.proofs.lemmas.Bool.{and_from, and_parts, cases_lt}
 use Rattle.std.proofs.lemmas.Option.{none-some}
 use Rattle.aig_graph.proofs.KindLaws.{element}
 use Rattle.aig_graph.proofs.SignLaws.{value_signed_as}
 use Rattle.aig_graph.specs.Graph.{Graph, IsGraph, IsGateAt, variable, variables_end, first_latch, first_gate, is_free, free_before}
-use Rattle.aig_graph.specs.Value.{Choice, next_value, opening, opening_at, signed, value_within}
+use Rattle.aig_graph.specs.Value.{Choice, next_value, opening_at, value_within}
 use Rattle.aig_graph.specs.declared.graph.Gate.{Gate}
 use Rattle.aig_graph.specs.declared.graph.Latch.{Latch}
 use Rattle.aig_graph.specs.declared.graph.Reset.{Reset}
@@ -18,27 +17,12 @@ use Rattle.cleaned_circuits.proofs.SubstituteLaws.{GateOf, IsRight, gates-of, le
 use Rattle.merged_latches.specs.Readings.{own_literal, read, from_reset, ReadsAs, as_itself, as_constant, as_first, leaves, substitutes_by, signature}
 use Rattle.merged_latches.specs.Partitions.{IsInductive}
 use Rattle.merged_latches.proofs.ReadingLaws.{are-leaves, leaf-low, leaf-latch}
-use Rattle.merged_latches.proofs.ValueLaws.{may-known}
+use Rattle.merged_latches.proofs.ValueLaws.{may-known, flipped, flipped-twice, opening-known}
 use Rattle.state_maps.specs.States.{Digits, State, after_step, opening_state}
 use Rattle.state_maps.specs.Retimed.{agrees}
 use Rattle.state_maps.proofs.FrameMapLaws.{agrees-is, is-agrees}
 use Rattle.state_maps.proofs.WithinLaws.{WithinLaws, within_laws}
 use Rattle.state_maps.specs.MergedStates.{ReadsHold, reads_right}
-
--- a value negated where the reset is 1
-abbrev flipped : Reset → Bool → Bool
-flipped reset b = signed (constant_of reset) b
-
-flipped-twice : (reset : Reset) (b : Bool) → flipped reset (flipped reset b) ≡ b
-flipped-twice Zero b = refl
-flipped-twice One b = not-not b
-flipped-twice Free b = refl
-
--- a known latch begins with its reset
-opening-known : (reset : Reset) (next : ℕ) (b : Bool) → is_free (record { next = next; reset = reset }) ≡ false → opening reset b ≡ flipped reset false
-opening-known Zero next b known = refl
-opening-known One next b known = refl
-opening-known Free next b known = absurd (cc)
 
 -- what literals have in a state
 module _ (g : Graph) (valid : IsGraph g) (x : Digits) (s : State) where

@@ -1,6 +1,6 @@
 -- What the units of a balanced flow weigh on the far side of a closed set.
 use Rattle.std.proofs.Common.{◌≡◌, ℕ, suc, zero, ◌+◌, ◌-◌, ◌*◌, ◌<◌, ◌≤◌, ◌==◌, nat_lt, Bool, true, false, not, ◌&&◌, ◌||◌, List, length, slice_index, arith, refl, ap, ap₂, sym, ◌∙◌, inl, inr}
-use Rattle.std.proofs.lemmas.Bool.{cases_Bool, lt-ltb, le-ltb, eqb-true, eq-eqb, and_parts, cond-true, cond-false, or_left, not-true, false_from_ne_true}
+use Rattle.std.proofs.lemmas.Bool.{cases_Bool, lt-ltb, le-ltb, eqb-true, eq-eqb, and_parts, cond-true, cond-false, or_left, not-true, false_from_ne_true, true≢false}
 use Rattle.flow_theory.specs.Flow.{sum_below}
 use Rattle.flow_theory.proofs.SumLaws.{sum_below-add, sum_below-same, sum_below-le, rise-le}
 use Rattle.variable_tables.specs.Counting.{count_below}
@@ -75,8 +75,8 @@ module _ (c : Netlist) (held r : List ℕ) (flows : List GateFlow) (went came : 
           before_is = unit-false _ (far-outside c r (first_gate c.aig + k) low ∙ ap not member);
           after_le = unit-le _;
           border_is = ap unit (holder-borders c held r set (first_gate c.aig + k) (or-right-true (is_known (latch_at c.aig (first_gate c.aig + k))) (has r (first_gate c.aig + k)) member));
-          before1_is = unit-false _ (not-far (variable (nth_gate c.aig k).rhs1) (λ far. true_false' (sym member ∙ fan_in-far c held r set (variable (nth_gate c.aig k).rhs1) (first_gate c.aig + k) (nth_gate c.aig k) (nth-at c.aig k h) (fan1 k) far)));
-          before2_is = unit-false _ (not-far (variable (nth_gate c.aig k).rhs0) (λ far. true_false' (sym member ∙ fan_in-far c held r set (variable (nth_gate c.aig k).rhs0) (first_gate c.aig + k) (nth_gate c.aig k) (nth-at c.aig k h) (fan0 k) far)));
+          before1_is = unit-false _ (not-far (variable (nth_gate c.aig k).rhs1) (λ far. true≢false (sym member ∙ fan_in-far c held r set (variable (nth_gate c.aig k).rhs1) (first_gate c.aig + k) (nth_gate c.aig k) (nth-at c.aig k h) (fan1 k) far)));
+          before2_is = unit-false _ (not-far (variable (nth_gate c.aig k).rhs0) (λ far. true≢false (sym member ∙ fan_in-far c held r set (variable (nth_gate c.aig k).rhs0) (first_gate c.aig + k) (nth_gate c.aig k) (nth-at c.aig k h) (fan0 k) far)));
         })
         | inr out ↦ (
             let gate = outside-gate c held r set (first_gate c.aig + k) low out in
@@ -91,9 +91,6 @@ module _ (c : Netlist) (held r : List ℕ) (flows : List GateFlow) (went came : 
             }))
       ]
     where
-      true_false' : true ≡ false → ⊥
-      true_false' e = absurd (cc)
-
       or-right-true : (a b : Bool) → b ≡ true → (a || b) ≡ true
       or-right-true true b e = refl
       or-right-true false b e = e

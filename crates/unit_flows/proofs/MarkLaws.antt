@@ -1,10 +1,10 @@
 -- Marks that stay within a set of nodes.
 use Rattle.std.proofs.Common.{◌≡◌, ◌⊎◌, ℕ, ◌+◌, ◌-◌, ◌<◌, ◌≤◌, ◌==◌, nat_le, Bool, true, false, not, ◌&&◌, List, length, map, get_or, replicate, arith, refl, ap, sym, ◌∙◌, subst, inl, inr}
-use Rattle.std.proofs.lemmas.Bool.{cases_lt, le-leb, leb-true, eqb-true, or_cases, and_parts, and_right}
-use Rattle.std.proofs.lemmas.List.{get_or_past, get_or-map, get_or-replicate, length-replicate}
+use Rattle.std.proofs.lemmas.Bool.{cases_lt, le-leb, leb-true, eqb-true, or_cases, and_parts, true≢false, false≢true}
+use Rattle.std.proofs.lemmas.List.{get_or_past, get_or-map}
 use Rattle.variable_tables.specs.Marking.{Marks, mark_at}
 use Rattle.variable_tables.specs.Tables.{table}
-use Rattle.variable_tables.proofs.MarkingLaws.{AreMarks-table}
+use Rattle.variable_tables.proofs.MarkingLaws.{AreMarks-table, none-marked}
 use Rattle.variable_tables.proofs.TableLaws.{length-table}
 use Rattle.aig_graph.specs.Graph.{first_latch, latches_and_gates}
 use Rattle.aig_graph.specs.Circuits.{Netlist}
@@ -25,11 +25,8 @@ mark-new first old new p v marks e =
         | inl before ↦ inl (ap (λ (b : Bool). b && get_or old (v - first) false) parts.0 ∙ before)
         | inr now ↦ inr (sym (ap p place) ∙ now)
       ]
-      | inr past ↦ absurd (false_true (sym (get_or_past new (v - first) false (omega (arith, past, marks.as_long))) ∙ parts.1))
+      | inr past ↦ absurd (false≢true (sym (get_or_past new (v - first) false (omega (arith, past, marks.as_long))) ∙ parts.1))
     ]
-  where
-    false_true : false ≡ true → ⊥
-    false_true e = absurd (cc)
 
 one : (wished : Bool) (var v : ℕ) (b : ℕ → Bool) → (wished ≡ true → b var ≡ true) → (wished && (var == v)) ≡ true → b v ≡ true
 one wished var v b h e =
@@ -52,26 +49,15 @@ within-after first var xs new ys wished b a within marks h = record {
   each_after = λ v e. elim (mark-new first xs new (λ v. wished && (var == v)) v marks e) [ inl old ↦ within.each_after v old | inr now ↦ one wished var v a h now ];
 }
 
--- nothing is marked in a table of nothing
-nothing-marked : (first n v : ℕ) → mark_at first (replicate n false) v ≡ false
-unfolding mark_at
-nothing-marked first n v = and_right (nat_le first v) (get_or (replicate n false) (v - first) false) (elim (cases_lt (v - first) n) [
-  | inl below ↦ get_or-replicate n (v - first) false false below
-  | inr past ↦ get_or_past (replicate n false) (v - first) false (omega (arith, past, length-replicate n false))
-])
-
 -- before any sweep what leaves is marked after, and nothing before
 pub reach-first : (c : Netlist) (held : List ℕ) (flows : List GateFlow) (n : ℕ) (xs ys : List Bool) → xs ≡ replicate n false → ys ≡ table (first_latch c.aig) (latches_and_gates c.aig) (is_observed c.aig c.props held)
     → ReachSink c held flows xs ys
 unfolding mark_at
 reach-first c held flows n xs ys none filled b a up = record {
-  each_before = λ v e. absurd (true_false (sym e ∙ ap (λ (zs : List Bool). mark_at (first_latch c.aig) zs v) none ∙ nothing-marked (first_latch c.aig) n v));
+  each_before = λ v e. absurd (true≢false (sym e ∙ ap (λ (zs : List Bool). mark_at (first_latch c.aig) zs v) none ∙ none-marked (first_latch c.aig) n v));
   each_after = λ v e. up.sink v (leaving v e);
 }
   where
-    true_false : true ≡ false → ⊥
-    true_false e = absurd (cc)
-
     leaving : (v : ℕ) → mark_at (first_latch c.aig) ys v ≡ true → is_observed c.aig c.props held v ≡ true
     leaving v e =
         let parts = and_parts (nat_le (first_latch c.aig) v) (get_or ys (v - first_latch c.aig) false) e in
@@ -80,7 +66,7 @@ reach-first c held flows n xs ys none filled b a up = record {
         let long : length ys ≡ latches_and_gates c.aig = ap length filled ∙ length-table (first_latch c.aig) (latches_and_gates c.aig) (is_observed c.aig c.props held) in
         elim (cases_lt (v - first_latch c.aig) (length ys)) [
           | inl below ↦ sym (ap (is_observed c.aig c.props held) place) ∙ sym (AreMarks-table (first_latch c.aig) (latches_and_gates c.aig) ys (is_observed c.aig c.props held) filled (v - first_latch c.aig) below) ∙ parts.1
-          | inr past ↦ absurd (true_false (sym parts.1 ∙ get_or_past ys (v - first_latch c.aig) false past))
+          | inr past ↦ absurd (true≢false (sym parts.1 ∙ get_or_past ys (v - first_latch c.aig) false past))
         ]
 
 -- marks that equal those that all reach the sink all reach the sink
@@ -103,12 +89,9 @@ within-after_at first first' var var' xs new ys wished b a e f within marks h =
 -- in tables of nothing nothing is marked
 pub left-first : (c : Netlist) (held : List ℕ) (flows : List GateFlow) (went came : List ℕ) (n m : ℕ) (xs ys : List Bool) → xs ≡ replicate n false → ys ≡ replicate m false → AreReachedFromLeft c held flows went came xs ys
 left-first c held flows went came n m xs ys none none' b a down = record {
-  each_before = λ v e. absurd (true_false' (sym e ∙ ap (λ (zs : List Bool). mark_at (first_latch c.aig) zs v) none ∙ nothing-marked (first_latch c.aig) n v));
-  each_after = λ v e. absurd (true_false' (sym e ∙ ap (λ (zs : List Bool). mark_at (first_latch c.aig) zs v) none' ∙ nothing-marked (first_latch c.aig) m v));
+  each_before = λ v e. absurd (true≢false (sym e ∙ ap (λ (zs : List Bool). mark_at (first_latch c.aig) zs v) none ∙ none-marked (first_latch c.aig) n v));
+  each_after = λ v e. absurd (true≢false (sym e ∙ ap (λ (zs : List Bool). mark_at (first_latch c.aig) zs v) none' ∙ none-marked (first_latch c.aig) m v));
 }
-  where
-    true_false' : true ≡ false → ⊥
-    true_false' e = absurd (cc)
 
 -- marks that equal those that are all reached from where a unit is left are all reached from there
 pub left-same : (c : Netlist) (held : List ℕ) (flows : List GateFlow) (went came : List ℕ) (xs xs' ys ys' : List Bool) → xs' ≡ xs → ys' ≡ ys → AreReachedFromLeft c held flows went came xs ys → AreReachedFromLeft c held flows went came xs' ys'

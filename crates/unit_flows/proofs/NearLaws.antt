@@ -1,6 +1,6 @@
 -- A full cut, all of whose near side is reached from where units are left, shows the smallest least set.
 use Rattle.std.proofs.Common.{◌≡◌, ℕ, ◌+◌, ◌≤◌, Bool, true, false, not, IsTrue, List, length, arith, refl, ap, sym, ◌∙◌, subst}
-use Rattle.std.proofs.lemmas.Bool.{and_parts, not-true}
+use Rattle.std.proofs.lemmas.Bool.{and_parts, not-true, true≢false}
 use Rattle.variable_tables.specs.Marking.{has, mark_at}
 use Rattle.aig_graph.specs.Graph.{variable, first_latch, first_gate}
 use Rattle.aig_graph.specs.Circuits.{Netlist}
@@ -10,12 +10,13 @@ use Rattle.aig_graph.specs.Border.{border_size}
 use Rattle.aig_graph.proofs.SearchLaws.{has_iff_contains}
 use Rattle.frame_net.specs.Passable.{is_passable}
 use Rattle.frame_net.proofs.NetLaws.{gate-range}
+use Rattle.frame_net.proofs.PassableLaws.{is_true}
 use Rattle.unit_flows.specs.declared.gate_flow.GateFlow.{GateFlow}
 use Rattle.unit_flows.specs.Units.{nth_gate, nth_flow, AreTallies, IsBalanced, arrivals}
 use Rattle.unit_flows.specs.Marks.{HoldsTails}
 use Rattle.unit_flows.specs.Onward.{HoldsHeads, IsDownstream}
 use Rattle.unit_flows.specs.Laws.{ShownSmallestLaw}
-use Rattle.unit_flows.proofs.SideLaws.{true_false, is_true, far_after, far_before, far-outside}
+use Rattle.unit_flows.proofs.SideLaws.{far_after, far_before, far-outside}
 use Rattle.unit_flows.proofs.BalanceLaws.{arrivals-le, left_after-near, left_before-near}
 use Rattle.unit_flows.proofs.ShownLaws.{upstream, closed, border-le}
 
@@ -35,7 +36,7 @@ heads-of b a w gate flow tails = record {
 }
   where
     other : (x y : Bool) → not x ≡ true → (y ≡ true → x ≡ true) → not y ≡ true
-    other x true e h = absurd (true_false (sym (h refl) ∙ not-true x e))
+    other x true e h = absurd (true≢false (sym (h refl) ∙ not-true x e))
     other x false e h = refl
 
 -- the near side of a least set
@@ -72,4 +73,4 @@ shown-smallest-law c held flows went came marks_before marks_after s valid talli
   where
     not-false : (b : Bool) → not b ≡ false → b ≡ true
     not-false true e = refl
-    not-false false e = absurd (true_false e)
+    not-false false e = absurd (true≢false e)

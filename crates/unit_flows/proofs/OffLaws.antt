@@ -5,6 +5,7 @@ use Rattle.variable_tables.specs.Counting.{places}
 use Rattle.variable_tables.specs.Marking.{has, mark_at}
 use Rattle.variable_tables.proofs.PlacesLaws.{places-pass, places-fail, places-zero}
 use Rattle.variable_tables.proofs.CountingLaws.{places-none}
+use Rattle.variable_tables.proofs.MemberLaws.{has-push}
 use Rattle.aig_graph.specs.Graph.{first_latch, first_gate, variables_end}
 use Rattle.aig_graph.specs.Circuits.{Netlist}
 use Rattle.frame_net.specs.Passable.{is_passable}
@@ -18,18 +19,6 @@ all-more P n before here i h = elim (cases_eq i n) [
   | inl same ↦ rw same here
   | inr other ↦ before i (omega (arith, h, other))
 ]
-
-has-push : (xs : List ℕ) (x v : ℕ) → has (xs ++ x ∷ []) v ≡ (has xs v || (x == v))
-has-push [] x v = nil (x == v)
-  where
-    nil : (b : Bool) → (b || false) ≡ (false || b)
-    nil true = refl
-    nil false = refl
-has-push (y ∷ xs) x v = ap (λ (b : Bool). (y == v) || b) (has-push xs x v) ∙ assoc (y == v) (has xs v) (x == v)
-  where
-    assoc : (a b c : Bool) → (a || (b || c)) ≡ ((a || b) || c)
-    assoc true b c = refl
-    assoc false b c = refl
 
 -- a member of the places passes, and is below the bound
 has-places : (p : ℕ → Bool) (n v : ℕ) → has (places p n) v ≡ (p v && nat_lt v n)

@@ -3,7 +3,7 @@ use Rattle.std.proofs.Common.{◌≡◌, ℕ, ◌+◌, ◌-◌, ◌<◌, ◌≤�
 use Rattle.std.specs.Option.{SomeIff, IfSome}
 use Rattle.std.specs.List.{Contains}
 use Rattle.std.specs.List.Sorted.{IsStrictlyIncreasing}
-use Rattle.std.proofs.lemmas.Bool.{cases_Bool, le-ltb, eqb-true, eq-eqb, or_cases, or_left, or_right, or_parts, and_from, and_parts, not-true, false_from_ne_true}
+use Rattle.std.proofs.lemmas.Bool.{cases_Bool, le-ltb, eqb-true, eq-eqb, or_cases, or_left, or_right, or_parts, and_from, and_parts, not-true, false_from_ne_true, true≢false}
 use Rattle.std.proofs.lemmas.Option.{same_Some}
 use Rattle.flow_theory.proofs.SumLaws.{sum_below-le}
 use Rattle.variable_tables.specs.Counting.{count_below}
@@ -22,7 +22,7 @@ use Rattle.aig_graph.proofs.KindLaws.{latch_at-before}
 use Rattle.aig_graph.proofs.SearchLaws.{has_iff_contains}
 use Rattle.frame_net.specs.Passable.{is_passable}
 use Rattle.frame_net.specs.Capacity.{gate_reads, is_observed}
-use Rattle.frame_net.proofs.PassableLaws.{passable-means, passable-at_gate, settled-split}
+use Rattle.frame_net.proofs.PassableLaws.{passable-means, passable-at_gate, settled-split, is_true}
 use Rattle.frame_net.proofs.ReadLaws.{read-split}
 use Rattle.frame_net.proofs.NetLaws.{gate-range}
 use Rattle.unit_flows.specs.declared.gate_flow.GateFlow.{GateFlow}
@@ -30,7 +30,7 @@ use Rattle.unit_flows.specs.Units.{unit, nth_gate, nth_flow, AreTallies, IsBalan
 use Rattle.unit_flows.specs.Marks.{HoldsTails, IsUpstream}
 use Rattle.unit_flows.specs.Shown.{is_off, IsCutAt, crosses, IsFullCut}
 use Rattle.unit_flows.specs.Laws.{BorderLaw, ShownLaw}
-use Rattle.unit_flows.proofs.SideLaws.{true_false, is_true, borders, far_after, far_before, far-outside, nth-at, first-read, second-read, is_observed-far, reads-far, fan_in-far, outside-gate}
+use Rattle.unit_flows.proofs.SideLaws.{borders, far_after, far_before, far-outside, nth-at, first-read, second-read, is_observed-far, reads-far, fan_in-far, outside-gate}
 use Rattle.unit_flows.proofs.GateSumLaws.{unit-true, unit-false, unit-le, full-through, full-first_home, full-second_home, full-first_back, full-second_back}
 use Rattle.unit_flows.proofs.BalanceLaws.{count-sum, split, arrivals-le, full-at}
 
@@ -128,7 +128,7 @@ module _ (c : Netlist) (held : List ℕ) (flows : List GateFlow) (went : List �
         where
           off-gate : is_passable c.aig held u ≡ true → not (before u) ≡ true
           off-gate passes = elim (or_cases (nat_lt u (first_gate c.aig)) (not (before u)) off) [
-            | inl low ↦ absurd (true_false (sym low ∙ le-ltb u (first_gate c.aig) (gate-range c.aig held u passes).0))
+            | inl low ↦ absurd (true≢false (sym low ∙ le-ltb u (first_gate c.aig) (gate-range c.aig held u passes).0))
             | inr yes' ↦ yes'
           ]
 
@@ -146,8 +146,8 @@ module _ (c : Netlist) (held : List ℕ) (flows : List GateFlow) (went : List �
     where
       marked-from : (p b : Bool) → p ≡ true → (p && not b) ≡ false → b ≡ true
       marked-from true true e f = refl
-      marked-from true false e f = absurd (true_false f)
-      marked-from false b e f = absurd (true_false (sym e))
+      marked-from true false e f = absurd (true≢false f)
+      marked-from false b e f = absurd (true≢false (sym e))
 
       by_gate : (v : ℕ) → (is_held c.aig held v || is_read_outside c.aig c.props (has s) v) ≡ true → (is_held c.aig held v ≡ false) × (is_read_outside c.aig c.props (is_passable c.aig held) v ≡ false) → after v ≡ true
       by_gate v out none =
@@ -211,7 +211,7 @@ shown-law c held flows marks_before marks_after s valid shown reach rising membe
           let passes : is_passable c.aig held v ≡ true = is_true (is_passable c.aig held v) ((passable-means c.aig held v).1 (least.closed.closed.passable v m)) in
           let in_r : has r v ≡ true = is_true (has r v) ((has_iff_contains r v).1 m) in
           let off : mark_at (first_latch c.aig) marks_before v ≡ false = false_from_ne_true (mark_at (first_latch c.aig) marks_before v) (λ marked.
-          true_false (sym ((reach (far_before c r) (far_after c held r) up).each_before v marked) ∙ far-outside c r v (gate-range c.aig held v passes).0 ∙ ap not in_r)) in
+          true≢false (sym ((reach (far_before c r) (far_after c held r) up).each_before v marked) ∙ far-outside c r v (gate-range c.aig held v passes).0 ∙ ap not in_r)) in
           (has_iff_contains s v).0 (subst (λ (b : Bool). IsTrue b) (sym (members v ∙ and_from (is_passable c.aig held v) (not (mark_at (first_latch c.aig) marks_before v)) passes (ap not off))) refl);
     }
 

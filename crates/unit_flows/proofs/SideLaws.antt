@@ -1,6 +1,6 @@
 -- The far side of a closed set, variable by variable: what lies behind its border, or outside it.
 use Rattle.std.proofs.Common.{◌≡◌, ℕ, ◌+◌, ◌<◌, ◌≤◌, ◌==◌, nat_lt, Bool, true, false, not, ◌&&◌, ◌||◌, IsTrue, List, length, Option, Some, arith, refl, ap, ap₂, sym, ◌∙◌, subst, inl, inr}
-use Rattle.std.proofs.lemmas.Bool.{cases_Bool, lt-ltb, le-ltb, eqb-true, eq-eqb, or_cases, or_left, or_right, or_parts, not-true, false_from_ne_true}
+use Rattle.std.proofs.lemmas.Bool.{cases_Bool, lt-ltb, le-ltb, eqb-true, eq-eqb, or_cases, or_left, or_right, or_parts, not-true, false_from_ne_true, true≢false}
 use Rattle.std.proofs.lemmas.Option.{slice_get-get_or}
 use Rattle.variable_tables.specs.Marking.{has}
 use Rattle.aig_graph.specs.declared.graph.Gate.{Gate}
@@ -14,19 +14,10 @@ use Rattle.aig_graph.proofs.KindLaws.{latch_at-gates, latch_place}
 use Rattle.aig_graph.proofs.SearchLaws.{has_iff_contains}
 use Rattle.frame_net.specs.Passable.{is_passable}
 use Rattle.frame_net.specs.Capacity.{gate_reads, is_observed}
-use Rattle.frame_net.proofs.PassableLaws.{passable-means}
+use Rattle.frame_net.proofs.PassableLaws.{passable-means, is_true}
 use Rattle.frame_net.proofs.ReadLaws.{read-split, read-by_gate}
 use Rattle.frame_net.proofs.NetLaws.{gate-range}
 use Rattle.unit_flows.specs.Units.{nth_gate}
-
--- true isn't false
-pub true_false : true ≡ false → ⊥
-true_false e = absurd (cc)
-
--- a test that holds is true
-pub is_true : (b : Bool) → IsTrue b → b ≡ true
-is_true true t = refl
-is_true false t = absurd (cc)
 
 -- whether a variable is in the border of the set
 unfoldable pub borders : Netlist → List ℕ → List ℕ → ℕ → Bool
@@ -82,7 +73,7 @@ module _ (c : Netlist) (held r : List ℕ) (set : IsClosedSet c.aig held r) wher
       | inl yes' ↦ yes'
       | inr no' ↦ (
           let q = read-split c.aig c.props (is_passable c.aig held) (has r) v read no' in
-          absurd (true_false (sym (member-passable q.0 q.3) ∙ q.2)))
+          absurd (true≢false (sym (member-passable q.0 q.3) ∙ q.2)))
     ])
   ])
 
@@ -105,8 +96,8 @@ module _ (c : Netlist) (held r : List ℕ) (set : IsClosedSet c.aig held r) wher
       parts = or_parts (nat_lt v (first_gate c.aig)) (has r v) (not-true (nat_lt v (first_gate c.aig) || has r v) far)
 
       inside : IsLatchOrIn c.aig r v → ⊥
-      inside (inl latch) = true_false (sym (lt-ltb v (first_gate c.aig) (latch_place c.aig v latch.0 latch.1).below) ∙ parts.0)
-      inside (inr member) = true_false (sym (is_true (has r v) ((has_iff_contains r v).1 member)) ∙ parts.1)
+      inside (inl latch) = true≢false (sym (lt-ltb v (first_gate c.aig) (latch_place c.aig v latch.0 latch.1).below) ∙ parts.0)
+      inside (inr member) = true≢false (sym (is_true (has r v) ((has_iff_contains r v).1 member)) ∙ parts.1)
 
   -- a gate outside the set is no variable of its border, and the node after it lies on the far side
   pub outside-gate : (v : ℕ) → first_gate c.aig ≤ v → has r v ≡ false → (far_after c held r v ≡ true) × (borders c held r v ≡ false)

@@ -15,6 +15,19 @@ count_below-same p q (suc n) same =
     let before : count_below p n ≡ count_below q n = count_below-same p q n (λ v h. same v (omega arith)) in
     rw (here, before)
 
+-- where each number below n that passes one test passes another, the other counts no fewer
+pub count-within : (p q : ℕ → Bool) (n : ℕ) → ((v : ℕ) → v < n → p v ≡ true → q v ≡ true) → count_below p n ≤ count_below q n
+count-within p q zero within = omega (arith, count-zero p, count-zero q)
+count-within p q (suc n) within =
+    let before : count_below p n ≤ count_below q n = count-within p q n (λ v h. within v (omega arith)) in
+    elim (cases_Bool (p n)) [
+      | inl passes ↦ omega (arith, count-pass p n passes, count-pass q n (within n (omega arith) passes), before)
+      | inr fails ↦ elim (cases_Bool (q n)) [
+        | inl other ↦ omega (arith, count-fail p n fails, count-pass q n other, before)
+        | inr neither ↦ omega (arith, count-fail p n fails, count-fail q n neither, before)
+      ]
+    ]
+
 -- a test that no number below n passes counts none there
 pub count-none : (p : ℕ → Bool) (n : ℕ) → ((v : ℕ) → v < n → p v ≡ false) → count_below p n ≡ 0
 count-none p zero none = count-zero p

@@ -1,9 +1,9 @@
 -- Marks of one test after another, and what is counted of them.
-use Rattle.std.proofs.Common.{[], ◌∷◌, ◌++◌, ℕ, ◌+◌, ◌-◌, ◌<◌, ◌≤◌, ◌≡◌, List, length, Bool, true, false, ◌||◌, ◌&&◌, nat_eq, get_or, take, cond, refl, arith, ap, sym, ◌∙◌, set, inl, inr, replicate, suc}
+use Rattle.std.proofs.Common.{[], ◌∷◌, ◌++◌, ℕ, ◌+◌, ◌-◌, ◌<◌, ◌≤◌, ◌≡◌, List, length, Bool, true, false, ◌||◌, ◌&&◌, nat_eq, get_or, take, cond, refl, arith, ap, sym, ◌∙◌, set, inl, inr, replicate, suc, nat_le}
 use Rattle.std.proofs.Math.Bool.{or-false, or-true, or_assoc}
 use Rattle.std.proofs.Math.ListN.{length-set}
-use Rattle.std.proofs.lemmas.Bool.{cases_eq, cases_lt, eq-eqb, ne_eqb, le-leb, lt-leb}
-use Rattle.std.proofs.lemmas.List.{get_or-set_same, get_or-set_other, take_all, length-replicate, get_or-replicate}
+use Rattle.std.proofs.lemmas.Bool.{cases_eq, cases_lt, eq-eqb, ne_eqb, le-leb, lt-leb, and_right}
+use Rattle.std.proofs.lemmas.List.{get_or-set_same, get_or-set_other, take_all, length-replicate, get_or-replicate, get_or_past}
 use Rattle.std.proofs.lemmas.List.Folds.{list_any_more}
 use Rattle.std.specs.List.{list_any}
 use Rattle.variable_tables.specs.Counting.{count_below, places}
@@ -133,3 +133,14 @@ count-end first n m p k h l counted = let same : n ≡ m = omega arith in counte
 -- at the end of a loop the variables listed are those of the whole table that pass
 pub places-end : (first n m : ℕ) (p : ℕ → Bool) (vars : List ℕ) → n ≤ m → m ≤ n → vars ≡ places p (first + n) → vars ≡ places p (first + m)
 places-end first n m p vars h l listed = let same : n ≡ m = omega arith in listed ∙ ap (λ (i : ℕ). places p (first + i)) same
+
+-- no mark of a fresh table is set
+pub none-marked : (first n v : ℕ) → mark_at first (replicate n false) v ≡ false
+unfolding mark_at
+none-marked first n v = and_right (nat_le first v) (get_or (replicate n false) (v - first) false) (fresh n (v - first))
+  where
+    fresh : (n k : ℕ) → get_or (replicate n false) k false ≡ false
+    fresh n k = elim (cases_lt k n) [
+      | inl below ↦ get_or-replicate n k false false below
+      | inr past ↦ get_or_past (replicate n false) k false (omega (arith, past, length-replicate n false))
+    ]

@@ -1,5 +1,5 @@
--- A rising list is the list of the places of its members.
-use Rattle.std.proofs.Common.{ℕ, ◌+◌, ◌<◌, ◌≤◌, ◌≡◌, inl, inr, suc, zero, List, [], ◌∷◌, ◌++◌, filter, Bool, true, false, ◌||◌, cond, nat_eq, nat_lt, refl, arith, ap, sym, ◌∙◌}
+-- A rising list is the list of the places of its members, and a list with one more number at its end has that one too.
+use Rattle.std.proofs.Common.{ℕ, ◌+◌, ◌<◌, ◌≤◌, ◌≡◌, inl, inr, suc, zero, List, [], ◌∷◌, ◌++◌, filter, Bool, true, false, ◌||◌, cond, nat_eq, nat_lt, refl, arith, ap, sym, ◌∙◌, ◌==◌}
 use Rattle.std.specs.List.{All}
 use Rattle.std.specs.List.Sorted.{IsStrictlyIncreasing}
 use Rattle.std.proofs.lemmas.Bool.{cases_order, lt-ltb, le-ltb, eq-eqb, ne_eqb, cond-true, cond-false, or_from, or_left}
@@ -67,3 +67,16 @@ places-front s rising (suc n) = ap (λ (xs : List ℕ). xs ++ cond (has s n) (n 
 -- a strictly rising list of numbers below n is the list of the places of its members
 pub places-members : (s : List ℕ) (n : ℕ) → IsStrictlyIncreasing s → All (λ v. v < n) s → places (has s) n ≡ s
 places-members s n rising below = places-front s rising n ∙ front-all n s below
+
+-- a list with one more number at its end has that one too
+pub has-push : (xs : List ℕ) (x v : ℕ) → has (xs ++ x ∷ []) v ≡ (has xs v || (x == v))
+has-push [] x v = nil (x == v)
+  where
+    nil : (b : Bool) → (b || false) ≡ (false || b)
+    nil true = refl
+    nil false = refl
+has-push (y ∷ xs) x v = ap (λ (b : Bool). (y == v) || b) (has-push xs x v) ∙ assoc (y == v) (has xs v) (x == v)
+  where
+    assoc : (a b c : Bool) → (a || (b || c)) ≡ ((a || b) || c)
+    assoc true b c = refl
+    assoc false b c = refl

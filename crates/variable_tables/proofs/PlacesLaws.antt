@@ -63,6 +63,11 @@ count-lt p v n h good =
     let rest : count_below p (suc v) ≤ count_below p n = count-le p (suc v) n (omega arith) in
     omega arith
 
+-- a number that passes or not adds at most one
+pub one_at_most : (b : Bool) → cond {A = ℕ} b 1 0 ≤ 1
+one_at_most true = omega arith
+one_at_most false = omega arith
+
 -- at most n numbers below n pass
 pub count-bound : (p : ℕ → Bool) (n : ℕ) → count_below p n ≤ n
 count-bound p zero = rw (count-zero p) (omega arith)

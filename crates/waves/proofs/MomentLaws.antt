@@ -121,11 +121,7 @@ all-blocks c sequences Done Waiting Next n room all held = record {
   waiting = λ b d above within. held.done b d (omega (arith, all, within)) within;
 }
 
--- a block below the number of blocks has a sequence
-pub in_blocks : (n b : ℕ) → b < n / 256 + min 1 (n % 256) → 256 * b < n
-in_blocks n b inside = omega (arith, inside)
-
--- and past the last block there is none
+-- past the last block there is no sequence
 pub all-sequences : (n b : ℕ) → n / 256 + min 1 (n % 256) ≤ b → min (256 * b) n ≡ n
 all-sequences n b past = omega (arith, past)
 

@@ -1,11 +1,12 @@
 -- The circuit whose outputs are all that is shown of another one.
-use Rattle.std.proofs.Common.{ℕ, ◌+◌, ◌*◌, ◌/◌, ◌<◌, ◌≡◌, [], length, arith, subst, sym}
+use Rattle.std.proofs.Common.{ℕ, ◌+◌, ◌*◌, ◌/◌, ◌<◌, ◌≡◌, length, arith, subst, sym}
 use Rattle.std.proofs.lemmas.List.Elements.{All-append}
 use Rattle.variable_tables.proofs.TableLaws.{length-table, table-at}
 use Rattle.aig_graph.specs.Graph.{Graph, IsLiteralOf, variables_end}
-use Rattle.aig_graph.specs.Circuits.{AreLiteralsOf, AreNamesBelow, IsNetlist, Netlist}
+use Rattle.aig_graph.specs.Circuits.{AreLiteralsOf, IsNetlist, Netlist}
 use Rattle.aig_graph.specs.Streams.{property_literals}
-use Rattle.lane_sim.proofs.TraceLaws.{property_literals-in}
+use Rattle.aig_graph.proofs.PropsLaws.{properties-within}
+use Rattle.aig_graph.proofs.HoldingLaws.{no-names}
 use Rattle.waves.specs.Probes.{leaf_literals, literal, probed, shown_literals}
 
 half : (n : ℕ) → 2 * n / 2 ≡ n
@@ -22,13 +23,7 @@ leaves-in g = λ k d less.
 pub shown-in : (c : Netlist) → IsNetlist c → AreLiteralsOf c.aig (shown_literals c)
 unfolding shown_literals
 shown-in c netlist =
-    All-append (λ lit. IsLiteralOf c.aig lit) (leaf_literals c.aig) (property_literals c.props) (leaves-in c.aig) (property_literals-in c netlist)
-
-no-names : (n : ℕ) → AreNamesBelow n []
-no-names n = record {
-  rising = λ k less. absurd (omega (arith, less));
-  below = λ k d less. absurd (omega (arith, less));
-}
+    All-append (λ lit. IsLiteralOf c.aig lit) (leaf_literals c.aig) (property_literals c.props) (leaves-in c.aig) (properties-within c netlist)
 
 -- so the circuit that shows it is one
 pub probed-netlist : (c : Netlist) → IsNetlist c → IsNetlist (probed c)

@@ -2,8 +2,7 @@
 ghost use Rattle.std.specs.Prelude.{◌≡◌, ◌++◌, ◌*◌, IfOk, OnOk};
 ghost use Rattle.waves.specs.Probes.{leaf_literals, probed, shown_literals};
 
-use aig_graph::{Aig, Circuit, Lit, NoMemory, Props, Symbols};
-use lane_sim::property_literals;
+use aig_graph::{Aig, Circuit, Lit, NoMemory, Props, Symbols, property_literals};
 use std::alloc::Global;
 
 /// Puts literals at the end.

@@ -5,8 +5,8 @@ ghost use Rattle.lane_sim.specs.Steps.{AreAt, AreFor, HoldsAt, IsStateFor};
 ghost use Rattle.waves.specs.Moments.{IsRoomFor};
 
 use crate::moment::LANES;
-use aig_graph::{Aig, Circuit, Lit, NoMemory};
-use lane_sim::{InputSequence, State, Stimulus, Values, property_literals};
+use aig_graph::{Aig, Circuit, Lit, NoMemory, property_literals};
+use lane_sim::{InputSequence, State, Stimulus, Values};
 use std::alloc::Global;
 
 /// Room for the waves of a circuit under a stimulus.

@@ -1,5 +1,5 @@
 -- The filled graph with its names is a lifted witness.
-use Rattle.std.proofs.Common.{ℕ, ◌+◌, ◌<◌, ◌≤◌, ◌≡◌, [], length, map, get_or, refl, arith, ap, ◌∙◌}
+use Rattle.std.proofs.Common.{ℕ, ◌+◌, ◌<◌, ◌≤◌, ◌≡◌, length, map, get_or, refl, arith, ap, ◌∙◌}
 use Rattle.std.proofs.lemmas.List.{get_or-map, length-map}
 use Rattle.variable_tables.proofs.TableLaws.{length-table, table-at}
 use Rattle.aig_graph.specs.declared.properties.Props.{Props}
@@ -7,6 +7,7 @@ use Rattle.aig_graph.specs.declared.properties.Symbol.{Symbol}
 use Rattle.aig_graph.specs.declared.properties.Symbols.{Symbols}
 use Rattle.aig_graph.specs.Circuits.{AreNamesBelow, IsNetlist, Netlist, no_symbols}
 use Rattle.aig_graph.specs.Graph.{Graph, first_latch}
+use Rattle.aig_graph.proofs.HoldingLaws.{no-names}
 use Rattle.witness_circuits.specs.declared.sharing.Sharing.{Sharing}
 use Rattle.witness_circuits.specs.Built.{IsFilled}
 use Rattle.witness_circuits.specs.Lifting.{HasRoomFor, IsLiftedOver, IsNamedAs, literal_name, literal_names}
@@ -14,10 +15,6 @@ use Rattle.witness_circuits.specs.Lifting.{HasRoomFor, IsLiftedOver, IsNamedAs, 
 -- the names of a lifted witness
 abbrev pub named : Graph → Symbols
 named g = record no_symbols { inputs = literal_names 1 g.inputs; latches = literal_names (first_latch g) (length g.latches) }
-
--- no names are names of places
-pub no-names : (n : ℕ) → AreNamesBelow n []
-no-names n = record { rising = λ k less. absurd (omega (arith, less)); below = λ k a less. absurd (omega (arith, less)) }
 
 literal-names-below : (first n all : ℕ) → n ≤ all → AreNamesBelow all (literal_names first n)
 literal-names-below first n all fits = record {

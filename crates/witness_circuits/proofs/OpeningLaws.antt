@@ -9,7 +9,7 @@ use Rattle.aig_graph.specs.declared.graph.Reset.{Reset}
 use Rattle.aig_graph.specs.declared.graph.Reset.TheVariants.{Zero, One, Free}
 use Rattle.aig_graph.specs.Graph.{Graph, first_latch, free_before, is_free, is_free_latch, variables_end}
 use Rattle.aig_graph.specs.Value.{Choice, opening, opening_at}
-use Rattle.aig_graph.proofs.FreeLaws.{free-count, is_free_at}
+use Rattle.aig_graph.proofs.FreeLaws.{free-count, is_free_at, free-where}
 use Rattle.aig_graph.proofs.KindLaws.{element, latch_at-first_latch}
 use Rattle.state_maps.specs.States.{State, opening_state}
 use Rattle.aig_graph.proofs.StreamLaws.{funext}
@@ -25,13 +25,6 @@ pub opening-known : (r : Reset) (a b : Bool) → (r ≡ Free → a ≡ b) → op
 opening-known Zero a b same holds = holds
 opening-known One a b same holds = holds
 opening-known Free a b same holds = same refl
-
--- a latch whose reset is free is free
-pub free-where : (latch : Latch) → latch.reset ≡ Free → is_free latch ≡ true
-free-where latch e = ap by_reset e
-  where
-    by_reset : Reset → Bool
-    by_reset r = elim r [ Zero ↦ false | One ↦ false | Free ↦ true ]
 
 module _ (g : Graph) (t : State) where
   -- what the free latch at this place holds

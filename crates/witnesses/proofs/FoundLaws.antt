@@ -1,7 +1,7 @@
 -- What is found of bad states, a step after another.
 use Rattle.std.proofs.Common.{ℕ, zero, suc, ◌+◌, ◌<◌, ◌≤◌, ◌≡◌, ◌==◌, ◌&&◌, inl, inr, map, ap₂, Bool, true, false, cond, List, [], ◌∷◌, Option, Some, None, get_or, length, slice_get, refl, arith, ap, sym, ◌∙◌, subst}
 use Rattle.std.specs.List.{list_all}
-use Rattle.std.proofs.lemmas.Bool.{cases_lt, false≢true}
+use Rattle.std.proofs.lemmas.Bool.{cases_lt, false≢true, and_parts}
 use Rattle.std.proofs.lemmas.Option.{same_Some, none-some}
 use Rattle.aig_graph.specs.Circuits.{AreLiteralsOf, IsNetlist, Netlist}
 use Rattle.lane_sim.specs.declared.stimulus.InputSequence.{InputSequence}
@@ -11,10 +11,6 @@ use Rattle.witnesses.specs.declared.witness.Property.TheVariants.{Bad, Justice}
 use Rattle.witnesses.specs.Reaching.{bad_row, constraint_row, ReachesIn}
 use Rattle.witnesses.specs.Circuits.{bad_literals}
 use Rattle.witnesses.specs.Found.{AreTrue, IsFound, IsFoundBelow, noted}
-
-parts : (a b : Bool) → (a && b) ≡ true → (a ≡ true) × (b ≡ true)
-parts true b all = (refl, all)
-parts false b all = absurd (false≢true all)
 
 -- a value that is 1 stands at its place
 stands : (row : List Bool) (n : ℕ) → get_or row n false ≡ true → slice_get row n ≡ Some true
@@ -37,8 +33,8 @@ all_true f (x ∷ xs) each = both (f x) (list_all (λ b. b) (map f xs)) (each 0 
 -- and each is where all are
 pub each_true : (f : ℕ → Bool) (xs : List ℕ) → list_all (λ b. b) (map f xs) ≡ true → AreTrue f xs
 each_true f [] all k h = absurd (omega (arith, h))
-each_true f (x ∷ xs) all zero h = (parts (f x) (list_all (λ b. b) (map f xs)) all).0
-each_true f (x ∷ xs) all (suc k) h = each_true f xs (parts (f x) (list_all (λ b. b) (map f xs)) all).1 k (omega (arith, h))
+each_true f (x ∷ xs) all zero h = (and_parts (f x) (list_all (λ b. b) (map f xs)) all).0
+each_true f (x ∷ xs) all (suc k) h = each_true f xs (and_parts (f x) (list_all (λ b. b) (map f xs)) all).1 k (omega (arith, h))
 
 module _ (c : Netlist) (run : InputSequence) where
   abbrev row : ℕ → List Bool

@@ -2,14 +2,14 @@
 use Rattle.std.proofs.Common.{ℕ, ◌≡◌, ◌∷◌, [], List, true, false, cond, codes, Result, Ok, Err, ap, ◌∙◌}
 use Rattle.std.proofs.lemmas.Bool.{cond-true, cond-false}
 use Rattle.file_words.specs.Answering.{◌>>=◌, Fails, Gives}
-use Rattle.file_words.specs.Lines.{pieces}
+use Rattle.file_words.specs.Lines.{pieces, is_word}
 use Rattle.witnesses.specs.declared.witness.Digit.{Digit}
 use Rattle.witnesses.specs.declared.witness.Property.{Property}
 use Rattle.witnesses.specs.declared.witness.Witness.{Witness}
 use Rattle.witnesses.specs.declared.widths.Widths.{Widths}
 use Rattle.witnesses.specs.declared.fault.WitnessError.{WitnessError}
 use Rattle.witnesses.specs.declared.fault.WitnessError.TheVariants.{BadHeader, Truncated, Trailing, NoMemory}
-use Rattle.witnesses.specs.Statements.{Statement, is_word}
+use Rattle.witnesses.specs.Statements.{Statement}
 use Rattle.witnesses.specs.Rows.{row_of}
 use Rattle.witnesses.specs.Properties.{properties_of}
 use Rattle.witnesses.specs.Reading.{followed, status_from, properties_from, latches_from, with_step, steps_from, closed}

@@ -1,14 +1,14 @@
 -- The text of a witness.
 use Rattle.std.specs.Prelude.{ℕ, ◌++◌, List, [], ◌∷◌, length, codes, Result, Ok, Err, if◌then◌else◌}
 use Rattle.file_words.specs.Answering.{◌>>=◌}
-use Rattle.file_words.specs.Lines.{pieces}
+use Rattle.file_words.specs.Lines.{pieces, is_word}
 use Rattle.witnesses.specs.declared.witness.Digit.{Digit}
 use Rattle.witnesses.specs.declared.witness.Property.{Property}
 use Rattle.witnesses.specs.declared.witness.Witness.{Witness}
 use Rattle.witnesses.specs.declared.widths.Widths.{Widths}
 use Rattle.witnesses.specs.declared.fault.WitnessError.{WitnessError}
 use Rattle.witnesses.specs.declared.fault.WitnessError.TheVariants.{BadHeader, Truncated, Trailing}
-use Rattle.witnesses.specs.Statements.{Statement, is_word, lines_left}
+use Rattle.witnesses.specs.Statements.{Statement, lines_left}
 use Rattle.witnesses.specs.Rows.{row_of}
 use Rattle.witnesses.specs.Properties.{properties_of}
 

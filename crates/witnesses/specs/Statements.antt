@@ -1,6 +1,5 @@
 -- The lines of a witness: those that are no comments, each with the offset of its first byte.
-use Rattle.std.specs.Prelude.{ℕ, ◌+◌, ◌-◌, ◌==◌, ◌&&◌, Bool, false, List, [], ◌∷◌, length, if◌then◌else◌}
-use Rattle.std.specs.List.{starts_with}
+use Rattle.std.specs.Prelude.{ℕ, ◌+◌, ◌-◌, ◌==◌, Bool, false, List, [], ◌∷◌, length, if◌then◌else◌}
 use Rattle.file_words.specs.Lines.{lines}
 use Rattle.file_words.specs.declared.lines.Lines.{Lines}
 
@@ -12,9 +11,6 @@ pub record Statement : Type 0 where
 abbrev pub is_comment : List ℕ → Bool
 is_comment [] = false
 is_comment (first ∷ rest) = first == 99
-
-abbrev pub is_word : List ℕ → List ℕ → Bool
-is_word text word = length word == length text && starts_with (λ a b. a == b) text word
 
 -- a line more in front, unless it is a comment
 abbrev pub with_line : ℕ → List ℕ → List Statement → List Statement

@@ -1,5 +1,5 @@
 ghost use Rattle.std.specs.Prelude.{◌≡◌};
-ghost use Rattle.witnesses.specs.Statements.{is_comment, is_word};
+ghost use Rattle.witnesses.specs.Statements.{is_comment};
 
 pub(crate) fn is_comment(text: &[u8]) -> bool
     ensures { result ≡ is_comment text.now }
@@ -8,10 +8,4 @@ pub(crate) fn is_comment(text: &[u8]) -> bool
         Some(first) => *first == b'c',
         None => false,
     }
-}
-
-pub(crate) fn is_word(text: &[u8], word: &[u8]) -> bool
-    ensures { result ≡ is_word text.now word.now }
-{
-    word.len() == text.len() && text.starts_with(word)
 }

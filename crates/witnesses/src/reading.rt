@@ -8,13 +8,12 @@ ghost use Rattle.witnesses.specs.Statements.{left};
 
 use crate::fault::WitnessError;
 use crate::lines::{following, next_line, truncated};
-use crate::marks::is_word;
 use crate::rows::row;
 use crate::widths::Widths;
 use crate::witness::{Digit, Property, Witness};
 use crate::words::properties;
 use aig_graph::Sequence;
-use file_words::{Line, Lines};
+use file_words::{Line, Lines, is_word};
 use std::alloc::Global;
 
 /// Takes the line that says that there is a witness.

@@ -1,4 +1,5 @@
-use Rattle.backward_commands.proofs.MovingLaws.{by_stream, prints_moves}
+use Rattle.command_endings.proofs.PrintingLaws.{by_stream}
+use Rattle.backward_commands.proofs.MovingLaws.{prints_moves}
 use Rattle.command_line.specs.StreamUses.{moving_takes_stdout}
 use Rattle.backward_commands.proofs.moving.print_moves.Goals as goal
 

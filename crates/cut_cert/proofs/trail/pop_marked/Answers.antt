@@ -1,6 +1,7 @@
 use Rattle.std.proofs.Common.{◌∙◌, ap, subst, length, reverse}
+use Rattle.variable_tables.proofs.ListLaws.{reverse-push}
 use Rattle.cut_cert.specs.Walks.{AreOn}
-use Rattle.cut_cert.proofs.TrailLaws.{first-in, on-pop, reverse-push}
+use Rattle.cut_cert.proofs.TrailLaws.{first-in, on-pop}
 use Rattle.cut_cert.proofs.trail.pop_marked.Goals as goal
 
 pub bounds-marks-node : goal.bounds-marks-node

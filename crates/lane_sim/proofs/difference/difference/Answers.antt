@@ -1,11 +1,12 @@
 use Rattle.std.proofs.Common.{ℕ, ◌≡◌, subst, length, List, Option, Some, None, get_or, ◌<◌}
 use Rattle.std.specs.Option.{MatchOption}
 use Rattle.lane_sim.specs.declared.difference.Place.{Place}
-use Rattle.lane_sim.proofs.DifferenceLaws.{as_many, answered}
+use Rattle.aig_graph.proofs.ShapeLaws.{as-many}
+use Rattle.lane_sim.proofs.DifferenceLaws.{answered}
 use Rattle.lane_sim.proofs.difference.difference.Goals as goal
 
 pub compare_blocks-requires-clause-literals : goal.compare_blocks-requires-clause-literals
-compare_blocks-requires-clause-literals g c κs within = as_many c.args.a.now c.args.b.now c.requires.shape
+compare_blocks-requires-clause-literals g c κs within = as-many c.args.a.now c.args.b.now c.requires.shape
 
 pub returns : goal.returns
 returns g c =

@@ -5,14 +5,15 @@ use Rattle.aig_graph.specs.Graph.{Graph}
 use Rattle.aig_graph.specs.Circuits.{AreLiteralsOf}
 use Rattle.aig_graph.specs.Streams.{property_literals}
 use Rattle.lane_sim.specs.Blocks.{IsBlock, block_of}
-use Rattle.lane_sim.proofs.TraceLaws.{property_literals-in, recorded-trace}
+use Rattle.aig_graph.proofs.PropsLaws.{properties-within}
+use Rattle.lane_sim.proofs.TraceLaws.{recorded-trace}
 use Rattle.lane_sim.proofs.trace.simulate.Goals as goal
 
 pub simulate_blocks-requires-after_bounds : goal.simulate_blocks-requires-after_bounds
 simulate_blocks-requires-after_bounds g c κs within =
     let literals = c.as_slice.ensures.value ∙ c.in_ok-literals.ensures ∙ ap property_literals c.props.ensures.value in
     subst (λ (graph : Graph). AreLiteralsOf graph c.as_slice.result.now) (sym c.aig.ensures.value)
-    (subst (AreLiteralsOf c.args.circuit.now.aig) (sym literals) (property_literals-in c.args.circuit.now c.props.ensures.netlist))
+    (subst (AreLiteralsOf c.args.circuit.now.aig) (sym literals) (properties-within c.args.circuit.now c.props.ensures.netlist))
 
 pub returns : goal.returns
 returns g c =

@@ -1,7 +1,8 @@
 use Rattle.std.proofs.Common.{◌≡◌, ◌∙◌, ◌<◌, [], List, ℕ, arith, ap, sym, map, length, get_or}
 use Rattle.std.proofs.lemmas.List.{get_or_read, length-map}
 use Rattle.map_checks.specs.Copies.{copy_of}
-use Rattle.map_checks.proofs.ShapeLaws.{maps-same_lists, size_at}
+use Rattle.aig_graph.proofs.ShapeLaws.{size_at}
+use Rattle.map_checks.proofs.ShapeLaws.{maps-same_lists}
 use Rattle.map_checks.proofs.comparing.first_unlike_list.Goals as goal
 
 as-many : (left right : List (List ℕ)) → map length left ≡ map length right → length left ≡ length right

@@ -1,7 +1,7 @@
 use Rattle.std.proofs.Common.{ℕ, ◌≡◌, ◌+◌, ◌*◌, ◌<◌, Some, length, get_or, slice_get}
 use Rattle.aig_graph.specs.declared.graph.Latch.{Latch}
 use Rattle.aig_graph.specs.Graph.{first_latch}
-use Rattle.map_checks.specs.Starts.{opening_literal}
+use Rattle.aig_graph.specs.Value.{opening_literal}
 use Rattle.map_checks.proofs.starting.reset_leaves.Given as goal
 
 abbrev pub invariant-loop-place : goal.invariant-loop-place

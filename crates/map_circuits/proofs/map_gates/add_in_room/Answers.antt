@@ -6,13 +6,14 @@ use Rattle.aig_graph.specs.Graph.{Graph, IsGraph, IsGateAt, IsLiteralOf, first_l
 use Rattle.aig_graph.specs.Building.{gate_of, with_gate}
 use Rattle.aig_graph.specs.declared.literal.TheConstants.{MAX_VARIABLES}
 use Rattle.aig_graph.proofs.KindLaws.{GatePlace, gate_place}
+use Rattle.aig_graph.proofs.GraphLaws.{gate_of-at}
 use Rattle.aig_binary.specs.Text.{gate_deltas}
 use Rattle.map_circuits.specs.Growing.{Extends, IsConjunction}
 use Rattle.map_circuits.specs.Following.{AreWithin, Follows, literal_at}
 use Rattle.map_circuits.specs.Packing.{ArePacked, packed}
 use Rattle.map_circuits.proofs.GrowingLaws.{conjunction-gate, extends-gate, extends-itself, extends-transitive}
 use Rattle.map_circuits.proofs.FollowingLaws.{at-place, fan_ins-covered, fan_ins-within, follows-all, follows-first, follows-more, gate-read, member-at, within-first, within-more}
-use Rattle.map_circuits.proofs.PackingLaws.{are-packed-more, gate_of-at, packed-grown, packed-more}
+use Rattle.map_circuits.proofs.PackingLaws.{are-packed-more, packed-grown, packed-more}
 use Rattle.map_circuits.proofs.map_gates.add_in_room.Goals as goal
 
 pub loop-var-init : goal.loop-var-init

@@ -2,8 +2,8 @@ use Rattle.std.proofs.Common.{ℕ, ◌<◌, ◌≡◌, ◌∙◌, List, Some, ar
 use Rattle.std.proofs.lemmas.Option.{slice_get_read}
 use Rattle.aig_graph.specs.declared.graph.Latch.{Latch}
 use Rattle.map_circuits.proofs.ConstrainingLaws.{read-entry}
-use Rattle.map_miters.specs.Holding.{opening_literal}
 use Rattle.map_miters.proofs.FirstLaws.{AreFirstResets, first-all, first-more, first-none}
+use Rattle.aig_graph.specs.Value.{opening_literal}
 use Rattle.map_miters.proofs.resets.resets_of.Goals as goal
 
 pub loop-place-init : goal.loop-place-init

@@ -8,7 +8,7 @@ use Rattle.aig_graph.proofs.GraphLaws.{all_from_slice_get}
 use Rattle.map_circuits.specs.Instances.{substitute}
 use Rattle.witness_circuits.specs.Parts.{IsView}
 use Rattle.map_miters.proofs.HoldingLaws.{step-is}
-use Rattle.map_miters.proofs.SideLaws.{properties-within}
+use Rattle.aig_graph.proofs.PropsLaws.{properties-within}
 use Rattle.map_miters.proofs.steps.add_step.Goals as goal
 
 pub add_over-requires-clause-wide : goal.add_over-requires-clause-wide

@@ -4,7 +4,7 @@ use Rattle.aig_graph.specs.Circuits.{Netlist}
 use Rattle.aig_graph.specs.Streams.{property_literals}
 use Rattle.map_circuits.specs.Instances.{substitute}
 use Rattle.map_miters.proofs.HoldingLaws.{below-end}
-use Rattle.map_miters.proofs.SideLaws.{properties-within}
+use Rattle.aig_graph.proofs.PropsLaws.{properties-within}
 use Rattle.map_miters.proofs.steps.props_of.Goals as goal
 
 pub substitutes_of-requires : goal.substitutes_of-requires

@@ -7,7 +7,7 @@ use Rattle.lane_sim.specs.declared.stimulus.InputSequence.{InputSequence}
 use Rattle.lane_sim.specs.Blocks.{in_lane}
 use Rattle.lane_sim.specs.Steps.{AreAt, HoldsAt}
 use Rattle.lane_sim.specs.Traces.{value_in}
-use Rattle.lane_sim.proofs.TraceLaws.{property_literals-in}
+use Rattle.aig_graph.proofs.PropsLaws.{properties-within}
 use Rattle.reports.specs.Simulating.{step_of, steps_of}
 use Rattle.reports.proofs.TraceTextLaws.{puts-up}
 use Rattle.reports.proofs.simulating.put_steps.Goals as goal
@@ -16,7 +16,7 @@ pub put_step-requires : goal.put_step-requires
 put_step-requires g c =
     let circuit = c.args.circuit.now in
     let inside : AreLiteralsOf circuit.aig c.as_slice.result.now =
-    subst (AreLiteralsOf circuit.aig) (sym (c.as_slice.ensures.value ∙ c.loop-step.invariant.literals)) (property_literals-in circuit c.known.ensures.netlist) in
+    subst (AreLiteralsOf circuit.aig) (sym (c.as_slice.ensures.value ∙ c.loop-step.invariant.literals)) (properties-within circuit c.known.ensures.netlist) in
     let at : AreAt circuit.aig c.args.sequences.now c.evaluate.new.self c.loop-step.step =
     subst (λ (graph : Graph). AreAt graph c.args.sequences.now c.evaluate.new.self c.loop-step.step) c.aig-aig.ensures.value c.evaluate.ensures in
     λ k d h. omega (arith, inside k d h, at.room.long)

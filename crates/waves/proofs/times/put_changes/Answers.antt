@@ -1,8 +1,9 @@
 use Rattle.std.proofs.Common.{◌+◌, ◌*◌, ◌<◌, ◌≡◌, ◌∙◌, arith, length, min, rules, sym}
 use Rattle.lane_sim.specs.Traces.{trace}
+use Rattle.lane_sim.proofs.BlockLaws.{inside_blocks}
 use Rattle.waves.specs.Dumps.{values, values_of}
 use Rattle.waves.specs.Moments.{IsAt}
-use Rattle.waves.proofs.MomentLaws.{all-blocks, all-sequences, in_blocks, puts-block, trace-length}
+use Rattle.waves.proofs.MomentLaws.{all-blocks, all-sequences, puts-block, trace-length}
 use Rattle.waves.proofs.times.put_changes.Goals as goal
 
 pub loop-block-init : goal.loop-block-init
@@ -24,7 +25,7 @@ loop-block-preserved g c =
     let shown = c.args.shown.now in
     let sequences = shown.sequences.now in
     let k = c.loop-block.block in
-    let inside : 256 * k < length sequences = in_blocks (length sequences) k (omega (arith, c.loop-block-test.true, c.len-block-end.ensures, c.requires.room.many)) in
+    let inside : 256 * k < length sequences = inside_blocks (length sequences) k (omega (arith, c.loop-block-test.true, c.len-block-end.ensures, c.requires.room.many)) in
     record {
       room = c.put_next.ensures.room;
       text = puts-block (values_of (trace shown.circuit.now sequences) shown.places (c.args.step + 1)) sequences k inside c.loop-block.invariant.text c.put_next.ensures.puts;

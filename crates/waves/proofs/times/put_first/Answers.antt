@@ -4,13 +4,14 @@ use Rattle.aig_graph.specs.Graph.{Graph}
 use Rattle.lane_sim.specs.Blocks.{block_of}
 use Rattle.lane_sim.specs.Steps.{AreAt, HoldsAt}
 use Rattle.lane_sim.specs.declared.stimulus.InputSequence.{InputSequence}
-use Rattle.lane_sim.proofs.TraceLaws.{property_literals-in}
+use Rattle.lane_sim.proofs.BlockLaws.{inside_blocks}
+use Rattle.aig_graph.proofs.PropsLaws.{properties-within}
 use Rattle.waves.specs.Moments.{HasRoom, IsAt}
-use Rattle.waves.proofs.MomentLaws.{in_blocks, one-more_block}
+use Rattle.waves.proofs.MomentLaws.{one-more_block}
 use Rattle.waves.proofs.times.put_first.Goals as goal
 
 pub block_at-sequences-requires : goal.block_at-sequences-requires
-block_at-sequences-requires g c = omega (arith, in_blocks (length c.args.shown.now.sequences.now) c.args.block (omega (arith, c.requires.block, c.requires.room.many)))
+block_at-sequences-requires g c = omega (arith, inside_blocks (length c.args.shown.now.sequences.now) c.args.block (omega (arith, c.requires.block, c.requires.room.many)))
 
 pub put_block-requires-clause-moment : goal.put_block-requires-clause-moment
 put_block-requires-clause-moment g c =
@@ -23,7 +24,7 @@ put_block-requires-clause-moment g c =
     (subst (λ (xs : List InputSequence). AreAt c.aig.result.now xs values 0) c.block_at-sequences.ensures.value c.open_block.ensures.values) in
     record {
       literals = literals;
-      inside = subst (AreLiteralsOf circuit.aig) (sym literals) (property_literals-in circuit c.known.ensures.netlist);
+      inside = subst (AreLiteralsOf circuit.aig) (sym literals) (properties-within circuit c.known.ensures.netlist);
       before = at;
       values = at;
     }

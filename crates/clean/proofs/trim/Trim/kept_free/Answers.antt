@@ -1,9 +1,10 @@
 use Rattle.std.proofs.Common.{◌≡◌, ◌∙◌, ap, sym, arith, ℕ, List, Bool, length, Vec, Global, refl}
 use Rattle.aig_graph.specs.declared.graph.Latch.{Latch}
 use Rattle.aig_graph.specs.Graph.{Graph}
+use Rattle.aig_graph.proofs.FreeLaws.{free-more}
 use Rattle.clean.specs.Sweep.{is_marked}
 use Rattle.clean.proofs.MappingLaws.{latch-there}
-use Rattle.clean.proofs.TrimLaws.{kept-start, kept-more, kept-skip, kept-end, free-more}
+use Rattle.clean.proofs.TrimLaws.{kept-start, kept-more, kept-skip, kept-end}
 use Rattle.clean.proofs.trim.Trim.kept_free.Goals as goal
 use Rattle.clean.proofs.trim.Trim.kept_free.Goals.{then-keeps_free+in_ok-push, else-keeps_free}
 

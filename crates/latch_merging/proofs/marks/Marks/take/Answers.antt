@@ -1,7 +1,8 @@
 use Rattle.std.proofs.Common.{ℕ, ◌∙◌, ap, sym, arith, refl, false, Bool, List, slice_set, length}
 use Rattle.std.proofs.lemmas.List.{get_or_default}
+use Rattle.std.proofs.lemmas.Bool.{both_ways}
 use Rattle.latch_merging.specs.Names.{is_marked}
-use Rattle.latch_merging.proofs.MarkLaws.{taken-within, none-left, none-before, clash-of}
+use Rattle.latch_merging.proofs.MarkLaws.{taken-within, none-left, none-before}
 use Rattle.latch_merging.proofs.marks.Marks.take.Goals as goal
 
 pub loop-place-init : goal.loop-place-init
@@ -35,8 +36,8 @@ returns-then-index c =
 pub invariant_of-self-2 : goal.invariant_of-self-2
 invariant_of-self-2 c = record {
   end = omega arith;
-  each = λ k e. absurd (clash-of (is_marked c.loop-place.self-inside.marks.items k) e
-      (none-left c.loop-place.self-inside.marks.items c.loop-place.self-inside.low c.self.inside.high c.loop-place.place c.loop-place.invariant.within c.loop-place.invariant.none (omega (arith, c.loop-place-test.false)) k));
+  each = λ k e. absurd (both_ways (is_marked c.loop-place.self-inside.marks.items k)
+      (none-left c.loop-place.self-inside.marks.items c.loop-place.self-inside.low c.self.inside.high c.loop-place.place c.loop-place.invariant.within c.loop-place.invariant.none (omega (arith, c.loop-place-test.false)) k) e);
 }
 
 pub returns : goal.returns

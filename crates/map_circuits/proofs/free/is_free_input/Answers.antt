@@ -1,7 +1,7 @@
 use Rattle.std.proofs.Common.{ℕ, ◌∙◌, ◌+◌, ◌/◌, ap, false, sym}
 use Rattle.aig_graph.specs.Graph.{Graph, is_free_latch, latch_at}
-use Rattle.map_miters.proofs.FreeLaws.{free-input}
-use Rattle.map_miters.proofs.free.is_free_input.Goals as goal
+use Rattle.map_circuits.proofs.FreeLaws.{free-input}
+use Rattle.map_circuits.proofs.free.is_free_input.Goals as goal
 
 pub returns-in-Some : goal.returns-in-Some
 returns-in-Some c =

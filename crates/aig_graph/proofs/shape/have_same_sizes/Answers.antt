@@ -1,7 +1,7 @@
 use Rattle.std.proofs.Common.{◌∙◌, sym, ap, refl, arith, rules, length, get_or, []}
 use Rattle.std.proofs.lemmas.List.{get_or_read}
-use Rattle.lane_sim.proofs.ComparingLaws.{same_sizes, size_at}
-use Rattle.lane_sim.proofs.shape.have_same_sizes.Goals as goal
+use Rattle.aig_graph.proofs.ShapeLaws.{same_sizes, size_at}
+use Rattle.aig_graph.proofs.shape.have_same_sizes.Goals as goal
 
 pub returns-then-len : goal.returns-then-len
 returns-then-len c = (

@@ -6,8 +6,8 @@ use Rattle.aig_graph.specs.declared.properties.Props.{Props}
 use Rattle.aig_graph.specs.Circuits.{Netlist}
 use Rattle.aig_graph.specs.Graph.{Graph}
 use Rattle.state_maps.specs.MapCircuits.{IsFreeInput, free_outputs}
-use Rattle.map_miters.proofs.FreeLaws.{stay-says}
-use Rattle.map_miters.proofs.free.free_stay.Goals as goal
+use Rattle.map_circuits.proofs.FreeLaws.{stay-says}
+use Rattle.map_circuits.proofs.free.free_stay.Goals as goal
 
 pub returns : goal.returns
 returns c =

@@ -1,0 +1,58 @@
+//! Circuits place by place: the property literals in one list, and whether two circuits have the same places.
+ghost use Rattle.std.specs.Prelude.{◌≡◌, ◌↔◌, IfOk, IsTrue, length, map};
+ghost use Rattle.aig_graph.specs.Streams.{SameShape, property_literals};
+
+use crate::circuit::Circuit;
+use crate::literal::Lit;
+use crate::properties::Props;
+use crate::sequence::Sequence;
+use std::alloc::Global;
+use variable_tables::NoMemory;
+
+/// The literals of the properties, kind after kind.
+///
+/// # Errors
+///
+/// Memory is refused.
+pub fn property_literals(alloc: Global, props: &Props) -> Result<Vec<Lit>, NoMemory>
+    ensures { IfOk result (λ literals. literals.items ≡ property_literals props.now) }
+{
+    let mut literals = Vec::new(alloc);
+    literals.extend_from_slice(props.outputs.as_slice())?;
+    literals.extend_from_slice(props.bad.as_slice())?;
+    literals.extend_from_slice(props.constraints.as_slice())?;
+    for property in props.justice.as_slice() {
+        literals.extend_from_slice(property.as_slice())?;
+    }
+    literals.extend_from_slice(props.fairness.as_slice())?;
+    Ok(literals)
+}
+
+/// Whether the circuits have as many inputs and properties of each kind, and justice properties of the same sizes.
+pub fn have_same_shape(a: &Circuit, b: &Circuit) -> bool
+    ensures { IsTrue result ↔ SameShape a.now b.now }
+{
+    let p = a.props();
+    let q = b.props();
+    b.aig().inputs() == a.aig().inputs()
+        && q.outputs.len() == p.outputs.len()
+        && q.bad.len() == p.bad.len()
+        && q.constraints.len() == p.constraints.len()
+        && q.fairness.len() == p.fairness.len()
+        && have_same_sizes(q.justice.as_slice(), p.justice.as_slice())
+}
+
+/// Whether the lists have as many literals each.
+fn have_same_sizes(a: &[Sequence<Lit>], b: &[Sequence<Lit>]) -> bool
+    ensures { IsTrue result ↔ (map length a.now ≡ map length b.now) }
+{
+    if a.len() != b.len() {
+        return false;
+    }
+    for k in 0..a.len() {
+        if a[k].len() != b[k].len() {
+            return false;
+        }
+    }
+    true
+}
