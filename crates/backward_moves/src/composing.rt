@@ -1,10 +1,11 @@
 //! The map of all frames, from the maps of each: the last frame's first, so that the gates of each stand once.
 
-use crate::rebuilding::FrameMap;
+use crate::rebuilding::{FrameMap, all_standing, set_literal, standing};
 use crate::shared::Shared;
 use aig_graph::NoMemory;
-use backward_sets::{Literal, Pair};
+use backward_sets::{Literal, Pair, number};
 use std::alloc::Global;
+use std::mem;
 
 /// Gates over the latches after all frames, which have the variables from 1 on, and a literal for each latch of the first draft.
 #[derive(Drop)]
@@ -13,11 +14,25 @@ pub(crate) struct WholeMap {
     pub outputs: Vec<Literal>,
 }
 
-/// What stands for a literal.
-fn standing(stands: &[Literal], lit: Literal) -> Literal {
-    match stands.get(lit.var() as usize) {
-        Some(own) => own.signed_as(lit),
-        None => Literal::FALSE,
+/// Puts what stands for latches after the constant.
+fn put_state(stands: &mut [Literal], state: &[Literal]) {
+    let mut var = 1u32;
+    for lit in state {
+        set_literal(stands, var, *lit);
+        var = var.wrapping_add(1);
+    }
+}
+
+/// Puts what stands for the gates of a frame's map, of which the first has this variable.
+fn put_gates(stands: &mut [Literal], gates: &mut Shared, map: &FrameMap, first: u32) {
+    let mut var = first;
+    for pair in &map.gates {
+        let (a, b) = (
+            standing(stands, pair.larger),
+            standing(stands, pair.smaller),
+        );
+        set_literal(stands, var, gates.and(a, b));
+        var = var.wrapping_add(1);
     }
 }
 
@@ -28,21 +43,21 @@ fn through(
     map: &FrameMap,
     state: &[Literal],
 ) -> Result<Vec<Literal>, NoMemory> {
-    let mut stands = Vec::new(alloc);
-    stands.push(Literal::FALSE)?;
-    for lit in state {
-        stands.push(*lit)?;
+    let first = state.len().saturating_add(1);
+    let many = first.saturating_add(map.gates.len());
+    let mut stands = vec![in alloc; Literal::FALSE; many]?;
+    put_state(stands.as_mut_slice(), state);
+    put_gates(stands.as_mut_slice(), gates, map, number(first));
+    all_standing(alloc, stands.as_slice(), map.outputs.as_slice())
+}
+
+/// The literals of latches.
+fn latch_literals(alloc: Global, latches: u32) -> Result<Vec<Literal>, NoMemory> {
+    let mut state = Vec::with_capacity(alloc, latches as usize)?;
+    for place in 0..latches {
+        let _ = state.push(Literal::of(place.wrapping_add(1)));
     }
-    for pair in &map.gates {
-        let larger = standing(stands.as_slice(), pair.larger);
-        let smaller = standing(stands.as_slice(), pair.smaller);
-        stands.push(gates.and(larger, smaller)?)?;
-    }
-    let mut before = Vec::with_capacity(alloc, map.outputs.len())?;
-    for lit in &map.outputs {
-        before.push(standing(stands.as_slice(), *lit))?;
-    }
-    Ok(before)
+    Ok(state)
 }
 
 /// How many gates the maps of frames have.
@@ -52,6 +67,20 @@ fn count_gates(maps: &[FrameMap]) -> usize {
         count = count.saturating_add(map.gates.len());
     }
     count
+}
+
+/// Takes a state from after the last frame to before the first.
+fn go_back(
+    alloc: Global,
+    gates: &mut Shared,
+    maps: &[FrameMap],
+    state: &mut Vec<Literal>,
+) -> Result<(), NoMemory> {
+    for map in maps.iter().rev() {
+        let before = through(alloc, gates, map, state.as_slice())?;
+        drop(mem::replace(state, before));
+    }
+    Ok(())
 }
 
 /// The map of frames of which the last leaves so many latches.
@@ -64,16 +93,11 @@ pub(crate) fn composed(
     maps: &[FrameMap],
     latches: u32,
 ) -> Result<WholeMap, NoMemory> {
+    let mut outputs = latch_literals(alloc, latches)?;
     let mut gates = Shared::after(alloc, latches.wrapping_add(1), count_gates(maps))?;
-    let mut state = Vec::new(alloc);
-    for place in 0..latches {
-        state.push(Literal::of(place.wrapping_add(1)))?;
-    }
-    for map in maps.iter().rev() {
-        state = through(alloc, &mut gates, map, state.as_slice())?;
-    }
+    go_back(alloc, &mut gates, maps, &mut outputs)?;
     Ok(WholeMap {
         gates: gates.into_gates(),
-        outputs: state,
+        outputs,
     })
 }

@@ -3,8 +3,7 @@
 
 use crate::again::Again;
 use crate::levels::{freeze_long, levels_of};
-use crate::rebuilding::{FrameMap, Rebuilt, rebuild};
-use crate::sweeping::sweep;
+use crate::rebuilding::{FrameMap, rebuild};
 use aig_graph::NoMemory;
 use backward_sets::{
     Bordered, Draft, Guide, Wish, Wishes, count_marks, freeze_losers, guide_of, is_closed, justify,
@@ -33,15 +32,6 @@ pub(crate) struct Moved {
     pub again: Again,
 }
 
-/// What came of an attempt.
-#[derive(Drop)]
-enum Attempt {
-    Moved(Moved),
-    /// Gates were frozen, so that another set may do.
-    Open,
-    Ended,
-}
-
 /// A set with its wishes, and how many latches its border takes.
 #[derive(Drop)]
 struct Settled {
@@ -60,36 +50,48 @@ struct Frame<'a> {
     frozen: Vec<bool>,
     latches: u32,
     bound: Option<u32>,
+    /// Whether gates were frozen in the last attempt, so that another set may do.
+    open: bool,
+}
+
+/// What latches of both resets read stays: it is a border variable with two latches.
+fn frozen_of(alloc: Global, starts: &[Wish]) -> Result<Vec<bool>, NoMemory> {
+    let mut frozen = Vec::with_capacity(alloc, starts.len())?;
+    for wish in starts {
+        let _ = frozen.push(wish.is_both());
+    }
+    Ok(frozen)
 }
 
 impl<'a> Frame<'a> {
-    /// What latches of both resets read stays: it is a border variable with two latches.
     fn new(alloc: Global, draft: &'a Draft, bound: Option<u32>) -> Result<Frame<'a>, NoMemory> {
         let starts = starts_of(alloc, draft)?;
-        let mut frozen = Vec::with_capacity(alloc, starts.len())?;
-        for wish in &starts {
-            frozen.push(wish.is_both())?;
-        }
         Ok(Frame {
             draft,
-            starts,
-            guide: guide_of(alloc, draft)?,
-            frozen,
             latches: draft.taking_part(),
             bound,
+            open: false,
+            guide: guide_of(alloc, draft)?,
+            frozen: frozen_of(alloc, starts.as_slice())?,
+            starts,
         })
     }
 
     /// The wishes of a set.
-    fn settle(&self, alloc: Global, set: Bordered) -> Result<Settled, NoMemory> {
+    fn wishes(&self, alloc: Global, set: &Bordered) -> Result<Wishes, NoMemory> {
         let starts = self.starts.as_slice();
         let mut values = Vec::from_slice(alloc, self.guide.as_slice())?;
-        let solves = justify(alloc, self.draft, &set, starts, values.as_mut_slice())?;
+        let solves = justify(alloc, self.draft, set, starts, values.as_mut_slice())?;
         let guide = Guide {
             values: values.as_slice(),
             solves,
         };
-        let wishes = wishes_of(alloc, self.draft, &set, starts, &guide)?;
+        wishes_of(alloc, self.draft, set, starts, &guide)
+    }
+
+    /// A set with its wishes.
+    fn settle(&self, alloc: Global, set: Bordered) -> Result<Settled, NoMemory> {
+        let wishes = self.wishes(alloc, &set)?;
         let (after, doubled) = set.count(wishes.of.as_slice());
         Ok(Settled {
             set,
@@ -99,54 +101,73 @@ impl<'a> Frame<'a> {
         })
     }
 
+    /// Whether a draft has a way that is too long.
+    fn is_long(&self, alloc: Global, draft: &Draft) -> Result<bool, NoMemory> {
+        match self.bound {
+            Some(bound) => Ok(levels_of(alloc, draft)? > bound),
+            None => Ok(false),
+        }
+    }
+
+    /// The counts of a move.
+    fn counts(&self, settled: &Settled) -> FrameCounts {
+        FrameCounts {
+            before: self.latches,
+            after: settled.after,
+            gates: count_marks(settled.set.inside.as_slice()),
+            doubled: settled.doubled,
+        }
+    }
+
     /// The draft after the move, where no way gets too long.
     fn moved(&self, alloc: Global, settled: &Settled) -> Result<Option<Moved>, NoMemory> {
-        let Rebuilt {
-            mut draft,
-            map,
-            copied,
-        } = rebuild(alloc, self.draft, &settled.set, &settled.wishes)?;
-        let numbers = sweep(alloc, &mut draft)?;
-        if let Some(bound) = self.bound {
-            if levels_of(alloc, &draft)? > bound {
-                return Ok(None);
-            }
+        let mut rebuilt = rebuild(alloc, self.draft, &settled.set, &settled.wishes)?;
+        if self.is_long(alloc, &rebuilt.draft)? {
+            return Ok(None);
         }
-        let saved = self.latches.saturating_sub(settled.after);
-        let again = Again::of(alloc, &draft, copied.as_slice(), numbers.as_slice(), saved)?;
+        let marks = rebuilt.sweep(alloc, settled.set.inside.as_slice())?;
         Ok(Some(Moved {
-            draft,
-            map,
-            counts: FrameCounts {
-                before: self.latches,
-                after: settled.after,
-                gates: count_marks(settled.set.inside.as_slice()),
-                doubled: settled.doubled,
+            draft: rebuilt.draft,
+            map: rebuilt.map,
+            counts: self.counts(settled),
+            again: Again {
+                marks,
+                saved: self.latches.saturating_sub(settled.after),
             },
-            again,
         }))
+    }
+
+    /// Whether a set may move.
+    fn may_move(&self, alloc: Global, inside: &[bool]) -> Result<bool, NoMemory> {
+        let may = movable(alloc, self.draft, self.frozen.as_slice())?;
+        Ok(is_closed(self.draft, may.as_slice(), inside))
+    }
+
+    /// Moves a set, where its border takes no more latches than these.
+    fn moved_within(
+        &self,
+        alloc: Global,
+        set: Bordered,
+        most: u32,
+    ) -> Result<Option<Moved>, NoMemory> {
+        if set.count(self.starts.as_slice()).0 > most {
+            return Ok(None);
+        }
+        let settled = self.settle(alloc, set)?;
+        if settled.after > most {
+            return Ok(None);
+        }
+        self.moved(alloc, &settled)
     }
 
     /// Moves the last set again, where it saves as many latches as then.
     fn repeat(&self, alloc: Global, again: &Again) -> Result<Option<Moved>, NoMemory> {
-        if again.is_empty() {
+        let inside = again.marks.as_slice();
+        if again.is_empty() || !self.may_move(alloc, inside)? {
             return Ok(None);
         }
-        let may = movable(alloc, self.draft, self.frozen.as_slice())?;
-        let inside = again.marks(alloc, self.draft)?;
-        if !is_closed(self.draft, may.as_slice(), inside.as_slice()) {
-            return Ok(None);
-        }
-        let enough = self.latches.saturating_sub(again.saved);
-        let set = with_border(alloc, self.draft, inside)?;
-        if set.count(self.starts.as_slice()).0 > enough {
-            return Ok(None);
-        }
-        let settled = self.settle(alloc, set)?;
-        if settled.after > enough {
-            return Ok(None);
-        }
-        self.moved(alloc, &settled)
+        let set = with_border(alloc, self.draft, Vec::from_slice(alloc, inside)?)?;
+        self.moved_within(alloc, set, self.latches.saturating_sub(again.saved))
     }
 
     /// Freezes gates so that ways don't get too long. Whether another set may do.
@@ -169,23 +190,61 @@ impl<'a> Frame<'a> {
         )
     }
 
-    /// Moves the set that a flow chooses.
-    fn attempt(&mut self, alloc: Global) -> Result<Attempt, NoMemory> {
+    /// The set that a flow chooses.
+    fn least(&self, alloc: Global) -> Result<Option<Vec<bool>>, NoMemory> {
         let may = movable(alloc, self.draft, self.frozen.as_slice())?;
         let starts = self.starts.as_slice();
-        let Some(set) = least_set(alloc, self.draft, may.as_slice(), starts, self.latches)? else {
-            return Ok(Attempt::Ended);
-        };
-        let settled = self.settle(alloc, set)?;
-        let open = if settled.after < self.latches {
-            match self.moved(alloc, &settled)? {
-                Some(moved) => return Ok(Attempt::Moved(moved)),
-                None => self.shorten(alloc)?,
+        least_set(alloc, self.draft, may.as_slice(), starts, self.latches)
+    }
+
+    /// The set that a flow chooses, with its wishes.
+    fn next_set(&self, alloc: Global) -> Result<Option<Settled>, NoMemory> {
+        match self.least(alloc)? {
+            Some(inside) => {
+                let set = with_border(alloc, self.draft, inside)?;
+                Ok(Some(self.settle(alloc, set)?))
             }
-        } else {
-            self.give_way(alloc, &settled)?
-        };
-        Ok(if open { Attempt::Open } else { Attempt::Ended })
+            None => Ok(None),
+        }
+    }
+
+    /// Moves a set, where that saves latches and no way gets too long; else freezes gates.
+    fn attempt(&mut self, alloc: Global, settled: &Settled) -> Result<Option<Moved>, NoMemory> {
+        if settled.after >= self.latches {
+            self.open = self.give_way(alloc, settled)?;
+            return Ok(None);
+        }
+        match self.moved(alloc, settled)? {
+            Some(moved) => Ok(Some(moved)),
+            None => {
+                self.open = self.shorten(alloc)?;
+                Ok(None)
+            }
+        }
+    }
+
+    /// Moves the set that a flow chooses.
+    fn attempt_next(&mut self, alloc: Global) -> Result<Option<Moved>, NoMemory> {
+        self.open = false;
+        match self.next_set(alloc)? {
+            Some(settled) => self.attempt(alloc, &settled),
+            None => Ok(None),
+        }
+    }
+
+    /// Moves the last set again, or one that a flow chooses.
+    fn run(&mut self, alloc: Global, again: &Again) -> Result<Option<Moved>, NoMemory> {
+        if let Some(moved) = self.repeat(alloc, again)? {
+            return Ok(Some(moved));
+        }
+        for _ in 0..MOST_TRIES {
+            match self.attempt_next(alloc)? {
+                Some(moved) => return Ok(Some(moved)),
+                None if self.open => {}
+                None => return Ok(None),
+            }
+        }
+        Ok(None)
     }
 }
 
@@ -201,15 +260,5 @@ pub(crate) fn next_frame(
     again: &Again,
 ) -> Result<Option<Moved>, NoMemory> {
     let mut frame = Frame::new(alloc, draft, bound)?;
-    if let Some(moved) = frame.repeat(alloc, again)? {
-        return Ok(Some(moved));
-    }
-    for _ in 0..MOST_TRIES {
-        match frame.attempt(alloc)? {
-            Attempt::Moved(moved) => return Ok(Some(moved)),
-            Attempt::Open => {}
-            Attempt::Ended => return Ok(None),
-        }
-    }
-    Ok(None)
+    frame.run(alloc, again)
 }

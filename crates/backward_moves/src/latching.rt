@@ -16,24 +16,26 @@ enum Fate {
     Goes,
 }
 
-/// The latches after a frame, whose next literals are still those of before it, and what stands for the copies of border variables: the
-/// literal of a latch's number.
+/// The latches after a frame, whose next literals are still those of before it, and what stands for the copies of border variables.
 #[derive(Drop)]
 pub(crate) struct Latching {
+    /// The variable of the first.
+    first: u32,
     pub latches: Vec<DraftLatch>,
     pub copies: Vec<Copies>,
     /// By latch of before the new number of one that doesn't take part.
     pub places: Vec<u32>,
 }
 
-/// The copy whose latch a latch would become.
-fn served(set: &Bordered, wishes: &[Wish], latch: &DraftLatch) -> Option<Version> {
+/// Has a latch that takes part serve for the copy of what it reads, if that is in the border and none does yet.
+fn fate_of(set: &Bordered, wishes: &[Wish], latch: &DraftLatch, copies: &mut [Copies]) -> Fate {
     let var = latch.next.var();
-    if set.borders(var) {
-        Some(Version::picked(wish_of(wishes, var), latch.wish()))
-    } else {
-        None
+    let version = Version::picked(wish_of(wishes, var), latch.wish());
+    if !set.borders(var) || copy_of(copies, var, version) != Literal::NONE {
+        return Fate::Goes;
     }
+    set_copy(copies, var, version, Literal::FALSE);
+    Fate::Serves(version)
 }
 
 /// Has latches serve that take part: those whose reset is settled, or the others.
@@ -46,15 +48,8 @@ fn serve(
     fates: &mut [Fate],
 ) {
     for (latch, fate) in draft.latches.iter().zip(fates.iter_mut()) {
-        if !latch.takes_part() || latch.wish().is_some() != settled {
-            continue;
-        }
-        if let Some(version) = served(set, wishes, latch) {
-            let var = latch.next.var();
-            if copy_of(copies, var, version) == Literal::NONE {
-                set_copy(copies, var, version, Literal::FALSE);
-                *fate = Fate::Serves(version);
-            }
+        if latch.takes_part() && latch.wish().is_some() == settled {
+            *fate = fate_of(set, wishes, latch, copies);
         }
     }
 }
@@ -67,14 +62,7 @@ fn fates_of(
     wishes: &[Wish],
     copies: &mut [Copies],
 ) -> Result<Vec<Fate>, NoMemory> {
-    let mut fates = Vec::with_capacity(alloc, draft.latches.len())?;
-    for latch in &draft.latches {
-        fates.push(if latch.takes_part() {
-            Fate::Goes
-        } else {
-            Fate::Stays
-        })?;
-    }
+    let mut fates = vec![in alloc; Fate::Stays; draft.latches.len()]?;
     serve(draft, set, wishes, true, copies, fates.as_mut_slice());
     serve(draft, set, wishes, false, copies, fates.as_mut_slice());
     Ok(fates)
@@ -89,44 +77,60 @@ fn reset_for(version: Version, latch: &DraftLatch) -> DraftReset {
 }
 
 impl Latching {
+    /// Puts the latch that serves for a copy: this one, with the copy's reset. Room for it was reserved.
+    fn put(&mut self, latch: &DraftLatch, version: Version) {
+        let var = self.first.wrapping_add(number(self.latches.len()));
+        let lit = Literal::of(var).signed_as(latch.next);
+        set_copy(self.copies.as_mut_slice(), latch.next.var(), version, lit);
+        let _ = self.latches.push(DraftLatch {
+            next: latch.next,
+            reset: reset_for(version, latch),
+            origin: latch.origin,
+            held: latch.held,
+        });
+    }
+
     /// Puts what a latch of before becomes.
-    fn keep(&mut self, latch: &DraftLatch, fate: Fate) -> Result<(), NoMemory> {
-        let place = number(self.latches.len());
-        self.places.push(place)?;
+    fn keep(&mut self, latch: &DraftLatch, fate: Fate) {
+        let _ = self.places.push(number(self.latches.len()));
         match fate {
-            Fate::Stays => self.latches.push(*latch)?,
-            Fate::Serves(version) => {
-                let lit = Literal::of(place).signed_as(latch.next);
-                set_copy(self.copies.as_mut_slice(), latch.next.var(), version, lit);
-                self.latches.push(DraftLatch {
-                    next: latch.next,
-                    reset: reset_for(version, latch),
-                    origin: latch.origin,
-                    held: latch.held,
-                })?;
+            Fate::Stays => {
+                let _ = self.latches.push(*latch);
             }
+            Fate::Serves(version) => self.put(latch, version),
             Fate::Goes => {}
         }
-        Ok(())
+    }
+
+    /// Puts what all latches of before become.
+    fn keep_all(&mut self, draft: &Draft, fates: &[Fate]) {
+        for (latch, fate) in draft.latches.iter().zip(fates) {
+            self.keep(latch, *fate);
+        }
     }
 
     /// Puts a new latch for a copy of a border variable that has none.
-    fn add(&mut self, var: u32, version: Version) -> Result<(), NoMemory> {
-        if copy_of(self.copies.as_slice(), var, version) != Literal::NONE {
-            return Ok(());
+    fn add(&mut self, var: u32, version: Version) {
+        if copy_of(self.copies.as_slice(), var, version) == Literal::NONE {
+            let latch = DraftLatch {
+                next: Literal::of(var),
+                reset: DraftReset::Any,
+                origin: None,
+                held: false,
+            };
+            self.put(&latch, version);
         }
-        let lit = Literal::of(number(self.latches.len()));
-        set_copy(self.copies.as_mut_slice(), var, version, lit);
-        self.latches.push(DraftLatch {
-            next: Literal::of(var),
-            reset: match version.value() {
-                Some(value) => DraftReset::of(value),
-                None => DraftReset::Any,
-            },
-            origin: None,
-            held: false,
-        })?;
-        Ok(())
+    }
+
+    /// Puts new latches for all copies of border variables that have none.
+    fn add_all(&mut self, draft: &Draft, set: &Bordered, wishes: &[Wish]) {
+        for var in 0..draft.end() {
+            if set.borders(var) {
+                for version in Version::of(wish_of(wishes, var)) {
+                    self.add(var, *version);
+                }
+            }
+        }
     }
 }
 
@@ -143,20 +147,15 @@ pub(crate) fn latching_of(
 ) -> Result<Latching, NoMemory> {
     let mut copies = vec![in alloc; Copies::NONE; draft.size()]?;
     let fates = fates_of(alloc, draft, set, wishes, copies.as_mut_slice())?;
+    let (serving, _) = set.count(wishes);
+    let room = draft.latches.len().saturating_add(serving as usize);
     let mut latching = Latching {
-        latches: Vec::new(alloc),
-        copies,
+        first: draft.first_latch(),
+        latches: Vec::with_capacity(alloc, room)?,
         places: Vec::with_capacity(alloc, draft.latches.len())?,
+        copies,
     };
-    for (latch, fate) in draft.latches.iter().zip(fates.iter()) {
-        latching.keep(latch, *fate)?;
-    }
-    for var in 0..draft.end() {
-        if set.borders(var) {
-            for version in Version::of(wish_of(wishes, var)) {
-                latching.add(var, *version)?;
-            }
-        }
-    }
+    latching.keep_all(draft, fates.as_slice());
+    latching.add_all(draft, set, wishes);
     Ok(latching)
 }

@@ -11,20 +11,18 @@ fn lift(numbers: &mut [u32], place: u32, number: u32) {
     set_entry(numbers, place, least);
 }
 
-/// The most gates on a way to a latch or a property.
-///
-/// # Errors
-///
-/// `NoMemory` where the table is refused.
-pub(crate) fn levels_of(alloc: Global, draft: &Draft) -> Result<u32, NoMemory> {
-    let mut table = vec![in alloc; 0; draft.size()]?;
-    let levels = table.as_mut_slice();
+/// By variable the most gates on a way to it.
+fn fill_levels(draft: &Draft, levels: &mut [u32]) {
     let mut var = draft.first_gate();
     for pair in &draft.gates {
         let below = entry(levels, pair.larger.var()).max(entry(levels, pair.smaller.var()));
         set_entry(levels, var, below.saturating_add(1));
         var = var.wrapping_add(1);
     }
+}
+
+/// The most at a latch or a property.
+fn most_of(draft: &Draft, levels: &[u32]) -> u32 {
     let mut most = 0u32;
     for latch in &draft.latches {
         most = most.max(entry(levels, latch.next.var()));
@@ -32,43 +30,49 @@ pub(crate) fn levels_of(alloc: Global, draft: &Draft) -> Result<u32, NoMemory> {
     for lit in &draft.observed {
         most = most.max(entry(levels, lit.var()));
     }
-    Ok(most)
+    most
 }
 
-/// By variable the most gates on a way from it to a latch or a property.
-fn heights_of(alloc: Global, draft: &Draft) -> Result<Vec<u32>, NoMemory> {
-    let mut table = vec![in alloc; 0; draft.size()]?;
-    let heights = table.as_mut_slice();
+/// The most gates on a way to a latch or a property.
+///
+/// # Errors
+///
+/// `NoMemory` where the table is refused.
+pub(crate) fn levels_of(alloc: Global, draft: &Draft) -> Result<u32, NoMemory> {
+    let mut levels = vec![in alloc; 0; draft.size()]?;
+    fill_levels(draft, levels.as_mut_slice());
+    Ok(most_of(draft, levels.as_slice()))
+}
+
+/// Counts each gate at its own entry, and has those of its fan-ins be no less.
+fn climb(draft: &Draft, heights: &mut [u32]) {
     let mut var = draft.end();
     for pair in draft.gates.iter().rev() {
         var = var.wrapping_sub(1);
         let height = entry(heights, var).saturating_add(1);
+        set_entry(heights, var, height);
         lift(heights, pair.larger.var(), height);
         lift(heights, pair.smaller.var(), height);
     }
-    Ok(table)
+}
+
+/// Each latch departs from what it reads as high as what reads it.
+fn depart(draft: &Draft, heights: &[u32], departures: &mut [u32]) {
+    let mut own = draft.first_latch();
+    for latch in &draft.latches {
+        lift(departures, latch.next.var(), entry(heights, own));
+        own = own.wrapping_add(1);
+    }
 }
 
 /// By variable the most gates on a way from a latch before it, through copies of it and of the gates above it, to a latch or a property.
 fn departures_of(alloc: Global, draft: &Draft) -> Result<Vec<u32>, NoMemory> {
-    let heights = heights_of(alloc, draft)?;
-    let mut table = vec![in alloc; 0; draft.size()]?;
-    let departures = table.as_mut_slice();
-    let mut own = draft.first_latch();
-    for latch in &draft.latches {
-        let height = entry(heights.as_slice(), own);
-        lift(departures, latch.next.var(), height);
-        own = own.wrapping_add(1);
-    }
-    let mut var = draft.end();
-    for pair in draft.gates.iter().rev() {
-        var = var.wrapping_sub(1);
-        let departure = entry(departures, var).saturating_add(1);
-        set_entry(departures, var, departure);
-        lift(departures, pair.larger.var(), departure);
-        lift(departures, pair.smaller.var(), departure);
-    }
-    Ok(table)
+    let mut heights = vec![in alloc; 0; draft.size()]?;
+    climb(draft, heights.as_mut_slice());
+    let mut departures = vec![in alloc; 0; draft.size()]?;
+    depart(draft, heights.as_slice(), departures.as_mut_slice());
+    climb(draft, departures.as_mut_slice());
+    Ok(departures)
 }
 
 /// Freezes the gates that would make a way longer than a bound. Whether one wasn't frozen before.

@@ -4,7 +4,7 @@ use crate::again::Again;
 use crate::composing::{WholeMap, composed};
 use crate::frame::{FrameCounts, Moved, next_frame};
 use crate::levels::levels_of;
-use crate::reading::{Inputs, draft_of, stands_of};
+use crate::reading::{Inputs, draft_of, inputs_of, stands_of};
 use crate::rebuilding::FrameMap;
 use crate::sweeping::sweep;
 use crate::watching::{MoveStage, MoveWatcher};
@@ -52,28 +52,51 @@ impl Drafted {
 fn known_latches(draft: &Draft) -> u32 {
     let mut count = 0u32;
     for latch in &draft.latches {
-        if latch.reset != DraftReset::Free {
-            count = count.wrapping_add(1);
-        }
+        count = count.wrapping_add(u32::from(latch.reset != DraftReset::Free));
     }
     count
 }
 
 /// A run of frames.
-#[derive(Drop)]
 struct Run {
+    inputs: Inputs,
     draft: Draft,
     again: Again,
     maps: Vec<FrameMap>,
     frames: Vec<FrameCounts>,
 }
 
+impl Drop for Run {
+    // written out: docs/PROOFS.md, Drops and exits
+    fn drop(self) {
+        let Run {
+            inputs: _inputs,
+            draft: _draft,
+            again: _again,
+            maps: _maps,
+            frames: _frames,
+        } = self;
+    }
+}
+
 impl Run {
-    /// Takes one frame, if it saves a latch. Whether it does.
-    fn advance(&mut self, alloc: Global, bound: Option<u32>) -> Result<bool, NoMemory> {
-        let Some(moved) = next_frame(alloc, &self.draft, bound, &self.again)? else {
-            return Ok(false);
+    /// No frame was taken yet.
+    fn new(alloc: Global, circuit: &Circuit, keep: &Keep) -> Result<Run, NoMemory> {
+        let inputs = inputs_of(alloc, circuit)?;
+        let draft = draft_of(alloc, circuit, keep, &inputs)?;
+        let mut run = Run {
+            inputs,
+            draft,
+            again: Again::none(alloc),
+            maps: Vec::new(alloc),
+            frames: Vec::new(alloc),
         };
+        drop(sweep(alloc, &mut run.draft)?);
+        Ok(run)
+    }
+
+    /// Goes on from what a frame made.
+    fn take(&mut self, moved: Moved) -> Result<bool, NoMemory> {
         let Moved {
             draft,
             map,
@@ -82,9 +105,17 @@ impl Run {
         } = moved;
         drop(mem::replace(&mut self.draft, draft));
         drop(mem::replace(&mut self.again, again));
-        self.maps.push(map)?;
         self.frames.push(counts)?;
+        self.maps.push(map)?;
         Ok(true)
+    }
+
+    /// Takes one frame, if it saves a latch. Whether it does.
+    fn advance(&mut self, alloc: Global, bound: Option<u32>) -> Result<bool, NoMemory> {
+        match next_frame(alloc, &self.draft, bound, &self.again)? {
+            Some(moved) => self.take(moved),
+            None => Ok(false),
+        }
     }
 
     /// The stage in which the set of the next frame is looked for.
@@ -127,49 +158,56 @@ fn settle(latches: &mut [DraftLatch]) {
 }
 
 /// The literals as those of the first circuit.
-fn restore(draft: &mut Draft, inputs: &Inputs, many: u32) {
+fn restore(draft: &mut Draft, inputs: &Inputs) {
     for latch in draft.latches.iter_mut() {
-        latch.next = inputs.original(many, latch.next);
+        latch.next = inputs.original(latch.next);
     }
     for pair in draft.gates.iter_mut() {
-        pair.larger = inputs.original(many, pair.larger);
-        pair.smaller = inputs.original(many, pair.smaller);
+        pair.larger = inputs.original(pair.larger);
+        pair.smaller = inputs.original(pair.smaller);
     }
     for lit in draft.observed.iter_mut() {
-        *lit = inputs.original(many, *lit);
+        *lit = inputs.original(*lit);
     }
 }
 
-/// What a run ends in.
-fn finished(
-    alloc: Global,
-    run: Run,
-    inputs: &Inputs,
-    circuit: &Circuit,
-) -> Result<Drafted, NoMemory> {
-    let Run {
-        mut draft,
-        again,
-        maps,
-        frames,
-    } = run;
-    drop(again);
-    let WholeMap { gates, outputs } = composed(
-        alloc,
-        maps.as_slice(),
-        number(draft.latches.len()),
-    )?;
-    settle(draft.latches.as_mut_slice());
-    restore(&mut draft, inputs, circuit.aig().inputs());
-    let stands = stands_of(alloc, circuit, draft.observed.as_slice())?;
-    Ok(Drafted {
-        latches: draft.latches,
-        gates: draft.gates,
-        stands,
-        map_gates: gates,
-        map_outputs: outputs,
-        frames,
-    })
+impl Run {
+    /// Makes the draft one of the first circuit. What stands for what its properties read, and the map of all frames.
+    fn finish(
+        &mut self,
+        alloc: Global,
+        circuit: &Circuit,
+    ) -> Result<(Vec<Literal>, WholeMap), NoMemory> {
+        settle(self.draft.latches.as_mut_slice());
+        restore(&mut self.draft, &self.inputs);
+        let stands = stands_of(alloc, circuit, self.draft.observed.as_slice())?;
+        let latches = number(self.draft.latches.len());
+        Ok((stands, composed(alloc, self.maps.as_slice(), latches)?))
+    }
+
+    /// What the run ends in. None where no frame was taken.
+    fn finished(mut self, alloc: Global, circuit: &Circuit) -> Result<Option<Drafted>, NoMemory> {
+        if self.frames.is_empty() {
+            return Ok(None);
+        }
+        let (stands, map) = self.finish(alloc, circuit)?;
+        let Run {
+            inputs: _inputs,
+            draft,
+            again: _again,
+            maps: _maps,
+            frames,
+        } = self;
+        let (latches, gates) = draft.into_latches_and_gates();
+        Ok(Some(Drafted {
+            latches,
+            gates,
+            stands,
+            map_gates: map.gates,
+            map_outputs: map.outputs,
+            frames,
+        }))
+    }
 }
 
 /// Moves the latches of a circuit backward that aren't held, as long as that saves some. None where no frame does.
@@ -184,18 +222,8 @@ pub fn draft_moves<W: MoveWatcher>(
     options: &MoveOptions,
     watcher: &mut W,
 ) -> Result<Option<Drafted>, NoMemory> {
-    let (mut draft, inputs) = draft_of(alloc, circuit, keep)?;
-    drop(sweep(alloc, &mut draft)?);
-    let mut run = Run {
-        draft,
-        again: Again::none(alloc),
-        maps: Vec::new(alloc),
-        frames: Vec::new(alloc),
-    };
+    let mut run = Run::new(alloc, circuit, keep)?;
     run.advance_all(alloc, options, watcher)?;
     watcher.begin(MoveStage::Checking);
-    if run.frames.is_empty() {
-        return Ok(None);
-    }
-    Ok(Some(finished(alloc, run, &inputs, circuit)?))
+    run.finished(alloc, circuit)
 }

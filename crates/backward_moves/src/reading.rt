@@ -1,104 +1,103 @@
 //! A circuit as a draft. Inputs that nothing reads are left out, since a file of thirty bytes can have hundreds of millions of them.
 
-use aig_graph::{Circuit, Keep, Latch, Lit, NoMemory, Reset, property_literals};
-use backward_sets::{Draft, DraftLatch, DraftReset, Literal, Pair, number};
+use crate::rebuilding::set_literal;
+use aig_graph::{Circuit, Gate, Keep, Latch, Lit, NoMemory, Reset, property_literals};
+use backward_sets::{Draft, DraftLatch, DraftReset, Literal, Pair, entry, number};
 use std::alloc::Global;
 
 /// The inputs that something reads, rising.
 #[derive(Drop)]
 pub(crate) struct Inputs {
+    /// How many the circuit has.
+    all: u32,
+    /// How many of them the draft has.
     many: u32,
-    /// Their variables, where some inputs are left out.
-    read: Option<Vec<u32>>,
+    /// Their variables, where some are left out.
+    read: Vec<u32>,
 }
 
-/// Notes the variable of a literal, if it is an input.
-fn note(read: &mut Vec<u32>, inputs: u32, lit: Lit) -> Result<(), NoMemory> {
+/// Notes the variable of a literal, if it is an input. Room for it was reserved.
+fn note(read: &mut Vec<u32>, inputs: u32, lit: Lit) {
     if lit.var() > 0 && lit.var() <= inputs {
-        read.push(lit.var())?;
+        let _ = read.push(lit.var());
     }
-    Ok(())
 }
 
-/// The inputs that are read, each as often as it is.
-fn noted(alloc: Global, circuit: &Circuit, observed: &[Lit]) -> Result<Vec<u32>, NoMemory> {
+/// Notes the inputs that are read, each as often as it is.
+fn note_all(read: &mut Vec<u32>, circuit: &Circuit, observed: &[Lit]) -> Result<(), NoMemory> {
     let aig = circuit.aig();
-    let mut read = Vec::new(alloc);
+    let inputs = aig.inputs();
+    let both = aig.latches_and_gates().saturating_add(aig.gates().len());
+    read.reserve(observed.len().saturating_add(both))?;
     for lit in observed {
-        note(&mut read, aig.inputs(), *lit)?;
+        note(read, inputs, *lit);
     }
     for latch in aig.latches() {
-        note(&mut read, aig.inputs(), latch.next)?;
+        note(read, inputs, latch.next);
     }
     for gate in aig.gates() {
-        note(&mut read, aig.inputs(), gate.rhs0)?;
-        note(&mut read, aig.inputs(), gate.rhs1)?;
+        note(read, inputs, gate.rhs0);
+        note(read, inputs, gate.rhs1);
     }
-    Ok(read)
+    Ok(())
 }
 
 impl Inputs {
     /// All inputs where they are few, else those that are read.
     fn of(alloc: Global, circuit: &Circuit, observed: &[Lit]) -> Result<Inputs, NoMemory> {
         let aig = circuit.aig();
-        if aig.inputs() as usize <= aig.latches_and_gates() {
-            return Ok(Inputs {
-                many: aig.inputs(),
-                read: None,
-            });
+        let mut inputs = Inputs {
+            all: aig.inputs(),
+            many: aig.inputs(),
+            read: Vec::new(alloc),
+        };
+        if inputs.all as usize > aig.latches_and_gates() {
+            note_all(&mut inputs.read, circuit, observed)?;
+            inputs.read.sort_unstable();
+            inputs.read.dedup();
+            inputs.many = number(inputs.read.len());
         }
-        let mut read = noted(alloc, circuit, observed)?;
-        read.sort_unstable();
-        read.dedup();
-        Ok(Inputs {
-            many: number(read.len()),
-            read: Some(read),
-        })
+        Ok(inputs)
     }
 
-    /// The draft's variable of one of a circuit with so many inputs.
-    fn var(&self, inputs: u32, var: u32) -> u32 {
-        let Some(read) = &self.read else {
+    /// The draft's variable of one of the circuit.
+    fn var(&self, var: u32) -> u32 {
+        if self.many == self.all || var == 0 {
             return var;
-        };
-        if var == 0 {
-            return 0;
         }
-        if var > inputs {
-            return var.wrapping_sub(inputs).wrapping_add(self.many);
+        if var > self.all {
+            return var.wrapping_sub(self.all).wrapping_add(self.many);
         }
-        match read.as_slice().binary_search(&var) {
+        match self.read.as_slice().binary_search(&var) {
             Ok(place) => number(place).wrapping_add(1),
             Err(_) => 0,
         }
     }
 
-    /// The draft's literal of one of a circuit with so many inputs.
-    fn literal(&self, inputs: u32, lit: Lit) -> Literal {
-        Literal::of(self.var(inputs, lit.var())).negated_if(lit.is_negated())
+    /// The draft's literal of one of the circuit.
+    fn literal(&self, lit: Lit) -> Literal {
+        Literal::of(self.var(lit.var())).negated_if(lit.is_negated())
     }
 
-    /// The literal of a circuit with so many inputs that one of the draft is.
-    pub fn original(&self, inputs: u32, lit: Literal) -> Literal {
-        let Some(read) = &self.read else {
+    /// The circuit's literal that one of the draft is.
+    pub fn original(&self, lit: Literal) -> Literal {
+        if self.many == self.all {
             return lit;
-        };
+        }
         let var = lit.var();
-        if var > self.many {
-            let own = var.wrapping_sub(self.many).wrapping_add(inputs);
-            return Literal::of(own).signed_as(lit);
-        }
-        match read.get(var.wrapping_sub(1) as usize) {
-            Some(own) => Literal::of(*own).signed_as(lit),
-            None => lit,
-        }
+        let own = if var > self.many {
+            var.wrapping_sub(self.many).wrapping_add(self.all)
+        } else {
+            entry(self.read.as_slice(), var.wrapping_sub(1))
+        };
+        Literal::of(own).signed_as(lit)
     }
 }
 
 /// A latch of a draft.
-fn latch_of(inputs: &Inputs, many: u32, keep: &Keep, latch: &Latch, position: u32) -> DraftLatch {
+fn latch_of(inputs: &Inputs, keep: &Keep, latch: &Latch, position: u32) -> DraftLatch {
     DraftLatch {
-        next: inputs.literal(many, latch.next),
+        next: inputs.literal(latch.next),
         reset: match latch.reset {
             Reset::Zero => DraftReset::Zero,
             Reset::One => DraftReset::One,
@@ -109,7 +108,61 @@ fn latch_of(inputs: &Inputs, many: u32, keep: &Keep, latch: &Latch, position: u3
     }
 }
 
-/// The draft that a circuit is, and the inputs that it has.
+/// The latches of a draft.
+fn latches_of(
+    alloc: Global,
+    latches: &[Latch],
+    keep: &Keep,
+    inputs: &Inputs,
+) -> Result<Vec<DraftLatch>, NoMemory> {
+    let mut drafted = Vec::with_capacity(alloc, latches.len())?;
+    let mut position = 0u32;
+    for latch in latches {
+        let _ = drafted.push(latch_of(inputs, keep, latch, position));
+        position = position.wrapping_add(1);
+    }
+    Ok(drafted)
+}
+
+/// The gates of a draft.
+fn gates_of(alloc: Global, gates: &[Gate], inputs: &Inputs) -> Result<Vec<Pair>, NoMemory> {
+    let mut drafted = Vec::with_capacity(alloc, gates.len())?;
+    for gate in gates {
+        let _ = drafted.push(Pair {
+            larger: inputs.literal(gate.rhs0),
+            smaller: inputs.literal(gate.rhs1),
+        });
+    }
+    Ok(drafted)
+}
+
+/// The literals that properties read in a draft.
+fn observed_of(
+    alloc: Global,
+    circuit: &Circuit,
+    inputs: &Inputs,
+) -> Result<Vec<Literal>, NoMemory> {
+    let properties = property_literals(alloc, circuit.props())?;
+    let mut observed = vec![in alloc; Literal::FALSE; properties.len()]?;
+    let mut place = 0u32;
+    for lit in &properties {
+        set_literal(observed.as_mut_slice(), place, inputs.literal(*lit));
+        place = place.wrapping_add(1);
+    }
+    Ok(observed)
+}
+
+/// The inputs that the draft of a circuit has.
+///
+/// # Errors
+///
+/// `NoMemory` where a table is refused.
+pub(crate) fn inputs_of(alloc: Global, circuit: &Circuit) -> Result<Inputs, NoMemory> {
+    let properties = property_literals(alloc, circuit.props())?;
+    Inputs::of(alloc, circuit, properties.as_slice())
+}
+
+/// The draft that a circuit is, with these inputs.
 ///
 /// # Errors
 ///
@@ -118,35 +171,23 @@ pub(crate) fn draft_of(
     alloc: Global,
     circuit: &Circuit,
     keep: &Keep,
-) -> Result<(Draft, Inputs), NoMemory> {
+    inputs: &Inputs,
+) -> Result<Draft, NoMemory> {
     let aig = circuit.aig();
-    let many = aig.inputs();
-    let properties = property_literals(alloc, circuit.props())?;
-    let inputs = Inputs::of(alloc, circuit, properties.as_slice())?;
-    let mut latches = Vec::with_capacity(alloc, aig.latches().len())?;
-    let mut position = 0u32;
-    for latch in aig.latches() {
-        latches.push(latch_of(&inputs, many, keep, latch, position))?;
-        position = position.wrapping_add(1);
-    }
-    let mut gates = Vec::with_capacity(alloc, aig.gates().len())?;
-    for gate in aig.gates() {
-        gates.push(Pair {
-            larger: inputs.literal(many, gate.rhs0),
-            smaller: inputs.literal(many, gate.rhs1),
-        })?;
-    }
-    let mut observed = Vec::with_capacity(alloc, properties.len())?;
-    for lit in &properties {
-        observed.push(inputs.literal(many, *lit))?;
-    }
-    let draft = Draft {
+    Ok(Draft {
         inputs: inputs.many,
-        latches,
-        gates,
-        observed,
-    };
-    Ok((draft, inputs))
+        latches: latches_of(alloc, aig.latches(), keep, inputs)?,
+        gates: gates_of(alloc, aig.gates(), inputs)?,
+        observed: observed_of(alloc, circuit, inputs)?,
+    })
+}
+
+/// Puts what stands for each latch and gate that a property reads, from a first variable on.
+fn fill_stands(stands: &mut [Literal], first: u32, properties: &[Lit], observed: &[Literal]) {
+    for (lit, own) in properties.iter().zip(observed) {
+        let place = lit.var().wrapping_sub(first);
+        set_literal(stands, place, own.negated_if(lit.is_negated()));
+    }
 }
 
 /// What stands for each latch and gate of a circuit that a property reads, where these literals stand for those of its properties.
@@ -162,13 +203,11 @@ pub(crate) fn stands_of(
     let aig = circuit.aig();
     let properties = property_literals(alloc, circuit.props())?;
     let mut stands = vec![in alloc; Literal::FALSE; aig.latches_and_gates()]?;
-    for (lit, own) in properties.iter().zip(observed) {
-        if lit.var() >= aig.first_latch() {
-            let place = lit.var().wrapping_sub(aig.first_latch());
-            if let Some(entry) = stands.get_mut(place as usize) {
-                *entry = own.negated_if(lit.is_negated());
-            }
-        }
-    }
+    fill_stands(
+        stands.as_mut_slice(),
+        aig.first_latch(),
+        properties.as_slice(),
+        observed,
+    );
     Ok(stands)
 }

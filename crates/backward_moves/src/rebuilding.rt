@@ -1,35 +1,64 @@
 //! The draft after a frame, and the map of its states to those before it. Behind the latches stand copies of the set's gates, which read the
 //! latches; in the map stand the same copies, whose variables are lower, since it has no inputs but the latches. What read a latch reads the copy of what the latch read.
 
+use crate::again::marks_of;
 use crate::copies::{Copies, Version, copy_of, set_copy};
 use crate::latching::{Latching, latching_of};
 use crate::shared::Shared;
+use crate::sweeping::sweep;
 use aig_graph::NoMemory;
 use backward_sets::{
-    Bordered, Draft, DraftLatch, Literal, Pair, Wishes, has_mark, number, wish_of,
+    Bordered, Draft, DraftLatch, Literal, Pair, Wish, Wishes, entry, has_mark, number, wish_of,
 };
 use std::alloc::Global;
 
 /// What the latches of before a frame hold, by those after it: gates over these, which have the variables from 1 on, and a literal for each.
-#[derive(Drop)]
 pub(crate) struct FrameMap {
     pub gates: Vec<Pair>,
     pub outputs: Vec<Literal>,
 }
 
-/// A draft and its map, with the gates of the set and their copies.
+impl Drop for FrameMap {
+    // written out: docs/PROOFS.md, Drops and exits
+    fn drop(self) {
+        let FrameMap {
+            gates: _gates,
+            outputs: _outputs,
+        } = self;
+    }
+}
+
+/// A draft and its map, with the copies of the variables of before.
 #[derive(Drop)]
 pub(crate) struct Rebuilt {
     pub draft: Draft,
     pub map: FrameMap,
-    pub copied: Vec<u32>,
+    pub copies: Vec<Copies>,
 }
 
-/// Gates over latches, and what stands there for each copy.
+impl Rebuilt {
+    /// Drops gates that nothing reads. By variable whether it is the copy of a gate of the set.
+    ///
+    /// # Errors
+    ///
+    /// `NoMemory` where a table is refused.
+    pub fn sweep(&mut self, alloc: Global, inside: &[bool]) -> Result<Vec<bool>, NoMemory> {
+        let numbers = sweep(alloc, &mut self.draft)?;
+        marks_of(
+            alloc,
+            &self.draft,
+            inside,
+            self.copies.as_slice(),
+            numbers.as_slice(),
+        )
+    }
+}
+
+/// The latches after a frame, and the gates behind them so far.
 #[derive(Drop)]
 struct Side {
     gates: Shared,
-    copies: Vec<Copies>,
+    latching: Latching,
 }
 
 /// The values that the fan-ins have to have at step 0 for a copy, where they matter.
@@ -43,26 +72,32 @@ fn needs(version: Version, by_larger: bool, pair: &Pair) -> (Option<bool>, Optio
     }
 }
 
-impl Side {
-    /// The latches stand for the copies of border variables. The copies of the set's gates come after them.
-    fn new(alloc: Global, draft: &Draft, latching: &Latching) -> Result<Side, NoMemory> {
-        let first = draft.first_latch();
-        let mut copies = Vec::with_capacity(alloc, latching.copies.len())?;
-        for of_var in &latching.copies {
-            let mut shifted = Copies::NONE;
-            for version in [Version::Zero, Version::One, Version::Any] {
-                let lit = of_var.get(version);
-                if lit != Literal::NONE {
-                    let var = lit.var().wrapping_add(first);
-                    shifted.set(version, Literal::of(var).signed_as(lit));
-                }
-            }
-            copies.push(shifted)?;
+/// How many gates stand behind the latches at most: the copies of the set's, and the others.
+fn room(draft: &Draft, set: &Bordered, wishes: &[Wish]) -> usize {
+    let mut many = draft.gates.len();
+    for var in draft.first_gate()..draft.end() {
+        if set.has(var) && wish_of(wishes, var).is_both() {
+            many = many.saturating_add(1);
         }
-        let end = first.wrapping_add(number(latching.latches.len()));
+    }
+    many
+}
+
+impl Side {
+    /// The copies of the set's gates come after the latches.
+    fn new(
+        alloc: Global,
+        draft: &Draft,
+        set: &Bordered,
+        wishes: &[Wish],
+    ) -> Result<Side, NoMemory> {
+        let latching = latching_of(alloc, draft, set, wishes)?;
+        let end = draft
+            .first_latch()
+            .wrapping_add(number(latching.latches.len()));
         Ok(Side {
-            gates: Shared::after(alloc, end, draft.gates.len())?,
-            copies,
+            gates: Shared::after(alloc, end, room(draft, set, wishes))?,
+            latching,
         })
     }
 
@@ -70,32 +105,30 @@ impl Side {
     fn literal(&self, wishes: &Wishes, lit: Literal, need: Option<bool>) -> Literal {
         let wish = wish_of(wishes.of.as_slice(), lit.var());
         let version = Version::picked(wish, need);
-        copy_of(self.copies.as_slice(), lit.var(), version).signed_as(lit)
+        copy_of(self.latching.copies.as_slice(), lit.var(), version).signed_as(lit)
     }
 
     /// Puts the copies of a gate of the set.
-    fn put(&mut self, wishes: &Wishes, var: u32, pair: &Pair) -> Result<(), NoMemory> {
+    fn put(&mut self, wishes: &Wishes, var: u32, pair: &Pair) {
         let by_larger = has_mark(wishes.by_larger.as_slice(), var);
         for version in Version::of(wish_of(wishes.of.as_slice(), var)) {
             let (larger, smaller) = needs(*version, by_larger, pair);
             let a = self.literal(wishes, pair.larger, larger);
             let b = self.literal(wishes, pair.smaller, smaller);
-            let lit = self.gates.and(a, b)?;
-            set_copy(self.copies.as_mut_slice(), var, *version, lit);
+            let lit = self.gates.and(a, b);
+            set_copy(self.latching.copies.as_mut_slice(), var, *version, lit);
         }
-        Ok(())
     }
 
     /// Puts the copies of all gates of the set.
-    fn put_all(&mut self, draft: &Draft, set: &Bordered, wishes: &Wishes) -> Result<(), NoMemory> {
+    fn put_all(&mut self, draft: &Draft, set: &Bordered, wishes: &Wishes) {
         let mut var = draft.first_gate();
         for pair in &draft.gates {
             if set.has(var) {
-                self.put(wishes, var, pair)?;
+                self.put(wishes, var, pair);
             }
             var = var.wrapping_add(1);
         }
-        Ok(())
     }
 
     /// What stands for a latch of before, where it has this variable if it doesn't take part.
@@ -107,43 +140,73 @@ impl Side {
         }
     }
 
-    /// The same of all latches.
-    fn put_latches(
-        &self,
-        draft: &Draft,
-        latching: &Latching,
-        wishes: &Wishes,
-        stands: &mut Vec<Literal>,
-    ) -> Result<(), NoMemory> {
+    /// Puts what stands for the variables of before the gates.
+    fn put_latches(&self, draft: &Draft, wishes: &Wishes, stands: &mut [Literal]) {
         let first = draft.first_latch();
-        for (latch, place) in draft.latches.iter().zip(latching.places.iter()) {
-            stands.push(self.latch(wishes, latch, first.wrapping_add(*place)))?;
+        for var in 0..first {
+            set_literal(stands, var, Literal::of(var));
         }
-        Ok(())
+        let mut own = first;
+        for latch in &draft.latches {
+            let place = entry(self.latching.places.as_slice(), own.wrapping_sub(first));
+            let lit = self.latch(wishes, latch, first.wrapping_add(place));
+            set_literal(stands, own, lit);
+            own = own.wrapping_add(1);
+        }
+    }
+
+    /// Puts the gates outside of the set after the copies, and what stands for them.
+    fn put_others(&mut self, draft: &Draft, set: &Bordered, stands: &mut [Literal]) {
+        let mut var = draft.first_gate();
+        for pair in &draft.gates {
+            if !set.has(var) {
+                let (a, b) = (
+                    standing(stands, pair.larger),
+                    standing(stands, pair.smaller),
+                );
+                set_literal(stands, var, self.gates.and(a, b));
+            }
+            var = var.wrapping_add(1);
+        }
     }
 
     /// The map of the states after a frame to those before it, where no gates stand here yet but the copies of the set's.
-    fn map(
-        &self,
+    fn map(&self, alloc: Global, draft: &Draft, stands: &[Literal]) -> Result<FrameMap, NoMemory> {
+        let mut gates = Vec::from_slice(alloc, self.gates.gates())?;
+        for pair in gates.iter_mut() {
+            pair.larger = lowered(pair.larger, draft.inputs);
+            pair.smaller = lowered(pair.smaller, draft.inputs);
+        }
+        Ok(FrameMap {
+            outputs: lowered_latches(alloc, draft, stands)?,
+            gates,
+        })
+    }
+
+    /// The map of the states after a frame to those before it, and the literals of properties after it. Puts all gates, and has the latches
+    /// read what stands for what they read.
+    fn finish(
+        &mut self,
         alloc: Global,
         draft: &Draft,
-        latching: &Latching,
+        set: &Bordered,
         wishes: &Wishes,
-    ) -> Result<FrameMap, NoMemory> {
-        let many = draft.inputs;
-        let mut gates = Vec::with_capacity(alloc, self.gates.gates().len())?;
-        for pair in self.gates.gates() {
-            gates.push(Pair {
-                larger: lowered(pair.larger, many),
-                smaller: lowered(pair.smaller, many),
-            })?;
-        }
-        let mut outputs = Vec::with_capacity(alloc, draft.latches.len())?;
-        self.put_latches(draft, latching, wishes, &mut outputs)?;
-        for output in outputs.iter_mut() {
-            *output = lowered(*output, many);
-        }
-        Ok(FrameMap { gates, outputs })
+    ) -> Result<(FrameMap, Vec<Literal>), NoMemory> {
+        self.put_all(draft, set, wishes);
+        let mut stands = vec![in alloc; Literal::NONE; draft.size()]?;
+        self.put_latches(draft, wishes, stands.as_mut_slice());
+        let map = self.map(alloc, draft, stands.as_slice())?;
+        self.put_others(draft, set, stands.as_mut_slice());
+        redirect(self.latching.latches.as_mut_slice(), stands.as_slice());
+        let observed = all_standing(alloc, stands.as_slice(), draft.observed.as_slice())?;
+        Ok((map, observed))
+    }
+}
+
+/// Latches read from now on what stands for what they read.
+fn redirect(latches: &mut [DraftLatch], stands: &[Literal]) {
+    for latch in latches.iter_mut() {
+        latch.next = standing(stands, latch.next);
     }
 }
 
@@ -156,82 +219,49 @@ fn lowered(lit: Literal, many: u32) -> Literal {
     }
 }
 
+/// What stands for the latches of a draft, where its inputs are left out.
+fn lowered_latches(
+    alloc: Global,
+    draft: &Draft,
+    stands: &[Literal],
+) -> Result<Vec<Literal>, NoMemory> {
+    let mut lits = Vec::with_capacity(alloc, draft.latches.len())?;
+    for var in draft.first_latch()..draft.first_gate() {
+        let _ = lits.push(lowered(standing(stands, Literal::of(var)), draft.inputs));
+    }
+    Ok(lits)
+}
+
 /// What stands for a literal.
-fn standing(stands: &[Literal], lit: Literal) -> Literal {
+pub(crate) fn standing(stands: &[Literal], lit: Literal) -> Literal {
     match stands.get(lit.var() as usize) {
         Some(own) => own.signed_as(lit),
-        None => Literal::NONE,
+        None => Literal::FALSE,
+    }
+}
+
+/// A literal stands for a variable from now on.
+pub(crate) fn set_literal(stands: &mut [Literal], var: u32, lit: Literal) {
+    if let Some(entry) = stands.get_mut(var as usize) {
+        *entry = lit;
     }
 }
 
 /// The literals that stand for these.
-fn all_standing(
+///
+/// # Errors
+///
+/// `NoMemory` where the list is refused.
+pub(crate) fn all_standing(
     alloc: Global,
     stands: &[Literal],
     lits: &[Literal],
 ) -> Result<Vec<Literal>, NoMemory> {
     let mut all = Vec::with_capacity(alloc, lits.len())?;
     for lit in lits {
-        all.push(standing(stands, *lit))?;
+        let _ = all.push(standing(stands, *lit));
     }
     Ok(all)
-}
-
-/// What stands for each variable of before; the gates outside of the set are put after the copies.
-fn stands_of(
-    alloc: Global,
-    draft: &Draft,
-    set: &Bordered,
-    wishes: &Wishes,
-    latching: &Latching,
-    side: &mut Side,
-) -> Result<Vec<Literal>, NoMemory> {
-    let mut stands = Vec::with_capacity(alloc, draft.size())?;
-    for var in 0..draft.first_latch() {
-        stands.push(Literal::of(var))?;
-    }
-    side.put_latches(draft, latching, wishes, &mut stands)?;
-    let mut var = draft.first_gate();
-    for pair in &draft.gates {
-        let lit = if set.has(var) {
-            Literal::NONE
-        } else {
-            let a = standing(stands.as_slice(), pair.larger);
-            let b = standing(stands.as_slice(), pair.smaller);
-            side.gates.and(a, b)?
-        };
-        stands.push(lit)?;
-        var = var.wrapping_add(1);
-    }
-    Ok(stands)
-}
-
-/// The variables of the copies of the set's gates.
-fn copied_gates(
-    alloc: Global,
-    draft: &Draft,
-    set: &Bordered,
-    copies: &[Copies],
-) -> Result<Vec<u32>, NoMemory> {
-    let mut copied = Vec::new(alloc);
-    for var in draft.first_gate()..draft.end() {
-        if set.has(var) {
-            for version in [Version::Zero, Version::One, Version::Any] {
-                let lit = copy_of(copies, var, version);
-                if lit != Literal::NONE {
-                    copied.push(lit.var())?;
-                }
-            }
-        }
-    }
-    Ok(copied)
-}
-
-/// The latches with what stands for their next literals.
-fn finished_latches(latches: &mut [DraftLatch], stands: &[Literal]) {
-    for latch in latches.iter_mut() {
-        latch.next = standing(stands, latch.next);
-    }
 }
 
 /// The draft after a frame over a set, by the wishes at its border. Gates that nothing reads are still there.
@@ -245,31 +275,17 @@ pub(crate) fn rebuild(
     set: &Bordered,
     wishes: &Wishes,
 ) -> Result<Rebuilt, NoMemory> {
-    let mut latching = latching_of(alloc, draft, set, wishes.of.as_slice())?;
-    let mut side = Side::new(alloc, draft, &latching)?;
-    side.put_all(draft, set, wishes)?;
-    let map = side.map(alloc, draft, &latching, wishes)?;
-    let stands = stands_of(alloc, draft, set, wishes, &latching, &mut side)?;
-    finished_latches(latching.latches.as_mut_slice(), stands.as_slice());
-    let observed = all_standing(alloc, stands.as_slice(), draft.observed.as_slice())?;
-    let copied = copied_gates(alloc, draft, set, side.copies.as_slice())?;
-    let Latching {
-        latches,
-        copies: _copies,
-        places: _places,
-    } = latching;
-    let Side {
-        gates,
-        copies: _own,
-    } = side;
+    let mut side = Side::new(alloc, draft, set, wishes.of.as_slice())?;
+    let (map, observed) = side.finish(alloc, draft, set, wishes)?;
+    let Side { gates, latching } = side;
     Ok(Rebuilt {
         draft: Draft {
             inputs: draft.inputs,
-            latches,
+            latches: latching.latches,
             gates: gates.into_gates(),
             observed,
         },
         map,
-        copied,
+        copies: latching.copies,
     })
 }

@@ -1,9 +1,8 @@
 //! Gates of which no two have the same fan-ins, by the rules by which maps are checked. An open table has the places of the gates.
 
 use aig_graph::NoMemory;
-use backward_sets::{Literal, Pair, number, set_entry};
+use backward_sets::{Literal, Pair, entry, number, set_entry};
 use std::alloc::Global;
-use std::mem;
 
 /// The smallest table.
 const SMALLEST: usize = 16;
@@ -14,7 +13,6 @@ const LARGEST: usize = 1 << 31;
 /// Gates from a first variable on, and by what they read one more than the place of each; 0 where there is none.
 #[derive(Drop)]
 pub(crate) struct Shared {
-    alloc: Global,
     first: u32,
     gates: Vec<Pair>,
     table: Vec<u32>,
@@ -68,14 +66,13 @@ fn size_for(gates: usize) -> usize {
 }
 
 impl Shared {
-    /// No gates yet, from a first variable on, with room for so many.
+    /// No gates yet, from a first variable on, with room for so many. Of more there must not be.
     ///
     /// # Errors
     ///
     /// `NoMemory` where a table is refused.
     pub fn after(alloc: Global, first: u32, room: usize) -> Result<Shared, NoMemory> {
         Ok(Shared {
-            alloc,
             first,
             gates: Vec::with_capacity(alloc, room)?,
             table: vec![in alloc; 0; size_for(room)]?,
@@ -99,44 +96,26 @@ impl Shared {
         at
     }
 
-    /// Makes a table of twice the size, where half of it is full.
-    fn grow(&mut self) -> Result<(), NoMemory> {
-        let size = self.table.len();
-        if self.gates.len() < size / 2 {
-            return Ok(());
+    /// The literal of the conjunction of two literals.
+    pub fn and(&mut self, a: Literal, b: Literal) -> Literal {
+        let pair = ordered(a, b);
+        match folded(&pair) {
+            Some(lit) => lit,
+            None => self.gate(pair),
         }
-        let larger = vec![in self.alloc; 0; size.saturating_mul(2)]?;
-        drop(mem::replace(&mut self.table, larger));
-        let mut entry = 1u32;
-        for place in 0..self.gates.len() {
-            let pair = self.gates[place];
-            let at = self.find(&pair);
-            set_entry(self.table.as_mut_slice(), number(at), entry);
-            entry = entry.wrapping_add(1);
-        }
-        Ok(())
     }
 
-    /// The literal of the conjunction of two literals.
-    ///
-    /// # Errors
-    ///
-    /// `NoMemory` where a table is refused.
-    pub fn and(&mut self, a: Literal, b: Literal) -> Result<Literal, NoMemory> {
-        let pair = ordered(a, b);
-        if let Some(lit) = folded(&pair) {
-            return Ok(lit);
-        }
-        self.grow()?;
-        let at = self.find(&pair);
-        let known = self.table.get(at).copied().unwrap_or(0);
+    /// The literal of a gate, which is put if it isn't there yet. Room for it was reserved.
+    fn gate(&mut self, pair: Pair) -> Literal {
+        let at = number(self.find(&pair));
+        let known = entry(self.table.as_slice(), at);
         if known > 0 {
-            return Ok(self.literal(known));
+            return self.literal(known);
         }
-        self.gates.push(pair)?;
+        let _ = self.gates.push(pair);
         let entry = number(self.gates.len());
-        set_entry(self.table.as_mut_slice(), number(at), entry);
-        Ok(self.literal(entry))
+        set_entry(self.table.as_mut_slice(), at, entry);
+        self.literal(entry)
     }
 
     /// The literal of the gate that has an entry.
@@ -152,7 +131,6 @@ impl Shared {
     /// The gates alone.
     pub fn into_gates(self) -> Vec<Pair> {
         let Shared {
-            alloc: _alloc,
             first: _first,
             gates,
             table: _table,

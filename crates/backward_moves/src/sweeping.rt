@@ -1,19 +1,22 @@
 //! Gates that no property and no latch reaches are dropped.
 
 use aig_graph::NoMemory;
-use backward_sets::{Draft, Literal, Pair, entry, has_mark, set_mark};
+use backward_sets::{Draft, Literal, Pair, entry, has_mark, set_entry, set_mark};
 use std::alloc::Global;
+use std::mem;
 
-/// By variable whether a property or a latch reaches it.
-fn reached(alloc: Global, draft: &Draft) -> Result<Vec<bool>, NoMemory> {
-    let mut marks = vec![in alloc; false; draft.size()]?;
-    let reached = marks.as_mut_slice();
+/// Marks what a property or a latch reads.
+fn mark_read(draft: &Draft, read: &mut [bool]) {
     for lit in &draft.observed {
-        set_mark(reached, lit.var(), true);
+        set_mark(read, lit.var(), true);
     }
     for latch in &draft.latches {
-        set_mark(reached, latch.next.var(), true);
+        set_mark(read, latch.next.var(), true);
     }
+}
+
+/// Marks what gates with marks read.
+fn mark_below(draft: &Draft, reached: &mut [bool]) {
     let mut var = draft.end();
     for pair in draft.gates.iter().rev() {
         var = var.wrapping_sub(1);
@@ -22,7 +25,6 @@ fn reached(alloc: Global, draft: &Draft) -> Result<Vec<bool>, NoMemory> {
             set_mark(reached, pair.smaller.var(), true);
         }
     }
-    Ok(marks)
 }
 
 /// A literal of a variable's new number.
@@ -30,33 +32,54 @@ fn renumbered(numbers: &[u32], lit: Literal) -> Literal {
     Literal::of(entry(numbers, lit.var())).signed_as(lit)
 }
 
-/// The gates that are reached, and by variable the new numbers. Variables that go have 0.
+/// The gates that are reached. Puts their new numbers.
 fn kept_gates(
     alloc: Global,
     draft: &Draft,
-    marks: &[bool],
-) -> Result<(Vec<Pair>, Vec<u32>), NoMemory> {
-    let first = draft.first_gate();
-    let mut numbers = Vec::with_capacity(alloc, draft.size())?;
-    for var in 0..first {
-        numbers.push(var)?;
-    }
-    let mut gates = Vec::new(alloc);
-    let (mut var, mut next) = (first, first);
+    reached: &[bool],
+    numbers: &mut [u32],
+) -> Result<Vec<Pair>, NoMemory> {
+    let mut gates = Vec::with_capacity(alloc, draft.gates.len())?;
+    let mut var = draft.first_gate();
+    let mut next = var;
     for pair in &draft.gates {
-        if has_mark(marks, var) {
-            gates.push(Pair {
-                larger: renumbered(numbers.as_slice(), pair.larger),
-                smaller: renumbered(numbers.as_slice(), pair.smaller),
-            })?;
-            numbers.push(next)?;
+        if has_mark(reached, var) {
+            let _ = gates.push(Pair {
+                larger: renumbered(numbers, pair.larger),
+                smaller: renumbered(numbers, pair.smaller),
+            });
+            set_entry(numbers, var, next);
             next = next.wrapping_add(1);
-        } else {
-            numbers.push(0)?;
         }
         var = var.wrapping_add(1);
     }
-    Ok((gates, numbers))
+    Ok(gates)
+}
+
+/// Gives what latches and properties read their new numbers.
+fn renumber(draft: &mut Draft, numbers: &[u32]) {
+    for latch in draft.latches.iter_mut() {
+        latch.next = renumbered(numbers, latch.next);
+    }
+    for lit in draft.observed.iter_mut() {
+        *lit = renumbered(numbers, *lit);
+    }
+}
+
+/// Drops the gates that aren't reached, and gives literals their new numbers.
+fn drop_others(
+    alloc: Global,
+    draft: &mut Draft,
+    reached: &[bool],
+    numbers: &mut [u32],
+) -> Result<(), NoMemory> {
+    for var in 0..draft.first_gate() {
+        set_entry(numbers, var, var);
+    }
+    let gates = kept_gates(alloc, draft, reached, numbers)?;
+    drop(mem::replace(&mut draft.gates, gates));
+    renumber(draft, numbers);
+    Ok(())
 }
 
 /// Drops the gates of a draft that nothing reaches. By variable the new numbers; variables that went have 0.
@@ -65,14 +88,10 @@ fn kept_gates(
 ///
 /// `NoMemory` where a table is refused.
 pub(crate) fn sweep(alloc: Global, draft: &mut Draft) -> Result<Vec<u32>, NoMemory> {
-    let marks = reached(alloc, draft)?;
-    let (gates, numbers) = kept_gates(alloc, draft, marks.as_slice())?;
-    draft.gates = gates;
-    for latch in draft.latches.iter_mut() {
-        latch.next = renumbered(numbers.as_slice(), latch.next);
-    }
-    for lit in draft.observed.iter_mut() {
-        *lit = renumbered(numbers.as_slice(), *lit);
-    }
+    let mut reached = vec![in alloc; false; draft.size()]?;
+    mark_read(draft, reached.as_mut_slice());
+    mark_below(draft, reached.as_mut_slice());
+    let mut numbers = vec![in alloc; 0; draft.size()]?;
+    drop_others(alloc, draft, reached.as_slice(), numbers.as_mut_slice())?;
     Ok(numbers)
 }

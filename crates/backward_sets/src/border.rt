@@ -1,7 +1,7 @@
 //! A set of gates, and its border: what the set's gates read from outside of it, and what latches that take part read.
 
 use crate::drafts::Draft;
-use crate::starts::{Wish, wish_of};
+use crate::starts::Wish;
 use crate::tables::{has_mark, set_mark};
 use aig_graph::NoMemory;
 use std::alloc::Global;
@@ -26,14 +26,42 @@ impl Bordered {
 
     /// How many latches the border takes, where these are the wishes; and how many variables take two.
     pub fn count(&self, wishes: &[Wish]) -> (u32, u32) {
-        let (mut latches, mut doubled) = (0u32, 0u32);
-        for (in_border, wish) in self.border.iter().zip(wishes) {
-            if *in_border {
-                latches = latches.wrapping_add(wish.latches());
+        let (mut variables, mut doubled) = (0u32, 0u32);
+        let mut var = 0u32;
+        for wish in wishes {
+            if self.borders(var) {
+                variables = variables.wrapping_add(1);
                 doubled = doubled.wrapping_add(u32::from(wish.is_both()));
             }
+            var = var.wrapping_add(1);
         }
-        (latches, doubled)
+        (variables.wrapping_add(doubled), doubled)
+    }
+}
+
+/// Marks a variable that is read, unless it is in the set.
+fn mark_outside(border: &mut [bool], inside: &[bool], var: u32) {
+    set_mark(border, var, !has_mark(inside, var));
+}
+
+/// Marks what latches that take part read from outside of a set.
+fn mark_read_by_latches(draft: &Draft, inside: &[bool], border: &mut [bool]) {
+    for latch in &draft.latches {
+        if latch.takes_part() {
+            mark_outside(border, inside, latch.next.var());
+        }
+    }
+}
+
+/// Marks what the gates of a set read from outside of it.
+fn mark_read_by_gates(draft: &Draft, inside: &[bool], border: &mut [bool]) {
+    let mut var = draft.first_gate();
+    for pair in &draft.gates {
+        if has_mark(inside, var) {
+            mark_outside(border, inside, pair.larger.var());
+            mark_outside(border, inside, pair.smaller.var());
+        }
+        var = var.wrapping_add(1);
     }
 }
 
@@ -43,28 +71,10 @@ impl Bordered {
 ///
 /// `NoMemory` where the table is refused.
 pub fn with_border(alloc: Global, draft: &Draft, inside: Vec<bool>) -> Result<Bordered, NoMemory> {
-    let mut marks = vec![in alloc; false; draft.size()]?;
-    let border = marks.as_mut_slice();
-    for latch in &draft.latches {
-        if latch.takes_part() {
-            set_mark(border, latch.next.var(), true);
-        }
-    }
-    let mut var = draft.first_gate();
-    for pair in &draft.gates {
-        if has_mark(inside.as_slice(), var) {
-            set_mark(border, pair.larger.var(), true);
-            set_mark(border, pair.smaller.var(), true);
-        }
-        var = var.wrapping_add(1);
-    }
-    for (mark, is_inside) in border.iter_mut().zip(inside.iter()) {
-        *mark = *mark && !*is_inside;
-    }
-    Ok(Bordered {
-        inside,
-        border: marks,
-    })
+    let mut border = vec![in alloc; false; draft.size()]?;
+    mark_read_by_latches(draft, inside.as_slice(), border.as_mut_slice());
+    mark_read_by_gates(draft, inside.as_slice(), border.as_mut_slice());
+    Ok(Bordered { inside, border })
 }
 
 /// Whether a set may move as it is: its gates may, and so each gate that reads one is in it.
@@ -81,13 +91,4 @@ pub fn is_closed(draft: &Draft, may: &[bool], inside: &[bool]) -> bool {
         var = var.wrapping_add(1);
     }
     true
-}
-
-/// The wishes of a variable, and none of one that isn't in the border.
-pub fn border_wish(set: &Bordered, wishes: &[Wish], var: u32) -> Wish {
-    if set.borders(var) {
-        wish_of(wishes, var)
-    } else {
-        Wish::NONE
-    }
 }

@@ -48,6 +48,11 @@ impl DraftLatch {
         self.reset != DraftReset::Free && !self.held
     }
 
+    /// The value at step 0 of one that may move, where it is settled.
+    pub fn start(&self) -> Option<bool> {
+        if self.held { None } else { self.reset.value() }
+    }
+
     /// What its next variable has to be a step before, where its reset is settled.
     pub fn wish(&self) -> Option<bool> {
         Some(self.reset.value()? != self.next.is_negated())
@@ -62,7 +67,6 @@ pub struct Pair {
 }
 
 /// A circuit as it is drafted.
-#[derive(Drop)]
 pub struct Draft {
     pub inputs: u32,
     pub latches: Vec<DraftLatch>,
@@ -71,7 +75,30 @@ pub struct Draft {
     pub observed: Vec<Literal>,
 }
 
+impl Drop for Draft {
+    // written out: docs/PROOFS.md, Drops and exits
+    fn drop(self) {
+        let Draft {
+            inputs: _inputs,
+            latches: _latches,
+            gates: _gates,
+            observed: _observed,
+        } = self;
+    }
+}
+
 impl Draft {
+    /// The latches and the gates alone.
+    pub fn into_latches_and_gates(self) -> (Vec<DraftLatch>, Vec<Pair>) {
+        let Draft {
+            inputs: _inputs,
+            latches,
+            gates,
+            observed: _observed,
+        } = self;
+        (latches, gates)
+    }
+
     /// The variable of the first latch.
     pub fn first_latch(&self) -> u32 {
         self.inputs.wrapping_add(1)
@@ -105,9 +132,7 @@ impl Draft {
     pub fn taking_part(&self) -> u32 {
         let mut count = 0u32;
         for latch in &self.latches {
-            if latch.takes_part() {
-                count = count.wrapping_add(1);
-            }
+            count = count.wrapping_add(u32::from(latch.takes_part()));
         }
         count
     }

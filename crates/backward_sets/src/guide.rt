@@ -2,8 +2,9 @@
 //! all steps that one is kept after which the fewest latches differ from their resets. Many circuits start in a state that they stay in under
 //! some inputs, so that a step leads there.
 
-use crate::drafts::{Draft, DraftReset};
+use crate::drafts::{Draft, DraftLatch, DraftReset};
 use crate::literals::Literal;
+use crate::tables::set_mark;
 use aig_graph::NoMemory;
 use std::alloc::Global;
 
@@ -21,30 +22,44 @@ struct Lanes {
 
 /// The row of a literal.
 fn row(values: &[u64], lit: Literal) -> u64 {
-    let row = match values.get(lit.var() as usize) {
-        Some(row) => *row,
-        None => 0,
-    };
+    let row = values.get(lit.var() as usize).copied().unwrap_or(0);
     if lit.is_negated() { !row } else { row }
 }
 
-impl Lanes {
-    /// The reset state, with 0 where a reset isn't known.
-    fn new(alloc: Global, draft: &Draft) -> Result<Lanes, NoMemory> {
-        let mut state = Vec::with_capacity(alloc, draft.latches.len())?;
-        for latch in &draft.latches {
-            state.push(if latch.reset == DraftReset::One {
-                u64::MAX
-            } else {
-                0
-            })?;
+/// Puts the row of a variable.
+fn set_row(values: &mut [u64], var: u32, row: u64) {
+    if let Some(entry) = values.get_mut(var as usize) {
+        *entry = row;
+    }
+}
+
+/// Puts the state in which latches have their resets, where it is 0 so far. A reset that isn't known is 0.
+fn reset_state(draft: &Draft, state: &mut [u64]) {
+    let mut place = 0u32;
+    for latch in &draft.latches {
+        if latch.reset == DraftReset::One {
+            set_row(state, place, u64::MAX);
         }
-        Ok(Lanes {
-            values: Vec::with_capacity(alloc, draft.size())?,
-            state,
+        place = place.wrapping_add(1);
+    }
+}
+
+/// The lanes in which a latch with this row doesn't hold its reset, if it takes part and its reset is settled.
+fn wrong_lanes(latch: &DraftLatch, row: u64) -> Option<u64> {
+    Some(if latch.start()? { !row } else { row })
+}
+
+impl Lanes {
+    /// The reset state.
+    fn new(alloc: Global, draft: &Draft) -> Result<Lanes, NoMemory> {
+        let mut lanes = Lanes {
+            values: vec![in alloc; 0; draft.size()]?,
+            state: vec![in alloc; 0; draft.latches.len()]?,
             wrong: vec![in alloc; 0; 64]?,
             seed: 0x9e37_79b9_7f4a_7c15,
-        })
+        };
+        reset_state(draft, lanes.state.as_mut_slice());
+        Ok(lanes)
     }
 
     /// The next row of inputs: 0 in the first lane, 1 in the second.
@@ -55,35 +70,54 @@ impl Lanes {
         (self.seed & !3) | 2
     }
 
-    /// The values of all variables, from the state.
-    fn evaluate(&mut self, draft: &Draft) -> Result<(), NoMemory> {
-        self.values.clear();
-        self.values.push(0)?;
-        for _ in 0..draft.inputs {
+    /// Puts the next rows of all inputs.
+    fn put_inputs(&mut self, draft: &Draft) {
+        for var in 1..draft.first_latch() {
             let row = self.input();
-            self.values.push(row)?;
+            set_row(self.values.as_mut_slice(), var, row);
         }
+    }
+
+    /// Puts the rows of latches, from the state, and of gates.
+    fn put_gates(&mut self, draft: &Draft) {
+        let values = self.values.as_mut_slice();
+        let mut var = draft.first_latch();
         for row in &self.state {
-            self.values.push(*row)?;
+            set_row(values, var, *row);
+            var = var.wrapping_add(1);
         }
         for pair in &draft.gates {
-            let values = self.values.as_slice();
             let both = row(values, pair.larger) & row(values, pair.smaller);
-            self.values.push(both)?;
+            set_row(values, var, both);
+            var = var.wrapping_add(1);
         }
-        Ok(())
     }
 
     /// The state a step later. Counts by lane the latches that take part and don't hold their resets then.
     fn step(&mut self, draft: &Draft) {
-        for count in self.wrong.iter_mut() {
-            *count = 0;
+        self.wrong.fill(0);
+        let mut place = 0u32;
+        for latch in &draft.latches {
+            let row = row(self.values.as_slice(), latch.next);
+            set_row(self.state.as_mut_slice(), place, row);
+            if let Some(wrong) = wrong_lanes(latch, row) {
+                count_lanes(self.wrong.as_mut_slice(), wrong);
+            }
+            place = place.wrapping_add(1);
         }
-        for (latch, state) in draft.latches.iter().zip(self.state.iter_mut()) {
-            *state = row(self.values.as_slice(), latch.next);
-            if let (true, Some(value)) = (latch.takes_part(), latch.reset.value()) {
-                let differs = if value { !*state } else { *state };
-                count_lanes(self.wrong.as_mut_slice(), differs);
+    }
+
+    /// Makes steps. Writes the values of the best.
+    fn run(&mut self, draft: &Draft, guide: &mut [bool]) {
+        let mut fewest = u32::MAX;
+        for _ in 0..STEPS {
+            self.put_inputs(draft);
+            self.put_gates(draft);
+            self.step(draft);
+            let (lane, wrong) = least_lane(self.wrong.as_slice());
+            if wrong < fewest {
+                fewest = wrong;
+                lane_values(self.values.as_slice(), lane, guide);
             }
         }
     }
@@ -114,8 +148,10 @@ fn least_lane(counts: &[u32]) -> (u32, u32) {
 
 /// The values of one lane.
 fn lane_values(values: &[u64], lane: u32, guide: &mut [bool]) {
-    for (row, value) in values.iter().zip(guide.iter_mut()) {
-        *value = row.wrapping_shr(lane) % 2 == 1;
+    let mut var = 0u32;
+    for row in values {
+        set_mark(guide, var, row.wrapping_shr(lane) % 2 == 1);
+        var = var.wrapping_add(1);
     }
 }
 
@@ -125,17 +161,8 @@ fn lane_values(values: &[u64], lane: u32, guide: &mut [bool]) {
 ///
 /// `NoMemory` where a table is refused.
 pub fn guide_of(alloc: Global, draft: &Draft) -> Result<Vec<bool>, NoMemory> {
-    let mut guide = vec![in alloc; false; draft.size()]?;
     let mut lanes = Lanes::new(alloc, draft)?;
-    let mut fewest = u32::MAX;
-    for _ in 0..STEPS {
-        lanes.evaluate(draft)?;
-        lanes.step(draft);
-        let (lane, wrong) = least_lane(lanes.wrong.as_slice());
-        if wrong < fewest {
-            fewest = wrong;
-            lane_values(lanes.values.as_slice(), lane, guide.as_mut_slice());
-        }
-    }
+    let mut guide = vec![in alloc; false; draft.size()]?;
+    lanes.run(draft, guide.as_mut_slice());
     Ok(guide)
 }

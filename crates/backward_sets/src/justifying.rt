@@ -26,6 +26,7 @@ struct Decision {
 #[derive(Drop)]
 struct Search<'a> {
     values: Values<'a>,
+    /// There is room for one a gate, and there are no more: the gate of a choice isn't open as long as that stands.
     decisions: Vec<Decision>,
     /// No gate from this variable on is open.
     look: u32,
@@ -58,64 +59,54 @@ impl<'a> Search<'a> {
         None
     }
 
-    /// Makes a literal 0. Whether nothing contradicts.
-    fn decide(&mut self, choice: Literal) -> Result<bool, NoMemory> {
-        self.decisions.push(Decision {
+    /// Gives a literal a value, which is 0 where the other way is still there. Whether nothing contradicts.
+    fn decide(&mut self, choice: Literal, value: bool) -> bool {
+        let _ = self.decisions.push(Decision {
             count: self.values.count(),
-            choice: Some(choice),
+            choice: if value { None } else { Some(choice) },
             look: self.look,
-        })?;
-        self.values.assume(choice, false)
+        });
+        self.values.assume(choice, value)
     }
 
-    /// Takes back the last choice that can be made otherwise, and makes it so. Whether nothing contradicts; none where there is no such choice.
-    fn retract(&mut self) -> Result<Option<bool>, NoMemory> {
+    /// Takes back the last choice that can be made otherwise, and those after it; none where there is no such choice.
+    fn retract(&mut self) -> Option<Literal> {
         for _ in 0..u32::MAX {
-            let Some(decision) = self.decisions.pop() else {
-                return Ok(None);
-            };
+            let decision = self.decisions.pop()?;
             self.values.forget(decision.count);
             self.look = decision.look;
-            if let Some(choice) = decision.choice {
-                self.decisions.push(Decision {
-                    count: decision.count,
-                    choice: None,
-                    look: decision.look,
-                })?;
-                return Ok(Some(self.values.assume(choice, true)?));
+            if decision.choice.is_some() {
+                return decision.choice;
             }
         }
-        Ok(None)
+        None
     }
 
     /// Goes back until nothing contradicts. Whether it came there.
-    fn mend(&mut self) -> Result<bool, NoMemory> {
-        for _ in 0..MOST_BACK {
-            if self.back >= MOST_BACK {
-                return Ok(false);
-            }
+    fn mend(&mut self) -> bool {
+        for _ in self.back..MOST_BACK {
             self.back = self.back.wrapping_add(1);
-            match self.retract()? {
-                None => return Ok(false),
-                Some(true) => return Ok(true),
-                Some(false) => {}
+            let Some(choice) = self.retract() else {
+                return false;
+            };
+            if self.decide(choice, true) {
+                return true;
             }
         }
-        Ok(false)
+        false
     }
 
     /// Makes choices until no gate is open. Whether it came there.
-    fn run(&mut self, draft: &Draft, set: &Bordered, guide: &[bool]) -> Result<bool, NoMemory> {
+    fn run(&mut self, draft: &Draft, set: &Bordered, guide: &[bool]) -> bool {
         for _ in 0..u64::MAX {
             let Some(pair) = self.next_open(draft, set) else {
-                return Ok(true);
+                return true;
             };
-            let choice = choice_of(guide, &pair);
-            if !self.decide(choice)? && !self.mend()? {
-                return Ok(false);
+            if !self.decide(choice_of(guide, &pair), false) && !self.mend() {
+                return false;
             }
         }
-        Ok(false)
+        false
     }
 }
 
@@ -133,20 +124,6 @@ fn choice_of(guide: &[bool], pair: &Pair) -> Literal {
     }
 }
 
-/// Gives what latches read the values that their resets wish, with all that follows. Whether nothing contradicts.
-fn begin(values: &mut Values<'_>, draft: &Draft) -> Result<bool, NoMemory> {
-    for latch in &draft.latches {
-        if latch.takes_part() {
-            if let Some(value) = latch.reset.value() {
-                if !values.set(latch.next, value)? {
-                    return Ok(false);
-                }
-            }
-        }
-    }
-    values.propagate(0)
-}
-
 /// Writes values over those of a guide by which all latches start as they do. Whether such were found; else the guide stays as it is.
 ///
 /// # Errors
@@ -159,17 +136,13 @@ pub fn justify(
     starts: &[Wish],
     guide: &mut [bool],
 ) -> Result<bool, NoMemory> {
-    let mut values = Values::none(alloc, draft, set, starts)?;
-    if !begin(&mut values, draft)? {
-        return Ok(false);
-    }
     let mut search = Search {
-        values,
-        decisions: Vec::new(alloc),
+        decisions: Vec::with_capacity(alloc, draft.gates.len())?,
         look: draft.end(),
         back: 0,
+        values: Values::none(alloc, draft, set, starts)?,
     };
-    let found = search.run(draft, set, guide)?;
+    let found = search.values.begin() && search.run(draft, set, guide);
     if found {
         search.values.write_over(guide);
     }

@@ -19,30 +19,43 @@ fn mark_leaves(draft: &Draft, may: &mut [bool], read: &mut [bool]) {
     }
 }
 
+/// Takes the mark of what a gate reads that stays, and marks in the other table what it reads.
+fn mark_fan_in(may: &mut [bool], read: &mut [bool], var: u32, moves: bool) {
+    set_mark(read, var, true);
+    if !moves {
+        set_mark(may, var, false);
+    }
+}
+
+/// Marks the gates that don't have to stay.
+fn mark_unfrozen(draft: &Draft, frozen: &[bool], may: &mut [bool]) {
+    for var in draft.first_gate()..draft.end() {
+        set_mark(may, var, !has_mark(frozen, var));
+    }
+}
+
+/// Keeps the marks of the gates that may move.
+fn mark_gates(draft: &Draft, may: &mut [bool], read: &mut [bool]) {
+    let mut var = draft.end();
+    for pair in draft.gates.iter().rev() {
+        var = var.wrapping_sub(1);
+        let moves = has_mark(may, var) & has_mark(read, var);
+        set_mark(may, var, moves);
+        mark_fan_in(may, read, pair.larger.var(), moves);
+        mark_fan_in(may, read, pair.smaller.var(), moves);
+    }
+}
+
 /// By variable whether it is a gate that may move, where some gates have to stay.
 ///
 /// # Errors
 ///
 /// `NoMemory` where a table is refused.
 pub fn movable(alloc: Global, draft: &Draft, frozen: &[bool]) -> Result<Vec<bool>, NoMemory> {
-    let mut marks = vec![in alloc; true; draft.size()]?;
-    let mut reading = vec![in alloc; false; draft.size()]?;
-    let (may, read) = (marks.as_mut_slice(), reading.as_mut_slice());
-    mark_leaves(draft, may, read);
-    for var in 0..draft.first_gate() {
-        set_mark(may, var, false);
-    }
-    let mut var = draft.end();
-    for pair in draft.gates.iter().rev() {
-        var = var.wrapping_sub(1);
-        let moves = has_mark(may, var) && has_mark(read, var) && !has_mark(frozen, var);
-        set_mark(may, var, moves);
-        for lit in [pair.larger, pair.smaller] {
-            set_mark(read, lit.var(), true);
-            if !moves {
-                set_mark(may, lit.var(), false);
-            }
-        }
-    }
-    Ok(marks)
+    let mut read = vec![in alloc; false; draft.size()]?;
+    let mut may = vec![in alloc; false; draft.size()]?;
+    mark_unfrozen(draft, frozen, may.as_mut_slice());
+    mark_leaves(draft, may.as_mut_slice(), read.as_mut_slice());
+    mark_gates(draft, may.as_mut_slice(), read.as_mut_slice());
+    Ok(may)
 }

@@ -3,10 +3,9 @@
 //! its fan-ins, and to after each gate that reads it, and from before what may not move to the sink. So a cut has a set of gates with each gate
 //! that reads a member, and costs a latch for each variable of its border, however many members read that.
 
-use crate::border::{Bordered, with_border};
 use crate::drafts::Draft;
 use crate::flow::{Flow, UNBOUNDED};
-use crate::search::{greatest_flow, reached};
+use crate::search::greatest_flow;
 use crate::starts::{Wish, wish_of};
 use crate::tables::{has_mark, set_mark};
 use aig_graph::NoMemory;
@@ -77,37 +76,48 @@ impl Network {
         }
     }
 
-    /// The gates on the source's side of the least cut that is nearest to it.
-    fn near_side(&self, alloc: Global, may: &[bool]) -> Result<Vec<bool>, NoMemory> {
-        let side = reached(alloc, &self.flow, self.source)?;
-        let mut inside = vec![in alloc; false; may.len()]?;
-        let mut var = 0u32;
-        for mark in inside.iter_mut() {
-            *mark = has_mark(may, var) && has_mark(side.as_slice(), after(var));
-            var = var.wrapping_add(1);
+    /// Units go on from all variables that the source reaches.
+    fn join_all(&mut self, draft: &Draft, may: &[bool], starts: &[Wish]) -> Result<(), NoMemory> {
+        self.join_latches(draft)?;
+        for var in (0..draft.end()).rev() {
+            if has_mark(self.wanted.as_slice(), var) {
+                self.join(draft, may, var, wish_of(starts, var).latches())?;
+            }
         }
-        Ok(inside)
+        Ok(())
+    }
+
+    /// The gates on the source's side of the least cut that is nearest to it, where fewer units than these go to the sink.
+    fn near_side(
+        &mut self,
+        alloc: Global,
+        may: &[bool],
+        latches: u32,
+    ) -> Result<Option<Vec<bool>>, NoMemory> {
+        let (units, side) = greatest_flow(alloc, &mut self.flow, self.source, self.sink)?;
+        if units >= latches {
+            return Ok(None);
+        }
+        Ok(Some(gates_on(alloc, may, side.as_slice())?))
     }
 }
 
-/// The network of a draft whose gates with these marks may move.
-fn network_of(
-    alloc: Global,
-    draft: &Draft,
-    may: &[bool],
-    starts: &[Wish],
-) -> Result<Network, NoMemory> {
-    let mut network = Network::new(alloc, draft)?;
-    network.join_latches(draft)?;
-    for var in (0..draft.end()).rev() {
-        if has_mark(network.wanted.as_slice(), var) {
-            network.join(draft, may, var, wish_of(starts, var).latches())?;
-        }
+/// The gates that may move of those whose nodes after them are on a side.
+fn gates_on(alloc: Global, may: &[bool], side: &[bool]) -> Result<Vec<bool>, NoMemory> {
+    let mut gates = vec![in alloc; false; may.len()]?;
+    let mut var = 0u32;
+    for mark in may {
+        set_mark(
+            gates.as_mut_slice(),
+            var,
+            *mark & has_mark(side, after(var)),
+        );
+        var = var.wrapping_add(1);
     }
-    Ok(network)
+    Ok(gates)
 }
 
-/// The smallest set of gates whose border takes the fewest latches, where that is fewer than these.
+/// By variable whether it is in the smallest set of gates whose border takes the fewest latches, where that is fewer than these.
 ///
 /// # Errors
 ///
@@ -118,12 +128,8 @@ pub fn least_set(
     may: &[bool],
     starts: &[Wish],
     latches: u32,
-) -> Result<Option<Bordered>, NoMemory> {
-    let mut network = network_of(alloc, draft, may, starts)?;
-    let (source, sink) = (network.source, network.sink);
-    if greatest_flow(alloc, &mut network.flow, source, sink)? >= latches {
-        return Ok(None);
-    }
-    let inside = network.near_side(alloc, may)?;
-    Ok(Some(with_border(alloc, draft, inside)?))
+) -> Result<Option<Vec<bool>>, NoMemory> {
+    let mut network = Network::new(alloc, draft)?;
+    network.join_all(draft, may, starts)?;
+    network.near_side(alloc, may, latches)
 }

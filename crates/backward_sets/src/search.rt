@@ -7,27 +7,37 @@ use aig_graph::NoMemory;
 use std::alloc::Global;
 
 /// What a step of a search does.
-#[derive(Clone, Copy, PartialEq, Eq)]
+#[derive(Clone, Copy)]
 enum Step {
     On,
     Found,
     Ended,
 }
 
-/// A search: the arcs of the way so far, the next arc to look at of each node, and which nodes were visited.
+/// A search: the arcs of the way so far, of which there are so many, the next arc to look at of each node, and which nodes were visited.
 #[derive(Drop)]
 struct Search {
     at: u32,
+    /// As long as a way that visits all nodes.
     way: Vec<u32>,
+    length: u32,
     next: Vec<u32>,
     seen: Vec<bool>,
+}
+
+/// Writes numbers over others, of which there are as many.
+fn write_over(numbers: &mut [u32], others: &[u32]) {
+    for (number, other) in numbers.iter_mut().zip(others) {
+        *number = *other;
+    }
 }
 
 impl Search {
     fn new(alloc: Global, nodes: usize) -> Result<Search, NoMemory> {
         Ok(Search {
             at: 0,
-            way: Vec::new(alloc),
+            way: vec![in alloc; 0; nodes]?,
+            length: 0,
             next: vec![in alloc; 0; nodes]?,
             seen: vec![in alloc; false; nodes]?,
         })
@@ -36,74 +46,84 @@ impl Search {
     /// No node is visited but the first.
     fn begin(&mut self, flow: &Flow, source: u32) {
         self.at = source;
-        self.way.clear();
-        for (next, head) in self.next.iter_mut().zip(flow.heads()) {
-            *next = *head;
-        }
-        for seen in self.seen.iter_mut() {
-            *seen = false;
-        }
+        self.length = 0;
+        write_over(self.next.as_mut_slice(), flow.heads());
+        self.seen.fill(false);
         set_mark(self.seen.as_mut_slice(), source, true);
     }
 
     /// Goes back along the way's last arc.
     fn back(&mut self, flow: &Flow) -> Step {
-        match self.way.pop() {
-            Some(number) => {
-                self.at = flow.tail(number);
-                Step::On
-            }
-            None => Step::Ended,
+        if self.length == 0 {
+            return Step::Ended;
         }
+        self.length = self.length.wrapping_sub(1);
+        self.at = flow.tail(entry(self.way.as_slice(), self.length));
+        Step::On
     }
 
     /// Looks at the next arc of the node where the search is.
-    fn step(&mut self, flow: &Flow, sink: u32) -> Result<Step, NoMemory> {
+    fn step(&mut self, flow: &Flow, sink: u32) -> Step {
         let number = entry(self.next.as_slice(), self.at);
         let Some(arc) = flow.arc(number) else {
-            return Ok(self.back(flow));
+            return self.back(flow);
         };
         set_entry(self.next.as_mut_slice(), self.at, Flow::after(&arc));
         if arc.room == 0 || has_mark(self.seen.as_slice(), arc.to) {
-            return Ok(Step::On);
+            return Step::On;
         }
-        self.way.push(number)?;
+        set_entry(self.way.as_mut_slice(), self.length, number);
+        self.length = self.length.wrapping_add(1);
         if arc.to == sink {
-            return Ok(Step::Found);
+            return Step::Found;
         }
         set_mark(self.seen.as_mut_slice(), arc.to, true);
         self.at = arc.to;
-        Ok(Step::On)
+        Step::On
     }
 
     /// Sends a unit along the way that was found, and begins at the source again.
     fn send(&mut self, flow: &mut Flow, source: u32) {
-        for number in &self.way {
-            flow.send(*number);
+        for place in 0..self.length {
+            flow.send(entry(self.way.as_slice(), place));
         }
-        self.way.clear();
+        self.length = 0;
         self.at = source;
     }
 
     /// One phase: how many units it sends.
-    fn phase(&mut self, flow: &mut Flow, source: u32, sink: u32) -> Result<u32, NoMemory> {
+    fn phase(&mut self, flow: &mut Flow, source: u32, sink: u32) -> u32 {
         self.begin(flow, source);
         let mut sent = 0u32;
         for _ in 0..u64::MAX {
-            match self.step(flow, sink)? {
+            match self.step(flow, sink) {
                 Step::On => {}
                 Step::Found => {
                     self.send(flow, source);
                     sent = sent.saturating_add(1);
                 }
-                Step::Ended => return Ok(sent),
+                Step::Ended => return sent,
             }
         }
-        Ok(sent)
+        sent
+    }
+
+    /// Phases until one sends no unit: how many all sent.
+    fn run(&mut self, flow: &mut Flow, source: u32, sink: u32) -> u32 {
+        let mut total = 0u32;
+        for _ in 0..u32::MAX {
+            let sent = self.phase(flow, source, sink);
+            if sent == 0 {
+                return total;
+            }
+            total = total.saturating_add(sent);
+        }
+        total
     }
 }
 
-/// Sends units from the source to the sink until no way is left: how many.
+/// Sends units from the source to the sink until no way is left: how many, and the nodes to which units could still go from the source. Those
+/// are on its side of the least cut that is nearest to it.
 ///
 /// # Errors
 ///
@@ -113,31 +133,8 @@ pub fn greatest_flow(
     flow: &mut Flow,
     source: u32,
     sink: u32,
-) -> Result<u32, NoMemory> {
+) -> Result<(u32, Vec<bool>), NoMemory> {
     let mut search = Search::new(alloc, flow.nodes())?;
-    let mut total = 0u32;
-    for _ in 0..u32::MAX {
-        let sent = search.phase(flow, source, sink)?;
-        if sent == 0 {
-            return Ok(total);
-        }
-        total = total.saturating_add(sent);
-    }
-    Ok(total)
-}
-
-/// The nodes to which units could still go from the source: those on its side of the least cut that is nearest to it.
-///
-/// # Errors
-///
-/// `NoMemory` where a table is refused.
-pub fn reached(alloc: Global, flow: &Flow, source: u32) -> Result<Vec<bool>, NoMemory> {
-    let mut search = Search::new(alloc, flow.nodes())?;
-    search.begin(flow, source);
-    for _ in 0..u64::MAX {
-        if search.step(flow, u32::MAX)? == Step::Ended {
-            return Ok(search.seen);
-        }
-    }
-    Ok(search.seen)
+    let units = search.run(flow, source, sink);
+    Ok((units, search.seen))
 }

@@ -1,6 +1,7 @@
 //! Which values the variables have to have a step before the start, so that latches start as they do.
 
 use crate::drafts::Draft;
+use crate::literals::Literal;
 use aig_graph::NoMemory;
 use std::alloc::Global;
 
@@ -45,16 +46,13 @@ impl Wish {
 
 /// The wishes of a variable.
 pub fn wish_of(wishes: &[Wish], var: u32) -> Wish {
-    match wishes.get(var as usize) {
-        Some(wish) => *wish,
-        None => Wish::NONE,
-    }
+    wishes.get(var as usize).copied().unwrap_or(Wish::NONE)
 }
 
-/// A value is wished of a variable.
-pub fn add_wish(wishes: &mut [Wish], var: u32, value: bool) {
-    if let Some(wish) = wishes.get_mut(var as usize) {
-        wish.add(value);
+/// A value is wished of a literal.
+pub fn add_wish(wishes: &mut [Wish], lit: Literal, value: bool) {
+    if let Some(wish) = wishes.get_mut(lit.var() as usize) {
+        wish.add(value != lit.is_negated());
     }
 }
 
@@ -66,10 +64,8 @@ pub fn add_wish(wishes: &mut [Wish], var: u32, value: bool) {
 pub fn starts_of(alloc: Global, draft: &Draft) -> Result<Vec<Wish>, NoMemory> {
     let mut wishes = vec![in alloc; Wish::NONE; draft.size()]?;
     for latch in &draft.latches {
-        if latch.takes_part() {
-            if let Some(value) = latch.wish() {
-                add_wish(wishes.as_mut_slice(), latch.next.var(), value);
-            }
+        if let Some(value) = latch.start() {
+            add_wish(wishes.as_mut_slice(), latch.next, value);
         }
     }
     Ok(wishes)

@@ -21,19 +21,14 @@ pub fn set_mark(marks: &mut [bool], var: u32, mark: bool) {
 pub fn count_marks(marks: &[bool]) -> u32 {
     let mut count = 0u32;
     for mark in marks {
-        if *mark {
-            count = count.wrapping_add(1);
-        }
+        count = count.wrapping_add(u32::from(*mark));
     }
     count
 }
 
 /// The number at a place, and 0 past the end.
 pub fn entry(numbers: &[u32], place: u32) -> u32 {
-    match numbers.get(place as usize) {
-        Some(number) => *number,
-        None => 0,
-    }
+    numbers.get(place as usize).copied().unwrap_or(0)
 }
 
 /// Puts a number at a place.

@@ -5,7 +5,7 @@ use crate::drafts::{Draft, Pair};
 use crate::literals::Literal;
 use crate::readers::Readers;
 use crate::starts::{Wish, wish_of};
-use crate::tables::number;
+use crate::tables::{entry, set_entry, set_mark};
 use aig_graph::NoMemory;
 use std::alloc::Global;
 
@@ -17,13 +17,27 @@ pub struct Values<'a> {
     /// What latches wish. A variable of which they wish both values has whichever is asked for.
     starts: &'a [Wish],
     known: Vec<Option<bool>>,
+    /// As long as there are variables.
     trail: Vec<u32>,
+    count: u32,
     readers: Readers,
 }
 
-/// The value of a literal whose variable has this one.
-fn signed(value: Option<bool>, lit: Literal) -> Option<bool> {
-    Some(value? != lit.is_negated())
+/// The literal that a gate's values imply with its value; none where they imply nothing. The gate isn't known to be 1.
+fn implied(
+    pair: &Pair,
+    own: Literal,
+    value: Option<bool>,
+    larger: Option<bool>,
+    smaller: Option<bool>,
+) -> Option<(Literal, bool)> {
+    match (larger, smaller) {
+        (Some(false), _) | (_, Some(false)) => Some((own, false)),
+        (Some(true), Some(true)) => Some((own, true)),
+        (Some(true), None) if value.is_some() => Some((pair.smaller, false)),
+        (None, Some(true)) if value.is_some() => Some((pair.larger, false)),
+        _ => None,
+    }
 }
 
 impl<'a> Values<'a> {
@@ -38,28 +52,25 @@ impl<'a> Values<'a> {
         set: &'a Bordered,
         starts: &'a [Wish],
     ) -> Result<Values<'a>, NoMemory> {
-        let readers = Readers::of(alloc, draft, set)?;
         Ok(Values {
             draft,
             set,
             starts,
             known: vec![in alloc; None; draft.size()]?,
-            trail: Vec::new(alloc),
-            readers,
+            trail: vec![in alloc; 0; draft.size()]?,
+            count: 0,
+            readers: Readers::of(alloc, draft, set)?,
         })
     }
 
     /// The value of a variable.
     pub fn of(&self, var: u32) -> Option<bool> {
-        match self.known.get(var as usize) {
-            Some(value) => *value,
-            None => None,
-        }
+        *self.known.get(var as usize)?
     }
 
     /// The value of a literal.
     pub fn literal(&self, lit: Literal) -> Option<bool> {
-        signed(self.of(lit.var()), lit)
+        Some(self.of(lit.var())? != lit.is_negated())
     }
 
     /// Whether a variable has either value.
@@ -69,127 +80,112 @@ impl<'a> Values<'a> {
 
     /// How many values there are.
     pub fn count(&self) -> u32 {
-        number(self.trail.len())
+        self.count
     }
 
     /// Gives a literal a value. Whether it may have it.
-    ///
-    /// # Errors
-    ///
-    /// `NoMemory` where the list is refused.
-    pub fn set(&mut self, lit: Literal, value: bool) -> Result<bool, NoMemory> {
+    pub fn set(&mut self, lit: Literal, value: bool) -> bool {
         if let Some(known) = self.literal(lit) {
-            return Ok(known == value);
+            return known == value;
         }
         if self.is_both(lit.var()) {
-            return Ok(true);
+            return true;
         }
         if let Some(entry) = self.known.get_mut(lit.var() as usize) {
             *entry = Some(value != lit.is_negated());
-            self.trail.push(lit.var())?;
+            set_entry(self.trail.as_mut_slice(), self.count, lit.var());
+            self.count = self.count.wrapping_add(1);
         }
-        Ok(true)
+        true
     }
 
     /// Takes the last values away, until there are this many.
     pub fn forget(&mut self, count: u32) {
-        for _ in 0..u32::MAX {
-            if self.count() <= count {
-                return;
-            }
-            if let Some(var) = self.trail.pop() {
-                if let Some(entry) = self.known.get_mut(var as usize) {
-                    *entry = None;
-                }
+        for place in count..self.count {
+            let var = entry(self.trail.as_slice(), place);
+            if let Some(entry) = self.known.get_mut(var as usize) {
+                *entry = None;
             }
         }
-    }
-
-    /// Both fan-ins have this value. Whether they may.
-    fn set_both(&mut self, pair: &Pair, value: bool) -> Result<bool, NoMemory> {
-        Ok(self.set(pair.larger, value)? && self.set(pair.smaller, value)?)
+        self.count = self.count.min(count);
     }
 
     /// What follows at a gate. Whether nothing contradicts.
-    fn follow(&mut self, var: u32, pair: &Pair) -> Result<bool, NoMemory> {
+    fn follow(&mut self, var: u32, pair: &Pair) -> bool {
+        let value = self.of(var);
+        if value == Some(true) {
+            return self.set(pair.larger, true) && self.set(pair.smaller, true);
+        }
         let (larger, smaller) = (self.literal(pair.larger), self.literal(pair.smaller));
-        let own = self.of(var);
-        if own == Some(true) {
-            return self.set_both(pair, true);
+        match implied(pair, Literal::of(var), value, larger, smaller) {
+            Some((lit, value)) => self.set(lit, value),
+            None => true,
         }
-        if larger == Some(false) || smaller == Some(false) {
-            return self.set(Literal::of(var), false);
-        }
-        if larger == Some(true) && smaller == Some(true) {
-            return self.set(Literal::of(var), true);
-        }
-        if own == Some(false) && larger == Some(true) {
-            return self.set(pair.smaller, false);
-        }
-        if own == Some(false) && smaller == Some(true) {
-            return self.set(pair.larger, false);
-        }
-        Ok(true)
     }
 
     /// What follows at the gate of a variable, if it is in the set.
-    fn follow_at(&mut self, var: u32) -> Result<bool, NoMemory> {
+    fn follow_at(&mut self, var: u32) -> bool {
         match self.draft.gate(var) {
             Some(pair) if self.set.has(var) => self.follow(var, &pair),
-            _ => Ok(true),
+            _ => true,
         }
     }
 
     /// What follows from the value of a variable: at its own gate, and at those that read it.
-    fn follow_from(&mut self, var: u32) -> Result<bool, NoMemory> {
-        if !self.follow_at(var)? {
-            return Ok(false);
+    fn follow_from(&mut self, var: u32) -> bool {
+        if !self.follow_at(var) {
+            return false;
         }
         let (from, to) = self.readers.places(var);
         for place in from..to {
             let reader = self.readers.at(place);
-            if !self.follow_at(reader)? {
-                return Ok(false);
+            if !self.follow_at(reader) {
+                return false;
             }
         }
-        Ok(true)
+        true
     }
 
     /// All that follows from the values after the first ones, of which there are this many. Whether nothing contradicts.
-    ///
-    /// # Errors
-    ///
-    /// `NoMemory` where the list is refused.
-    pub fn propagate(&mut self, first: u32) -> Result<bool, NoMemory> {
-        let mut place = first;
-        for _ in 0..u32::MAX {
-            let Some(var) = self.trail.get(place as usize).copied() else {
-                return Ok(true);
-            };
-            if !self.follow_from(var)? {
-                return Ok(false);
+    pub fn propagate(&mut self, first: u32) -> bool {
+        for place in first..u32::MAX {
+            if place >= self.count {
+                return true;
             }
-            place = place.wrapping_add(1);
+            let var = entry(self.trail.as_slice(), place);
+            if !self.follow_from(var) {
+                return false;
+            }
         }
-        Ok(true)
+        true
     }
 
     /// Gives a literal a value, with all that follows. Whether nothing contradicts.
-    ///
-    /// # Errors
-    ///
-    /// `NoMemory` where the list is refused.
-    pub fn assume(&mut self, lit: Literal, value: bool) -> Result<bool, NoMemory> {
-        let first = self.count();
-        Ok(self.set(lit, value)? && self.propagate(first)?)
+    pub fn assume(&mut self, lit: Literal, value: bool) -> bool {
+        let first = self.count;
+        self.set(lit, value) && self.propagate(first)
+    }
+
+    /// Gives what latches read the values that their resets wish, with all that follows. Whether nothing contradicts.
+    pub fn begin(&mut self) -> bool {
+        for latch in &self.draft.latches {
+            if let Some(value) = latch.start() {
+                if !self.set(latch.next, value) {
+                    return false;
+                }
+            }
+        }
+        self.propagate(0)
     }
 
     /// Writes the values over those of a guide.
     pub fn write_over(&self, guide: &mut [bool]) {
-        for (entry, known) in guide.iter_mut().zip(self.known.iter()) {
+        let mut var = 0u32;
+        for known in &self.known {
             if let Some(value) = known {
-                *entry = *value;
+                set_mark(guide, var, *value);
             }
+            var = var.wrapping_add(1);
         }
     }
 }

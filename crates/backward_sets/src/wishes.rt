@@ -28,7 +28,7 @@ pub struct Guide<'a> {
 impl Wishes {
     /// Wishes that a literal is 1, or 0.
     fn wish(&mut self, lit: Literal, value: bool) {
-        add_wish(self.of.as_mut_slice(), lit.var(), value != lit.is_negated());
+        add_wish(self.of.as_mut_slice(), lit, value);
     }
 
     /// Wishes both fan-ins of a gate to be 1, where it is to be 1.
@@ -65,6 +65,20 @@ impl Wishes {
         set_mark(self.by_larger.as_mut_slice(), var, larger);
         self.wish(if larger { pair.larger } else { pair.smaller }, false);
     }
+
+    /// Hands down what is forced, and also what is to be chosen where a guide is given.
+    fn hand_down(&mut self, draft: &Draft, set: &Bordered, guide: Option<&Guide>) {
+        let mut var = draft.end();
+        for pair in draft.gates.iter().rev() {
+            var = var.wrapping_sub(1);
+            if set.has(var) {
+                self.force(var, pair);
+                if let Some(guide) = guide {
+                    self.choose(set, guide, var, pair);
+                }
+            }
+        }
+    }
 }
 
 /// Hands wishes down a set: first what is forced, then what is to be chosen with what that forces.
@@ -83,20 +97,7 @@ pub fn wishes_of(
         of: Vec::from_slice(alloc, starts)?,
         by_larger: vec![in alloc; false; draft.size()]?,
     };
-    let mut var = draft.end();
-    for pair in draft.gates.iter().rev() {
-        var = var.wrapping_sub(1);
-        if set.has(var) {
-            wishes.force(var, pair);
-        }
-    }
-    var = draft.end();
-    for pair in draft.gates.iter().rev() {
-        var = var.wrapping_sub(1);
-        if set.has(var) {
-            wishes.force(var, pair);
-            wishes.choose(set, guide, var, pair);
-        }
-    }
+    wishes.hand_down(draft, set, None);
+    wishes.hand_down(draft, set, Some(guide));
     Ok(wishes)
 }
