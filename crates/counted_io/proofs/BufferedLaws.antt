@@ -225,6 +225,3 @@ module _ {W : Type 0} {output : W → Output} where
       (subst (λ (ys : List ℕ). Puts output b c ys)
       (flat_map-more f (range_with_len first (n + left)) (first + (n + left)) ∙ ap (flat_map f) (sym (range_with_len-more first (n + left))))
       (puts-no_more (f (first + (n + left))) bad (puts-range_ended f first n left bad before)))
-
--- for a function that puts a few texts
-pub ruleset putting = (puts-then, puts-byte)

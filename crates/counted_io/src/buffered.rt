@@ -104,7 +104,6 @@ impl<'a, W: CountedWrite> Buffered<'a, W> {
     }
 
     /// Puts a space and a number.
-    #[tactic(auto, using(crate::proofs::BufferedLaws::putting), unfolding(crate::specs::Line::spaced))]
     fn put_spaced(&mut self, number: u64)
         ensures { Puts W.output self.old self.new (spaced number) }
     {
@@ -122,7 +121,6 @@ impl<'a, W: CountedWrite> Buffered<'a, W> {
     }
 
     /// Puts a line of numbers, with one space between.
-    #[tactic(auto, using(crate::proofs::BufferedLaws::putting), unfolding(crate::specs::Line::line))]
     pub fn put_line(&mut self, numbers: &[u64])
         ensures { Puts W.output self.old self.new (line numbers.now) }
     {
