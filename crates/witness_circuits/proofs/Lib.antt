@@ -16,4 +16,5 @@ pub mod BuildLaws
 pub mod FinishLaws
 pub mod NamingLaws
 mod RefusalLaws
+mod PutLaws
 pub mod FitLaws
