@@ -17,3 +17,4 @@ pub mod SetLaws
 pub mod StreamLaws
 pub mod ChosenLaws
 pub mod ShapeLaws
+pub mod PushLaws

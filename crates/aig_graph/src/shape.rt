@@ -1,13 +1,37 @@
 //! Circuits place by place: the property literals in one list, and whether two circuits have the same places.
-ghost use Rattle.std.specs.Prelude.{◌≡◌, ◌↔◌, IfOk, IsTrue, length, map};
+ghost use Rattle.std.specs.Prelude.{◌≡◌, ◌↔◌, ◌++◌, IfOk, OnOk, IsTrue, length, map};
+ghost use Rattle.std.specs.List.{flat_map};
 ghost use Rattle.aig_graph.specs.Streams.{SameShape, property_literals};
 
 use crate::circuit::Circuit;
 use crate::literal::Lit;
 use crate::properties::Props;
 use crate::sequence::Sequence;
-use std::alloc::Global;
+use std::alloc::{AllocError, Global};
 use variable_tables::NoMemory;
+
+/// Adds the literals of each list.
+fn add_each(literals: &mut Vec<Lit>, lists: &[Sequence<Lit>]) -> Result<(), AllocError>
+    ensures { OnOk result (literals.new.items ≡
+        literals.old.items ++ flat_map (λ lits. lits) lists.now) }
+{
+    for lits in lists {
+        literals.extend_from_slice(lits.as_slice())?;
+    }
+    Ok(())
+}
+
+/// Adds the literals of the properties, kind after kind.
+fn add_properties(literals: &mut Vec<Lit>, props: &Props) -> Result<(), AllocError>
+    ensures { OnOk result (literals.new.items ≡
+        literals.old.items ++ property_literals props.now) }
+{
+    literals.extend_from_slice(props.outputs.as_slice())?;
+    literals.extend_from_slice(props.bad.as_slice())?;
+    literals.extend_from_slice(props.constraints.as_slice())?;
+    add_each(literals, props.justice.as_slice())?;
+    literals.extend_from_slice(props.fairness.as_slice())
+}
 
 /// The literals of the properties, kind after kind.
 ///
@@ -18,13 +42,7 @@ pub fn property_literals(alloc: Global, props: &Props) -> Result<Vec<Lit>, NoMem
     ensures { IfOk result (λ literals. literals.items ≡ property_literals props.now) }
 {
     let mut literals = Vec::new(alloc);
-    literals.extend_from_slice(props.outputs.as_slice())?;
-    literals.extend_from_slice(props.bad.as_slice())?;
-    literals.extend_from_slice(props.constraints.as_slice())?;
-    for property in props.justice.as_slice() {
-        literals.extend_from_slice(property.as_slice())?;
-    }
-    literals.extend_from_slice(props.fairness.as_slice())?;
+    add_properties(&mut literals, props)?;
     Ok(literals)
 }
 
