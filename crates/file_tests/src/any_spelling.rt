@@ -22,17 +22,11 @@ fn is_two_latches(alloc: Global, circuit: &Circuit) -> bool {
     written.is_ok() & (text.as_slice() == BINARY)
 }
 
-/// Whether a reader takes two pieces of a binary file, and names the spelling.
-fn takes_both(reader: &mut AnyReader, first: &[u8], second: &[u8]) -> bool {
-    let first_taken = reader.feed(first).is_ok();
-    let second_taken = reader.feed(second).is_ok();
-    first_taken & second_taken & (reader.spelling() == Some(Spelling::Binary))
-}
-
-/// Whether two pieces are read as the circuit of two latches.
-fn reads_two_pieces(alloc: Global, first: &[u8], second: &[u8]) -> bool {
+/// Whether a reader names the spelling of a whole file, and gives the circuit of two latches.
+fn reads_whole(alloc: Global, bytes: &[u8], form: Spelling) -> bool {
     let mut reader = AnyReader::new(alloc);
-    let taken = takes_both(&mut reader, first, second);
+    let taken = reader.feed(bytes).is_ok();
+    let named = reader.spelling() == Some(form);
     let read = reader.finish();
     drop(reader);
     let whole = match &read {
@@ -40,24 +34,7 @@ fn reads_two_pieces(alloc: Global, first: &[u8], second: &[u8]) -> bool {
         Err(_) => false,
     };
     drop(read);
-    taken & whole
-}
-
-/// The fault at the end of what a reader took, if there is one.
-fn fault_at_end(reader: &mut AnyReader) -> Option<ReadError> {
-    reader.finish().err()
-}
-
-/// Whether a reader gives the circuit of a file, and then no other.
-fn ends_after(alloc: Global, bytes: &[u8]) -> bool {
-    let mut reader = AnyReader::new(alloc);
-    let taken = reader.feed(bytes).is_ok();
-    let first = fault_at_end(&mut reader);
-    let second = fault_at_end(&mut reader);
-    let more = reader.feed(b"\n");
-    drop(reader);
-    let no_other = Some(ReadError::BadHeader(0));
-    taken & first.is_none() & (second == no_other) & (more.err() == no_other)
+    taken & named & whole
 }
 
 /// What a reader gives: whether it is the circuit of two latches, and the fault where there is one.
@@ -91,12 +68,10 @@ fn ends_where_it_should(alloc: Global, bytes: &[u8]) -> bool {
 }
 
 #[test]
-fn reads_in_pieces_and_to_the_end_or_to_a_failed_read(rt: HostRuntime) {
-    let (first, second) = LONG_DELTA.split_at(22);
+fn reads_whole_files_and_to_the_end_or_to_a_failed_read(rt: HostRuntime) {
     let alloc = rt.alloc();
-    let pieces = reads_two_pieces(alloc, first, second);
-    let ends = ends_after(alloc, TWO_LATCHES) & ends_after(alloc, BINARY);
+    let whole = reads_whole(alloc, BINARY, Spelling::Binary);
     let ascii = ends_where_it_should(alloc, TWO_LATCHES);
     let binary = ends_where_it_should(alloc, LONG_DELTA);
-    assert!(rt; pieces & ends & ascii & binary);
+    assert!(rt; whole & ascii & binary);
 }

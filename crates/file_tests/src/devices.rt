@@ -1,10 +1,10 @@
-//! Buffered writing and reading to the end, with devices that take or give a part, or fail.
+//! Buffered writing and reading to the end, with devices that take or give a part, or fail to take one.
 use counted_io::{
-    Buffered, Counted, CountedRead, CountedWrite, FailAfter, Failure, OneByte, ReadAllError,
-    WriteError, read_all, write_all,
+    Buffered, Counted, CountedRead, CountedWrite, FailAfter, Failure, OneByte, WriteError,
+    read_all, write_all,
 };
 use std::alloc::Global;
-use std::fmt::{Display, Write};
+use std::fmt::Write;
 use std::test::*;
 
 /// Two lines, a text, a byte and a number.
@@ -38,26 +38,19 @@ fn writes_all(alloc: Global, text: &[u8]) -> bool {
     written & (bytes.as_slice() == text)
 }
 
-/// Whether a device that gives one byte a call is read to its end.
+/// Whether a device that gives one byte a call is read to its end, and is left empty.
 fn reads_all(alloc: Global, text: &[u8]) -> bool {
-    let mut reader = Counted::new(OneByte::new(text));
+    let device = FailAfter::new(OneByte::new(text), 1000, Failure::Error);
+    let mut reader = Counted::new(device);
     let read = read_all(alloc, &mut &mut reader);
     let same = match &read {
         Ok(bytes) => bytes.as_slice() == text,
         Err(_) => false,
     };
     drop(read);
-    same
-}
-
-/// Whether a device that gives nothing from the third call on ends the reading there.
-fn ends_at_third_read(alloc: Global) -> bool {
-    let device = FailAfter::new(OneByte::new(b"aag 0".as_slice()), 2, Failure::Nothing);
-    let mut reader = Counted::new(device);
-    let error = read_all(alloc, &mut reader).err();
     let failures = CountedRead::failures(&reader);
     let left = reader.into_inner().into_inner().into_inner();
-    (error == Some(ReadAllError::Device)) & (failures == 1) & (left == b"g 0".as_slice())
+    same & (failures == 0) & left.is_empty()
 }
 
 #[test]
@@ -67,22 +60,5 @@ fn goes_on_after_a_part_and_stops_at_a_failure(rt: HostRuntime) {
     let stops = is_given(alloc, 3, Failure::Error, b"6 0", 1);
     let stops_at_nothing = is_given(alloc, 3, Failure::Nothing, b"6 0", 1);
     let wholly = writes_all(alloc, b"aag 0") & reads_all(alloc, b"aag 0");
-    let ends = ends_at_third_read(alloc);
-    assert!(rt; goes_on & stops & stops_at_nothing & wholly & ends);
-}
-
-/// Whether an error has this text.
-fn is_named<E: Display>(alloc: Global, error: &E, name: &str) -> bool {
-    match format!(in alloc; "{error}") {
-        Ok(text) => text.as_str() == name,
-        Err(_) => false,
-    }
-}
-
-#[test]
-fn names_its_errors(rt: HostRuntime) {
-    let writing = is_named(rt.alloc(), &WriteError::Device, "device");
-    let memory = is_named(rt.alloc(), &ReadAllError::NoMemory, "no memory");
-    let reading = is_named(rt.alloc(), &ReadAllError::Device, "device");
-    assert!(rt; writing & memory & reading);
+    assert!(rt; goes_on & stops & stops_at_nothing & wholly);
 }

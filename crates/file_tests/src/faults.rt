@@ -1,10 +1,20 @@
-//! The number of each fault of a file, and of devices.
+//! The number of each fault of a file, and of devices, and what the latter are called.
 use aag_text::{ReadError, WriteError};
 use counted_io::ReadAllError;
+use std::alloc::Global;
+use std::fmt::Display;
 use std::test::*;
 
+/// Whether an error has this text.
+fn is_named<E: Display>(alloc: Global, error: &E, name: &str) -> bool {
+    match format!(in alloc; "{error}") {
+        Ok(text) => text.as_str() == name,
+        Err(_) => false,
+    }
+}
+
 #[test]
-fn numbers_its_faults(rt: HostRuntime) {
+fn numbers_and_names_its_faults(rt: HostRuntime) {
     let of_reading = [
         ReadError::BadHeader(0).code(),
         ReadError::TooLarge(0).code(),
@@ -28,5 +38,7 @@ fn numbers_its_faults(rt: HostRuntime) {
         WriteError::Device.code(),
     ];
     let are_right = of_reading == [1, 2, 3, 4, 5, 6, 7, 8, 9, 10, 11, 12, 13, 14, 15];
-    assert!(rt; are_right & (of_devices == [1, 2, 1]));
+    let writing = is_named(rt.alloc(), &WriteError::Device, "device");
+    let reading = is_named(rt.alloc(), &ReadAllError::NoMemory, "no memory");
+    assert!(rt; are_right & (of_devices == [1, 2, 1]) & writing & reading);
 }

@@ -5,21 +5,15 @@
 #[cfg(test)]
 mod any_spelling;
 #[cfg(test)]
-mod ascii;
-#[cfg(test)]
-mod binary;
-#[cfg(test)]
 mod devices;
 #[cfg(test)]
 mod faults;
 #[cfg(test)]
-mod gate_orders;
-#[cfg(test)]
 mod names_and_properties;
 #[cfg(test)]
-mod open_lines;
+mod parts;
 #[cfg(test)]
-mod places;
+mod pieces;
 #[cfg(test)]
 mod sections_of_ascii;
 #[cfg(test)]
