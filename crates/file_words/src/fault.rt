@@ -5,56 +5,43 @@ ghost use Rattle.std.specs.Prelude.{◌≡◌};
 use aig_graph::NoMemory;
 use counted_io::ReadAllError;
 use std::alloc::{AllocError, AllocFailed};
-use thiserror::Error;
+use std::error::Error;
+use std::fmt;
+use std::fmt::{Display, Formatter};
 
 /// Why bytes were not read as a circuit. The number is the offset of the first byte of the line or delta at fault, and
 /// where that is missing, the length of the input.
-#[derive(Clone, Copy, Debug, PartialEq, Eq, Error)]
+#[derive(Clone, Copy, Debug, PartialEq, Eq)]
 pub enum ReadError {
     /// The first line is no header.
-    #[error("BadHeader at {0}")]
     BadHeader(u64),
     /// A count is past its limit.
-    #[error("TooLarge at {0}")]
     TooLarge(u64),
     /// A literal, or what the header counts, is past the greatest variable.
-    #[error("MaxIndex at {0}")]
     MaxIndex(u64),
     /// A line isn't the numbers that its section wants, with one space between.
-    #[error("BadLine at {0}")]
     BadLine(u64),
     /// A literal that is to be defined is odd, or 0.
-    #[error("BadLiteral at {0}")]
     BadLiteral(u64),
     /// A variable is defined again.
-    #[error("DefinedTwice at {0}")]
     DefinedTwice(u64),
     /// A variable is read and not defined.
-    #[error("Undefined")]
     Undefined,
     /// Gates read one another in a circle.
-    #[error("Cycle")]
     Cycle,
     /// A reset is neither 0 nor 1 nor the latch's own literal.
-    #[error("BadReset at {0}")]
     BadReset(u64),
     /// A delta of a binary file is too long, or out of range.
-    #[error("BadDelta at {0}")]
     BadDelta(u64),
     /// The input ends before the last item.
-    #[error("Truncated at {0}")]
     Truncated(u64),
     /// A symbol is ill formed, out of range, or stands twice.
-    #[error("BadSymbol at {0}")]
     BadSymbol(u64),
     /// Something else follows the last item.
-    #[error("Trailing at {0}")]
     Trailing(u64),
     /// Memory was refused.
-    #[error("out of memory")]
     NoMemory,
     /// The reader failed.
-    #[error("device")]
     Device,
 }
 
@@ -127,7 +114,29 @@ impl ReadError {
                 None,
         }
     }
+
+    /// What its message begins with.
+    fn title(self) -> &'static str {
+        match self {
+            ReadError::NoMemory => "out of memory",
+            ReadError::Device => "device",
+            fault => fault.name(),
+        }
+    }
 }
+
+// written out: derived, each variant's message has an arm with steps of its own
+impl Display for ReadError {
+    fn fmt<W: fmt::Write>(&self, f: &mut Formatter<W>) -> fmt::Result {
+        f.write_str(self.title())?;
+        match self.offset() {
+            Some(at) => write!(f, " at {at}"),
+            None => Ok(()),
+        }
+    }
+}
+
+impl Error for ReadError {}
 
 impl From<AllocError> for ReadError {
     ghost use Rattle.std.specs.Prelude.{◌≡◌};
