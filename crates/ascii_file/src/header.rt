@@ -2,7 +2,7 @@ use crate::raw::SymbolKind;
 
 /// The numbers of a header: the greatest variable, and how many of each section there are. The last four may be left
 /// out of the file, and are 0 then.
-#[derive(Clone, Copy, PartialEq, Eq, Debug)]
+#[derive(Clone, Copy)]
 pub struct Header {
     pub greatest: u32,
     pub inputs: u32,

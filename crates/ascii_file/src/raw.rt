@@ -1,5 +1,5 @@
 /// A latch by the numbers of its line. A reset that is left out is 0.
-#[derive(Clone, Copy, PartialEq, Eq, Debug)]
+#[derive(Clone, Copy)]
 pub struct RawLatch {
     pub current: u32,
     pub next: u32,
@@ -7,7 +7,7 @@ pub struct RawLatch {
 }
 
 /// A gate by the numbers of its line.
-#[derive(Clone, Copy, PartialEq, Eq, Debug)]
+#[derive(Clone, Copy)]
 pub struct RawGate {
     pub lhs: u32,
     pub rhs0: u32,
@@ -15,7 +15,7 @@ pub struct RawGate {
 }
 
 /// What a symbol names: the position in the symbol's line counts things of its kind.
-#[derive(Clone, Copy, PartialEq, Eq, Debug)]
+#[derive(Clone, Copy)]
 pub enum SymbolKind {
     Input,
     Latch,
@@ -29,7 +29,7 @@ pub enum SymbolKind {
 
 /// The sections of a file after its header, in their order. Sections whose lines have one form and the same checks are
 /// one: the header's numbers part them.
-#[derive(Clone, Copy, PartialEq, Eq, Debug)]
+#[derive(Clone, Copy, PartialEq, Eq)]
 pub enum Section {
     Inputs,
     Latches,

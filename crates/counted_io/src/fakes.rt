@@ -8,7 +8,7 @@ use std::io;
 use std::io::{Read, Write};
 
 /// How a call of `FailAfter` fails.
-#[derive(Clone, Copy, Debug, PartialEq, Eq)]
+#[derive(Clone, Copy)]
 pub enum Failure {
     /// By an `Err`.
     Error,

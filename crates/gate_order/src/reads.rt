@@ -6,14 +6,14 @@ ghost use Rattle.gate_order.specs.Ready.{mark_of};
 
 /// What a gate reads of the other gates: for each of its two fan-ins that is a gate, that gate's place in the file,
 /// counted from 0. `None` for a fan-in that is an input, a latch or the constant.
-#[derive(Clone, Copy, Debug, PartialEq, Eq)]
+#[derive(Clone, Copy)]
 pub struct Reads {
     pub first: Option<u32>,
     pub second: Option<u32>,
 }
 
 /// Which of the two fan-ins.
-#[derive(Clone, Copy, PartialEq, Eq)]
+#[derive(Clone, Copy)]
 pub(crate) enum Side {
     First,
     Second,
