@@ -11,9 +11,17 @@ use std::alloc::Global;
 use std::marker::Model;
 
 /// The first latch of each next literal and reset, with its literal.
-#[derive(Drop)]
 pub(crate) struct FirstLatches {
     literals: IndexMap<Latch, Lit>,
+}
+
+impl Drop for FirstLatches {
+    // written out: docs/PROOFS.md, Drops and exits
+    fn drop(self) {
+        let FirstLatches {
+            literals: _literals,
+        } = self;
+    }
 }
 
 impl Model for FirstLatches {

@@ -25,13 +25,24 @@ pub(crate) struct KeptGate {
 }
 
 /// The gates that are kept so far, each with the literal of its variable.
-#[derive(Drop)]
 pub struct KeptGates {
     first: u32,
     gates: Vec<KeptGate>,
     /// By variable from the first latch on, the link to the last gate that has it as its larger fan-in, and 0 where there is none.
     lists: Vec<u32>,
     rest: IndexMap<Gate, Lit>,
+}
+
+impl Drop for KeptGates {
+    // written out: docs/PROOFS.md, Drops and exits
+    fn drop(self) {
+        let KeptGates {
+            first: _first,
+            gates: _gates,
+            lists: _lists,
+            rest: _rest,
+        } = self;
+    }
 }
 
 impl Model for KeptGates {

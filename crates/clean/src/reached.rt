@@ -16,12 +16,23 @@ use variable_tables::mark_at;
 
 /// The latches and gates that are reached: a mark for each variable from the first latch on, and the marked variables that wait to be
 /// read, the next one last. A variable waits once at most, so a walk that reads what waits is linear.
-#[derive(Drop)]
 pub(crate) struct Reached {
     first: u32,
     latches: usize,
     marks: Vec<bool>,
     waiting: Vec<u32>,
+}
+
+impl Drop for Reached {
+    // written out: docs/PROOFS.md, Drops and exits
+    fn drop(self) {
+        let Reached {
+            first: _first,
+            latches: _latches,
+            marks: _marks,
+            waiting: _waiting,
+        } = self;
+    }
 }
 
 impl Model for Reached {

@@ -73,12 +73,13 @@ pub fn traced_pass(alloc: Global, circuit: &Circuit, held: &[u32]) -> Result<Tra
     ensures { IfOk result (IsTraced held.now circuit.now) }
 {
     let marks = Held::new(alloc, held, circuit.aig().latches().len())?;
-    let mut spare = Substitution::none(alloc);
-    let standing = substitutes_of(alloc, circuit.aig(), &marks, spare.take(alloc))?;
+    let table = Substitution::none(alloc);
+    let standing = substitutes_of(alloc, circuit.aig(), &marks, table)?;
     let substitutes = latch_literals(alloc, circuit.aig(), &marks, &standing)?;
     let merged = merged_by(alloc, circuit, &marks, &standing)?;
     let reached = reach_everything(alloc, &merged.aig, &merged.props, held)?;
     let stays = stays_of(alloc, circuit.aig(), &reached)?;
+    let mut spare = Substitution::none(alloc);
     let pass = trimmed(
         alloc, circuit, held, &merged, &reached, standing, &mut spare,
     )?;
