@@ -8,13 +8,24 @@ use std::marker::Model;
 
 /// The literals of a file's properties as they come, and the numbers of literals of its justice properties. Literals are
 /// the file's own.
-#[derive(Drop)]
 pub struct PropertyLists {
     safety: Vec<u32>,
     sizes: Vec<u32>,
     liveness: Vec<u32>,
     /// The sum of the sizes.
     size_sum: u32,
+}
+
+impl Drop for PropertyLists {
+    // written out: docs/PROOFS.md, Drops and exits
+    fn drop(self) {
+        let PropertyLists {
+            safety: _safety,
+            sizes: _sizes,
+            liveness: _liveness,
+            size_sum: _size_sum,
+        } = self;
+    }
 }
 
 impl Model for PropertyLists {

@@ -9,12 +9,21 @@ const SPARE: u32 = 256;
 const VARIABLES_A_PLACE: u32 = 4;
 
 /// For some variables a place each.
-#[derive(Drop)]
 pub struct Places {
     /// One more than the place of each variable from 0 on; 0 where it has none here.
     near: Vec<u32>,
     /// The places of variables that are far above their number.
     far: IndexMap<u32, u32>,
+}
+
+impl Drop for Places {
+    // written out: docs/PROOFS.md, Drops and exits
+    fn drop(self) {
+        let Places {
+            near: _near,
+            far: _far,
+        } = self;
+    }
 }
 
 impl Places {

@@ -1,4 +1,4 @@
-use Rattle.std.proofs.Common.{ℕ, List, ◌-◌, length, refl, ap, ◌∙◌, subst}
+use Rattle.std.proofs.Common.{ℕ, List, ◌∷◌, ◌-◌, arith, length, length-append, refl, ap, ◌∙◌, subst}
 use Rattle.std.proofs.lemmas.Result.{err_from_is_err_and}
 use Rattle.ascii_file.specs.Pieces.{fed}
 use Rattle.file_words.specs.declared.fault.ReadError.TheVariants.{NoMemory}
@@ -6,6 +6,15 @@ use Rattle.file_words.specs.Answering.{Fails}
 use Rattle.aag_text.specs.Standing.{Hold}
 use Rattle.aag_text.proofs.BeginningLaws.{awaits_more, to_line_end, whole_piece, header_fails, items_begin}
 use Rattle.aag_text.proofs.header.begin.Goals as goal
+
+pub returns-in_default : goal.returns-in_default
+returns-in_default c bytes awaits whole = awaits_more c.args.line.now c.extend.new.self bytes c.args.piece.now c.in_default.ensures c.extend.ensures awaits
+
+pub overflow_sub-end : goal.overflow_sub-end
+overflow_sub-end c = omega (arith, c.requires, ap length c.in-Some.ensures.whole, length-append c.in-Some.part.now (10 ∷ c.in-Some.rest.now))
+
+pub feed-requires : goal.feed-requires
+feed-requires c = omega (arith, c.requires, ap length c.in-Some.ensures.whole, length-append c.in-Some.part.now (10 ∷ c.in-Some.rest.now))
 
 pub returns-in_err-header : goal.returns-in_err-header
 returns-in_err-header c bytes awaits whole =

@@ -1,7 +1,8 @@
-use Rattle.std.proofs.Common.{ℕ, get_or, ◌∙◌, ap, ap₂}
+use Rattle.std.proofs.Common.{ℕ, ◌+◌, get_or, length, ◌∙◌, ap, ap₂, subst, sym}
 use Rattle.std.proofs.lemmas.List.{get_or_default}
 use Rattle.aig_graph.specs.Building.{gate_of}
-use Rattle.aag_text.specs.Arranging.{moved_gate, no_gate}
+use Rattle.aig_graph.specs.declared.graph.Gate.{Gate}
+use Rattle.aag_text.specs.Arranging.{IsBelow, moved_gate, no_gate}
 use Rattle.aag_text.proofs.CollectingLaws.{mapped_more}
 use Rattle.aag_text.proofs.circuit.arranging.gates.Goals as goal
 
@@ -13,3 +14,11 @@ loop-place-preserved c =
     ∙ ap (moved_gate c.args.first c.args.ranks.now) (c.index-gates-place.is
     ∙ get_or_default c.args.gates.now (get_or c.args.order.now c.loop-place.place-index 0) c.index-gates-place.result no_gate (c.requires.order c.loop-place.place-index 0 c.loop-place-test.true)))
     c.in_ok-push.ensures.items
+
+pub literal-requires-clause-below : goal.literal-requires-clause-below
+literal-requires-clause-below c =
+    subst (λ (gate : Gate). IsBelow (c.args.first + length c.args.ranks.now) gate.rhs0) (sym c.index-gates-place.is) (c.requires.below _ _ (c.requires.order _ 0 c.loop-place-test.true)).0
+
+pub literal-requires-in-loop-place-clause-below : goal.literal-requires-in-loop-place-clause-below
+literal-requires-in-loop-place-clause-below c =
+    subst (λ (gate : Gate). IsBelow (c.args.first + length c.args.ranks.now) gate.rhs1) (sym c.index-gates-place.is) (c.requires.below _ _ (c.requires.order _ 0 c.loop-place-test.true)).1

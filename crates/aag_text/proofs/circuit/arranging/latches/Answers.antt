@@ -1,7 +1,12 @@
-use Rattle.std.proofs.Common.{ℕ, ◌≡◌, [], ◌∷◌, ◌++◌, ◌∙◌, ap, ap₂, sym}
+use Rattle.std.proofs.Common.{ℕ, ◌+◌, ◌≡◌, [], ◌∷◌, ◌++◌, ◌∙◌, ap, ap₂, length, sym, subst}
 use Rattle.std.proofs.lemmas.List.{map_more}
-use Rattle.aag_text.specs.Arranging.{moved_latch}
+use Rattle.aig_graph.specs.declared.graph.Latch.{Latch}
+use Rattle.aag_text.specs.Arranging.{IsBelow, moved_latch}
 use Rattle.aag_text.proofs.circuit.arranging.latches.Goals as goal
+
+pub literal-requires-clause-below : goal.literal-requires-clause-below
+literal-requires-clause-below c =
+    subst (λ (latch : Latch). IsBelow (c.args.first + length c.args.ranks.now) latch.next) (sym c.latch-item.is) (c.requires.below _ _ c.loop-latch-test.true)
 
 pub loop-latch-preserved : goal.loop-latch-preserved
 loop-latch-preserved c =

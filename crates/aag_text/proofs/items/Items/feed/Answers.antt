@@ -3,6 +3,9 @@ use Rattle.std.proofs.lemmas.Result.{err_from_is_err_and}
 use Rattle.aag_text.proofs.FeedingLaws.{line_fails_in, line_taken_in, rest_held}
 use Rattle.aag_text.proofs.items.Items.feed.Goals as goal
 
+pub overflow_sub-self : goal.overflow_sub-self
+overflow_sub-self c = omega (arith, c.loop-part.invariant.short, ap length c.in-Some.ensures.whole, length-append c.in-Some.part.now (10 ∷ c.in-Some.rest.now))
+
 pub returns-in_err-take_line : goal.returns-in_err-take_line
 returns-in_err-take_line c bytes hold whole =
     let p = err_from_is_err_and c.from_residual-in_err-take_line.result c.from_residual-in_err-take_line.ensures.1 in
