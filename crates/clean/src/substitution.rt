@@ -12,10 +12,19 @@ use std::mem;
 
 /// A literal for each variable. The variables before the first latch, the constant and the inputs, stand for themselves
 /// and take no room: a circuit may have 2^28 - 1 inputs and nothing else.
-#[derive(Drop)]
 pub struct Substitution {
     first: u32,
     literals: Vec<Lit>,
+}
+
+impl Drop for Substitution {
+    // written out: docs/PROOFS.md, Drops and exits
+    fn drop(self) {
+        let Substitution {
+            first: _first,
+            literals: _literals,
+        } = self;
+    }
 }
 
 impl Model for Substitution {
@@ -62,7 +71,10 @@ impl Substitution {
         requires { first ≤ 2 ^ 28 }
         ensures { IfOk result (λ s. s ≡ own_literals first) }
     {
-        let Substitution { mut literals, .. } = self;
+        let Substitution {
+            first: _,
+            mut literals,
+        } = self;
         literals.clear();
         literals.reserve(room)?;
         Ok(Substitution { first, literals })

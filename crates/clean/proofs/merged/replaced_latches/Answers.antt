@@ -8,7 +8,7 @@ use Rattle.clean.proofs.merged.replaced_latches.Goals as goal
 pub latch-requires : goal.latch-requires
 latch-requires c =
     let there =
-        latch-there c.args.aig.now c.latches-latch-items.result.now c.loop-latch.latch-index c.latch-item.result c.latches-latch-items.ensures.value c.loop-latch-test.true c.latch-item.is in
+    latch-there c.args.aig.now c.latches-latch-items.result.now c.loop-latch.latch-index c.latch-item.result c.latches-latch-items.ensures.value c.loop-latch-test.true c.latch-item.is in
     let within : IsLiteralOf c.args.aig.now c.latch-item.result.next = c.latches-latch-items.ensures.graph.latches c.loop-latch.latch-index c.latch-item.result there in
     rw c.requires within
 
