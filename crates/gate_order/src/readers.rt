@@ -11,12 +11,21 @@ use std::alloc::Global;
 
 /// The gates that read a gate by one of their fan-ins, from the last one back: the tables hold one more than a place, and
 /// 0 for none.
-#[derive(Drop)]
 pub(crate) struct Readers {
     /// For each gate the last one that reads it.
     pub(crate) last: Vec<u32>,
     /// For each gate the one before it that reads the same gate.
     pub(crate) before: Vec<u32>,
+}
+
+impl Drop for Readers {
+    // written out: docs/PROOFS.md, Drops and exits
+    fn drop(self) {
+        let Readers {
+            last: _last,
+            before: _before,
+        } = self;
+    }
 }
 
 /// Puts each gate at the front of the list of the gate that it reads.
