@@ -24,11 +24,21 @@ use aig_graph::{Circuit, NoMemory, Sequence};
 use std::alloc::Global;
 
 /// The copies that are compared.
-#[derive(Drop)]
 pub(crate) struct Sides {
     pub(crate) before: Copied,
     pub(crate) later: Copied,
     pub(crate) after: Copied,
+}
+
+impl Drop for Sides {
+    // written out: docs/PROOFS.md, Drops and exits
+    fn drop(self) {
+        let Sides {
+            before: _before,
+            later: _later,
+            after: _after,
+        } = self;
+    }
 }
 
 /// The copies that are compared, among these gates.

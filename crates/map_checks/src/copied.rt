@@ -12,10 +12,19 @@ use aig_graph::{Aig, Lit, NoMemory};
 use std::marker::Model;
 
 /// A shared literal for each variable of a circuit, from a first one on. The variables before it are the same in both.
-#[derive(Drop)]
 pub(crate) struct Copied {
     first: u32,
     literals: Vec<Lit>,
+}
+
+impl Drop for Copied {
+    // written out: docs/PROOFS.md, Drops and exits
+    fn drop(self) {
+        let Copied {
+            first: _first,
+            literals: _literals,
+        } = self;
+    }
 }
 
 impl Model for Copied {

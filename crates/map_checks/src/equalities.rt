@@ -10,10 +10,19 @@ use std::alloc::Global;
 use std::marker::Model;
 
 /// By variable, from a first one on, a literal that stands for it. A variable past the end stands for itself.
-#[derive(Drop)]
 pub(crate) struct Equalities {
     first: u32,
     substitutes: Vec<Lit>,
+}
+
+impl Drop for Equalities {
+    // written out: docs/PROOFS.md, Drops and exits
+    fn drop(self) {
+        let Equalities {
+            first: _first,
+            substitutes: _substitutes,
+        } = self;
+    }
 }
 
 impl Model for Equalities {
