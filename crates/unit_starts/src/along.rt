@@ -19,18 +19,31 @@ fn note_taker(takers: &mut [u32], place: u32, gate: u32) {
     }
 }
 
+/// Notes where a gate took units.
+fn note_takes(takers: &mut [u32], region: &Region, literals: &Gate, flow: &GateFlow, gate: u32) {
+    if flow.first_up {
+        note_taker(takers, region.place(literals.rhs1), gate);
+    }
+    if flow.second_up {
+        note_taker(takers, region.place(literals.rhs0), gate);
+    }
+}
+
+/// Notes where all gates took units.
+fn note_takers(takers: &mut [u32], region: &Region, known: &[GateFlow]) {
+    let mut gate = 0u32;
+    for literals in region.gates {
+        if let Some(flow) = known.get(gate as usize) {
+            note_takes(takers, region, literals, flow, gate);
+        }
+        gate = gate.wrapping_add(1);
+    }
+}
+
 /// By place, from the first latch on, the number of the gate that took the unit after it, in the memory of a table.
 fn takers_in(memory: Vec<u32>, region: &Region, known: &[GateFlow]) -> Result<Vec<u32>, NoMemory> {
     let mut takers = filled(memory, NOBODY, region.places())?;
-    let table = takers.as_mut_slice();
-    for (gate, (literals, flow)) in region.gates.iter().zip(known).enumerate() {
-        if flow.first_up {
-            note_taker(table, region.place(literals.rhs1), narrow(gate));
-        }
-        if flow.second_up {
-            note_taker(table, region.place(literals.rhs0), narrow(gate));
-        }
-    }
+    note_takers(takers.as_mut_slice(), region, known);
     Ok(takers)
 }
 
@@ -97,6 +110,26 @@ fn goes_through(region: &Region, known: &[GateFlow], flows: &mut [GateFlow], fro
     Way::Before(gate)
 }
 
+/// A gate, if there is one with this number, takes the unit after a place. Whether it does.
+fn comes_to(
+    region: &Region,
+    known: &[GateFlow],
+    flows: &mut [GateFlow],
+    place: usize,
+    taker: usize,
+) -> bool {
+    let (Some(literals), Some(told), Some(flow)) = (
+        region.gates.get(taker),
+        known.get(taker),
+        flows.get_mut(taker),
+    ) else {
+        return false;
+    };
+    let is_first = region.place(literals.rhs1) as usize == place;
+    flow.note_up(!(is_first & told.first_up));
+    true
+}
+
 /// The gate that takes the unit after a place takes it, and it goes through that gate or through one that it goes down to.
 fn goes_on(
     region: &Region,
@@ -105,26 +138,14 @@ fn goes_on(
     flows: &mut [GateFlow],
     place: usize,
 ) -> Way {
-    let Some(taker) = takers.get(place).copied() else {
+    let Some(taker) = takers.get(place) else {
         return Way::Stays;
     };
-    let taker = taker as usize;
-    let (Some(literals), Some(told), Some(flow)) = (
-        region.gates.get(taker),
-        known.get(taker),
-        flows.get_mut(taker),
-    ) else {
-        return Way::Stays;
-    };
-    let is_first = region.place(literals.rhs1) as usize == place;
-    flow.note_up(!(is_first && told.first_up));
-    if told.through && !flow.through {
-        flow.through = true;
-        return Way::Through(taker);
-    }
-    match goes_down(region, literals, told, flow) {
-        Some(next) => goes_through(region, known, flows, next),
-        None => Way::Before(taker),
+    let taker = *taker as usize;
+    if comes_to(region, known, flows, place, taker) {
+        goes_through(region, known, flows, taker)
+    } else {
+        Way::Stays
     }
 }
 
@@ -152,6 +173,23 @@ fn send(
     Ok(())
 }
 
+/// Sends the units after all known latches as far as they are known to go. Where they are left.
+fn send_all(
+    alloc: Global,
+    region: &Region,
+    known: &[GateFlow],
+    takers: &[u32],
+    flows: &mut [GateFlow],
+) -> Result<LeftUnits, NoMemory> {
+    let mut left = LeftUnits::none(alloc);
+    for place in 0..region.latches.len() {
+        if region.is_known_latch(place) {
+            send(region, known, takers, flows, &mut left, place)?;
+        }
+    }
+    Ok(left)
+}
+
 /// A flow along what is known of an earlier one at each gate, in its place: 4 bytes a latch and gate, for which a spare table serves, and what the
 /// units' ways cost. Where it leaves units.
 ///
@@ -168,21 +206,15 @@ pub(crate) fn put_along(
         spare,
     } = known;
     let takers = takers_in(spare.take_numbers(alloc), region, known.as_slice())?;
-    let mut left = LeftUnits::none(alloc);
     let mut flows = vec![in alloc; GateFlow::none(); region.gates.len()]?;
-    for place in 0..region.latches.len() {
-        if region.is_known_latch(place) {
-            send(
-                region,
-                known.as_slice(),
-                takers.as_slice(),
-                flows.as_mut_slice(),
-                &mut left,
-                place,
-            )?;
-        }
-    }
+    let left = send_all(
+        alloc,
+        region,
+        known.as_slice(),
+        takers.as_slice(),
+        flows.as_mut_slice(),
+    );
     *known = flows;
     spare.keep_numbers(takers);
-    Ok(left)
+    left
 }

@@ -91,6 +91,17 @@ fn take_asked(region: &Region, start: &mut Start, gate: usize) {
     }
 }
 
+/// All gates ask, from the last to the first, and then take what they asked for.
+fn ask_and_take(region: &Region, start: &mut Start) {
+    let gates = region.gates.len();
+    for gate in (0..gates).rev() {
+        ask(region, start, gate);
+    }
+    for gate in 0..gates {
+        take_asked(region, start, gate);
+    }
+}
+
 /// The start up the gates.
 fn start_up(alloc: Global, region: &Region) -> Result<Start, NoMemory> {
     let mut start = Start::new(alloc, region)?;
@@ -100,14 +111,8 @@ fn start_up(alloc: Global, region: &Region) -> Result<Start, NoMemory> {
 
 /// The start from the sink down.
 fn start_down(alloc: Global, region: &Region) -> Result<Start, NoMemory> {
-    let gates = region.gates.len();
     let mut start = Start::new(alloc, region)?;
-    for gate in (0..gates).rev() {
-        ask(region, &mut start, gate);
-    }
-    for gate in 0..gates {
-        take_asked(region, &mut start, gate);
-    }
+    ask_and_take(region, &mut start);
     take_all_waiting(region, &mut start, [FanIn::Smaller, FanIn::Larger]);
     Ok(start)
 }
@@ -139,6 +144,28 @@ pub(crate) struct FirstStart {
     pub left: LeftUnits,
 }
 
+/// Puts the flow of a start in place of another. What it brings, and what it leaves.
+fn put_first(
+    alloc: Global,
+    flows: &mut Vec<GateFlow>,
+    start: &Start,
+) -> Result<FirstStart, NoMemory> {
+    put(flows, start)?;
+    Ok(FirstStart {
+        arrived: start.arrived,
+        left: start.left(alloc)?,
+    })
+}
+
+/// Puts the flow of a start in place of another, where it brings more units to the sink than so many. Whether it does.
+fn put_better(flows: &mut Vec<GateFlow>, start: &Start, arrived: usize) -> Result<bool, NoMemory> {
+    if start.arrived <= arrived {
+        return Ok(false);
+    }
+    put(flows, start)?;
+    Ok(true)
+}
+
 /// Puts the flow of the start up the gates in place of another.
 ///
 /// # Errors
@@ -150,12 +177,9 @@ pub(crate) fn put_start_up(
     flows: &mut Vec<GateFlow>,
 ) -> Result<FirstStart, NoMemory> {
     let start = start_up(alloc, region)?;
-    put(flows, &start)?;
-    let left = start.left(alloc)?;
-    Ok(FirstStart {
-        arrived: start.arrived,
-        left,
-    })
+    let first = put_first(alloc, flows, &start);
+    drop(start);
+    first
 }
 
 /// Puts the flow of the start from the sink down in place of another, where it brings more units to the sink than so many. Whether it does.
@@ -170,9 +194,7 @@ pub(crate) fn put_start_down(
     arrived: usize,
 ) -> Result<bool, NoMemory> {
     let start = start_down(alloc, region)?;
-    if start.arrived <= arrived {
-        return Ok(false);
-    }
-    put(flows, &start)?;
-    Ok(true)
+    let is_put = put_better(flows, &start, arrived);
+    drop(start);
+    is_put
 }

@@ -1,5 +1,5 @@
 //! The chosen least set of a frame by the flow of a start, where the judge says that it shows one.
-ghost use Rattle.std.specs.Prelude.{IfOk, IfSome};
+ghost use Rattle.std.specs.Prelude.{◌≡◌, IfOk, IfSome, None};
 ghost use Rattle.aig_graph.specs.Border.{IsGreatestLeast};
 ghost use Rattle.aig_graph.specs.Chosen.{IsChosen};
 
@@ -40,15 +40,13 @@ fn judged_greatest(
         });
     }
     let marks = mark(alloc, frame, flows, &mut *spare)?;
-    if left.are_marked(&marks) {
-        return Ok(Started {
-            set: None,
-            marks: Some(marks),
-        });
-    }
-    let set = shown_by_marks(alloc, frame, flows, &marks, &mut *spare)?;
+    let set = if left.are_marked(&marks) {
+        Ok(None)
+    } else {
+        shown_by_marks(alloc, frame, flows, &marks, spare)
+    };
     Ok(Started {
-        set,
+        set: set?,
         marks: Some(marks),
     })
 }
@@ -87,14 +85,34 @@ fn start_first(
 {
     let region = Region::of(frame);
     let first = put_start_up(alloc, &region, &mut flow.gates)?;
-    let started = judged(alloc, frame, choice, &mut *flow, &first.left)?;
-    if started.set.is_none() && put_start_down(alloc, &region, &mut flow.gates, first.arrived)? {
-        return Ok(Started {
-            set: None,
-            marks: None,
-        });
+    let arrived = first.arrived;
+    let judged = judged(alloc, frame, choice, &mut *flow, &first.left);
+    drop(first);
+    let Started { set, marks } = judged?;
+    match set {
+        Some(set) => Ok(Started {
+            set: Some(set),
+            marks,
+        }),
+        None => started_down(alloc, &region, &mut flow.gates, arrived, marks),
     }
-    Ok(started)
+}
+
+/// The start from the sink down takes the place of a flow that shows none, if it brings more than so many units; else its marks stay.
+fn started_down(
+    alloc: Global,
+    region: &Region,
+    flows: &mut Vec<GateFlow>,
+    arrived: usize,
+    marks: Option<NodeMarks>,
+) -> Result<Started, NoMemory>
+    ensures { IfOk result (λ started. started.set ≡ None) }
+{
+    let is_put = put_start_down(alloc, region, flows, arrived)?;
+    Ok(Started {
+        set: None,
+        marks: if is_put { None } else { marks },
+    })
 }
 
 /// The chosen least set, where a start shows it: one along `flow`, what the last flow did at the circuit's gates, or along nothing where there

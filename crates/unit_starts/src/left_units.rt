@@ -13,9 +13,12 @@ pub(crate) struct LeftUnits {
 
 /// Whether a place is marked.
 fn has_mark(places: &[usize], marks: &[bool]) -> bool {
-    places
-        .iter()
-        .any(|place| marks.get(*place).copied() == Some(true))
+    for place in places {
+        if let Some(true) = marks.get(*place) {
+            return true;
+        }
+    }
+    false
 }
 
 impl LeftUnits {

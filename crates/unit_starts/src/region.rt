@@ -56,17 +56,21 @@ impl<'a> Region<'a> {
 
     /// Whether a known latch is at a place.
     pub fn is_known_latch(&self, place: usize) -> bool {
-        self.latches
-            .get(place)
-            .is_some_and(|latch| latch.reset != Reset::Free)
+        match self.latches.get(place) {
+            Some(latch) => latch.reset != Reset::Free,
+            None => false,
+        }
     }
 
     /// How many latches are known.
     pub fn known_latches(&self) -> usize {
-        self.latches
-            .iter()
-            .filter(|latch| latch.reset != Reset::Free)
-            .count()
+        let mut known = 0usize;
+        for latch in self.latches {
+            if latch.reset != Reset::Free {
+                known = known.wrapping_add(1);
+            }
+        }
+        known
     }
 
     /// Whether a passable gate is at a place.

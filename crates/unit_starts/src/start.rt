@@ -21,6 +21,19 @@ struct Spot {
     waits: bool,
 }
 
+/// What stands after each variable before any unit has come.
+fn spots_of(alloc: Global, leaving: &[bool]) -> Result<Vec<Spot>, NoMemory> {
+    let mut spots = Vec::with_capacity(alloc, leaving.len())?;
+    for is_observed in leaving {
+        spots.push(Spot {
+            is_observed: *is_observed,
+            asked: *is_observed,
+            waits: false,
+        })?;
+    }
+    Ok(spots)
+}
+
 /// A start: the fan-in from which each gate takes a unit, what stands after each variable, by its place from the first latch on, and how many
 /// units came to the sink.
 #[derive(Drop)]
@@ -33,26 +46,24 @@ pub(crate) struct Start {
 impl Start {
     /// A unit has come after each known latch, and no gate has taken one.
     pub(crate) fn new(alloc: Global, region: &Region) -> Result<Start, NoMemory> {
-        let mut spots = Vec::with_capacity(alloc, region.places())?;
-        for is_observed in region.leaving {
-            spots.push(Spot {
-                is_observed: *is_observed,
-                asked: *is_observed,
-                waits: false,
-            })?;
-        }
+        let spots = spots_of(alloc, region.leaving)?;
         let takes = vec![in alloc; None; region.gates.len()]?;
         let mut start = Start {
             takes,
             spots,
             arrived: 0,
         };
+        start.put_after_latches(region);
+        Ok(start)
+    }
+
+    /// A unit comes after each known latch.
+    fn put_after_latches(&mut self, region: &Region) {
         for place in 0..region.latches.len() {
             if region.is_known_latch(place) {
-                start.put_after(place);
+                self.put_after(place);
             }
         }
-        Ok(start)
     }
 
     /// A unit comes after a latch or a gate: from there it goes to the sink, or it waits.
@@ -118,6 +129,9 @@ impl Start {
 
     /// Whether the unit after a place is asked for.
     pub(crate) fn is_asked(&self, place: usize) -> bool {
-        self.spots.get(place).is_some_and(|spot| spot.asked)
+        match self.spots.get(place) {
+            Some(spot) => spot.asked,
+            None => false,
+        }
     }
 }
