@@ -1,13 +1,13 @@
 //! One start of a circuit's first flow: which gate takes a unit from which fan-in.
 
-use crate::left_units::LeftUnits;
-use crate::region::Region;
+use crate::starts::left_units::LeftUnits;
+use crate::starts::region::Region;
 use aig_graph::NoMemory;
 use std::alloc::Global;
 use std::mem;
 
 /// One of the two fan-ins of a gate, by their variables.
-#[derive(Clone, Copy, PartialEq, Eq)]
+#[derive(Clone, Copy)]
 pub(crate) enum FanIn {
     Smaller,
     Larger,

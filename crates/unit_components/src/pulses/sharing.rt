@@ -2,8 +2,8 @@
 //! the sources of a tiny circuit, so that the smallest ones are worked on by two workers at once, too. What that costs is the start of two threads,
 //! a tenth of such a run; by all of a crew it would be more than half, and on a circuit of some hundred places as much for nothing.
 
-use crate::nodes::Nodes;
-use crate::parts::{Delivery, Part};
+use crate::pulses::nodes::Nodes;
+use crate::pulses::parts::{Delivery, Part};
 use aig_graph::NoMemory;
 use pulse::{Crew, PhaseGate};
 use std::alloc::Global;
@@ -18,7 +18,7 @@ const FEW_PLACES: usize = 16;
 const FEW_WORKERS: u32 = 2;
 
 /// How the pulses of a flow are shared out among the workers of a crew, each of which passes its gate.
-#[derive_where(Clone, Copy)]
+#[derive(Drop)]
 pub(crate) struct Sharing<'a, G> {
     pub gate: &'a G,
     /// How many of them share a pulse.
@@ -35,9 +35,9 @@ impl<'a, G: PhaseGate> Sharing<'a, G> {
             return started;
         }
         Sharing {
+            gate: started.gate,
             workers: FEW_WORKERS,
             from_sources: true,
-            ..started
         }
     }
 
@@ -51,7 +51,7 @@ impl<'a, G: PhaseGate> Sharing<'a, G> {
     }
 
     /// Whether the pulse with this number goes to the crew.
-    pub fn is_handed(self, number: u64, actives: &Nodes) -> bool {
+    pub fn is_handed(&self, number: u64, actives: &Nodes) -> bool {
         let is_first = self.from_sources && number == 0;
         self.workers > 1 && (is_first || actives.count() >= MANY_ACTIVE)
     }
@@ -67,12 +67,25 @@ pub(crate) struct Parts {
 impl Parts {
     /// A part for each of so many workers that share so many places.
     pub fn among(alloc: Global, workers: u32, places: usize) -> Result<Parts, NoMemory> {
-        let mut parts = Vec::with_capacity(alloc, workers as usize)?;
-        let mut deliveries = Vec::with_capacity(alloc, workers as usize)?;
-        for worker in 0..workers {
-            parts.push(Part::of(alloc, worker, workers, places))?;
-            deliveries.push(Delivery::none(alloc))?;
-        }
-        Ok(Parts { parts, deliveries })
+        Ok(Parts {
+            parts: parts_among(alloc, workers, places)?,
+            deliveries: deliveries_of(alloc, workers)?,
+        })
     }
+}
+
+fn parts_among(alloc: Global, workers: u32, places: usize) -> Result<Vec<Part>, NoMemory> {
+    let mut parts = Vec::with_capacity(alloc, workers as usize)?;
+    for worker in 0..workers {
+        parts.push(Part::of(alloc, worker, workers, places))?;
+    }
+    Ok(parts)
+}
+
+fn deliveries_of(alloc: Global, workers: u32) -> Result<Vec<Delivery>, NoMemory> {
+    let mut deliveries = Vec::with_capacity(alloc, workers as usize)?;
+    for _ in 0..workers {
+        deliveries.push(Delivery::none(alloc))?;
+    }
+    Ok(deliveries)
 }

@@ -7,9 +7,9 @@
 //!
 //! Of most circuits one of them brings all units, or all but a few.
 
-use crate::left_units::LeftUnits;
-use crate::region::Region;
-use crate::start::{FanIn, Start};
+use crate::starts::left_units::LeftUnits;
+use crate::starts::region::Region;
+use crate::starts::start::{FanIn, Start};
 use aig_graph::NoMemory;
 use std::alloc::Global;
 use unit_flows::GateFlow;
@@ -120,10 +120,12 @@ fn start_down(alloc: Global, region: &Region) -> Result<Start, NoMemory> {
 /// What a gate does that takes its unit there, if any: it goes through.
 fn flow_of(taken: Option<FanIn>) -> GateFlow {
     let mut flow = GateFlow::none();
-    if let Some(fan_in) = taken {
-        flow.note_up(fan_in == FanIn::Larger);
-        flow.through = true;
+    match taken {
+        Some(FanIn::Smaller) => flow.first_up = true,
+        Some(FanIn::Larger) => flow.second_up = true,
+        None => return flow,
     }
+    flow.through = true;
     flow
 }
 

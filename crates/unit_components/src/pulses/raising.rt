@@ -2,9 +2,9 @@
 //!
 //! Such a node has filled each arc to a label that is one less than its own. What else comes to it makes arcs back to labels that are one more.
 
-use crate::parts::Part;
-use crate::search::{Before, Search};
-use crate::spots::{FAR, label_after, label_before};
+use crate::pulses::parts::Part;
+use crate::pulses::search::{Before, Search};
+use crate::pulses::spots::{FAR, label_after, label_before, labels_at};
 
 /// A label that an arc leads to which isn't filled in this pulse, or none.
 fn near(label: u32, below: u32) -> u32 {
@@ -21,14 +21,19 @@ impl<'a> Search<'a> {
         } else {
             near(label_after(labels, node.place), below)
         };
-        for second in [false, true] {
-            let fan_in = node.fan_ins.at(second);
-            if flow.down(second) < self.most {
-                least = least.min(near(label_before(labels, fan_in), below));
-            }
-            if flow.up(second) {
-                least = least.min(near(label_after(labels, fan_in), below));
-            }
+        least = least.min(self.least_of_fan_in(node, false));
+        least.min(self.least_of_fan_in(node, true))
+    }
+
+    /// The same of the nodes of one fan-in.
+    fn least_of_fan_in(&self, node: &Before, second: bool) -> u32 {
+        let labels = labels_at(self.labels.as_slice(), node.fan_ins.at(second));
+        let mut least = FAR;
+        if node.flow.down(second) < self.most {
+            least = near(labels.before, node.below);
+        }
+        if node.flow.up(second) {
+            least = least.min(near(labels.after, node.below));
         }
         least
     }

@@ -3,12 +3,12 @@
 //! In the read phase it lists what its active nodes push, and writes nothing else. In the delivery phase it goes through the lists of all workers, and
 //! writes what they change at its places. So what a pulse leaves depends on no order of nodes, and on no number of workers.
 
-use crate::nodes::Nodes;
+use crate::pulses::nodes::Nodes;
 use aig_graph::NoMemory;
 use std::alloc::Global;
 
 /// An arc that units go over, between a gate's nodes, or between one of them and a node of its second or first fan-in.
-#[derive(Clone, Copy, PartialEq, Eq)]
+#[derive(Clone, Copy)]
 pub(crate) enum Arc {
     /// From before the gate to after it.
     Through,

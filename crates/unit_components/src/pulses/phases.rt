@@ -3,12 +3,12 @@
 //! Each worker has a range of places. It is given its part and what it owns by value and returns them, in worker order; all else is lent to all
 //! workers. A pulse of few active nodes is made by the calling thread, as worker 0, over all places.
 
-use crate::delivering::{Owned, owned_by_ranges};
-use crate::nodes::Nodes;
-use crate::parts::{Delivery, Part};
-use crate::search::Search;
-use crate::sharing::Parts;
-use crate::spots::FAR;
+use crate::pulses::delivering::{Owned, owned_by_ranges};
+use crate::pulses::nodes::Nodes;
+use crate::pulses::parts::{Delivery, Part};
+use crate::pulses::search::Search;
+use crate::pulses::sharing::Parts;
+use crate::pulses::spots::FAR;
 use aig_graph::NoMemory;
 use pulse::PhaseGate;
 use std::alloc::Global;
@@ -16,7 +16,7 @@ use std::thread::Threads;
 use std::{mem, thread};
 
 /// The gate that each worker passes and leaves, and the number of the pulse, from 0.
-#[derive_where(Clone, Copy)]
+#[derive(Drop)]
 pub(crate) struct Passage<'a, G> {
     pub gate: &'a G,
     pub pulse: u64,
@@ -27,7 +27,7 @@ fn read_alone<G: PhaseGate>(
     search: &Search,
     actives: &Nodes,
     parts: &mut [Part],
-    passage: Passage<G>,
+    passage: &Passage<G>,
 ) -> Result<(), NoMemory> {
     let phase = passage.pulse.wrapping_mul(2);
     passage.gate.pass(phase, 0);
@@ -45,7 +45,7 @@ fn read_by_crew<R: Threads + Sync, G: PhaseGate>(
     search: &Search,
     actives: &Nodes,
     parts: &mut Vec<Part>,
-    passage: Passage<G>,
+    passage: &Passage<G>,
 ) -> Result<(), NoMemory> {
     let (gate, phase) = (passage.gate, passage.pulse.wrapping_mul(2));
     let work = |part: Part| -> Result<Part, NoMemory> {
@@ -53,14 +53,17 @@ fn read_by_crew<R: Threads + Sync, G: PhaseGate>(
         gate.pass(phase, part.worker);
         let read = search.read(actives, &mut part);
         gate.leave(phase, part.worker);
-        match read {
-            Ok(()) => Ok(part),
-            Err(error) => Err(error),
-        }
+        read?;
+        Ok(part)
     };
     let taken = mem::replace(parts, Vec::new(alloc));
-    for part in thread::map_vec(rt, taken, &work)? {
-        parts.push(part?)?;
+    put_all(parts, thread::map_vec(rt, taken, &work)?)
+}
+
+/// Puts what all workers made at the end of a list, unless one was refused memory.
+fn put_all<T: Drop>(list: &mut Vec<T>, made: Vec<Result<T, NoMemory>>) -> Result<(), NoMemory> {
+    for item in made {
+        list.push(item?)?;
     }
     Ok(())
 }
@@ -70,7 +73,7 @@ fn deliver_alone<G: PhaseGate>(
     alloc: Global,
     search: &mut Search,
     shared: &mut Parts,
-    passage: Passage<G>,
+    passage: &Passage<G>,
 ) -> Result<(), NoMemory> {
     let phase = passage.pulse.wrapping_mul(2).wrapping_add(1);
     passage.gate.pass(phase, 0);
@@ -96,7 +99,7 @@ fn deliver_by_crew<R: Threads + Sync, G: PhaseGate>(
     alloc: Global,
     search: &mut Search,
     shared: &mut Parts,
-    passage: Passage<G>,
+    passage: &Passage<G>,
 ) -> Result<(), NoMemory> {
     let gate = passage.gate;
     let phase = passage.pulse.wrapping_mul(2).wrapping_add(1);
@@ -118,10 +121,7 @@ fn deliver_by_crew<R: Threads + Sync, G: PhaseGate>(
         parts,
         taken,
     )?;
-    for delivery in thread::map_vec(rt, owned, &work)? {
-        shared.deliveries.push(delivery?)?;
-    }
-    Ok(())
+    put_all(&mut shared.deliveries, thread::map_vec(rt, owned, &work)?)
 }
 
 impl<'a> Search<'a> {
@@ -173,7 +173,7 @@ pub(crate) fn pulse_alone<G: PhaseGate>(
     search: &mut Search,
     actives: &mut Nodes,
     shared: &mut Parts,
-    passage: Passage<G>,
+    passage: &Passage<G>,
 ) -> Result<usize, NoMemory> {
     read_alone(search, actives, shared.parts.as_mut_slice(), passage)?;
     deliver_alone(alloc, search, shared, passage)?;
@@ -191,7 +191,7 @@ pub(crate) fn pulse_by_crew<R: Threads + Sync, G: PhaseGate>(
     search: &mut Search,
     actives: &mut Nodes,
     shared: &mut Parts,
-    passage: Passage<G>,
+    passage: &Passage<G>,
 ) -> Result<usize, NoMemory> {
     read_by_crew(rt, alloc, search, actives, &mut shared.parts, passage)?;
     deliver_by_crew(rt, alloc, search, shared, passage)?;

@@ -3,10 +3,10 @@
 //! It reads the flow that the last pulse left. No arc is pushed from both ends, and labels don't change before the pulse ends, so what other
 //! nodes push meanwhile makes no difference.
 
-use crate::nodes::Nodes;
-use crate::parts::{Arc, Kept, Part, Push};
-use crate::search::{Before, Search};
-use crate::spots::{label_after, label_before};
+use crate::pulses::nodes::Nodes;
+use crate::pulses::parts::{Arc, Kept, Part, Push};
+use crate::pulses::search::{Before, Search};
+use crate::pulses::spots::{label_after, label_before};
 use aig_graph::NoMemory;
 
 /// What becomes of a unit after a place: it goes on to before a gate, or it stays, and the node gets a new label.
@@ -39,25 +39,31 @@ impl<'a> Search<'a> {
     fn push_to(&self, place: u32, to: u32) -> Push {
         Push {
             arc: if place == to { Arc::Back } else { Arc::Up },
-            second: self.fan_ins(to).is_some_and(|it| it.is_second(place)),
+            second: self.came_from(to, place).0,
             tail: place,
             head: to,
             units: 1,
         }
     }
 
+    /// Whether an arc leads from after a place to the sink.
+    fn is_observed(&self, place: u32) -> bool {
+        match self.spots.get(place as usize) {
+            Some(spot) => spot.is_observed,
+            None => false,
+        }
+    }
+
     /// Reads what the node after a place does with its unit.
     fn read_after(&self, place: u32, part: &mut Part) -> Result<(), NoMemory> {
-        let spot = self.spots.get(place as usize);
-        if spot.is_some_and(|spot| spot.is_observed) {
-            let push = Push {
+        if self.is_observed(place) {
+            part.pushes.push(Push {
                 arc: Arc::Out,
                 second: false,
                 tail: place,
                 head: place,
                 units: 1,
-            };
-            part.pushes.push(push)?;
+            })?;
             return Ok(());
         }
         let below = label_after(self.labels.as_slice(), place).saturating_sub(1);
@@ -163,13 +169,7 @@ impl<'a> Search<'a> {
         let (Some(spot), Some(node)) = (self.spots.get(place as usize), self.before(place)) else {
             return Ok(());
         };
-        let mut left = spot.excess;
-        for second in [false, true] {
-            left = self.push_down(&node, second, left, part)?;
-            left = self.push_home(&node, second, left, part)?;
-        }
-        left = self.push_through(&node, left, part)?;
-        left = self.push_up(&node, left, part)?;
+        let left = self.push_all(&node, spot.excess, part)?;
         if left > 0 {
             let label = self.raised_before(&node, part);
             part.kept_before.push(Kept {
@@ -179,6 +179,16 @@ impl<'a> Search<'a> {
             })?;
         }
         Ok(())
+    }
+
+    /// These units go where an arc leads from before a gate. How many stay.
+    fn push_all(&self, node: &Before, units: u32, part: &mut Part) -> Result<u32, NoMemory> {
+        let mut left = self.push_down(node, false, units, part)?;
+        left = self.push_home(node, false, left, part)?;
+        left = self.push_down(node, true, left, part)?;
+        left = self.push_home(node, true, left, part)?;
+        left = self.push_through(node, left, part)?;
+        self.push_up(node, left, part)
     }
 
     /// Reads what those of these nodes do that are a worker's own.

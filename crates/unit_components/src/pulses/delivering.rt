@@ -1,8 +1,8 @@
 //! What the pushes of a pulse change at the places that a worker owns.
 
-use crate::parts::{Arc, Delivery, Part, Push, Range};
-use crate::raising::raised_with_arrivals;
-use crate::spots::{Labels, Spot, label_before};
+use crate::pulses::parts::{Arc, Delivery, Part, Push, Range};
+use crate::pulses::raising::raised_with_arrivals;
+use crate::pulses::spots::{Labels, Spot, label_before};
 use aig_graph::NoMemory;
 use std::alloc::Global;
 use unit_flows::GateFlow;
@@ -113,22 +113,31 @@ impl<'a> Owned<'a> {
     /// `NoMemory` where a list is refused.
     pub fn deliver(mut self, labels: &[Labels], parts: &[Part]) -> Result<Delivery, NoMemory> {
         self.delivery.clear();
-        let own = parts.get(self.worker as usize);
-        if let Some(part) = own {
-            for push in &part.pushes {
-                self.leave(push);
-            }
+        self.deliver_in(labels, parts)?;
+        Ok(self.delivery)
+    }
+
+    /// Notes what is delivered.
+    fn deliver_in(&mut self, labels: &[Labels], parts: &[Part]) -> Result<(), NoMemory> {
+        let Some(own) = parts.get(self.worker as usize) else {
+            return self.come_all(parts);
+        };
+        for push in &own.pushes {
+            self.leave(push);
         }
+        self.come_all(parts)?;
+        self.find_labels(labels, own)
+    }
+
+    /// All units come, and what the flow does then is noted.
+    fn come_all(&mut self, parts: &[Part]) -> Result<(), NoMemory> {
         for part in parts {
             for push in &part.pushes {
                 self.note(push);
                 self.come(push)?;
             }
         }
-        if let Some(part) = own {
-            self.find_labels(labels, part)?;
-        }
-        Ok(self.delivery)
+        Ok(())
     }
 }
 

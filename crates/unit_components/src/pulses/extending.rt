@@ -1,11 +1,11 @@
 //! More of a start along the last flow. That flow ended where units left its frame; where a gate of this frame reads on from there, units wait.
 //! In one pass up the gates each that nothing goes through takes a unit that waits after a fan-in, the larger fan-in first.
 
+use crate::starts::{Region, narrow};
 use aig_graph::{Gate, NoMemory};
 use std::alloc::Global;
 use std::mem;
 use unit_flows::GateFlow;
-use unit_starts::{Region, narrow};
 
 /// By place whether a unit came there, and doesn't leave.
 fn coming(alloc: Global, region: &Region, flows: &[GateFlow]) -> Result<Vec<bool>, NoMemory> {
@@ -16,10 +16,15 @@ fn coming(alloc: Global, region: &Region, flows: &[GateFlow]) -> Result<Vec<bool
     for flow in flows {
         waits.push(flow.through)?;
     }
-    for (wait, leaves) in waits.iter_mut().zip(region.leaving.iter()) {
-        *wait = *wait && !*leaves;
-    }
+    clear_leaving(waits.as_mut_slice(), region.leaving);
     Ok(waits)
+}
+
+/// Nothing waits where it leaves.
+fn clear_leaving(waits: &mut [bool], leaving: &[bool]) {
+    for (wait, leaves) in waits.iter_mut().zip(leaving.iter()) {
+        *wait &= !*leaves;
+    }
 }
 
 /// No unit waits at a place any more. Whether one did.
@@ -69,14 +74,19 @@ pub(crate) fn extend(
 ) -> Result<usize, NoMemory> {
     let mut waits = coming(alloc, region, flows)?;
     clear_gone(region, flows, waits.as_mut_slice());
+    Ok(take_all(region, waits.as_mut_slice(), flows))
+}
+
+/// Each gate that nothing goes through takes a unit that waits, if one does. How many come to the sink.
+fn take_all(region: &Region, waits: &mut [bool], flows: &mut [GateFlow]) -> usize {
     let mut place = narrow(region.latches.len());
     let mut brought = 0usize;
     for (gate, flow) in region.gates.iter().zip(flows.iter_mut()) {
         let passes = region.is_passable(place as usize);
-        if passes && !flow.through && take(region, waits.as_mut_slice(), place, gate, flow) {
+        if passes && !flow.through && take(region, waits, place, gate, flow) {
             brought = brought.saturating_add(1);
         }
         place = place.wrapping_add(1);
     }
-    Ok(brought)
+    brought
 }

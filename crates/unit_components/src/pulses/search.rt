@@ -1,11 +1,11 @@
 //! The tables of a flow of units by place: what the flow does at each gate, what stands at each place, and which gates read it.
 
-use crate::readers::Readers;
-use crate::spots::{Labels, Spot, label_before};
+use crate::pulses::readers::Readers;
+use crate::pulses::spots::{Labels, Spot, label_before};
+use crate::starts::{Region, narrow};
 use aig_graph::{Gate, NoMemory};
 use std::alloc::Global;
 use unit_flows::GateFlow;
-use unit_starts::{Region, narrow};
 
 /// The places of a gate's two fan-ins, that of the smaller variable first.
 #[derive(Clone, Copy)]
@@ -181,14 +181,18 @@ impl<'a> Search<'a> {
 
     /// Notes what came to before a gate from after its fan-ins, and what it sent on to before these.
     fn note_coming(&mut self, place: u32, fan_ins: &FanIns, flow: &GateFlow) {
-        for second in [false, true] {
-            if flow.up(second) {
-                self.set_waits(fan_ins.at(second), false);
-                self.add_before(place, 1);
-            }
-            if flow.down(second) > 0 {
-                self.add_before(fan_ins.at(second), flow.down(second));
-            }
+        self.note_coming_by(place, fan_ins.smaller, flow.first_up, flow.first_down);
+        self.note_coming_by(place, fan_ins.larger, flow.second_up, flow.second_down);
+    }
+
+    /// The same of one fan-in.
+    fn note_coming_by(&mut self, place: u32, fan_in: u32, came: bool, went: u32) {
+        if came {
+            self.set_waits(fan_in, false);
+            self.add_before(place, 1);
+        }
+        if went > 0 {
+            self.add_before(fan_in, went);
         }
     }
 

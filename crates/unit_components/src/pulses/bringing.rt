@@ -1,16 +1,16 @@
 //! Rounds of new labels and pulses, until no unit that is left can come to the sink.
 
-use crate::nodes::Nodes;
-use crate::pulses::{Passage, pulse_alone, pulse_by_crew};
-use crate::search::Search;
-use crate::sharing::{Parts, Sharing};
+use crate::pulses::nodes::Nodes;
+use crate::pulses::phases::{Passage, pulse_alone, pulse_by_crew};
+use crate::pulses::search::Search;
+use crate::pulses::sharing::{Parts, Sharing};
+use crate::starts::Region;
 use aig_graph::NoMemory;
 use pulse::PhaseGate;
 use std::alloc::Global;
 use std::mem;
 use std::thread::Threads;
 use unit_flows::{GateFlow, NodeMarks};
-use unit_starts::Region;
 
 /// After so many rounds what is left is left to the network.
 const MOST_ROUNDS: u32 = 1024;
@@ -34,10 +34,12 @@ impl<'a, G: PhaseGate> Pulses<'a, G> {
         sharing: Sharing<'a, G>,
         places: usize,
     ) -> Result<Pulses<'a, G>, NoMemory> {
+        let alone = Parts::among(alloc, 1, places)?;
+        let crew = Parts::among(alloc, sharing.workers, places)?;
         Ok(Pulses {
             sharing,
-            alone: Parts::among(alloc, 1, places)?,
-            crew: Parts::among(alloc, sharing.workers, places)?,
+            alone,
+            crew,
             made: 0,
         })
     }
@@ -58,9 +60,9 @@ fn next_pulse<R: Threads + Sync, G: PhaseGate>(
     let is_handed = pulses.sharing.is_handed(pulses.made, actives);
     pulses.made = pulses.made.saturating_add(1);
     if is_handed {
-        pulse_by_crew(rt, alloc, search, actives, &mut pulses.crew, passage)
+        pulse_by_crew(rt, alloc, search, actives, &mut pulses.crew, &passage)
     } else {
-        pulse_alone(alloc, search, actives, &mut pulses.alone, passage)
+        pulse_alone(alloc, search, actives, &mut pulses.alone, &passage)
     }
 }
 
@@ -96,11 +98,25 @@ fn round<R: Threads + Sync, G: PhaseGate>(
 ) -> Result<bool, NoMemory> {
     search.label();
     let mut actives = search.actives(alloc)?;
+    let ended = round_from(rt, alloc, region, search, &mut actives, pulses);
+    drop(actives);
+    ended
+}
+
+/// Pulses from active nodes, if there are any, as long as labels are good. Whether no unit that is left can come to the sink.
+fn round_from<R: Threads + Sync, G: PhaseGate>(
+    rt: &R,
+    alloc: Global,
+    region: &Region,
+    search: &mut Search,
+    actives: &mut Nodes,
+    pulses: &mut Pulses<G>,
+) -> Result<bool, NoMemory> {
     if actives.is_empty() {
         return Ok(true);
     }
     search.list_readers(alloc, region)?;
-    pulses_of_round(rt, alloc, search, &mut actives, pulses)
+    pulses_of_round(rt, alloc, search, actives, pulses)
 }
 
 /// Rounds until none of the units that are left can come to the sink.
@@ -134,13 +150,53 @@ pub(crate) fn bring<R: Threads + Sync, G: PhaseGate>(
     flows: &mut Vec<GateFlow>,
 ) -> Result<(), NoMemory> {
     let known = mem::replace(flows, Vec::new(alloc));
-    let mut search = Search::new(alloc, region, known)?;
-    if let Some(marks) = marks {
-        search.leave_out(marks.before.as_slice());
-        drop(marks);
-    }
-    let mut pulses = Pulses::none(alloc, sharing, search.spots.len())?;
-    rounds(rt, alloc, region, &mut search, &mut pulses)?;
-    *flows = search.into_flows();
+    *flows = brought(rt, alloc, region, marks, sharing, known)?;
     Ok(())
+}
+
+/// The flow that pulses make of one.
+fn brought<R: Threads + Sync, G: PhaseGate>(
+    rt: &R,
+    alloc: Global,
+    region: &Region,
+    marks: Option<NodeMarks>,
+    sharing: Sharing<G>,
+    known: Vec<GateFlow>,
+) -> Result<Vec<GateFlow>, NoMemory> {
+    let search = Search::new(alloc, region, known);
+    let mut search = left_out(search, marks)?;
+    match bring_in(rt, alloc, region, sharing, &mut search) {
+        Ok(()) => Ok(search.into_flows()),
+        Err(error) => {
+            drop(search);
+            Err(error)
+        }
+    }
+}
+
+/// From before the gates that have no mark, if there are marks, no unit can come to the sink.
+fn left_out<'a>(
+    search: Result<Search<'a>, NoMemory>,
+    marks: Option<NodeMarks>,
+) -> Result<Search<'a>, NoMemory> {
+    let mut search = search;
+    if let (Ok(search), Some(marks)) = (&mut search, &marks) {
+        search.leave_out(marks.before.as_slice());
+    }
+    drop(marks);
+    search
+}
+
+/// Brings units by rounds of pulses, whose parts are made first.
+fn bring_in<R: Threads + Sync, G: PhaseGate>(
+    rt: &R,
+    alloc: Global,
+    region: &Region,
+    sharing: Sharing<G>,
+    search: &mut Search,
+) -> Result<(), NoMemory> {
+    let mut pulses = Pulses::none(alloc, sharing, search.spots.len())?;
+    let brought = rounds(rt, alloc, region, search, &mut pulses);
+    drop(pulses);
+    brought
 }

@@ -2,20 +2,13 @@
 //! over residual arcs. In the first two sweeps all gates are seen, so that nearly all of the ways are shortest ones; those that follow see the
 //! gates alone whose nodes have no label yet. Sweeps go through memory in order, where a walk back from the sink jumps.
 
-use crate::search::{FanIns, Search};
-use crate::spots::{FAR, Labels, Spot, label_before, labels_at};
+use crate::pulses::search::{FanIns, Search};
+use crate::pulses::spots::{FAR, Labels, Spot, label_before, labels_at};
 use aig_graph::Gate;
 use unit_flows::GateFlow;
 
 /// More sweeps than these are never made. Nodes without a label are left to the network.
 const MOST_ROUNDS: u32 = 65_536;
-
-/// Which gates a sweep sees: all from before which units could come to the sink, or those of them without a label.
-#[derive(Clone, Copy, PartialEq, Eq)]
-enum Seen {
-    All,
-    Open,
-}
 
 /// A way to the sink from the node before a place. Whether it is the first.
 fn lower_before(labels: &mut [Labels], place: u32, label: u32) -> bool {
@@ -77,7 +70,8 @@ fn see(labels: &mut [Labels], place: u32, fan_ins: &FanIns, flow: &GateFlow) -> 
     is_new
 }
 
-/// Sees the gate at a place, if the sweep does. Whether a node is newly labelled.
+/// Sees the gate at a place, if the sweep does: one that sees all from before which units could come to the sink, or those of them alone that have
+/// no label. Whether a node is newly labelled.
 #[inline(always)]
 fn look(
     labels: &mut [Labels],
@@ -86,12 +80,12 @@ fn look(
     gate: &Gate,
     first: u32,
     flow: &GateFlow,
-    seen: Seen,
+    sees_all: bool,
 ) -> bool {
     let Some(spot) = spots.get_mut(place as usize) else {
         return false;
     };
-    if !(spot.is_open || (spot.reaches && seen == Seen::All)) {
+    if !(spot.is_open || (spot.reaches && sees_all)) {
         return false;
     }
     let is_new = see(labels, place, &FanIns::of(gate, first), flow);
@@ -101,7 +95,7 @@ fn look(
 
 impl<'a> Search<'a> {
     /// Sees the gates from the last to the first, where all places end here. Whether a node is newly labelled.
-    fn sweep_down(&mut self, end: u32, seen: Seen) -> bool {
+    fn sweep_down(&mut self, end: u32, sees_all: bool) -> bool {
         let (gates, first) = (self.gates, self.first);
         let flows = self.flows.as_slice();
         let labels = self.labels.as_mut_slice();
@@ -111,21 +105,21 @@ impl<'a> Search<'a> {
         for k in (0..gates.len()).rev() {
             place = place.wrapping_sub(1);
             if let Some(flow) = flows.get(k) {
-                is_new |= look(labels, spots, place, &gates[k], first, flow, seen);
+                is_new |= look(labels, spots, place, &gates[k], first, flow, sees_all);
             }
         }
         is_new
     }
 
     /// Sees the gates from the first to the last. Whether a node is newly labelled.
-    fn sweep_up(&mut self, seen: Seen) -> bool {
+    fn sweep_up(&mut self, sees_all: bool) -> bool {
         let (gates, first) = (self.gates, self.first);
         let labels = self.labels.as_mut_slice();
         let spots = self.spots.as_mut_slice();
         let mut is_new = false;
         let mut place = self.latches;
         for (gate, flow) in gates.iter().zip(self.flows.iter()) {
-            is_new |= look(labels, spots, place, gate, first, flow, seen);
+            is_new |= look(labels, spots, place, gate, first, flow, sees_all);
             place = place.wrapping_add(1);
         }
         is_new
@@ -151,10 +145,10 @@ impl<'a> Search<'a> {
     /// lose their labels.
     pub fn label(&mut self) {
         let end = self.begin();
-        self.sweep_down(end, Seen::All);
-        self.sweep_up(Seen::All);
+        self.sweep_down(end, true);
+        self.sweep_up(true);
         for _ in 0..MOST_ROUNDS {
-            if !self.sweep_down(end, Seen::Open) || !self.sweep_up(Seen::Open) {
+            if !self.sweep_down(end, false) || !self.sweep_up(false) {
                 return;
             }
         }

@@ -1,8 +1,8 @@
 //! Which nodes have units that could still come to the sink.
 
-use crate::nodes::Nodes;
-use crate::search::Search;
-use crate::spots::FAR;
+use crate::pulses::nodes::Nodes;
+use crate::pulses::search::Search;
+use crate::pulses::spots::{FAR, labels_at};
 use aig_graph::NoMemory;
 use std::alloc::Global;
 
@@ -14,16 +14,24 @@ impl<'a> Search<'a> {
     /// `NoMemory` where a list is refused.
     pub fn actives(&self, alloc: Global) -> Result<Nodes, NoMemory> {
         let mut actives = Nodes::none(alloc);
+        self.list_actives(&mut actives)?;
+        Ok(actives)
+    }
+
+    /// Lists them.
+    fn list_actives(&self, actives: &mut Nodes) -> Result<(), NoMemory> {
+        let labels = self.labels.as_slice();
         let mut place = 0u32;
-        for (spot, labels) in self.spots.iter().zip(self.labels.iter()) {
-            if labels.before < FAR && spot.excess > 0 {
+        for spot in &self.spots {
+            let at = labels_at(labels, place);
+            if (spot.excess > 0) & (at.before < FAR) {
                 actives.before.push(place)?;
             }
-            if labels.after < FAR && spot.waits {
+            if spot.waits & (at.after < FAR) {
                 actives.after.push(place)?;
             }
             place = place.wrapping_add(1);
         }
-        Ok(actives)
+        Ok(())
     }
 }
