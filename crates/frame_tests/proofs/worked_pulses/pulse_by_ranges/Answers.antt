@@ -8,7 +8,7 @@ use Rattle.pulse.specs.Values.{FlowState, PushState}
 use Rattle.pulse.specs.Conditions.{IsBetween, is_marked, state_of}
 use Rattle.pulse.specs.Phases.{RangeDelivered, Turns}
 use Rattle.pulse.proofs.StepLaws.{none_so_far, whole_read}
-use Rattle.flow_tests.proofs.worked_pulses.pulse_by_ranges.Goals as goal
+use Rattle.frame_tests.proofs.worked_pulses.pulse_by_ranges.Goals as goal
 
 in_whole : (b : Bool) (end v : ℕ) → v < end → b || (nat_le 0 v && nat_lt v end) ≡ true
 in_whole true end v h = refl

@@ -1,12 +1,9 @@
-//! The two circuits whose networks were worked by hand, and networks.
+//! The second circuit whose network was worked by hand, and networks. The first is `TWO_LATCHES`.
 use aag_text::{ReadError, read_aag};
 use aig_graph::Keep;
 use cut_cert::network;
 use frame_net::Net;
 use std::alloc::Global;
-
-/// Two inputs, a latch at each, and the gate of the latches, which is variable 5 and the output.
-pub(crate) const TWO_LATCHES: &[u8] = b"aag 5 2 2 1 1\n2\n4\n6 2\n8 4\n10\n10 8 6\n";
 
 /// Four inputs, a latch at each, the gates of the first two and of the last two latches, and the gate of both, which is variable 11 and
 /// the output.

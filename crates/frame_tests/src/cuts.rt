@@ -2,7 +2,8 @@
 ghost use Rattle.std.specs.Prelude.{IfOk};
 ghost use Rattle.pulse.specs.Conditions.{IsMaxPreflow};
 
-use crate::nets::{TWO_LATCHES, net_of_text};
+use crate::circuits::{CHAINS, TWO_LATCHES};
+use crate::nets::net_of_text;
 use aig_graph::{ClosedSet, NoMemory};
 use cut_cert::{greatest_cut, maximum_preflow};
 use frame_net::Net;
@@ -13,9 +14,6 @@ use std::thread::Threads;
 
 /// The two latches, the first of them free, so that no latch can move over their gate.
 const FREE_LATCH: &[u8] = b"aag 5 2 2 1 1\n2\n4\n6 2 6\n8 4\n10\n10 6 8\n";
-
-/// Two inputs, two latches in a row after each, and the gate of the last two, which is variable 7 and the output.
-const TWO_CHAINS: &[u8] = b"aag 7 2 4 1 1\n2\n4\n6 2\n8 6\n10 4\n12 10\n14\n14 8 12\n";
 
 /// Four inputs, a latch at each, and the gates 9 of the first two, 10 of that one and the third, 11 of 9 and the fourth, 12 of 10 and
 /// 11. The first two latches, 9 and 12 are the outputs: a move over some of the gates leaves five latches, one over all four, as many
@@ -77,7 +75,7 @@ fn finds_the_greatest_least_sets(rt: HostRuntime) {
     let alloc = rt.alloc();
     let of_latches = is_greatest(&rt, alloc, TWO_LATCHES, &[5]);
     let of_free = is_greatest(&rt, alloc, FREE_LATCH, &[]);
-    let of_chains = is_greatest(&rt, alloc, TWO_CHAINS, &[7]);
+    let of_chains = is_greatest(&rt, alloc, CHAINS, &[7]);
     let of_equal = is_greatest(&rt, alloc, EQUAL_COUNTS, &[9, 10, 11, 12]);
     let of_read = is_greatest(&rt, alloc, READ_LATCH, &[5]);
     assert!(rt; of_latches & of_free & of_chains & of_equal & of_read);

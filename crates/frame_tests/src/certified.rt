@@ -1,7 +1,7 @@
 //! The route of the first worked circuit, and the certificate that it makes.
 ghost use Rattle.pulse.specs.Conditions.{IsMaxPreflow};
 
-use crate::nets::TWO_LATCHES;
+use crate::circuits::TWO_LATCHES;
 use aag_text::read_aag;
 use aig_graph::{Circuit, Keep, NoMemory, Sequence};
 use cut_cert::{Certificate, Routes, Verdict, check, network, routes};

@@ -1,7 +1,7 @@
 //! That two workers are in a phase at the same moment where the flow of units shows a set: in the first pulse of a small circuit, and in one of
 //! many active nodes.
+use crate::circuits::TWO_LATCHES;
 use crate::meeting_gates::MeetingGate;
-use crate::nets::TWO_LATCHES;
 use crate::wide_circuits::text_of_blocks;
 use aag_text::read_aag;
 use aig_graph::{Choice, Circuit, Keep};

@@ -1,9 +1,9 @@
 use Rattle.std.proofs.Common.{◌≡◌, false}
 use Rattle.pulse.specs.Conditions.{ArePushesOf, IsBetween}
-use Rattle.flow_tests.proofs.worked_pulses.goes_through_by_ranges.Given as goal
+use Rattle.frame_tests.proofs.worked_pulses.goes_through.Given as goal
 
 abbrev pub invariant-loop-state : goal.invariant-loop-state
-invariant-loop-state l = record {
+invariant-loop-state g l = record {
   between : IsBetween l.net l.flow;
   pushes : ArePushesOf l.net l.pushes;
   usable : l.pushes.spent ≡ false;

@@ -1,8 +1,9 @@
 //! The two networks that were worked by hand, each made once: arcs, distances, pulses and runs.
 use crate::arcs::are_as_worked;
 use crate::between_pulses::sends_both_units;
+use crate::circuits::TWO_LATCHES;
 use crate::distances::start_as_worked;
-use crate::nets::{FOUR_LATCHES, TWO_LATCHES, net_of_text};
+use crate::nets::{FOUR_LATCHES, net_of_text};
 use crate::phase_gates::{each_crew_passes, second_pulse_is_shared, two_workers_meet};
 use crate::runs::end_as_worked;
 use crate::worked_pulses::{follow_after_eleven, follow_states};

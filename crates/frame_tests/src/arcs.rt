@@ -1,5 +1,5 @@
 //! The passable gates of the first worked circuit, and the arcs and rows of its network.
-use crate::nets::TWO_LATCHES;
+use crate::circuits::TWO_LATCHES;
 use aag_text::read_aag;
 use aig_graph::{Circuit, Keep};
 use frame_net::{Net, Point, passable};

@@ -3,12 +3,16 @@
 use std::alloc::{AllocError, Global};
 
 /// The literal of the variable with a number, from 0.
-fn literal(number: u32) -> u32 {
+pub(crate) fn literal(number: u32) -> u32 {
     number.saturating_add(1).saturating_mul(2)
 }
 
 /// Puts a line of one, two or three literals.
-fn put_line(alloc: Global, text: &mut Vec<u8>, literals: &[u32]) -> Result<(), AllocError> {
+pub(crate) fn put_line(
+    alloc: Global,
+    text: &mut Vec<u8>,
+    literals: &[u32],
+) -> Result<(), AllocError> {
     let mut before = "";
     for literal in literals {
         let word = format!(in alloc; "{before}{literal}")?;
@@ -80,6 +84,17 @@ fn put_head(alloc: Global, text: &mut Vec<u8>, latches: u32, gates: u32) -> Resu
     text.extend_from_slice(head.as_bytes())
 }
 
+/// Puts the head, the inputs, the latches and the outputs of a file in which all gates are outputs.
+pub(crate) fn put_beginning(
+    alloc: Global,
+    text: &mut Vec<u8>,
+    latches: u32,
+    gates: u32,
+) -> Result<(), AllocError> {
+    put_head(alloc, text, latches, gates)?;
+    put_latches(alloc, text, latches, gates)
+}
+
 /// Puts so many blocks, beside each other. A start brings two of the three units of a block to the sink, so that one is left in each.
 fn put_blocks(alloc: Global, text: &mut Vec<u8>, blocks: u32) -> Result<(), AllocError> {
     let latches = blocks.saturating_mul(3);
@@ -94,10 +109,26 @@ fn put_blocks(alloc: Global, text: &mut Vec<u8>, blocks: u32) -> Result<(), Allo
 pub(crate) fn text_of_blocks(alloc: Global, blocks: u32) -> Result<Vec<u8>, AllocError> {
     let latches = blocks.saturating_mul(3);
     let mut text = Vec::new(alloc);
-    put_head(alloc, &mut text, latches, latches)?;
-    put_latches(alloc, &mut text, latches, latches)?;
+    put_beginning(alloc, &mut text, latches, latches)?;
     put_blocks(alloc, &mut text, blocks)?;
     Ok(text)
+}
+
+/// Puts the gates that join each half of twice so many blocks.
+fn put_joins(alloc: Global, text: &mut Vec<u8>, blocks: u32) -> Result<(), AllocError> {
+    let all = blocks.saturating_mul(2);
+    let first = all.saturating_mul(6);
+    let mut next = all.saturating_mul(9);
+    for block in 1..all {
+        if block != blocks {
+            let last = first
+                .saturating_add(block.saturating_mul(3))
+                .saturating_sub(1);
+            put_join(alloc, text, next, last)?;
+            next = next.saturating_add(1);
+        }
+    }
+    Ok(())
 }
 
 /// Twice so many blocks. Each half of them is joined by a gate of each two that come one after the other: an output, so it isn't in a least set.
@@ -106,20 +137,9 @@ pub(crate) fn text_of_two_chains(alloc: Global, blocks: u32) -> Result<Vec<u8>, 
     let latches = all.saturating_mul(3);
     let gates = latches.saturating_add(all).saturating_sub(2);
     let mut text = Vec::new(alloc);
-    put_head(alloc, &mut text, latches, gates)?;
-    put_latches(alloc, &mut text, latches, gates)?;
+    put_beginning(alloc, &mut text, latches, gates)?;
     put_blocks(alloc, &mut text, all)?;
-    let first = latches.saturating_mul(2);
-    let mut next = first.saturating_add(latches);
-    for block in 1..all {
-        if block != blocks {
-            let last = first
-                .saturating_add(block.saturating_mul(3))
-                .saturating_sub(1);
-            put_join(alloc, &mut text, next, last)?;
-            next = next.saturating_add(1);
-        }
-    }
+    put_joins(alloc, &mut text, blocks)?;
     Ok(text)
 }
 
