@@ -4,7 +4,7 @@ use aig_graph::Circuit;
 use certificates::Objection;
 
 /// How an audit ended.
-#[derive(Clone, Copy, Debug, PartialEq, Eq)]
+#[derive(Clone, Copy, PartialEq, Eq)]
 pub enum End {
     /// There was no block.
     NoBlocks,
@@ -33,7 +33,7 @@ impl End {
 }
 
 /// What an audit found.
-#[derive(Clone, Copy, Debug, PartialEq, Eq)]
+#[derive(Clone, Copy, PartialEq, Eq)]
 pub struct Audit {
     /// How many blocks are confirmed: those before the one that ended the audit, and it where its certificate passes.
     pub confirmed: usize,

@@ -2,7 +2,7 @@ ghost use Rattle.std.specs.Prelude.{◌≡◌};
 ghost use Rattle.certificates.specs.Objections.{code_of, objection_name};
 
 /// What a certificate is worth for a circuit.
-#[derive(Clone, Copy, Debug, PartialEq, Eq)]
+#[derive(Clone, Copy, PartialEq, Eq)]
 pub enum Verdict {
     /// The set is least, and the count is the size of its border.
     Yes,
@@ -11,7 +11,7 @@ pub enum Verdict {
 }
 
 /// Why a certificate doesn't show that its set is least, in the order of the tests.
-#[derive(Clone, Copy, Debug, PartialEq, Eq)]
+#[derive(Clone, Copy, PartialEq, Eq)]
 pub enum Objection {
     /// The gates don't rise, one isn't a passable gate, or a fan-in of one is neither a latch nor among them.
     NotClosed,

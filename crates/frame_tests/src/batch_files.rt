@@ -1,4 +1,5 @@
 //! Worked files and their answers.
+use crate::circuits::CHAINS;
 use batch_pool::Job;
 use std::alloc::{AllocError, Global};
 
@@ -14,9 +15,6 @@ pub(crate) const NEGATED_ANSWER: &[u8] = b"aag 4 2 1 1 1\n2\n4\n6 8 1\n6\n8 5 3\
 
 /// A gate that reads itself.
 const CYCLIC: &[u8] = b"aag 1 0 0 1 1\n2\n2 2 3\n";
-
-/// Two latches in a row after each of two inputs, and the gate of the last ones.
-const CHAINS: &[u8] = b"aag 7 2 4 1 1\n2\n4\n6 2\n8 6\n10 4\n12 10\n14\n14 8 12\n";
 
 pub(crate) const CHAINS_ANSWER: &[u8] = b"aag 5 2 2 1 1\n2\n4\n6 8\n8 10\n6\n10 4 2\n";
 

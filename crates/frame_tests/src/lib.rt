@@ -1,8 +1,10 @@
-//! Tests of the public calls on tables by variable, rows of words, graphs and whole circuits: cleaning, moving over a set of gates,
-//! frames by crews, from bytes to bytes, many files at once, and checks of maps of states. They stand in a crate of their own, since a
-//! crate with tests is proved twice.
+//! Tests of the public calls on tables by variable, rows of words, graphs and whole circuits: cleaning, moving over a set of gates, the network of a
+//! frame, exact labels, pulses and runs by crews of several sizes, cuts, routes, certificates and their files, frames by crews, from bytes to bytes,
+//! many files at once, and checks of maps of states. They stand in a crate of their own, since a crate with tests is proved twice.
 #![tactic(auto)]
 
+#[cfg(test)]
+mod arcs;
 #[cfg(test)]
 mod batch_counter;
 #[cfg(test)]
@@ -12,11 +14,21 @@ mod batch_files;
 #[cfg(test)]
 mod batch_outcomes;
 #[cfg(test)]
+mod between_pulses;
+#[cfg(test)]
 mod bounds;
+#[cfg(test)]
+mod certificate_texts;
+#[cfg(test)]
+mod certified;
 #[cfg(test)]
 mod circuits;
 #[cfg(test)]
 mod cleaned;
+#[cfg(test)]
+mod cuts;
+#[cfg(test)]
+mod distances;
 #[cfg(test)]
 mod errors;
 #[cfg(test)]
@@ -24,15 +36,23 @@ mod failing_devices;
 #[cfg(test)]
 mod graphs;
 #[cfg(test)]
+mod greatest_sets;
+#[cfg(test)]
 mod held;
 #[cfg(test)]
 mod lanes;
 #[cfg(test)]
 mod map_checking;
 #[cfg(test)]
+mod meeting_gates;
+#[cfg(test)]
 mod moves;
 #[cfg(test)]
 mod names;
+#[cfg(test)]
+mod nets;
+#[cfg(test)]
+mod phase_gates;
 #[cfg(test)]
 mod pool_gate;
 #[cfg(test)]
@@ -40,12 +60,26 @@ mod records;
 #[cfg(test)]
 mod retiming;
 #[cfg(test)]
+mod runs;
+#[cfg(test)]
+mod starts;
+#[cfg(test)]
 mod tables;
+#[cfg(test)]
+mod unit_crews;
+#[cfg(test)]
+mod unit_parts;
 #[cfg(test)]
 mod units_alone;
 #[cfg(test)]
 mod watched;
 #[cfg(test)]
+mod wide_circuits;
+#[cfg(test)]
 mod wide_runs;
+#[cfg(test)]
+mod worked_networks;
+#[cfg(test)]
+mod worked_pulses;
 #[cfg(test)]
 mod workers;

@@ -4,6 +4,7 @@
 use crate::gathering::{PartFlow, gathered};
 use crate::part_flows::{Cut, part_flow};
 use crate::shares::Sharing;
+use crate::starts::narrow;
 use aig_graph::NoMemory;
 use pulse::{Crew, OpenGate, PhaseGate};
 use std::alloc::Global;
@@ -11,7 +12,6 @@ use std::sync::atomic::{AtomicU64, Ordering};
 use std::thread;
 use std::thread::Threads;
 use unit_flows::GateFlow;
-use unit_starts::narrow;
 
 /// The flow of each part that a worker draws: the next one, of which this is the number, until none is left.
 fn drawn_flows<R: Threads + Sync>(
@@ -21,20 +21,57 @@ fn drawn_flows<R: Threads + Sync>(
     sharing: &Sharing,
     next: &AtomicU64,
 ) -> Result<Vec<PartFlow>, NoMemory> {
+    let mut found = Vec::new(alloc);
+    draw_all(rt, alloc, cut, sharing, next, &mut found)?;
+    Ok(found)
+}
+
+/// Draws parts until none is left, and finds their flows.
+fn draw_all<R: Threads + Sync>(
+    rt: &R,
+    alloc: Global,
+    cut: &Cut,
+    sharing: &Sharing,
+    next: &AtomicU64,
+    found: &mut Vec<PartFlow>,
+) -> Result<(), NoMemory> {
     let crew = Crew::new(1, OpenGate);
     let parts = cut.parts.count();
-    let mut found = Vec::new(alloc);
     for _ in 0..parts {
         let part = next.fetch_add(1, Ordering::SeqCst) as usize;
         if part >= parts {
-            return Ok(found);
+            return Ok(());
         }
         if !sharing.is_large(part) {
-            let flows = part_flow(rt, alloc, cut, part, &crew)?;
-            found.push(PartFlow { part, flows })?;
+            find(rt, alloc, cut, part, &crew, found)?;
         }
     }
-    Ok(found)
+    Ok(())
+}
+
+/// Finds the flow of a part.
+fn find<R: Threads + Sync, G: PhaseGate>(
+    rt: &R,
+    alloc: Global,
+    cut: &Cut,
+    part: usize,
+    crew: &Crew<G>,
+    found: &mut Vec<PartFlow>,
+) -> Result<(), NoMemory> {
+    let flows = part_flow(rt, alloc, cut, part, crew)?;
+    found.push(PartFlow { part, flows })?;
+    Ok(())
+}
+
+/// Appends what all workers found, unless one was refused memory.
+fn append_all<T: Drop>(
+    lists: Vec<Result<Vec<T>, NoMemory>>,
+    found: &mut Vec<T>,
+) -> Result<(), NoMemory> {
+    for list in lists {
+        found.append(&mut list?)?;
+    }
+    Ok(())
 }
 
 /// Brings the units of the parts that workers draw, each in one thread. A worker passes the gate of the crew as it begins, and leaves it as it ends.
@@ -54,10 +91,8 @@ fn bring_drawn<R: Threads + Sync, G: PhaseGate>(
         gate.leave(0, narrow(worker));
         flows
     };
-    for flows in thread::map_indices(rt, alloc, crew.workers() as usize, &work)? {
-        found.append(&mut flows?)?;
-    }
-    Ok(())
+    let lists = thread::map_indices(rt, alloc, crew.workers() as usize, &work)?;
+    append_all(lists, found)
 }
 
 /// Brings the units of the large parts, one part after another, by pulses of the crew.
@@ -71,8 +106,7 @@ fn bring_large<R: Threads + Sync, G: PhaseGate>(
 ) -> Result<(), NoMemory> {
     for part in 0..cut.parts.count() {
         if sharing.is_large(part) {
-            let flows = part_flow(rt, alloc, cut, part, crew)?;
-            found.push(PartFlow { part, flows })?;
+            find(rt, alloc, cut, part, crew, found)?;
         }
     }
     Ok(())
@@ -91,7 +125,21 @@ pub(crate) fn flow_of_parts<R: Threads + Sync, G: PhaseGate>(
     crew: &Crew<G>,
 ) -> Result<Vec<GateFlow>, NoMemory> {
     let mut found = Vec::with_capacity(alloc, cut.parts.count())?;
-    bring_drawn(rt, alloc, cut, sharing, crew, &mut found)?;
-    bring_large(rt, alloc, cut, sharing, crew, &mut found)?;
+    let flows = flow_found(rt, alloc, cut, sharing, crew, &mut found);
+    drop(found);
+    flows
+}
+
+/// The same, by a list of the parts' flows that has none yet.
+fn flow_found<R: Threads + Sync, G: PhaseGate>(
+    rt: &R,
+    alloc: Global,
+    cut: &Cut,
+    sharing: &Sharing,
+    crew: &Crew<G>,
+    found: &mut Vec<PartFlow>,
+) -> Result<Vec<GateFlow>, NoMemory> {
+    bring_drawn(rt, alloc, cut, sharing, crew, found)?;
+    bring_large(rt, alloc, cut, sharing, crew, found)?;
     gathered(rt, alloc, cut, found.as_slice(), crew.workers() as usize)
 }

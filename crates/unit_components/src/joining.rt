@@ -4,11 +4,11 @@
 //! others; the calling thread then joins these. Most gates read what stands a little before them, so the lists are short.
 
 use crate::ranges::border;
+use crate::starts::{Region, narrow};
 use aig_graph::NoMemory;
 use std::alloc::Global;
 use std::thread;
 use std::thread::Threads;
-use unit_starts::{Region, narrow};
 
 /// Two places that hang together.
 #[derive(Clone, Copy)]
@@ -128,18 +128,34 @@ impl Stretch {
     }
 
     /// Takes the stretch that comes next.
-    fn append(&mut self, next: Stretch) -> Result<(), NoMemory> {
-        let Stretch {
-            mut above,
-            before,
-            ..
-        } = next;
-        self.above.append(&mut above)?;
-        for pair in &before {
+    fn append(&mut self, next: &mut Stretch) -> Result<(), NoMemory> {
+        self.above.append(&mut next.above)?;
+        for pair in &next.before {
             self.join(pair.early, pair.late);
         }
         Ok(())
     }
+
+    /// This stretch with the one that comes next, or that alone where this one has no places.
+    fn with(self, next: Stretch) -> Result<Stretch, NoMemory> {
+        if self.above.is_empty() {
+            return Ok(next);
+        }
+        let (mut whole, mut next) = (self, next);
+        let joined = whole.append(&mut next);
+        drop(next);
+        joined?;
+        Ok(whole)
+    }
+}
+
+/// Stretches that come one after another, joined.
+fn joined(alloc: Global, stretches: Vec<Result<Stretch, NoMemory>>) -> Result<Stretch, NoMemory> {
+    let mut whole = Stretch::of(alloc, 0, 0, 0)?;
+    for stretch in stretches {
+        whole = whole.with(stretch?)?;
+    }
+    Ok(whole)
 }
 
 /// The forest of a region's components, by so many workers: 4 bytes a latch and gate. A place points to itself where it is the first of its component,
@@ -157,14 +173,7 @@ pub(crate) fn forest_of<R: Threads + Sync>(
     let work = |worker: usize| -> Result<Stretch, NoMemory> {
         Stretch::of_worker(alloc, region, worker, workers)
     };
-    let mut whole = Stretch::of(alloc, 0, 0, 0)?;
-    for stretch in thread::map_indices(rt, alloc, workers, &work)? {
-        let stretch = stretch?;
-        if whole.above.is_empty() {
-            whole = stretch;
-        } else {
-            whole.append(stretch)?;
-        }
-    }
-    Ok(whole.above)
+    let stretches = thread::map_indices(rt, alloc, workers, &work)?;
+    let Stretch { above, .. } = joined(alloc, stretches)?;
+    Ok(above)
 }

@@ -5,15 +5,15 @@ ghost use Rattle.aig_graph.specs.Chosen.{IsChosen};
 use crate::bringing::flow_of_parts;
 use crate::part_flows::Cut;
 use crate::parts::Parts;
+use crate::pulses::chosen_least_brought;
 use crate::shares::Sharing;
 use crate::sizes::Sizes;
+use crate::starts::Region;
 use aig_graph::{Choice, Circuit, ClosedSet, Keep, NoMemory};
 use pulse::{Crew, PhaseGate};
 use std::alloc::Global;
 use std::thread::Threads;
 use unit_flows::{Frame, GateFlow, UnitFlow, shown_chosen};
-use unit_pulses::chosen_least_brought;
-use unit_starts::Region;
 
 /// Whether parts are worth the work of cutting: where one of them has nearly all places, the others hardly help.
 fn are_worth(parts: &Parts) -> bool {

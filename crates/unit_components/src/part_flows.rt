@@ -1,13 +1,13 @@
 //! The flow of a part, which is a region of its own: its known latches and its passable gates, with variables from 0 on in the order of their places.
 
 use crate::parts::Parts;
+use crate::pulses::first_flow;
+use crate::starts::Region;
 use aig_graph::{Gate, Latch, Lit, NoMemory, Reset};
 use pulse::{Crew, PhaseGate};
 use std::alloc::Global;
 use std::thread::Threads;
 use unit_flows::GateFlow;
-use unit_pulses::first_flow;
-use unit_starts::Region;
 
 /// A known latch, wherever its next literal leads: what reads it from outside the gates is in the marks of what leaves.
 const KNOWN: Latch = Latch {
@@ -62,10 +62,16 @@ impl Part {
     fn of(alloc: Global, cut: &Cut, number: usize) -> Result<Part, NoMemory> {
         let places = cut.parts.places(number);
         let mut part = Part::none(alloc, places.len())?;
-        for place in places {
-            part.push(cut, *place as usize)?;
-        }
+        part.push_all(cut, places)?;
         Ok(part)
+    }
+
+    /// The latches and the gates at some places come next.
+    fn push_all(&mut self, cut: &Cut, places: &[u32]) -> Result<(), NoMemory> {
+        for place in places {
+            self.push(cut, *place as usize)?;
+        }
+        Ok(())
     }
 }
 
@@ -89,5 +95,7 @@ pub(crate) fn part_flow<R: Threads + Sync, G: PhaseGate>(
         passes: part.passes.as_slice(),
         leaving: part.leaving.as_slice(),
     };
-    first_flow(rt, alloc, &own, crew)
+    let flows = first_flow(rt, alloc, &own, crew);
+    drop(part);
+    flows
 }

@@ -78,6 +78,14 @@ pub fn after_move(
     Ok(moved)
 }
 
+/// The flow at a place, nothing where there is none.
+fn flow_at(flows: &[GateFlow], place: u32) -> GateFlow {
+    match flows.get(place as usize) {
+        Some(flow) => *flow,
+        None => GateFlow::none(),
+    }
+}
+
 /// The flows of the gates that a cleaning keeps, by their places before it.
 ///
 /// # Errors
@@ -90,8 +98,7 @@ pub fn after_cleaning(
 ) -> Result<Vec<GateFlow>, NoMemory> {
     let mut kept = Vec::with_capacity(alloc, kept_gates.len())?;
     for place in kept_gates {
-        let flow = flows.get(*place as usize).copied();
-        kept.push(flow.unwrap_or(GateFlow::none()))?;
+        kept.push(flow_at(flows, *place))?;
     }
     Ok(kept)
 }

@@ -2,7 +2,7 @@
 
 /// What a flow did at a gate: whether a unit came from the output of a fan-in, for each of the two; whether one went through; and how
 /// many went on to before a fan-in that is a gate. The first fan-in is the one of the smaller variable.
-#[derive(Clone, Copy, Debug, PartialEq, Eq)]
+#[derive(Clone, Copy, PartialEq, Eq)]
 pub struct GateFlow {
     pub first_up: bool,
     pub second_up: bool,

@@ -12,7 +12,7 @@ use crate::gate_flow::GateFlow;
 use crate::passes::{gates_hold, places_hold};
 use crate::sweeps::{NodeMarks, mark};
 use crate::tallies::tally;
-use crate::unit_flow::{SpareTables, filled};
+use crate::unit_flow::SpareTables;
 use aig_graph::{ClosedSet, NoMemory};
 use std::alloc::Global;
 
@@ -61,12 +61,10 @@ fn is_shown(
         (mark_at (first_latch frame.now.circuit.now.aig) marks.now.after.items)) }
 {
     let entries = frame.circuit.aig().latches_and_gates();
-    let mut went = filled(spare.take_went(alloc), 0u8, entries)?;
-    let mut came = filled(spare.take_numbers(alloc), 0u32, entries)?;
+    let (mut went, mut came) = spare.take_zeros(alloc, entries)?;
     let (goes, comes) = (went.as_mut_slice(), came.as_mut_slice());
     let is_shown = has_full_cut(frame, flows, marks, goes, comes);
-    spare.keep_went(went);
-    spare.keep_numbers(came);
+    spare.keep_tallies(went, came);
     Ok(is_shown)
 }
 

@@ -1,7 +1,7 @@
 //! Judges whether a flow shows the smallest least set: that of the gates that are reached from where units are left. Where no closed set has a
 //! smaller border than units arrive, all units that are left stand on the near side of each least set, and no residual arc leads from there to
 //! the far side.
-ghost use Rattle.std.specs.Prelude.{◌≡◌, IfOk, IfSome, IsTrue, length, map, not};
+ghost use Rattle.std.specs.Prelude.{◌≡◌, IfOk, IfSome, IsTrue, length, map, not, replicate};
 ghost use Rattle.variable_tables.specs.Marking.{mark_at};
 ghost use Rattle.aig_graph.specs.Graph.{first_latch, latches_and_gates};
 ghost use Rattle.aig_graph.specs.Border.{IsSmallestLeast};
@@ -16,7 +16,7 @@ use crate::onward_sweeps::mark_onward;
 use crate::passes::{gates_hold, places_hold};
 use crate::sweeps::NodeMarks;
 use crate::tallies::tally;
-use crate::unit_flow::{SpareTables, filled};
+use crate::unit_flow::SpareTables;
 use aig_graph::{ClosedSet, NoMemory};
 use std::alloc::Global;
 
@@ -98,6 +98,27 @@ fn shown_by_tallies(
     Ok(ClosedSet::new(vars))
 }
 
+/// The same by tables of zeros, which get the tallies.
+fn shown_by_zeros(
+    alloc: Global,
+    frame: &Frame,
+    flows: &[GateFlow],
+    went: &mut [u8],
+    came: &mut [u32],
+) -> Result<Option<ClosedSet>, NoMemory>
+    requires flows { length flows.now ≡ length frame.now.circuit.now.aig.gates }
+    requires went { went.old ≡ replicate (latches_and_gates frame.now.circuit.now.aig) 0 }
+    requires came { came.old ≡ replicate (latches_and_gates frame.now.circuit.now.aig) 0 }
+    ensures { IfOk result (λ shown. IfSome shown (λ set. IsSmallestLeast
+        frame.now.circuit.now frame.now.keep.now set)) }
+{
+    if tally(went, came, frame.circuit.aig(), flows) {
+        shown_by_tallies(alloc, frame, flows, went, came)
+    } else {
+        Ok(None)
+    }
+}
+
 /// The smallest least set, where a flow shows it: no node of the flow gives more than it gets, and what isn't reached from where units are left
 /// is a full cut. Nothing of the flow is trusted. It takes what `shown_set` does.
 ///
@@ -117,14 +138,9 @@ pub(crate) fn shown_smallest_set(
     if flows.len() != aig.gates().len() {
         return Ok(None);
     }
-    let entries = aig.latches_and_gates();
-    let mut went = filled(spare.take_went(alloc), 0u8, entries)?;
-    let mut came = filled(spare.take_numbers(alloc), 0u32, entries)?;
-    if !tally(went.as_mut_slice(), came.as_mut_slice(), aig, flows) {
-        return Ok(None);
-    }
-    let shown = shown_by_tallies(alloc, frame, flows, went.as_slice(), came.as_slice());
-    spare.keep_went(went);
-    spare.keep_numbers(came);
+    let (mut went, mut came) = spare.take_zeros(alloc, aig.latches_and_gates())?;
+    let (goes, comes) = (went.as_mut_slice(), came.as_mut_slice());
+    let shown = shown_by_zeros(alloc, frame, flows, goes, comes);
+    spare.keep_tallies(went, came);
     shown
 }

@@ -21,16 +21,17 @@ pub struct NodeMarks {
     pub after: Vec<bool>,
 }
 
-/// Sees all passable gates, from the last to the first, and lists the numbers of those that stay open, in that order, or none where nothing is marked:
-/// then nothing is to be seen any more. Not inlined, so that the loop has the registers for itself.
+/// Sees all passable gates, from the last to the first, and puts the numbers of those that stay open in a table with room for all gates, in that
+/// order. How many they are, or none where nothing is marked: then nothing is to be seen any more. Not inlined, so that the loop has the registers
+/// for itself.
 #[inline(never)]
 fn first_sweep(
     before: &mut [bool],
     after: &mut [bool],
-    open: &mut Vec<u32>,
+    open: &mut [u32],
     frame: &Frame,
     flows: &[GateFlow],
-) -> Result<(), NoMemory>
+) -> usize
     requires flows { length flows.now ≡ length frame.now.circuit.now.aig.gates }
     requires before { length before.old ≡ latches_and_gates frame.now.circuit.now.aig }
     requires after { length after.old ≡ latches_and_gates frame.now.circuit.now.aig }
@@ -45,22 +46,19 @@ fn first_sweep(
     let gates = aig.gates();
     let passes = frame.passing_gates();
     let mut is_marked = false;
-    open.clear();
-    open.reserve(gates.len())?;
+    let mut kept = 0;
     for k in (0..gates.len()).rev() {
         if passes[k] {
             let var = first_gate + k as u32;
             if see(before, after, first, var, &gates[k], &flows[k]) {
                 is_marked = true;
-            } else {
-                open.push(k as u32)?;
+            } else if kept < open.len() {
+                open[kept] = k as u32;
+                kept += 1;
             }
         }
     }
-    if !is_marked {
-        open.clear();
-    }
-    Ok(())
+    if is_marked { kept } else { 0 }
 }
 
 /// Sees the gates with these numbers, one after another. How many of them stay open: these then come first. Not inlined, so that the loop has
@@ -125,14 +123,15 @@ fn settle(
     }
 }
 
-/// Sweeps over the passable gates, from the last to the first and back, until none is newly marked. The table is for the numbers of those that are open.
+/// Sweeps over the passable gates, from the last to the first and back, until none is newly marked. The table is for the numbers of those that are open:
+/// it has room for those of all gates.
 fn sweep_all(
     before: &mut [bool],
     after: &mut [bool],
     open: &mut Vec<u32>,
     frame: &Frame,
     flows: &[GateFlow],
-) -> Result<(), NoMemory>
+)
     requires flows { length flows.now ≡ length frame.now.circuit.now.aig.gates }
     requires before { length before.old ≡ latches_and_gates frame.now.circuit.now.aig }
     requires after { length after.old ≡ latches_and_gates frame.now.circuit.now.aig }
@@ -141,9 +140,9 @@ fn sweep_all(
     ensures before { length before.new ≡ length before.old }
     ensures after { length after.new ≡ length after.old }
 {
-    first_sweep(before, after, open, frame, flows)?;
+    let kept = first_sweep(before, after, open.as_mut_slice(), frame, flows);
+    open.truncate(kept);
     settle(before, after, open, frame, flows);
-    Ok(())
 }
 
 /// A copy of the marks of what leaves, in the memory of other marks.
@@ -175,17 +174,17 @@ pub fn mark(
     ensures after { IfOk result (λ marks. length marks.after.items
         ≡ latches_and_gates frame.now.circuit.now.aig) }
 {
-    let entries = frame.circuit.aig().latches_and_gates();
-    let mut before = filled(spare.take_before(alloc), false, entries)?;
+    let aig = frame.circuit.aig();
+    let mut open = filled(spare.take_numbers(alloc), 0u32, aig.gates().len())?;
+    let mut before = filled(spare.take_before(alloc), false, aig.latches_and_gates())?;
     let mut after = leaving_in(spare.take_after(alloc), frame)?;
-    let mut open = spare.take_numbers(alloc);
     sweep_all(
         before.as_mut_slice(),
         after.as_mut_slice(),
         &mut open,
         frame,
         flows,
-    )?;
+    );
     spare.keep_numbers(open);
     Ok(NodeMarks { before, after })
 }

@@ -58,8 +58,22 @@ impl SpareTables {
     }
 
     /// A table for units that go on from after variables.
-    pub(crate) fn take_went(&mut self, alloc: Global) -> Vec<u8> {
+    fn take_went(&mut self, alloc: Global) -> Vec<u8> {
         mem::replace(&mut self.went, Vec::new(alloc))
+    }
+
+    /// Tables of so many zeros each, for units that go on from after variables, and for those that come to before them.
+    pub(crate) fn take_zeros(
+        &mut self,
+        alloc: Global,
+        entries: usize,
+    ) -> Result<(Vec<u8>, Vec<u32>), NoMemory>
+        ensures went { IfOk result (λ tables. tables.0.items ≡ replicate entries 0) }
+        ensures came { IfOk result (λ tables. tables.1.items ≡ replicate entries 0) }
+    {
+        let went = filled(self.take_went(alloc), 0u8, entries)?;
+        let came = filled(self.take_numbers(alloc), 0u32, entries)?;
+        Ok((went, came))
     }
 
     /// A table for numbers of gates, or of units.
@@ -74,9 +88,10 @@ impl SpareTables {
         self.after = after;
     }
 
-    /// Keeps a table of units that went on.
-    pub(crate) fn keep_went(&mut self, went: Vec<u8>) {
+    /// Keeps tables of units that went on and came.
+    pub(crate) fn keep_tallies(&mut self, went: Vec<u8>, came: Vec<u32>) {
         self.went = went;
+        self.numbers = came;
     }
 
     /// Keeps a table of numbers.

@@ -1,0 +1,47 @@
+//! The two networks that were worked by hand, each made once: arcs, distances, pulses and runs.
+use crate::arcs::are_as_worked;
+use crate::between_pulses::sends_both_units;
+use crate::circuits::TWO_LATCHES;
+use crate::distances::start_as_worked;
+use crate::nets::{FOUR_LATCHES, net_of_text};
+use crate::phase_gates::{each_crew_passes, second_pulse_is_shared, two_workers_meet};
+use crate::runs::end_as_worked;
+use crate::worked_pulses::{follow_after_eleven, follow_states};
+use frame_net::Net;
+use std::alloc::Global;
+use std::test::*;
+use std::thread::Threads;
+
+/// Whether the first network has its arcs in their rows and its distances at the start, and its pulses and runs send what they should.
+fn is_first_as_worked<R: Threads + Sync>(rt: &R, alloc: Global, net: &Net) -> bool {
+    let arcs = are_as_worked(net);
+    let distances = start_as_worked(alloc, net);
+    let pulses = follow_states(rt, alloc, net) & sends_both_units(alloc, net);
+    let phases = each_crew_passes(rt, alloc, net) & two_workers_meet(rt, alloc, net);
+    arcs & distances & pulses & phases & end_as_worked(rt, alloc, net)
+}
+
+#[test]
+fn goes_through_the_first_network_as_worked(rt: HostRuntime) {
+    let net = net_of_text(rt.alloc(), TWO_LATCHES);
+    let holds = match &net {
+        Ok(net) => is_first_as_worked(&rt, rt.alloc(), net),
+        Err(_) => false,
+    };
+    drop(net);
+    assert!(rt; holds);
+}
+
+#[test]
+fn relabels_after_delivery_and_hands_out_the_second_pulse_of_the_second(rt: HostRuntime) {
+    let net = net_of_text(rt.alloc(), FOUR_LATCHES);
+    let holds = match &net {
+        Ok(net) => {
+            let relabels = follow_after_eleven(&rt, rt.alloc(), net);
+            relabels & second_pulse_is_shared(&rt, rt.alloc(), net)
+        }
+        Err(_) => false,
+    };
+    drop(net);
+    assert!(rt; holds);
+}

@@ -1,0 +1,24 @@
+//! Brings the units that a start leaves to the sink, by push-relabel in synchronous pulses over the gates of a circuit, without a network: arcs
+//! are computed from fan-ins and from lists of readers, which are made only where units are left.
+//!
+//! Workers of a crew share a pulse of many active nodes. Each owns a range of places, so what a pulse leaves is the same for every number of workers.
+//!
+//! What is made here are hints. No clause speaks of a flow's values; the judge of `unit_flows` says whether one shows the chosen least set.
+
+mod active;
+mod bringing;
+mod delivering;
+mod extending;
+mod labels;
+mod least_set;
+mod nodes;
+mod parts;
+mod phases;
+mod pushes;
+mod raising;
+mod readers;
+mod search;
+mod sharing;
+mod spots;
+
+pub use least_set::{chosen_least_brought, first_flow};

@@ -1,0 +1,153 @@
+//! The parts of a pulse: a worker has a range of places, and owns what stands there.
+//!
+//! In the read phase it lists what its active nodes push, and writes nothing else. In the delivery phase it goes through the lists of all workers, and
+//! writes what they change at its places. So what a pulse leaves depends on no order of nodes, and on no number of workers.
+
+use crate::pulses::nodes::Nodes;
+use aig_graph::NoMemory;
+use std::alloc::Global;
+
+/// An arc that units go over, between a gate's nodes, or between one of them and a node of its second or first fan-in.
+#[derive(Clone, Copy)]
+pub(crate) enum Arc {
+    /// From before the gate to after it.
+    Through,
+    /// From after the gate back to before it.
+    Back,
+    /// From after the fan-in to before the gate.
+    Up,
+    /// From before the gate back to after the fan-in.
+    Home,
+    /// From before the gate to before the fan-in.
+    Down,
+    /// From before the fan-in back to before the gate.
+    Lift,
+    /// From after a latch or gate to the sink.
+    Out,
+}
+
+/// Units that a node pushes over an arc, by the places of the nodes that it leads from and to.
+#[derive(Clone, Copy)]
+pub(crate) struct Push {
+    pub arc: Arc,
+    /// Whether the arc is one of the second fan-in.
+    pub second: bool,
+    pub tail: u32,
+    pub head: u32,
+    pub units: u32,
+}
+
+impl Push {
+    /// The place of the gate whose flow it changes.
+    pub fn gate(&self) -> u32 {
+        match self.arc {
+            Arc::Up | Arc::Lift => self.head,
+            Arc::Through | Arc::Back | Arc::Home | Arc::Down | Arc::Out => self.tail,
+        }
+    }
+}
+
+/// A node that keeps units in a pulse, and the label that it gets where none come to it.
+#[derive(Clone, Copy)]
+pub(crate) struct Kept {
+    pub place: u32,
+    pub units: u32,
+    pub label: u32,
+}
+
+/// The places that a worker owns, from the first up to the end.
+#[derive(Clone, Copy)]
+pub(crate) struct Range {
+    pub first: u32,
+    pub end: u32,
+}
+
+/// Where the range of a worker begins, one of so many that share so many places: those of the workers before it end there.
+fn border(worker: u32, workers: u32, places: usize) -> u32 {
+    let places = places.min(u32::MAX as usize) as u32;
+    let border = u64::from(worker) * u64::from(places) / u64::from(workers.max(1));
+    border.min(u64::from(u32::MAX)) as u32
+}
+
+impl Range {
+    /// The range of a worker, one of so many that share so many places.
+    pub fn of(worker: u32, workers: u32, places: usize) -> Range {
+        Range {
+            first: border(worker, workers, places),
+            end: border(worker.saturating_add(1), workers, places),
+        }
+    }
+
+    /// Whether a place is one of them.
+    pub fn has(&self, place: u32) -> bool {
+        self.first <= place && place < self.end
+    }
+}
+
+/// A worker's part of a read phase: what its active nodes push, which of them keep units, and how many arcs it looked at.
+#[derive(Drop)]
+pub(crate) struct Part {
+    pub worker: u32,
+    pub range: Range,
+    pub pushes: Vec<Push>,
+    pub kept_before: Vec<Kept>,
+    pub kept_after: Vec<Kept>,
+    pub work: usize,
+}
+
+impl Part {
+    /// The part of a worker, one of so many, before it has read.
+    pub fn of(alloc: Global, worker: u32, workers: u32, places: usize) -> Part {
+        Part {
+            worker,
+            range: Range::of(worker, workers, places),
+            pushes: Vec::new(alloc),
+            kept_before: Vec::new(alloc),
+            kept_after: Vec::new(alloc),
+            work: 0,
+        }
+    }
+
+    /// Nothing is read.
+    pub fn clear(&mut self) {
+        self.pushes.clear();
+        self.kept_before.clear();
+        self.kept_after.clear();
+        self.work = 0;
+    }
+
+    /// So many more arcs were looked at.
+    pub fn count(&mut self, arcs: usize) {
+        self.work = self.work.wrapping_add(arcs);
+    }
+
+    /// Lists a push of some of these units, unless it is of none. How many stay.
+    pub fn list(&mut self, push: Push, units: u32) -> Result<u32, NoMemory> {
+        if push.units > 0 {
+            self.pushes.push(push)?;
+        }
+        Ok(units.saturating_sub(push.units))
+    }
+}
+
+/// A worker's part of a delivery phase: the nodes of its places to which units came, and the labels of those before gates that kept some.
+#[derive(Drop)]
+pub(crate) struct Delivery {
+    pub next: Nodes,
+    pub labels: Vec<u32>,
+}
+
+impl Delivery {
+    pub fn none(alloc: Global) -> Delivery {
+        Delivery {
+            next: Nodes::none(alloc),
+            labels: Vec::new(alloc),
+        }
+    }
+
+    /// Nothing is delivered.
+    pub fn clear(&mut self) {
+        self.next.clear();
+        self.labels.clear();
+    }
+}

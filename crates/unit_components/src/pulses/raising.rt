@@ -1,0 +1,60 @@
+//! New labels of nodes before gates that keep units: one more than the least label that an arc leads to after the pulse.
+//!
+//! Such a node has filled each arc to a label that is one less than its own. What else comes to it makes arcs back to labels that are one more.
+
+use crate::pulses::parts::Part;
+use crate::pulses::search::{Before, Search};
+use crate::pulses::spots::{FAR, label_after, label_before, labels_at};
+
+/// A label that an arc leads to which isn't filled in this pulse, or none.
+fn near(label: u32, below: u32) -> u32 {
+    if label == below { FAR } else { label }
+}
+
+impl<'a> Search<'a> {
+    /// The least label of the fan-ins' nodes and of that after a gate to which an arc leads from before it.
+    fn least_near(&self, node: &Before) -> u32 {
+        let labels = self.labels.as_slice();
+        let (flow, below) = (node.flow, node.below);
+        let mut least = if flow.through {
+            FAR
+        } else {
+            near(label_after(labels, node.place), below)
+        };
+        least = least.min(self.least_of_fan_in(node, false));
+        least.min(self.least_of_fan_in(node, true))
+    }
+
+    /// The same of the nodes of one fan-in.
+    fn least_of_fan_in(&self, node: &Before, second: bool) -> u32 {
+        let labels = labels_at(self.labels.as_slice(), node.fan_ins.at(second));
+        let mut least = FAR;
+        if node.flow.down(second) < self.most {
+            least = near(labels.before, node.below);
+        }
+        if node.flow.up(second) {
+            least = least.min(near(labels.after, node.below));
+        }
+        least
+    }
+
+    /// The new label of the node before a gate, where nothing comes to it in this pulse.
+    pub fn raised_before(&self, node: &Before, part: &mut Part) -> u32 {
+        let labels = self.labels.as_slice();
+        part.count(4);
+        let mut least = self.least_near(node);
+        for reader in self.readers.at(node.place) {
+            part.count(1);
+            let (_, came) = self.came_from(*reader, node.place);
+            if came > 0 {
+                least = least.min(near(label_before(labels, *reader), node.below));
+            }
+        }
+        least.saturating_add(1)
+    }
+}
+
+/// The new label of a node before a gate whose label was this, once units have come to it.
+pub(crate) fn raised_with_arrivals(label: u32, raised: u32) -> u32 {
+    raised.min(label.saturating_add(2))
+}

@@ -1,0 +1,91 @@
+//! Which pulses go to the crew: those in which so many nodes are active that a fork costs less than it gains, and the first of a flow that begins at
+//! the sources of a tiny circuit, so that the smallest ones are worked on by two workers at once, too. What that costs is the start of two threads,
+//! a tenth of such a run; by all of a crew it would be more than half, and on a circuit of some hundred places as much for nothing.
+
+use crate::pulses::nodes::Nodes;
+use crate::pulses::parts::{Delivery, Part};
+use aig_graph::NoMemory;
+use pulse::{Crew, PhaseGate};
+use std::alloc::Global;
+
+/// So many active nodes make a pulse worth its two forks.
+const MANY_ACTIVE: usize = 4096;
+
+/// A circuit of at most so many latches and gates is tiny.
+const FEW_PLACES: usize = 16;
+
+/// So many workers of a crew share the first pulse of a tiny circuit.
+const FEW_WORKERS: u32 = 2;
+
+/// How the pulses of a flow are shared out among the workers of a crew, each of which passes its gate.
+#[derive(Drop)]
+pub(crate) struct Sharing<'a, G> {
+    pub gate: &'a G,
+    /// How many of them share a pulse.
+    pub workers: u32,
+    /// Whether the flow begins at the sources, and they share the first pulse, however few nodes are active.
+    pub from_sources: bool,
+}
+
+impl<'a, G: PhaseGate> Sharing<'a, G> {
+    /// How a crew shares the flow of a circuit of so many latches and gates, where it is the first of a run or not.
+    pub fn of(crew: &'a Crew<G>, places: usize, is_first: bool) -> Sharing<'a, G> {
+        let started = Sharing::of_started(crew);
+        if !is_first || started.workers < FEW_WORKERS || places > FEW_PLACES {
+            return started;
+        }
+        Sharing {
+            gate: started.gate,
+            workers: FEW_WORKERS,
+            from_sources: true,
+        }
+    }
+
+    /// How a crew shares a flow that begins with a start.
+    pub fn of_started(crew: &'a Crew<G>) -> Sharing<'a, G> {
+        Sharing {
+            gate: crew.gate(),
+            workers: crew.workers(),
+            from_sources: false,
+        }
+    }
+
+    /// Whether the pulse with this number goes to the crew.
+    pub fn is_handed(&self, number: u64, actives: &Nodes) -> bool {
+        let is_first = self.from_sources && number == 0;
+        self.workers > 1 && (is_first || actives.count() >= MANY_ACTIVE)
+    }
+}
+
+/// The parts of a pulse, and what is delivered of each.
+#[derive(Drop)]
+pub(crate) struct Parts {
+    pub parts: Vec<Part>,
+    pub deliveries: Vec<Delivery>,
+}
+
+impl Parts {
+    /// A part for each of so many workers that share so many places.
+    pub fn among(alloc: Global, workers: u32, places: usize) -> Result<Parts, NoMemory> {
+        Ok(Parts {
+            parts: parts_among(alloc, workers, places)?,
+            deliveries: deliveries_of(alloc, workers)?,
+        })
+    }
+}
+
+fn parts_among(alloc: Global, workers: u32, places: usize) -> Result<Vec<Part>, NoMemory> {
+    let mut parts = Vec::with_capacity(alloc, workers as usize)?;
+    for worker in 0..workers {
+        parts.push(Part::of(alloc, worker, workers, places))?;
+    }
+    Ok(parts)
+}
+
+fn deliveries_of(alloc: Global, workers: u32) -> Result<Vec<Delivery>, NoMemory> {
+    let mut deliveries = Vec::with_capacity(alloc, workers as usize)?;
+    for _ in 0..workers {
+        deliveries.push(Delivery::none(alloc))?;
+    }
+    Ok(deliveries)
+}

@@ -1,0 +1,16 @@
+//! Starts: flows of units that a few passes over the gates make, along what the last frame's flow did or along nothing. Of most frames a start brings
+//! all units to the sink, or all but a few.
+//!
+//! They go over a region: a whole frame, or some components of its network with tables of their own.
+//!
+//! What is made here are hints. No clause speaks of a flow's values; the judge of `unit_flows` says whether one shows the chosen least set.
+
+mod along;
+mod first_start;
+mod least_set;
+mod left_units;
+mod region;
+mod start;
+
+pub use least_set::{Started, start_along, start_in};
+pub use region::{Region, narrow};

@@ -1,0 +1,202 @@
+//! A circuit's first flow, where nothing is known of any gate: two starts are tried over the gates, and the one that brings more units to the
+//! sink is taken.
+//!
+//! The first goes up the gates: each takes a unit that waits after a fan-in, the larger fan-in first, since what is read late has fewer
+//! readers to come. The second goes from the sink down: each gate that is asked for a unit asks a fan-in that nobody has asked, the smaller
+//! first; then units go up along what was asked, and gates that got none take what still waits.
+//!
+//! Of most circuits one of them brings all units, or all but a few.
+
+use crate::starts::left_units::LeftUnits;
+use crate::starts::region::Region;
+use crate::starts::start::{FanIn, Start};
+use aig_graph::NoMemory;
+use std::alloc::Global;
+use unit_flows::GateFlow;
+
+/// The places of a passable gate's own variable and of its two fan-ins, from the first latch on, the smaller fan-in first.
+#[derive(Clone, Copy)]
+struct GatePlaces {
+    own: usize,
+    smaller: usize,
+    larger: usize,
+}
+
+impl GatePlaces {
+    /// The places of the gate with this number, where it is passable.
+    fn of(region: &Region, gate: usize) -> Option<GatePlaces> {
+        let own = region.latches.len().saturating_add(gate);
+        if !region.is_passable(own) {
+            return None;
+        }
+        let literals = region.gates.get(gate)?;
+        Some(GatePlaces {
+            own,
+            smaller: region.place(literals.rhs1) as usize,
+            larger: region.place(literals.rhs0) as usize,
+        })
+    }
+
+    fn fan_in(&self, fan_in: FanIn) -> usize {
+        match fan_in {
+            FanIn::Smaller => self.smaller,
+            FanIn::Larger => self.larger,
+        }
+    }
+}
+
+/// A gate that has taken nothing takes a unit that waits after one of its fan-ins, in this order.
+fn take_waiting(region: &Region, start: &mut Start, gate: usize, order: [FanIn; 2]) {
+    if start.taken(gate).is_some() {
+        return;
+    }
+    if let Some(places) = GatePlaces::of(region, gate) {
+        for fan_in in order {
+            if start.takes_from(gate, places.own, fan_in, places.fan_in(fan_in)) {
+                return;
+            }
+        }
+    }
+}
+
+/// In one pass up the gates each that has taken nothing takes a unit that waits after a fan-in, in this order.
+fn take_all_waiting(region: &Region, start: &mut Start, order: [FanIn; 2]) {
+    for gate in 0..region.gates.len() {
+        take_waiting(region, start, gate, order);
+    }
+}
+
+/// A gate whose unit is asked for asks a fan-in that nobody has asked, the smaller first.
+fn ask(region: &Region, start: &mut Start, gate: usize) {
+    if let Some(places) = GatePlaces::of(region, gate) {
+        if !start.is_asked(places.own) {
+            return;
+        }
+        if start.asks(places.smaller) {
+            start.note(gate, Some(FanIn::Smaller));
+        } else if start.asks(places.larger) {
+            start.note(gate, Some(FanIn::Larger));
+        }
+    }
+}
+
+/// A gate that asked a fan-in takes the unit that waits there, or else nothing.
+fn take_asked(region: &Region, start: &mut Start, gate: usize) {
+    let Some(fan_in) = start.taken(gate) else {
+        return;
+    };
+    start.note(gate, None);
+    if let Some(places) = GatePlaces::of(region, gate) {
+        start.takes_from(gate, places.own, fan_in, places.fan_in(fan_in));
+    }
+}
+
+/// All gates ask, from the last to the first, and then take what they asked for.
+fn ask_and_take(region: &Region, start: &mut Start) {
+    let gates = region.gates.len();
+    for gate in (0..gates).rev() {
+        ask(region, start, gate);
+    }
+    for gate in 0..gates {
+        take_asked(region, start, gate);
+    }
+}
+
+/// The start up the gates.
+fn start_up(alloc: Global, region: &Region) -> Result<Start, NoMemory> {
+    let mut start = Start::new(alloc, region)?;
+    take_all_waiting(region, &mut start, [FanIn::Larger, FanIn::Smaller]);
+    Ok(start)
+}
+
+/// The start from the sink down.
+fn start_down(alloc: Global, region: &Region) -> Result<Start, NoMemory> {
+    let mut start = Start::new(alloc, region)?;
+    ask_and_take(region, &mut start);
+    take_all_waiting(region, &mut start, [FanIn::Smaller, FanIn::Larger]);
+    Ok(start)
+}
+
+/// What a gate does that takes its unit there, if any: it goes through.
+fn flow_of(taken: Option<FanIn>) -> GateFlow {
+    let mut flow = GateFlow::none();
+    match taken {
+        Some(FanIn::Smaller) => flow.first_up = true,
+        Some(FanIn::Larger) => flow.second_up = true,
+        None => return flow,
+    }
+    flow.through = true;
+    flow
+}
+
+/// Puts the flow of a start in place of another.
+fn put(flows: &mut Vec<GateFlow>, start: &Start) -> Result<(), NoMemory> {
+    flows.clear();
+    flows.reserve(start.takes.len())?;
+    for taken in &start.takes {
+        flows.push(flow_of(*taken))?;
+    }
+    Ok(())
+}
+
+/// How many units a start brings to the sink, and where it leaves the others.
+#[derive(Drop)]
+pub(crate) struct FirstStart {
+    pub arrived: usize,
+    pub left: LeftUnits,
+}
+
+/// Puts the flow of a start in place of another. What it brings, and what it leaves.
+fn put_first(
+    alloc: Global,
+    flows: &mut Vec<GateFlow>,
+    start: &Start,
+) -> Result<FirstStart, NoMemory> {
+    put(flows, start)?;
+    Ok(FirstStart {
+        arrived: start.arrived,
+        left: start.left(alloc)?,
+    })
+}
+
+/// Puts the flow of a start in place of another, where it brings more units to the sink than so many. Whether it does.
+fn put_better(flows: &mut Vec<GateFlow>, start: &Start, arrived: usize) -> Result<bool, NoMemory> {
+    if start.arrived <= arrived {
+        return Ok(false);
+    }
+    put(flows, start)?;
+    Ok(true)
+}
+
+/// Puts the flow of the start up the gates in place of another.
+///
+/// # Errors
+///
+/// `NoMemory` where a table is refused.
+pub(crate) fn put_start_up(
+    alloc: Global,
+    region: &Region,
+    flows: &mut Vec<GateFlow>,
+) -> Result<FirstStart, NoMemory> {
+    let start = start_up(alloc, region)?;
+    let first = put_first(alloc, flows, &start);
+    drop(start);
+    first
+}
+
+/// Puts the flow of the start from the sink down in place of another, where it brings more units to the sink than so many. Whether it does.
+///
+/// # Errors
+///
+/// `NoMemory` where a table is refused.
+pub(crate) fn put_start_down(
+    alloc: Global,
+    region: &Region,
+    flows: &mut Vec<GateFlow>,
+    arrived: usize,
+) -> Result<bool, NoMemory> {
+    let start = start_down(alloc, region)?;
+    let is_put = put_better(flows, &start, arrived);
+    drop(start);
+    is_put
+}
