@@ -8,7 +8,7 @@ use file_words::Spelling;
 use stream_paths::{Source, Target};
 
 /// What is shown of a run on standard error while it goes on.
-#[derive(Clone, Copy, Debug, PartialEq, Eq)]
+#[derive(Clone, Copy, PartialEq, Eq)]
 pub enum Shown {
     /// One line, where standard error is a terminal.
     OnTerminal,
@@ -72,7 +72,7 @@ pub struct Verification<'a> {
 }
 
 /// Which random sequences a circuit is simulated under.
-#[derive(Clone, Copy, Debug, PartialEq, Eq)]
+#[derive(Clone, Copy)]
 pub struct Sequences {
     /// How many, from 1 to 2^20.
     pub count: u32,
@@ -219,7 +219,6 @@ pub struct Lifting<'a> {
 }
 
 /// What a command line asks for.
-#[derive(Drop)]
 pub enum Task<'a> {
     /// Retime a circuit.
     Retime(Retiming<'a>),
@@ -251,6 +250,29 @@ pub enum Task<'a> {
     Witness(Carrying<'a>),
     /// Print the page of the fault with this name.
     Explain(&'a str),
+}
+
+impl Drop for Task<'_> {
+    // written out: docs/PROOFS.md, Drops and exits
+    fn drop(self) {
+        match self {
+            Task::Retime(_retiming) => {}
+            Task::Backward(_moving) => {}
+            Task::Batch(_batch) => {}
+            Task::Stat(_counting) => {}
+            Task::Convert(_input, _output, _spelling) => {}
+            Task::Sim(_simulation) => {}
+            Task::Same(_comparison) => {}
+            Task::Verify(_verification) => {}
+            Task::Check(_checking) => {}
+            Task::Miter(_asking) => {}
+            Task::Product(_asking) => {}
+            Task::Lift(_lifting) => {}
+            Task::Dot(_drawing) => {}
+            Task::Witness(_carrying) => {}
+            Task::Explain(_name) => {}
+        }
+    }
 }
 
 impl Task<'_> {
