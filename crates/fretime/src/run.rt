@@ -173,49 +173,14 @@ fn report_without_names<'a, R: Files, I, O: CountedWrite, E: CountedWrite>(
     reported(rt, alloc, task, Err(failure), streams)
 }
 
-/// Does a task where it holds the names of its files, else reports why it can't hold them, and returns how the run ends.
-fn finish_held<
-    'a,
-    R: Files + Threads + Sync + Clock,
-    I: CountedRead,
-    O: CountedWrite,
-    E: CountedWrite,
->(
-    rt: &R,
-    alloc: Global,
-    task: &Task<'a>,
-    held: Result<(), Failure<'a>>,
-    streams: &mut Streams<I, O, E>,
-) -> Outcome
-    ensures { MayPrint result (O.output streams.old.out) (O.output streams.new.out) }
-{
-    match held {
-        Ok(()) => finish_task(rt, alloc, task, streams),
-        Err(failure) => report_without_names(rt, alloc, task, failure, streams),
-    }
-}
-
-/// Does a task with the names of these files held too, and returns how the run ends.
-fn run_named<
-    'a,
-    R: Files + Threads + Sync + Clock,
-    I: CountedRead,
-    O: CountedWrite,
-    E: CountedWrite,
->(
-    rt: &R,
-    alloc: Global,
+/// A task with the names of these files held too, or why it can't hold them.
+fn with_names<'a>(
     files: &'a [NameFile<'a>],
     task: Task<'a>,
-    streams: &mut Streams<I, O, E>,
-) -> Outcome
-    ensures { MayPrint result (O.output streams.old.out) (O.output streams.new.out) }
-{
+) -> (Task<'a>, Result<(), Failure<'a>>) {
     let mut named = task;
     let held = hold_names(files, &mut named);
-    let outcome = finish_held(rt, alloc, &named, held, streams);
-    drop(named);
-    outcome
+    (named, held)
 }
 
 /// Does a task with the names of the files that it names, and returns how the run ends.
@@ -229,7 +194,12 @@ fn run_with_names<
 {
     match read_name_files(rt, alloc, task.name_files(), &mut streams.stdin) {
         Ok(files) => {
-            let outcome = run_named(rt, alloc, files.as_slice(), task, streams);
+            let (named, held) = with_names(files.as_slice(), task);
+            let outcome = match held {
+                Ok(()) => finish_task(rt, alloc, &named, streams),
+                Err(failure) => { report_without_names(rt, alloc, &named, failure, streams) }
+            };
+            drop(named);
             drop(files);
             outcome
         }
