@@ -11,6 +11,7 @@ use std::alloc::{AllocError, Global};
 use stream_paths::Source;
 
 /// How latches are moved. An option that a command doesn't have is as if it weren't given.
+#[derive(Drop)]
 pub struct RetimingOptions<'a> {
     /// The format of the written files; `None` is that of the read one.
     pub spelling: Option<Spelling>,
@@ -28,22 +29,6 @@ pub struct RetimingOptions<'a> {
     pub keep_from: Vec<Source<'a>>,
     /// The positions of the latches that are held in their places.
     pub keep_latches: Vec<u32>,
-}
-
-impl Drop for RetimingOptions<'_> {
-    // written out: docs/PROOFS.md, Drops and exits
-    fn drop(self) {
-        let RetimingOptions {
-            spelling: _spelling,
-            frames: _frames,
-            choice: _choice,
-            bound: _bound,
-            merge: _merge,
-            keep: _keep,
-            keep_from: _keep_from,
-            keep_latches: _keep_latches,
-        } = self;
-    }
 }
 
 /// The options of a retiming that are given.

@@ -219,6 +219,7 @@ pub struct Lifting<'a> {
 }
 
 /// What a command line asks for.
+#[derive(Drop)]
 pub enum Task<'a> {
     /// Retime a circuit.
     Retime(Retiming<'a>),
@@ -250,29 +251,6 @@ pub enum Task<'a> {
     Witness(Carrying<'a>),
     /// Print the page of the fault with this name.
     Explain(&'a str),
-}
-
-impl Drop for Task<'_> {
-    // written out: docs/PROOFS.md, Drops and exits
-    fn drop(self) {
-        match self {
-            Task::Retime(_retiming) => {}
-            Task::Backward(_moving) => {}
-            Task::Batch(_batch) => {}
-            Task::Stat(_counting) => {}
-            Task::Convert(_input, _output, _spelling) => {}
-            Task::Sim(_simulation) => {}
-            Task::Same(_comparison) => {}
-            Task::Verify(_verification) => {}
-            Task::Check(_checking) => {}
-            Task::Miter(_asking) => {}
-            Task::Product(_asking) => {}
-            Task::Lift(_lifting) => {}
-            Task::Dot(_drawing) => {}
-            Task::Witness(_carrying) => {}
-            Task::Explain(_name) => {}
-        }
-    }
 }
 
 impl Task<'_> {
