@@ -4,7 +4,7 @@ use std::alloc::AllocFailed;
 use thiserror::Error;
 
 /// Why a list is refused. The number is the offset of the first byte of the line at fault.
-#[derive(Clone, Copy, Debug, PartialEq, Eq, Error)]
+#[derive(Clone, Copy, Debug, Error)]
 pub enum ListError {
     /// A line isn't two paths in UTF-8 with one tab between.
     #[error("BadLine at {0}")]

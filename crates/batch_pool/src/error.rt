@@ -4,7 +4,7 @@ use thiserror::Error;
 use variable_tables::NoMemory;
 
 /// Why a batch has no outcomes.
-#[derive(Clone, Copy, Debug, PartialEq, Eq, Error)]
+#[derive(Clone, Copy, Debug, Error)]
 pub enum BatchError {
     /// Memory for the list of outcomes was refused.
     #[error("out of memory")]

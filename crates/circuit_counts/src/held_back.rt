@@ -15,7 +15,7 @@ use std::alloc::Global;
 use variable_tables::mark_at;
 
 /// Why latches of a circuit can't move. A known latch that is in none of these counts is read by passable gates alone.
-#[derive(Clone, Copy, Debug, PartialEq, Eq)]
+#[derive(Clone, Copy)]
 pub struct HeldBack {
     /// The latches whose reset is free.
     pub free: u32,

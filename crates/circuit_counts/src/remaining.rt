@@ -8,7 +8,7 @@ use aig_graph::{Circuit, Keep, NoMemory};
 use std::alloc::Global;
 
 /// What a retiming leaves.
-#[derive(Clone, Copy, Debug, PartialEq, Eq)]
+#[derive(Clone, Copy)]
 pub struct Remaining {
     /// What the circuit has.
     pub counts: Counts,

@@ -9,7 +9,7 @@ use path_levels::levels;
 use std::alloc::Global;
 
 /// How many there are of each kind in a circuit.
-#[derive(Clone, Copy, Debug, PartialEq, Eq)]
+#[derive(Clone, Copy)]
 pub struct Counts {
     pub inputs: u64,
     pub latches: u64,
@@ -60,7 +60,7 @@ impl Counts {
 }
 
 /// What `stat` tells of a circuit.
-#[derive(Clone, Copy, Debug, PartialEq, Eq)]
+#[derive(Clone, Copy)]
 pub struct Statistics {
     pub counts: Counts,
     /// The gates that latches may move over, where none is held.

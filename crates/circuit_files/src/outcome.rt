@@ -12,7 +12,7 @@ use thiserror::Error;
 use witnesses::WitnessError;
 
 /// How a run ended.
-#[derive(Clone, Copy, Debug, PartialEq, Eq)]
+#[derive(Clone, Copy, PartialEq, Eq)]
 pub enum Outcome {
     /// All was done.
     Done,

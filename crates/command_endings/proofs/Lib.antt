@@ -2,3 +2,4 @@ pub mod PrintingLaws
 pub mod EndingLaws
 pub mod RefusalLaws
 pub mod NameFileLaws
+pub mod LapLaws

@@ -4,3 +4,6 @@ pub mod HeldNames
 pub mod Objects
 pub mod NameFiles
 pub mod RunOptions
+pub mod Lines
+pub mod Laps
+pub mod Shows

@@ -8,7 +8,7 @@ use file_words::Spelling;
 use stream_paths::{Source, Target};
 
 /// What is shown of a run on standard error while it goes on.
-#[derive(Clone, Copy, Debug, PartialEq, Eq)]
+#[derive(Clone, Copy, PartialEq, Eq)]
 pub enum Shown {
     /// One line, where standard error is a terminal.
     OnTerminal,
@@ -72,7 +72,7 @@ pub struct Verification<'a> {
 }
 
 /// Which random sequences a circuit is simulated under.
-#[derive(Clone, Copy, Debug, PartialEq, Eq)]
+#[derive(Clone, Copy)]
 pub struct Sequences {
     /// How many, from 1 to 2^20.
     pub count: u32,

@@ -21,9 +21,9 @@ pub(crate) struct Subcommand {
 /// How many commands there are.
 pub(crate) const COUNT: usize = 15;
 
-/// The command with this number, from 0.
-pub(crate) fn subcommand_at(number: usize) -> Option<Subcommand> {
-    Some(match number {
+/// The command with this number that makes circuits.
+fn making(number: usize) -> Subcommand {
+    match number {
         0 => Subcommand {
             name: "retime",
             about: texts::RETIME_ABOUT,
@@ -45,13 +45,19 @@ pub(crate) fn subcommand_at(number: usize) -> Option<Subcommand> {
             example: Some(texts::BATCH_EXAMPLE),
             arguments: arguments::BATCH,
         },
-        3 => Subcommand {
+        _ => Subcommand {
             name: "convert",
             about: texts::CONVERT_ABOUT,
             long_about: None,
             example: None,
             arguments: arguments::CONVERT,
         },
+    }
+}
+
+/// The command with this number that looks at circuits.
+fn looking(number: usize) -> Subcommand {
+    match number {
         4 => Subcommand {
             name: "stat",
             about: texts::STAT_ABOUT,
@@ -73,13 +79,19 @@ pub(crate) fn subcommand_at(number: usize) -> Option<Subcommand> {
             example: Some(texts::SAME_EXAMPLE),
             arguments: arguments::SAME,
         },
-        7 => Subcommand {
+        _ => Subcommand {
             name: "dot",
             about: texts::DOT_ABOUT,
             long_about: Some(texts::DOT_LONG_ABOUT),
             example: Some(texts::DOT_EXAMPLE),
             arguments: arguments::DOT,
         },
+    }
+}
+
+/// The command with this number that explains a fault, or checks.
+fn checking(number: usize) -> Subcommand {
+    match number {
         8 => Subcommand {
             name: "explain",
             about: texts::EXPLAIN_ABOUT,
@@ -101,13 +113,19 @@ pub(crate) fn subcommand_at(number: usize) -> Option<Subcommand> {
             example: Some(texts::CHECK_EXAMPLE),
             arguments: arguments::CHECK,
         },
-        11 => Subcommand {
+        _ => Subcommand {
             name: "miter",
             about: texts::MITER_ABOUT,
             long_about: Some(texts::MITER_LONG_ABOUT),
             example: Some(texts::MITER_EXAMPLE),
             arguments: arguments::MITER,
         },
+    }
+}
+
+/// The command with this number that writes for model checkers, or carries back what they say.
+fn carrying(number: usize) -> Subcommand {
+    match number {
         12 => Subcommand {
             name: "product",
             about: texts::PRODUCT_ABOUT,
@@ -122,13 +140,27 @@ pub(crate) fn subcommand_at(number: usize) -> Option<Subcommand> {
             example: Some(texts::LIFT_EXAMPLE),
             arguments: arguments::LIFT,
         },
-        14 => Subcommand {
+        _ => Subcommand {
             name: "witness",
             about: texts::WITNESS_ABOUT,
             long_about: Some(texts::WITNESS_LONG_ABOUT),
             example: Some(texts::WITNESS_EXAMPLE),
             arguments: arguments::WITNESS,
         },
-        _ => return None,
-    })
+    }
+}
+
+/// The command with this number, from 0.
+pub(crate) fn subcommand_at(number: usize) -> Option<Subcommand> {
+    if number < 4 {
+        Some(making(number))
+    } else if number < 8 {
+        Some(looking(number))
+    } else if number < 12 {
+        Some(checking(number))
+    } else if number < COUNT {
+        Some(carrying(number))
+    } else {
+        None
+    }
 }

@@ -4,7 +4,7 @@ ghost use Rattle.std.specs.Prelude.{◌≡◌, MatchOption, true};
 ghost use Rattle.fault_pages.specs.Faults.{all_faults, has_name, HaveOtherNames, IsCalled, IsNoName, name_of, said_of};
 
 /// A fault that the program names.
-#[derive(Clone, Copy, Debug, PartialEq, Eq)]
+#[derive(Clone, Copy)]
 pub enum Fault {
     BadHeader,
     TooLarge,

@@ -30,7 +30,13 @@ pub(crate) fn is_ascii<R: Files>(rt: &R, path: &str) -> bool {
 }
 
 fn newlines(bytes: &[u8]) -> u64 {
-    bytes.iter().filter(|byte| **byte == b'\n').count() as u64
+    let mut count: u64 = 0;
+    for byte in bytes {
+        if *byte == b'\n' {
+            count = count.saturating_add(1);
+        }
+    }
+    count
 }
 
 /// The number of the line at an offset, from 1, by the newlines before it; none where these can't be read.

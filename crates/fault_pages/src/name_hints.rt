@@ -42,14 +42,35 @@ fn put_found<W: CountedWrite>(name: &[u8], of_all: bool, out: &mut Buffered<'_, 
     out.put_byte(b'\n');
 }
 
+/// How many bytes of the word a part of a name has with this one more; `None` where it isn't the beginning of the word.
+fn longer(matched: Option<usize>, word: &[u8], byte: u8) -> Option<usize> {
+    match matched {
+        Some(count) if count < word.len() && word[count] == byte => Some(count + 1),
+        _ => None,
+    }
+}
+
+/// Whether a part that has so many bytes of the word is the word.
+fn is_whole(matched: Option<usize>, word: &[u8]) -> bool {
+    match matched {
+        Some(count) => count == word.len(),
+        None => false,
+    }
+}
+
 /// Whether a name is several words, of which this is one, as where a tool wrote all names of a latch as one.
 fn has_word(name: &[u8], word: &[u8]) -> bool {
-    for part in name.split(|byte| *byte == b' ') {
-        if part == word {
+    let mut matched = Some(0);
+    for byte in name {
+        if *byte != b' ' {
+            matched = longer(matched, word, *byte);
+        } else if is_whole(matched, word) {
             return true;
+        } else {
+            matched = Some(0);
         }
     }
-    false
+    is_whole(matched, word)
 }
 
 /// The place of the first name that has the word.

@@ -7,7 +7,7 @@ use crate::identity::{Asked, Keeping};
 use thiserror::Error;
 
 /// Why a command line is refused: two of its files are one, and something would be lost.
-#[derive(Clone, Copy, Debug, PartialEq, Eq, Error)]
+#[derive(Clone, Copy, Debug, Error)]
 pub enum FileClash<'a> {
     /// Both are written.
     #[error("{0} and {1} are one file: each thing that is written has a file of its own")]

@@ -6,7 +6,7 @@ use std::fmt;
 use std::fmt::{Display, Formatter};
 
 /// What a file is named by.
-#[derive(Clone, Copy, Debug, PartialEq, Eq)]
+#[derive(Clone, Copy, Debug)]
 pub enum Argument {
     /// The circuit that is read.
     In,
@@ -64,7 +64,7 @@ impl Argument {
 }
 
 /// What a file is there for.
-#[derive(Clone, Copy, Debug, PartialEq, Eq)]
+#[derive(Clone, Copy, Debug)]
 pub enum Role {
     /// It is read, and the circuit that is made of it may take its place.
     Original,
@@ -98,7 +98,7 @@ impl Role {
 }
 
 /// Where a file is.
-#[derive(Clone, Copy, Debug, PartialEq, Eq)]
+#[derive(Clone, Copy, Debug)]
 pub enum Place<'a> {
     /// Standard input.
     Stdin,
@@ -137,7 +137,7 @@ impl<'a> Place<'a> {
 }
 
 /// A file that a command line names.
-#[derive(Clone, Copy, Debug, PartialEq, Eq)]
+#[derive(Clone, Copy, Debug)]
 pub struct FileUse<'a> {
     /// The argument that names it.
     pub argument: Argument,

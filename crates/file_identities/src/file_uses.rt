@@ -1,5 +1,5 @@
 //! The files that a task reads and writes, each asked for.
-ghost use Rattle.std.specs.Prelude.{◌≡◌, ◌++◌, [], ◌∷◌, IfOk, OnOk, map};
+ghost use Rattle.std.specs.Prelude.{◌≡◌, ◌++◌, [], ◌∷◌, IfOk, None, OnOk, Some, map};
 ghost use Rattle.std.specs.Option.{option_to_list};
 ghost use Rattle.file_identities.specs.FileUses.{given, name_file};
 ghost use Rattle.file_identities.specs.FileUses as wanted;
@@ -169,70 +169,97 @@ fn ask_all<'a, R: Files>(
     Ok(files)
 }
 
-fn read_by_asking<'a, R: Files>(
-    rt: &R,
-    alloc: Global,
-    asking: &Asking<'a>,
-) -> Result<Vec<Asked<'a>>, AllocError>
-    ensures { IfOk result (λ files. map (λ asked. asked.file) files.items
-        ≡ wanted.read_by_asking asking.now) }
+/// One file.
+fn one(file: FileUse<'_>) -> [Option<FileUse<'_>>; 4]
+    ensures { result ≡ Some file.entry ∷ None ∷ None ∷ None ∷ [] }
 {
-    let uses = [
+    [Some(file), None, None, None]
+}
+
+/// A file, and one that there may be.
+fn two<'a>(first: FileUse<'a>, second: Option<FileUse<'a>>) -> [Option<FileUse<'a>>; 4]
+    ensures { result ≡ Some first.entry ∷ second.entry ∷ None ∷ None ∷ [] }
+{
+    [Some(first), second, None, None]
+}
+
+fn read_by_asking<'a>(asking: &Asking<'a>) -> [Option<FileUse<'a>>; 4]
+    ensures { given result ≡ wanted.read_by_asking asking.now }
+{
+    [
         Some(reading(Argument::In, asking.input)),
         Some(reading(Argument::Out, asking.retimed)),
         Some(original(Argument::Map, asking.map)),
-    ];
-    ask_all(rt, alloc, &uses)
+        None,
+    ]
 }
 
-fn read_by_lifting<'a, R: Files>(
-    rt: &R,
-    alloc: Global,
-    lifting: &Lifting<'a>,
-) -> Result<Vec<Asked<'a>>, AllocError>
-    ensures { IfOk result (λ files. map (λ asked. asked.file) files.items
-        ≡ wanted.read_by_lifting lifting.now) }
+fn read_by_lifting<'a>(lifting: &Lifting<'a>) -> [Option<FileUse<'a>>; 4]
+    ensures { given result ≡ wanted.read_by_lifting lifting.now }
 {
-    let uses = [
+    [
         Some(reading(Argument::In, lifting.input)),
         Some(reading(Argument::Out, lifting.retimed)),
         Some(reading(Argument::Map, lifting.map)),
         Some(original(Argument::WitnessFile, lifting.witness)),
-    ];
-    ask_all(rt, alloc, &uses)
+    ]
 }
 
-fn written_by_retiming<'a, R: Files>(
-    rt: &R,
-    alloc: Global,
-    retiming: &Retiming<'a>,
-) -> Result<Vec<Asked<'a>>, AllocError>
-    ensures { IfOk result (λ files. map (λ asked. asked.file) files.items
-        ≡ wanted.written_by_retiming retiming.now) }
+fn written_by_retiming<'a>(retiming: &Retiming<'a>) -> [Option<FileUse<'a>>; 4]
+    ensures { given result ≡ wanted.written_by_retiming retiming.now }
 {
-    let uses = [
+    [
         Some(remade(Argument::Out, retiming.output)),
         writing_if_asked(Argument::MapOption, retiming.map),
         writing_if_asked(Argument::Cert, retiming.certificates),
         printed_by(retiming),
-    ];
-    ask_all(rt, alloc, &uses)
+    ]
 }
 
-fn written_by_moving<'a, R: Files>(
-    rt: &R,
-    alloc: Global,
-    moving: &Moving<'a>,
-) -> Result<Vec<Asked<'a>>, AllocError>
-    ensures { IfOk result (λ files. map (λ asked. asked.file) files.items
-        ≡ wanted.written_by_moving moving.now) }
+fn written_by_moving<'a>(moving: &Moving<'a>) -> [Option<FileUse<'a>>; 4]
+    ensures { given result ≡ wanted.written_by_moving moving.now }
 {
-    let uses = [
+    [
         Some(remade(Argument::Out, moving.output)),
         writing_if_asked(Argument::MapOption, moving.map),
         printed_by_moving(moving),
-    ];
-    ask_all(rt, alloc, &uses)
+        None,
+    ]
+}
+
+/// The files that a task writes, none of which is asked for yet.
+fn uses_written<'a>(task: &Task<'a>) -> [Option<FileUse<'a>>; 4]
+    ensures { given result ≡ wanted.written_by task.now }
+{
+    match task {
+        Task::Retime(retiming) => written_by_retiming(retiming),
+        Task::Backward(moving) => written_by_moving(moving),
+        Task::Convert(_, output, _) => one(remade(Argument::Out, *output)),
+        Task::Sim(simulation) => {
+            two(printed(), writing_if_asked(Argument::Vcd, simulation.waves))
+        }
+        Task::Miter(asking) => {
+            two(
+                remade(Argument::MiterFile, asking.output),
+                writing_if_asked(Argument::Certificate, asking.certificate),
+            )
+        }
+        Task::Product(asking) => {
+            two(
+                remade(Argument::ModelFile, asking.output),
+                writing_if_asked(Argument::CertificateFile, asking.certificate),
+            )
+        }
+        Task::Lift(lifting) => one(remade(Argument::ResultFile, lifting.output)),
+        Task::Dot(drawing) => one(writing(Argument::Out, drawing.output)),
+        Task::Batch(_)
+        | Task::Stat(_)
+        | Task::Same(_)
+        | Task::Verify(_)
+        | Task::Check(_)
+        | Task::Witness(_)
+        | Task::Explain(_) => [None, None, None, None],
+    }
 }
 
 /// What a task writes.
@@ -244,41 +271,34 @@ pub(crate) fn written_by<'a, R: Files>(
     ensures { IfOk result (λ files. map (λ asked. asked.file) files.items
         ≡ wanted.written_by task.now) }
 {
+    ask_all(rt, alloc, &uses_written(task))
+}
+
+/// The files that a task reads that writes one, beside files of names, none of which is asked for yet.
+fn uses_read<'a>(task: &Task<'a>) -> [Option<FileUse<'a>>; 4]
+    ensures { given result ≡ wanted.others_read_by task.now }
+{
     match task {
-        Task::Retime(retiming) => written_by_retiming(rt, alloc, retiming),
-        Task::Backward(moving) => written_by_moving(rt, alloc, moving),
-        Task::Convert(_, output, _) => {
-            ask_all(rt, alloc, &[Some(remade(Argument::Out, *output))])
-        }
+        Task::Retime(retiming) => one(original(Argument::In, retiming.input)),
+        Task::Backward(moving) => one(original(Argument::In, moving.input)),
+        Task::Convert(input, _, _) => one(original(Argument::In, *input)),
         Task::Sim(simulation) => {
-            let waves = writing_if_asked(Argument::Vcd, simulation.waves);
-            ask_all(rt, alloc, &[Some(printed()), waves])
-        }
-        Task::Miter(asking) => {
-            let miter = Some(remade(Argument::MiterFile, asking.output));
-            let certificate = writing_if_asked(Argument::Certificate, asking.certificate);
-            ask_all(rt, alloc, &[miter, certificate])
-        }
-        Task::Product(asking) => {
-            let model = Some(remade(Argument::ModelFile, asking.output));
-            let certificate = writing_if_asked(Argument::CertificateFile, asking.certificate);
-            ask_all(rt, alloc, &[model, certificate])
-        }
-        Task::Lift(lifting) => {
-            ask_all(
-                rt,
-                alloc,
-                &[Some(remade(Argument::ResultFile, lifting.output))],
+            two(
+                reading(Argument::In, simulation.input),
+                stimulus_of(simulation.stimuli),
             )
         }
-        Task::Dot(drawing) => ask_all(rt, alloc, &[Some(writing(Argument::Out, drawing.output))]),
+        Task::Miter(asking) => read_by_asking(asking),
+        Task::Product(asking) => read_by_asking(asking),
+        Task::Lift(lifting) => read_by_lifting(lifting),
+        Task::Dot(drawing) => one(reading(Argument::In, drawing.input)),
         Task::Batch(_)
         | Task::Stat(_)
         | Task::Same(_)
         | Task::Verify(_)
         | Task::Check(_)
         | Task::Witness(_)
-        | Task::Explain(_) => Ok(Vec::new(alloc)),
+        | Task::Explain(_) => [None, None, None, None],
     }
 }
 
@@ -291,30 +311,7 @@ fn others_read_by<'a, R: Files>(
     ensures { IfOk result (λ files. map (λ asked. asked.file) files.items
         ≡ wanted.others_read_by task.now) }
 {
-    match task {
-        Task::Retime(retiming) => {
-            ask_all(rt, alloc, &[Some(original(Argument::In, retiming.input))])
-        }
-        Task::Backward(moving) => {
-            ask_all(rt, alloc, &[Some(original(Argument::In, moving.input))])
-        }
-        Task::Convert(input, _, _) => ask_all(rt, alloc, &[Some(original(Argument::In, *input))]),
-        Task::Sim(simulation) => {
-            let input = Some(reading(Argument::In, simulation.input));
-            ask_all(rt, alloc, &[input, stimulus_of(simulation.stimuli)])
-        }
-        Task::Miter(asking) => read_by_asking(rt, alloc, asking),
-        Task::Product(asking) => read_by_asking(rt, alloc, asking),
-        Task::Lift(lifting) => read_by_lifting(rt, alloc, lifting),
-        Task::Dot(drawing) => ask_all(rt, alloc, &[Some(reading(Argument::In, drawing.input))]),
-        Task::Batch(_)
-        | Task::Stat(_)
-        | Task::Same(_)
-        | Task::Verify(_)
-        | Task::Check(_)
-        | Task::Witness(_)
-        | Task::Explain(_) => Ok(Vec::new(alloc)),
-    }
+    ask_all(rt, alloc, &uses_read(task))
 }
 
 fn push_name_files<'a, R: Files>(

@@ -11,7 +11,7 @@ use std::rt::Files;
 use std::{fs, io};
 
 /// What a file keeps of what is written to it.
-#[derive(Clone, Copy, Debug, PartialEq, Eq)]
+#[derive(Clone, Copy)]
 pub enum Keeping {
     /// The bytes.
     Bytes,

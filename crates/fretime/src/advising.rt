@@ -8,7 +8,7 @@ use frames::PathBound;
 /// The options of `retime` that bear on certificates and that 'verify' wasn't given; `None` where it has all of them.
 fn missing_options(task: &Verification<'_>) -> Option<&'static [u8]> {
     let options = &task.options;
-    let holds = !options.keep.as_slice().is_empty() || !options.keep_latches.as_slice().is_empty();
+    let holds = !options.keep.as_slice().is_empty() | !options.keep_latches.as_slice().is_empty();
     let is_bounded = options.bound != PathBound::None;
     match (holds, options.merge, is_bounded) {
         (true, true, true) => None,

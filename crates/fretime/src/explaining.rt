@@ -87,6 +87,15 @@ fn print_page<O: CountedWrite>(fault: Fault, out: &mut O) -> Result<(), WriteErr
     out.flush()
 }
 
+/// Puts the fault whose name is the nearest, where one is near.
+fn put_nearest<E: CountedWrite>(message: &mut Message<'_, E>, nearest: Option<Fault>) {
+    if let Some(fault) = nearest {
+        message.put(b"; the nearest is '");
+        message.put(fault.name().as_bytes());
+        message.put(b"'");
+    }
+}
+
 /// Reports that no fault has the name, and the fault whose name is the nearest, if one is near. A failed write changes nothing.
 fn report_missing<'a, E: CountedWrite>(
     alloc: Global,
@@ -105,11 +114,7 @@ fn report_missing<'a, E: CountedWrite>(
     message.put(b"error: there is no fault '");
     message.put(name.as_bytes());
     message.put(b"'");
-    if let Some(fault) = nearest {
-        message.put(b"; the nearest is '");
-        message.put(fault.name().as_bytes());
-        message.put(b"'");
-    }
+    put_nearest(&mut message, nearest);
     message.put(b"\n");
     message.send();
     Ok(Outcome::CommandLine)

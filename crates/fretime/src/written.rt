@@ -29,21 +29,21 @@ fn is_from(source: Source<'_>, path: &str) -> bool {
 pub(crate) fn is_written(task: &Task<'_>, path: &str) -> bool {
     match task {
         Task::Retime(retiming) => {
-            let beside = is_to_some(retiming.certificates, path) || is_to_some(retiming.map, path);
-            !is_from(retiming.input, path) && (is_to(retiming.output, path) || beside)
+            let beside = is_to_some(retiming.certificates, path) | is_to_some(retiming.map, path);
+            !is_from(retiming.input, path) & (is_to(retiming.output, path) | beside)
         }
         Task::Backward(moving) => {
-            let written = is_to(moving.output, path) || is_to_some(moving.map, path);
-            !is_from(moving.input, path) && written
+            let written = is_to(moving.output, path) | is_to_some(moving.map, path);
+            !is_from(moving.input, path) & written
         }
-        Task::Convert(input, output, _) => !is_from(*input, path) && is_to(*output, path),
+        Task::Convert(input, output, _) => !is_from(*input, path) & is_to(*output, path),
         Task::Sim(simulation) => is_to_some(simulation.waves, path),
         Task::Miter(asking) | Task::Product(asking) => {
             let beside = is_to_some(asking.certificate, path);
-            !is_from(asking.input, path) && (is_to(asking.output, path) || beside)
+            !is_from(asking.input, path) & (is_to(asking.output, path) | beside)
         }
-        Task::Lift(lifting) => !is_from(lifting.input, path) && is_to(lifting.output, path),
-        Task::Dot(drawing) => !is_from(drawing.input, path) && is_to(drawing.output, path),
+        Task::Lift(lifting) => !is_from(lifting.input, path) & is_to(lifting.output, path),
+        Task::Dot(drawing) => !is_from(drawing.input, path) & is_to(drawing.output, path),
         _ => false,
     }
 }

@@ -11,7 +11,7 @@ use std::alloc::{AllocError, Global};
 use thiserror::Error;
 
 /// Why an object wasn't printed.
-#[derive(Clone, Copy, Debug, PartialEq, Eq, Error)]
+#[derive(Clone, Copy, Debug, Error)]
 pub enum PrintError {
     /// Memory was refused.
     #[error("out of memory")]

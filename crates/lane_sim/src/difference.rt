@@ -23,7 +23,7 @@ use std::alloc::Global;
 use std::thread::Threads;
 
 /// A place of a trace: each number counts from 0.
-#[derive(Clone, Copy, Debug, PartialEq, Eq)]
+#[derive(Clone, Copy)]
 pub struct Place {
     pub sequence: usize,
     pub step: usize,

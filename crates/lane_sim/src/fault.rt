@@ -6,7 +6,7 @@ use std::alloc::{AllocError, AllocFailed};
 use thiserror::Error;
 
 /// Why bytes were not read as a stimulus. The number is the offset of the first byte of the line at fault.
-#[derive(Clone, Copy, Debug, PartialEq, Eq, Error)]
+#[derive(Clone, Copy, Debug, Error)]
 pub enum StimError {
     /// A line is not a mark and digits, or it is a step before the first sequence.
     #[error("BadLine at {0}")]
@@ -83,7 +83,7 @@ impl<T: Drop> From<AllocFailed<T>> for StimError {
 }
 
 /// Why two circuits were not compared.
-#[derive(Clone, Copy, Debug, PartialEq, Eq, Error)]
+#[derive(Clone, Copy, Debug, Error)]
 pub enum SimError {
     /// The circuits differ in the number of inputs, free latches or properties of a kind, or in the size of a justice
     /// property.

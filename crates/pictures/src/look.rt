@@ -7,7 +7,7 @@ use aig_graph::Sequence;
 use variable_tables::mark_at;
 
 /// How the node of a latch or a gate looks.
-#[derive(Clone, Copy, PartialEq, Eq, Debug)]
+#[derive(Clone, Copy)]
 pub struct Look {
     /// A held latch.
     pub held: bool,

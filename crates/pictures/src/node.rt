@@ -8,7 +8,7 @@ use aig_graph::Lit;
 use counted_io::{Buffered, CountedWrite};
 
 /// A node of a picture.
-#[derive(Clone, Copy, PartialEq, Eq)]
+#[derive(Clone, Copy)]
 pub(crate) enum Node {
     /// The constant, an input, a latch or a gate.
     Variable(u32),

@@ -6,7 +6,7 @@ ghost use Rattle.reports.specs.Agreements.{IsAgreement, agreement_text, differen
 use counted_io::{Buffered, CountedWrite};
 
 /// What comes of comparing a file with the text of a circuit.
-#[derive(Clone, Copy, Debug, PartialEq, Eq)]
+#[derive(Clone, Copy)]
 pub enum Agreement {
     /// The file is the text.
     Same,

@@ -11,7 +11,7 @@ use counted_io::{Buffered, CountedWrite, WriteError};
 use file_words::ReadError;
 
 /// What became of a file of a batch.
-#[derive(Clone, Copy, Debug, PartialEq, Eq)]
+#[derive(Clone, Copy)]
 pub enum JobReport {
     /// It was retimed, from so many latches to so many.
     Done(u32, u32),

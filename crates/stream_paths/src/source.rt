@@ -3,7 +3,7 @@ ghost use Rattle.stream_paths.specs.Streams.{source_name, source_of};
 ghost use Rattle.stream_paths.specs.Streams as wanted;
 
 /// What a path that is read stands for.
-#[derive(Clone, Copy, Debug, PartialEq, Eq)]
+#[derive(Clone, Copy)]
 pub enum Source<'a> {
     /// Standard input.
     Stdin,

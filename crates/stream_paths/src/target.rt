@@ -3,7 +3,7 @@ ghost use Rattle.stream_paths.specs.Streams.{target_name, target_of};
 ghost use Rattle.stream_paths.specs.Streams as wanted;
 
 /// What a path that is written stands for.
-#[derive(Clone, Copy, Debug, PartialEq, Eq)]
+#[derive(Clone, Copy)]
 pub enum Target<'a> {
     /// Standard output.
     Stdout,

@@ -15,7 +15,7 @@ use aig_graph::{Circuit, NoMemory, Sequence};
 use std::alloc::Global;
 
 /// Why a witness of a retimed circuit isn't confirmed.
-#[derive(Clone, Copy, Debug, PartialEq, Eq)]
+#[derive(Clone, Copy)]
 pub enum Objection {
     /// A justice property, which no finite number of steps shows to fail.
     Unchecked(Property),

@@ -6,7 +6,7 @@ use thiserror::Error;
 
 /// Why bytes were not read as a witness. The number is the offset of the first byte of the line at fault; a line that is missing would
 /// begin at the end.
-#[derive(Clone, Copy, Debug, PartialEq, Eq, Error)]
+#[derive(Clone, Copy, Debug, Error)]
 pub enum WitnessError {
     /// The first line isn't `1`: a checker that found no way to a bad state writes `0` or `2`.
     #[error("BadHeader at {0}")]

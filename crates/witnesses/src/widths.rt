@@ -4,7 +4,7 @@ ghost use Rattle.witnesses.specs.Circuits.{bad_literals, widths_of};
 use aig_graph::{Circuit, Lit, Props};
 
 /// How many properties of each kind, latches and inputs a circuit has for a witness to speak of.
-#[derive(Clone, Copy, Debug, PartialEq, Eq)]
+#[derive(Clone, Copy)]
 pub struct Widths {
     /// The bad states; in a circuit without bad states, the outputs.
     pub bad: usize,

@@ -1,7 +1,7 @@
 use aig_graph::Sequence;
 
 /// A value of a latch or of an input.
-#[derive(Clone, Copy, Debug, PartialEq, Eq)]
+#[derive(Clone, Copy)]
 pub enum Digit {
     Zero,
     One,
@@ -10,7 +10,7 @@ pub enum Digit {
 }
 
 /// A property of a circuit, by its number of its kind, from 0.
-#[derive(Clone, Copy, Debug, PartialEq, Eq)]
+#[derive(Clone, Copy)]
 pub enum Property {
     /// A bad state; in a circuit without bad states, an output.
     Bad(usize),
@@ -30,7 +30,7 @@ pub struct Witness {
 }
 
 /// A property, and the step, from 0, at which it fails.
-#[derive(Clone, Copy, Debug, PartialEq, Eq)]
+#[derive(Clone, Copy)]
 pub struct Reached {
     pub property: Property,
     pub step: usize,
