@@ -1,10 +1,12 @@
 //! The map of all frames, from the maps of each: the last frame's first, so that the gates of each stand once.
 
-use crate::rebuilding::FrameMap;
-use crate::shared::Shared;
+use crate::copies::{set_literal, standing};
+use crate::rebuilding::{FrameMap, all_standing};
+use crate::shared::{Shared, pair_at};
 use aig_graph::NoMemory;
-use backward_sets::{Literal, Pair};
+use backward_sets::{Literal, Pair, number, table};
 use std::alloc::Global;
+use std::mem;
 
 /// Gates over the latches after all frames, which have the variables from 1 on, and a literal for each latch of the first draft.
 #[derive(Drop)]
@@ -13,11 +15,19 @@ pub(crate) struct WholeMap {
     pub outputs: Vec<Literal>,
 }
 
-/// What stands for a literal.
-fn standing(stands: &[Literal], lit: Literal) -> Literal {
-    match stands.get(lit.var() as usize) {
-        Some(own) => own.signed_as(lit),
-        None => Literal::FALSE,
+/// Puts what stands for latches after the constant, and then what stands for the gates of a frame's map.
+fn put_stands(stands: &mut [Literal], state: &[Literal], gates: &mut Shared, pairs: &[Pair]) {
+    for place in 0..state.len() {
+        set_literal(stands, number(place).wrapping_add(1), state[place]);
+    }
+    let first = number(state.len()).wrapping_add(1);
+    for place in 0..number(pairs.len()) {
+        let pair = pair_at(pairs, place);
+        let lit = gates.and(
+            standing(stands, pair.larger),
+            standing(stands, pair.smaller),
+        );
+        set_literal(stands, first.wrapping_add(place), lit);
     }
 }
 
@@ -28,21 +38,22 @@ fn through(
     map: &FrameMap,
     state: &[Literal],
 ) -> Result<Vec<Literal>, NoMemory> {
-    let mut stands = Vec::new(alloc);
-    stands.push(Literal::FALSE)?;
-    for lit in state {
-        stands.push(*lit)?;
+    let many = state
+        .len()
+        .saturating_add(1)
+        .saturating_add(map.gates.len());
+    let Ok(mut stands) = table(alloc, Literal::FALSE, many) else {
+        return Err(NoMemory);
+    };
+    put_stands(stands.as_mut_slice(), state, gates, map.gates.as_slice());
+    all_standing(alloc, stands.as_slice(), map.outputs.as_slice())
+}
+
+/// The literals of latches, which have the variables from 1 on.
+fn number_latches(state: &mut [Literal]) {
+    for place in 0..state.len() {
+        state[place] = Literal::of(number(place).wrapping_add(1));
     }
-    for pair in &map.gates {
-        let larger = standing(stands.as_slice(), pair.larger);
-        let smaller = standing(stands.as_slice(), pair.smaller);
-        stands.push(gates.and(larger, smaller)?)?;
-    }
-    let mut before = Vec::with_capacity(alloc, map.outputs.len())?;
-    for lit in &map.outputs {
-        before.push(standing(stands.as_slice(), *lit))?;
-    }
-    Ok(before)
 }
 
 /// How many gates the maps of frames have.
@@ -52,6 +63,22 @@ fn count_gates(maps: &[FrameMap]) -> usize {
         count = count.saturating_add(map.gates.len());
     }
     count
+}
+
+/// Takes a state from after the last frame to before the first.
+fn go_back(
+    alloc: Global,
+    gates: &mut Shared,
+    maps: &[FrameMap],
+    state: &mut Vec<Literal>,
+) -> Result<(), NoMemory> {
+    for place in (0..maps.len()).rev() {
+        match through(alloc, gates, &maps[place], state.as_slice()) {
+            Ok(before) => drop(mem::replace(state, before)),
+            Err(refused) => return Err(refused),
+        }
+    }
+    Ok(())
 }
 
 /// The map of frames of which the last leaves so many latches.
@@ -64,16 +91,18 @@ pub(crate) fn composed(
     maps: &[FrameMap],
     latches: u32,
 ) -> Result<WholeMap, NoMemory> {
-    let mut gates = Shared::after(alloc, latches.wrapping_add(1), count_gates(maps))?;
-    let mut state = Vec::new(alloc);
-    for place in 0..latches {
-        state.push(Literal::of(place.wrapping_add(1)))?;
+    let Ok(mut outputs) = table(alloc, Literal::FALSE, latches as usize) else {
+        return Err(NoMemory);
+    };
+    number_latches(outputs.as_mut_slice());
+    let Ok(mut gates) = Shared::after(alloc, latches.wrapping_add(1), count_gates(maps)) else {
+        return Err(NoMemory);
+    };
+    match go_back(alloc, &mut gates, maps, &mut outputs) {
+        Ok(()) => Ok(WholeMap {
+            gates: gates.into_gates(),
+            outputs,
+        }),
+        Err(refused) => Err(refused),
     }
-    for map in maps.iter().rev() {
-        state = through(alloc, &mut gates, map, state.as_slice())?;
-    }
-    Ok(WholeMap {
-        gates: gates.into_gates(),
-        outputs: state,
-    })
 }

@@ -21,7 +21,7 @@ mod tables;
 mod values;
 mod wishes;
 
-pub use border::{Bordered, is_closed, with_border};
+pub use border::{Bordered, border_of, is_closed};
 pub use conflicts::freeze_losers;
 pub use drafts::{Draft, DraftLatch, DraftReset, Pair};
 pub use guide::guide_of;
@@ -30,5 +30,5 @@ pub use literals::Literal;
 pub use movables::movable;
 pub use network::least_set;
 pub use starts::{Wish, starts_of, wish_of};
-pub use tables::{count_marks, entry, has_mark, number, set_entry, set_mark};
+pub use tables::{count_marks, entry, has_mark, number, set_entry, set_mark, table};
 pub use wishes::{Guide, Wishes, wishes_of};
