@@ -2,9 +2,7 @@
 //! the last one did is as good as any, and no flow is needed to find it.
 
 use crate::copies::{VERSIONS, Version, copy_of};
-use aig_graph::NoMemory;
-use backward_sets::{Draft, Literal, count_marks, entry, has_mark, number, set_mark, table};
-use std::alloc::Global;
+use backward_sets::{Draft, Literal, Memory, count_marks, entry, has_mark, number, set_mark};
 
 /// Marks of the copies of the gates that were moved last, by variable, and how many latches that saved.
 #[derive(Drop)]
@@ -15,9 +13,9 @@ pub(crate) struct Again {
 
 impl Again {
     /// Nothing was moved yet.
-    pub fn none(alloc: Global) -> Again {
+    pub fn none(memory: &mut Memory) -> Again {
         Again {
-            marks: Vec::new(alloc),
+            marks: memory.nothing(),
             saved: 0,
         }
     }
@@ -55,21 +53,15 @@ fn mark_copies(
 }
 
 /// By variable of a draft whether it is the copy of a gate of a set, where copies have these new numbers.
-///
-/// # Errors
-///
-/// `NoMemory` where the table is refused.
 pub(crate) fn marks_of(
-    alloc: Global,
+    memory: &mut Memory,
     draft: &Draft,
     inside: &[bool],
     copies: &[Literal],
     numbers: &[u32],
-) -> Result<Vec<bool>, NoMemory> {
-    let Ok(mut marks) = table(alloc, false, draft.size()) else {
-        return Err(NoMemory);
-    };
+) -> Vec<bool> {
+    let mut marks = memory.table(false, draft.size());
     let first = draft.first_gate();
     mark_copies(marks.as_mut_slice(), numbers, first, inside, copies);
-    Ok(marks)
+    marks
 }

@@ -3,9 +3,7 @@
 use crate::copies::{set_literal, standing};
 use crate::rebuilding::{FrameMap, all_standing};
 use crate::shared::{Shared, pair_at};
-use aig_graph::NoMemory;
-use backward_sets::{Literal, Pair, number, table};
-use std::alloc::Global;
+use backward_sets::{Literal, Memory, Pair, number};
 use std::mem;
 
 /// Gates over the latches after all frames, which have the variables from 1 on, and a literal for each latch of the first draft.
@@ -33,20 +31,18 @@ fn put_stands(stands: &mut [Literal], state: &[Literal], gates: &mut Shared, pai
 
 /// What the latches of before a frame hold, where these literals stand for those after it.
 fn through(
-    alloc: Global,
+    memory: &mut Memory,
     gates: &mut Shared,
     map: &FrameMap,
     state: &[Literal],
-) -> Result<Vec<Literal>, NoMemory> {
+) -> Vec<Literal> {
     let many = state
         .len()
         .saturating_add(1)
         .saturating_add(map.gates.len());
-    let Ok(mut stands) = table(alloc, Literal::FALSE, many) else {
-        return Err(NoMemory);
-    };
+    let mut stands = memory.table(Literal::FALSE, many);
     put_stands(stands.as_mut_slice(), state, gates, map.gates.as_slice());
-    all_standing(alloc, stands.as_slice(), map.outputs.as_slice())
+    all_standing(memory, stands.as_slice(), map.outputs.as_slice())
 }
 
 /// The literals of latches, which have the variables from 1 on.
@@ -65,44 +61,17 @@ fn count_gates(maps: &[FrameMap]) -> usize {
     count
 }
 
-/// Takes a state from after the last frame to before the first.
-fn go_back(
-    alloc: Global,
-    gates: &mut Shared,
-    maps: &[FrameMap],
-    state: &mut Vec<Literal>,
-) -> Result<(), NoMemory> {
-    for place in (0..maps.len()).rev() {
-        match through(alloc, gates, &maps[place], state.as_slice()) {
-            Ok(before) => drop(mem::replace(state, before)),
-            Err(refused) => return Err(refused),
-        }
-    }
-    Ok(())
-}
-
 /// The map of frames of which the last leaves so many latches.
-///
-/// # Errors
-///
-/// `NoMemory` where a table is refused.
-pub(crate) fn composed(
-    alloc: Global,
-    maps: &[FrameMap],
-    latches: u32,
-) -> Result<WholeMap, NoMemory> {
-    let Ok(mut outputs) = table(alloc, Literal::FALSE, latches as usize) else {
-        return Err(NoMemory);
-    };
+pub(crate) fn composed(memory: &mut Memory, maps: &[FrameMap], latches: u32) -> WholeMap {
+    let mut outputs = memory.table(Literal::FALSE, latches as usize);
     number_latches(outputs.as_mut_slice());
-    let Ok(mut gates) = Shared::after(alloc, latches.wrapping_add(1), count_gates(maps)) else {
-        return Err(NoMemory);
-    };
-    match go_back(alloc, &mut gates, maps, &mut outputs) {
-        Ok(()) => Ok(WholeMap {
-            gates: gates.into_gates(),
-            outputs,
-        }),
-        Err(refused) => Err(refused),
+    let mut gates = Shared::after(memory, latches.wrapping_add(1), count_gates(maps));
+    for place in (0..maps.len()).rev() {
+        let before = through(memory, &mut gates, &maps[place], outputs.as_slice());
+        drop(mem::replace(&mut outputs, before));
+    }
+    WholeMap {
+        gates: gates.into_gates(),
+        outputs,
     }
 }

@@ -4,12 +4,11 @@
 use crate::again::Again;
 use crate::levels::{freeze_long, levels_of};
 use crate::rebuilding::{FrameMap, Rebuilt, rebuild};
-use aig_graph::NoMemory;
 use backward_sets::{
-    Bordered, Draft, Guide, Wish, Wishes, border_of, count_marks, freeze_losers, guide_of,
-    is_closed, justify, least_set, movable, number, set_mark, starts_of, table, wish_of, wishes_of,
+    Bordered, Draft, Guide, Memory, Wish, Wishes, border_of, count_marks, freeze_losers, guide_of,
+    has_mark, is_closed, justify, least_set, movable, number, set_mark, starts_of, wish_of,
+    wishes_of,
 };
-use std::alloc::Global;
 
 /// How often a flow is asked in a frame.
 const MOST_TRIES: u32 = 16;
@@ -61,91 +60,76 @@ fn freeze_doubled(starts: &[Wish], frozen: &mut [bool]) {
     }
 }
 
+/// Puts marks into a table that has none.
+fn copy_marks(marks: &[bool], all: &mut [bool]) {
+    for var in 0..number(marks.len()) {
+        set_mark(all, var, has_mark(marks, var));
+    }
+}
+
 /// How many latches the border of a set takes, by these wishes.
 fn cost(set: &Bordered, wishes: &[Wish]) -> u32 {
     count_marks(set.border.as_slice()).wrapping_add(set.doubled(wishes))
 }
 
+/// A set with its border.
+fn bordered(memory: &mut Memory, draft: &Draft, inside: Vec<bool>) -> Bordered {
+    let border = border_of(memory, draft, inside.as_slice());
+    Bordered { inside, border }
+}
+
 impl<'a> Frame<'a> {
-    fn new(alloc: Global, draft: &'a Draft, bound: Option<u32>) -> Result<Frame<'a>, NoMemory> {
-        let Ok(starts) = starts_of(alloc, draft) else {
-            return Err(NoMemory);
-        };
-        let Ok(guide) = guide_of(alloc, draft) else {
-            return Err(NoMemory);
-        };
-        let Ok(mut frozen) = table(alloc, false, draft.size()) else {
-            return Err(NoMemory);
-        };
+    fn new(memory: &mut Memory, draft: &'a Draft, bound: Option<u32>) -> Frame<'a> {
+        let starts = starts_of(memory, draft);
+        let mut frozen = memory.table(false, draft.size());
         freeze_doubled(starts.as_slice(), frozen.as_mut_slice());
-        Ok(Frame {
+        Frame {
             draft,
             starts,
-            guide,
+            guide: guide_of(memory, draft),
             frozen,
             latches: draft.taking_part(),
             bound,
             open: false,
-        })
-    }
-
-    /// The gates that may move.
-    fn movable(&self, alloc: Global) -> Result<Vec<bool>, NoMemory> {
-        movable(alloc, self.draft, self.frozen.as_slice())
-    }
-
-    /// A set with its border.
-    fn bordered(&self, alloc: Global, inside: Vec<bool>) -> Result<Bordered, NoMemory> {
-        match border_of(alloc, self.draft, inside.as_slice()) {
-            Ok(border) => Ok(Bordered { inside, border }),
-            Err(refused) => Err(refused),
         }
     }
 
     /// The wishes of a set.
-    fn wishes(&self, alloc: Global, set: &Bordered) -> Result<Wishes, NoMemory> {
+    fn wishes(&self, memory: &mut Memory, set: &Bordered) -> Wishes {
         let starts = self.starts.as_slice();
-        let Ok(mut values) = Vec::from_slice(alloc, self.guide.as_slice()) else {
-            return Err(NoMemory);
+        let mut values = memory.table(false, self.draft.size());
+        copy_marks(self.guide.as_slice(), values.as_mut_slice());
+        let solves = justify(memory, self.draft, set, starts, values.as_mut_slice());
+        let guide = Guide {
+            values: values.as_slice(),
+            solves,
         };
-        match justify(alloc, self.draft, set, starts, values.as_mut_slice()) {
-            Ok(solves) => {
-                let guide = Guide {
-                    values: values.as_slice(),
-                    solves,
-                };
-                wishes_of(alloc, self.draft, set, starts, &guide)
-            }
-            Err(refused) => Err(refused),
-        }
+        wishes_of(memory, self.draft, set, starts, &guide)
     }
 
     /// A set with its wishes.
-    fn settle(&self, alloc: Global, set: Bordered) -> Result<Settled, NoMemory> {
-        match self.wishes(alloc, &set) {
-            Ok(wishes) => Ok(Settled {
-                after: cost(&set, wishes.of.as_slice()),
-                doubled: set.doubled(wishes.of.as_slice()),
-                set,
-                wishes,
-            }),
-            Err(refused) => Err(refused),
+    fn settle(&self, memory: &mut Memory, set: Bordered) -> Settled {
+        let wishes = self.wishes(memory, &set);
+        let doubled = set.doubled(wishes.of.as_slice());
+        Settled {
+            after: count_marks(set.border.as_slice()).wrapping_add(doubled),
+            doubled,
+            set,
+            wishes,
         }
     }
 
     /// Whether a draft has a way that is too long.
-    fn is_long(&self, alloc: Global, draft: &Draft) -> Result<bool, NoMemory> {
-        let Some(bound) = self.bound else {
-            return Ok(false);
-        };
-        match levels_of(alloc, draft) {
-            Ok(levels) => Ok(levels > bound),
-            Err(refused) => Err(refused),
+    fn is_long(&self, memory: &mut Memory, draft: &Draft) -> bool {
+        match self.bound {
+            Some(bound) => levels_of(memory, draft) > bound,
+            None => false,
         }
     }
 
-    /// What a move comes to.
-    fn made(&self, rebuilt: Rebuilt, marks: Vec<bool>, settled: &Settled) -> Moved {
+    /// What a move comes to, after gates that nothing reads are dropped.
+    fn made(&self, memory: &mut Memory, mut rebuilt: Rebuilt, settled: &Settled) -> Moved {
+        let marks = rebuilt.sweep(memory, settled.set.inside.as_slice());
         let (draft, map) = rebuilt.into_draft_and_map();
         Moved {
             draft,
@@ -163,192 +147,128 @@ impl<'a> Frame<'a> {
         }
     }
 
-    /// What a move comes to, after gates that nothing reads are dropped.
-    fn swept(
-        &self,
-        alloc: Global,
-        mut rebuilt: Rebuilt,
-        settled: &Settled,
-    ) -> Result<Option<Moved>, NoMemory> {
-        match rebuilt.sweep(alloc, settled.set.inside.as_slice()) {
-            Ok(marks) => Ok(Some(self.made(rebuilt, marks, settled))),
-            Err(refused) => Err(refused),
-        }
-    }
-
     /// The draft after the move, where no way gets too long.
-    fn moved(&self, alloc: Global, settled: &Settled) -> Result<Option<Moved>, NoMemory> {
-        let wishes = &settled.wishes;
-        let Ok(rebuilt) = rebuild(alloc, self.draft, &settled.set, wishes, settled.after) else {
-            return Err(NoMemory);
-        };
-        match self.is_long(alloc, &rebuilt.draft) {
-            Ok(false) => self.swept(alloc, rebuilt, settled),
-            Ok(true) => Ok(None),
-            Err(refused) => Err(refused),
+    fn moved(&self, memory: &mut Memory, settled: &Settled) -> Option<Moved> {
+        let (set, wishes) = (&settled.set, &settled.wishes);
+        let rebuilt = rebuild(memory, self.draft, set, wishes, settled.after);
+        if self.is_long(memory, &rebuilt.draft) {
+            None
+        } else {
+            Some(self.made(memory, rebuilt, settled))
         }
     }
 
-    /// Whether a set may move.
-    fn may_move(&self, alloc: Global, inside: &[bool]) -> Result<bool, NoMemory> {
-        match self.movable(alloc) {
-            Ok(may) => Ok(is_closed(self.draft, may.as_slice(), inside)),
-            Err(refused) => Err(refused),
-        }
+    /// Whether the last set may move.
+    fn may_repeat(&self, memory: &mut Memory, again: &Again) -> bool {
+        let may = movable(memory, self.draft, self.frozen.as_slice());
+        !again.is_empty() & is_closed(self.draft, may.as_slice(), again.marks.as_slice())
     }
 
     /// Moves a set, where its border takes no more latches than these.
-    fn moved_within(
-        &self,
-        alloc: Global,
-        set: Bordered,
-        most: u32,
-    ) -> Result<Option<Moved>, NoMemory> {
-        match self.settle(alloc, set) {
-            Ok(settled) if settled.after <= most => self.moved(alloc, &settled),
-            Ok(_) => Ok(None),
-            Err(refused) => Err(refused),
+    fn moved_within(&self, memory: &mut Memory, set: Bordered, most: u32) -> Option<Moved> {
+        let settled = self.settle(memory, set);
+        if settled.after > most {
+            None
+        } else {
+            self.moved(memory, &settled)
         }
     }
 
-    /// The last set with its border.
-    fn last_set(&self, alloc: Global, again: &Again) -> Result<Bordered, NoMemory> {
-        match Vec::from_slice(alloc, again.marks.as_slice()) {
-            Ok(inside) => self.bordered(alloc, inside),
-            Err(_) => Err(NoMemory),
-        }
-    }
-
-    /// Moves the last set again, where it may move and saves as many latches as then.
-    fn move_last(&self, alloc: Global, again: &Again) -> Result<Option<Moved>, NoMemory> {
+    /// Moves the last set again, where that saves as many latches as then.
+    fn move_last(&self, memory: &mut Memory, again: &Again) -> Option<Moved> {
         let most = self.latches.saturating_sub(again.saved);
-        match self.last_set(alloc, again) {
-            Ok(set) if cost(&set, self.starts.as_slice()) <= most => {
-                self.moved_within(alloc, set, most)
-            }
-            Ok(_) => Ok(None),
-            Err(refused) => Err(refused),
-        }
-    }
-
-    /// The same, where there is a last set and it may move.
-    fn repeat(&self, alloc: Global, again: &Again) -> Result<Option<Moved>, NoMemory> {
-        if again.is_empty() {
-            return Ok(None);
-        }
-        match self.may_move(alloc, again.marks.as_slice()) {
-            Ok(true) => self.move_last(alloc, again),
-            Ok(false) => Ok(None),
-            Err(refused) => Err(refused),
-        }
-    }
-
-    /// Notes whether another set may do, after nothing was moved.
-    fn note(&mut self, open: Result<bool, NoMemory>) -> Result<Option<Moved>, NoMemory> {
-        match open {
-            Ok(open) => {
-                self.open = open;
-                Ok(None)
-            }
-            Err(refused) => Err(refused),
+        let mut inside = memory.table(false, self.draft.size());
+        copy_marks(again.marks.as_slice(), inside.as_mut_slice());
+        let set = bordered(memory, self.draft, inside);
+        if cost(&set, self.starts.as_slice()) > most {
+            None
+        } else {
+            self.moved_within(memory, set, most)
         }
     }
 
     /// Freezes gates so that ways don't get too long.
-    fn shorten(&mut self, alloc: Global) -> Result<Option<Moved>, NoMemory> {
-        let Some(bound) = self.bound else {
-            return Ok(None);
-        };
-        let open = freeze_long(alloc, self.draft, bound, self.frozen.as_mut_slice());
-        self.note(open)
+    fn shorten(&mut self, memory: &mut Memory) {
+        if let Some(bound) = self.bound {
+            self.open = freeze_long(memory, self.draft, bound, self.frozen.as_mut_slice());
+        }
     }
 
     /// Freezes gates so that fewer variables have both wishes.
-    fn give_way(&mut self, alloc: Global, settled: &Settled) -> Result<Option<Moved>, NoMemory> {
-        let open = freeze_losers(
-            alloc,
+    fn give_way(&mut self, memory: &mut Memory, settled: &Settled) {
+        self.open = freeze_losers(
+            memory,
             self.draft,
             &settled.set,
             &settled.wishes,
             self.starts.as_slice(),
             self.frozen.as_mut_slice(),
         );
-        self.note(open)
-    }
-
-    /// The set that a flow chooses, and how many latches its border takes by the starts.
-    fn least(&self, alloc: Global) -> Result<(Vec<bool>, u32), NoMemory> {
-        match self.movable(alloc) {
-            Ok(may) => least_set(alloc, self.draft, may.as_slice(), self.starts.as_slice()),
-            Err(refused) => Err(refused),
-        }
     }
 
     /// Moves a set, where that saves latches and no way gets too long; else freezes gates.
-    fn attempt(&mut self, alloc: Global, settled: &Settled) -> Result<Option<Moved>, NoMemory> {
+    fn attempt(&mut self, memory: &mut Memory, settled: &Settled) -> Option<Moved> {
         if settled.after >= self.latches {
-            return self.give_way(alloc, settled);
+            self.give_way(memory, settled);
+            return None;
         }
-        match self.moved(alloc, settled) {
-            Ok(None) => self.shorten(alloc),
-            found => found,
+        let moved = self.moved(memory, settled);
+        if moved.is_none() {
+            self.shorten(memory);
         }
+        moved
     }
 
-    /// The same, of a set without its border.
-    fn attempt_set(&mut self, alloc: Global, inside: Vec<bool>) -> Result<Option<Moved>, NoMemory> {
-        let Ok(set) = self.bordered(alloc, inside) else {
-            return Err(NoMemory);
-        };
-        match self.settle(alloc, set) {
-            Ok(settled) => self.attempt(alloc, &settled),
-            Err(refused) => Err(refused),
-        }
+    /// The set that a flow chooses, and how many latches its border takes by the starts.
+    fn least(&self, memory: &mut Memory) -> (Vec<bool>, u32) {
+        let may = movable(memory, self.draft, self.frozen.as_slice());
+        least_set(memory, self.draft, may.as_slice(), self.starts.as_slice())
     }
 
     /// Moves the set that a flow chooses.
-    fn attempt_next(&mut self, alloc: Global) -> Result<Option<Moved>, NoMemory> {
+    fn attempt_next(&mut self, memory: &mut Memory) -> Option<Moved> {
         self.open = false;
-        match self.least(alloc) {
-            Ok((inside, units)) if units < self.latches => self.attempt_set(alloc, inside),
-            Ok(_) => Ok(None),
-            Err(refused) => Err(refused),
+        let (inside, units) = self.least(memory);
+        if units >= self.latches {
+            return None;
         }
+        let set = bordered(memory, self.draft, inside);
+        let settled = self.settle(memory, set);
+        self.attempt(memory, &settled)
     }
 
     /// Moves a set that a flow chooses.
-    fn search(&mut self, alloc: Global) -> Result<Option<Moved>, NoMemory> {
+    fn search(&mut self, memory: &mut Memory) -> Option<Moved> {
         for _ in 0..MOST_TRIES {
-            match self.attempt_next(alloc) {
-                Ok(None) if self.open => {}
+            match self.attempt_next(memory) {
+                None if self.open => {}
                 found => return found,
             }
         }
-        Ok(None)
+        None
     }
 
     /// Moves the last set again, or one that a flow chooses.
-    fn run(&mut self, alloc: Global, again: &Again) -> Result<Option<Moved>, NoMemory> {
-        match self.repeat(alloc, again) {
-            Ok(None) => self.search(alloc),
+    fn run(&mut self, memory: &mut Memory, again: &Again) -> Option<Moved> {
+        let last = if self.may_repeat(memory, again) {
+            self.move_last(memory, again)
+        } else {
+            None
+        };
+        match last {
+            None => self.search(memory),
             found => found,
         }
     }
 }
 
 /// Moves latches backward once, where that saves some.
-///
-/// # Errors
-///
-/// `NoMemory` where a table is refused.
 pub(crate) fn next_frame(
-    alloc: Global,
+    memory: &mut Memory,
     draft: &Draft,
     bound: Option<u32>,
     again: &Again,
-) -> Result<Option<Moved>, NoMemory> {
-    match Frame::new(alloc, draft, bound) {
-        Ok(mut frame) => frame.run(alloc, again),
-        Err(refused) => Err(refused),
-    }
+) -> Option<Moved> {
+    let mut frame = Frame::new(memory, draft, bound);
+    frame.run(memory, again)
 }

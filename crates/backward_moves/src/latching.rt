@@ -2,11 +2,9 @@
 //! with its sign, so that latches by which nothing is gained stay as they are. New latches follow, in the order of their variables.
 
 use crate::copies::{VERSIONS, Version, copy_of, need_of, set_copy};
-use aig_graph::NoMemory;
 use backward_sets::{
-    Bordered, Draft, DraftLatch, DraftReset, Literal, Wish, entry, set_entry, table, wish_of,
+    Bordered, Draft, DraftLatch, DraftReset, Literal, Memory, Wish, entry, set_entry, wish_of,
 };
-use std::alloc::Global;
 
 /// What becomes of a latch that doesn't take part. One that becomes the latch of a copy of what it reads has the number of that version.
 const STAYS: u32 = VERSIONS;
@@ -71,25 +69,19 @@ fn set_latch(latches: &mut [DraftLatch], place: u32, latch: DraftLatch) {
 
 impl Latching {
     /// No latch was put yet.
-    fn new(alloc: Global, draft: &Draft, added: u32) -> Result<Latching, NoMemory> {
+    fn new(memory: &mut Memory, draft: &Draft, added: u32) -> Latching {
         let all = draft.latches.len().saturating_add(added as usize);
-        let Ok(latches) = table(alloc, DraftLatch::NONE, all) else {
-            return Err(NoMemory);
-        };
+        let latches = memory.table(DraftLatch::NONE, all);
         let entries = draft.size().saturating_mul(VERSIONS as usize);
-        let Ok(copies) = table(alloc, Literal::NONE, entries) else {
-            return Err(NoMemory);
-        };
-        let Ok(places) = table(alloc, STAYS, draft.latches.len()) else {
-            return Err(NoMemory);
-        };
-        Ok(Latching {
+        let copies = memory.table(Literal::NONE, entries);
+        let places = memory.table(STAYS, draft.latches.len());
+        Latching {
             first: draft.first_latch(),
             latches,
             many: 0,
             copies,
             places,
-        })
+        }
     }
 
     /// Has latches serve that take part: those whose reset is settled, or the others.
@@ -170,22 +162,16 @@ impl Latching {
 }
 
 /// The latches after a frame over a set, by the wishes at its border, which takes so many latches.
-///
-/// # Errors
-///
-/// `NoMemory` where a table is refused.
 pub(crate) fn latching_of(
-    alloc: Global,
+    memory: &mut Memory,
     draft: &Draft,
     set: &Bordered,
     wishes: &[Wish],
     after: u32,
-) -> Result<Latching, NoMemory> {
-    let Ok(mut latching) = Latching::new(alloc, draft, after) else {
-        return Err(NoMemory);
-    };
+) -> Latching {
+    let mut latching = Latching::new(memory, draft, after);
     latching.serve(draft, set, wishes, true);
     latching.serve(draft, set, wishes, false);
     latching.put_all(draft, set, wishes);
-    Ok(latching)
+    latching
 }

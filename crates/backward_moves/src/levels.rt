@@ -1,9 +1,7 @@
 //! How many gates stand one above the other, and which gates have to stay so that no way gets too long. Since each gate that reads a member of a
 //! set is in it, the copies behind a latch before a gate reach what reads the latches of before: how far that is doesn't depend on the set.
 
-use aig_graph::NoMemory;
-use backward_sets::{Draft, entry, has_mark, number, set_entry, set_mark, table};
-use std::alloc::Global;
+use backward_sets::{Draft, Memory, entry, has_mark, number, set_entry, set_mark};
 
 /// An entry is at least this number from now on.
 fn lift(numbers: &mut [u32], place: u32, number: u32) {
@@ -33,18 +31,10 @@ fn most_of(draft: &Draft, levels: &[u32]) -> u32 {
 }
 
 /// The most gates on a way to a latch or a property.
-///
-/// # Errors
-///
-/// `NoMemory` where the table is refused.
-pub(crate) fn levels_of(alloc: Global, draft: &Draft) -> Result<u32, NoMemory> {
-    match table(alloc, 0u32, draft.size()) {
-        Ok(mut levels) => {
-            fill_levels(draft, levels.as_mut_slice());
-            Ok(most_of(draft, levels.as_slice()))
-        }
-        Err(refused) => Err(refused),
-    }
+pub(crate) fn levels_of(memory: &mut Memory, draft: &Draft) -> u32 {
+    let mut levels = memory.table(0u32, draft.size());
+    fill_levels(draft, levels.as_mut_slice());
+    most_of(draft, levels.as_slice())
 }
 
 /// Counts each gate at its own entry, and has those of its fan-ins be no less.
@@ -68,17 +58,13 @@ fn depart(draft: &Draft, heights: &[u32], departures: &mut [u32]) {
 }
 
 /// By variable the most gates on a way from a latch before it, through copies of it and of the gates above it, to a latch or a property.
-fn departures_of(alloc: Global, draft: &Draft) -> Result<Vec<u32>, NoMemory> {
-    let Ok(mut heights) = table(alloc, 0u32, draft.size()) else {
-        return Err(NoMemory);
-    };
-    let Ok(mut departures) = table(alloc, 0u32, draft.size()) else {
-        return Err(NoMemory);
-    };
+fn departures_of(memory: &mut Memory, draft: &Draft) -> Vec<u32> {
+    let mut heights = memory.table(0u32, draft.size());
+    let mut departures = memory.table(0u32, draft.size());
     climb(draft, heights.as_mut_slice());
     depart(draft, heights.as_slice(), departures.as_mut_slice());
     climb(draft, departures.as_mut_slice());
-    Ok(departures)
+    departures
 }
 
 /// Freezes the gates that depart higher than a bound. Whether one wasn't frozen before.
@@ -94,18 +80,12 @@ fn freeze_above(draft: &Draft, departures: &[u32], bound: u32, frozen: &mut [boo
 }
 
 /// Freezes the gates that would make a way longer than a bound. Whether one wasn't frozen before.
-///
-/// # Errors
-///
-/// `NoMemory` where a table is refused.
 pub(crate) fn freeze_long(
-    alloc: Global,
+    memory: &mut Memory,
     draft: &Draft,
     bound: u32,
     frozen: &mut [bool],
-) -> Result<bool, NoMemory> {
-    match departures_of(alloc, draft) {
-        Ok(departures) => Ok(freeze_above(draft, departures.as_slice(), bound, frozen)),
-        Err(refused) => Err(refused),
-    }
+) -> bool {
+    let departures = departures_of(memory, draft);
+    freeze_above(draft, departures.as_slice(), bound, frozen)
 }

@@ -8,8 +8,8 @@ use crate::reading::{Inputs, draft_of, stands_of};
 use crate::rebuilding::FrameMap;
 use crate::sweeping::sweep;
 use crate::watching::{MoveStage, MoveWatcher};
-use aig_graph::{Circuit, Keep, Lit, NoMemory, property_literals};
-use backward_sets::{Draft, DraftLatch, DraftReset, Literal, Pair};
+use aig_graph::{Aig, Circuit, Keep, Lit, NoMemory, property_literals};
+use backward_sets::{Draft, DraftLatch, DraftReset, Literal, Memory, Pair};
 use std::alloc::Global;
 use std::mem;
 
@@ -79,23 +79,6 @@ impl Drop for Run {
     }
 }
 
-/// The draft of a circuit, whose properties read these literals, without the gates that nothing reads.
-fn swept_draft(
-    alloc: Global,
-    circuit: &Circuit,
-    keep: &Keep,
-    inputs: &Inputs,
-    properties: &[Lit],
-) -> Result<Draft, NoMemory> {
-    let Ok(mut draft) = draft_of(alloc, circuit, keep, inputs, properties) else {
-        return Err(NoMemory);
-    };
-    match sweep(alloc, &mut draft) {
-        Ok(_) => Ok(draft),
-        Err(refused) => Err(refused),
-    }
-}
-
 /// Each latch that may start with either value starts with 0, and reads its literal of the first circuit.
 fn restore_latches(latches: &mut [DraftLatch], inputs: &Inputs) {
     for place in 0..latches.len() {
@@ -125,30 +108,32 @@ fn restore_literals(literals: &mut [Literal], inputs: &Inputs) {
 }
 
 impl Run {
-    /// No frame was taken yet.
-    fn new(
-        alloc: Global,
-        circuit: &Circuit,
-        keep: &Keep,
-        properties: &[Lit],
-    ) -> Result<Run, NoMemory> {
-        let Ok(inputs) = Inputs::of(alloc, circuit, properties) else {
-            return Err(NoMemory);
-        };
-        match swept_draft(alloc, circuit, keep, &inputs, properties) {
-            Ok(draft) => Ok(Run {
-                inputs,
-                draft,
-                again: Again::none(alloc),
-                maps: Vec::new(alloc),
-                frames: Vec::new(alloc),
-            }),
-            Err(refused) => Err(refused),
+    /// No frame was taken yet. Gates that nothing reads are dropped.
+    fn new(memory: &mut Memory, circuit: &Circuit, keep: &Keep, properties: &[Lit]) -> Run {
+        let inputs = Inputs::of(memory, circuit, properties);
+        let mut draft = draft_of(memory, circuit, keep, &inputs, properties);
+        drop(sweep(memory, &mut draft));
+        Run {
+            inputs,
+            draft,
+            again: Again::none(memory),
+            maps: memory.nothing(),
+            frames: memory.nothing(),
+        }
+    }
+
+    /// Notes what a frame did.
+    fn note(&mut self, memory: &mut Memory, counts: FrameCounts, map: FrameMap) {
+        if self.frames.push(counts).is_err() {
+            memory.refuse();
+        }
+        if self.maps.push(map).is_err() {
+            memory.refuse();
         }
     }
 
     /// Goes on from what a frame made.
-    fn take(&mut self, moved: Moved) -> Result<bool, NoMemory> {
+    fn take(&mut self, memory: &mut Memory, moved: Moved) {
         let Moved {
             draft,
             map,
@@ -157,17 +142,17 @@ impl Run {
         } = moved;
         drop(mem::replace(&mut self.draft, draft));
         drop(mem::replace(&mut self.again, again));
-        self.frames.push(counts)?;
-        self.maps.push(map)?;
-        Ok(true)
+        self.note(memory, counts, map);
     }
 
-    /// Takes one frame, if it saves a latch. Whether it does.
-    fn advance(&mut self, alloc: Global, bound: Option<u32>) -> Result<bool, NoMemory> {
-        match next_frame(alloc, &self.draft, bound, &self.again) {
-            Ok(Some(moved)) => self.take(moved),
-            Ok(None) => Ok(false),
-            Err(refused) => Err(refused),
+    /// Takes one frame, if it saves a latch. Whether it does, and no memory was refused.
+    fn advance(&mut self, memory: &mut Memory, bound: Option<u32>) -> bool {
+        match next_frame(memory, &self.draft, bound, &self.again) {
+            Some(moved) => {
+                self.take(memory, moved);
+                !memory.is_refused()
+            }
+            None => false,
         }
     }
 
@@ -181,39 +166,34 @@ impl Run {
     }
 
     /// The bound on ways: what is asked for, or the longest where that is more.
-    fn bound(&self, alloc: Global, options: &MoveOptions) -> Result<Option<u32>, NoMemory> {
-        let Some(levels) = options.levels else {
-            return Ok(None);
-        };
-        match levels_of(alloc, &self.draft) {
-            Ok(longest) => Ok(Some(levels.max(longest))),
-            Err(refused) => Err(refused),
+    fn bound(&self, memory: &mut Memory, options: &MoveOptions) -> Option<u32> {
+        match options.levels {
+            Some(levels) => Some(levels.max(levels_of(memory, &self.draft))),
+            None => None,
         }
     }
 
-    /// Takes frames until none saves a latch.
+    /// Takes frames until none saves a latch, or memory is refused.
     fn advance_all<W: MoveWatcher>(
         &mut self,
-        alloc: Global,
+        memory: &mut Memory,
         options: &MoveOptions,
         watcher: &mut W,
-    ) -> Result<(), NoMemory> {
-        let bound = self.bound(alloc, options)?;
+    ) {
+        let bound = self.bound(memory, options);
         for _ in 0..options.frames {
             watcher.begin(self.looking());
-            if !self.advance(alloc, bound)? {
-                return Ok(());
+            if !self.advance(memory, bound) {
+                return;
             }
         }
-        Ok(())
     }
 
-    /// Makes the draft one of the first circuit. The map of all frames.
-    fn whole_map(&mut self, alloc: Global) -> Result<WholeMap, NoMemory> {
+    /// Makes the draft one of the first circuit.
+    fn restore(&mut self) {
         restore_latches(self.draft.latches.as_mut_slice(), &self.inputs);
         restore_gates(self.draft.gates.as_mut_slice(), &self.inputs);
         restore_literals(self.draft.observed.as_mut_slice(), &self.inputs);
-        composed(alloc, self.maps.as_slice(), self.draft.many_latches())
     }
 
     /// The draft of the first circuit, with what stands for what its properties read, and a map.
@@ -240,45 +220,37 @@ impl Run {
         }
     }
 
-    /// What the run ends in. None where no frame was taken.
-    fn finished(
-        mut self,
-        alloc: Global,
-        circuit: &Circuit,
-        properties: &[Lit],
-    ) -> Result<Option<Drafted>, NoMemory> {
-        if self.frames.is_empty() {
-            return Ok(None);
-        }
-        let Ok(map) = self.whole_map(alloc) else {
-            return Err(NoMemory);
-        };
-        let observed = self.draft.observed.as_slice();
-        match stands_of(alloc, circuit.aig(), properties, observed) {
-            Ok(stands) => Ok(Some(self.into_drafted(stands, map))),
-            Err(refused) => Err(refused),
-        }
+    /// What the run ends in, where frames were taken.
+    fn finished(mut self, memory: &mut Memory, aig: &Aig, properties: &[Lit]) -> Drafted {
+        self.restore();
+        let stands = stands_of(memory, aig, properties, self.draft.observed.as_slice());
+        let map = composed(memory, self.maps.as_slice(), self.draft.many_latches());
+        self.into_drafted(stands, map)
     }
 }
 
-/// The run of a circuit whose properties read these literals, up to its end.
-fn drafted_run<W: MoveWatcher>(
-    alloc: Global,
+/// The draft of a circuit whose properties read these literals; none where no frame was taken, or memory was refused.
+fn moved_draft<W: MoveWatcher>(
+    memory: &mut Memory,
     circuit: &Circuit,
     keep: &Keep,
     properties: &[Lit],
     options: &MoveOptions,
     watcher: &mut W,
-) -> Result<Option<Drafted>, NoMemory> {
-    let Ok(mut run) = Run::new(alloc, circuit, keep, properties) else {
-        return Err(NoMemory);
-    };
-    match run.advance_all(alloc, options, watcher) {
-        Ok(()) => {
-            watcher.begin(MoveStage::Checking);
-            run.finished(alloc, circuit, properties)
-        }
-        Err(refused) => Err(refused),
+) -> Option<Drafted> {
+    let mut run = Run::new(memory, circuit, keep, properties);
+    if memory.is_refused() {
+        return None;
+    }
+    run.advance_all(memory, options, watcher);
+    if memory.is_refused() {
+        return None;
+    }
+    watcher.begin(MoveStage::Checking);
+    if run.frames.is_empty() {
+        None
+    } else {
+        Some(run.finished(memory, circuit.aig(), properties))
     }
 }
 
@@ -294,15 +266,15 @@ pub fn draft_moves<W: MoveWatcher>(
     options: &MoveOptions,
     watcher: &mut W,
 ) -> Result<Option<Drafted>, NoMemory> {
+    let mut memory = Memory::of(alloc);
     let Ok(properties) = property_literals(alloc, circuit.props()) else {
         return Err(NoMemory);
     };
-    drafted_run(
-        alloc,
-        circuit,
-        keep,
-        properties.as_slice(),
-        options,
-        watcher,
-    )
+    let properties = properties.as_slice();
+    let drafted = moved_draft(&mut memory, circuit, keep, properties, options, watcher);
+    if memory.is_refused() {
+        Err(NoMemory)
+    } else {
+        Ok(drafted)
+    }
 }

@@ -1,11 +1,10 @@
 //! A circuit as a draft. Inputs that nothing reads are left out, since a file of thirty bytes can have hundreds of millions of them.
 
 use crate::copies::{literal_at, set_literal};
-use aig_graph::{Aig, Circuit, Gate, Keep, Latch, Lit, NoMemory, Reset};
+use aig_graph::{Aig, Circuit, Gate, Keep, Latch, Lit, Reset};
 use backward_sets::{
-    Draft, DraftLatch, DraftReset, Literal, Pair, entry, number, set_entry, table,
+    Draft, DraftLatch, DraftReset, Literal, Memory, Pair, entry, number, set_entry,
 };
-use std::alloc::Global;
 
 /// The inputs that something reads, rising.
 #[derive(Drop)]
@@ -65,44 +64,35 @@ impl Notes {
 }
 
 /// The inputs that something reads, rising.
-fn inputs_read(alloc: Global, circuit: &Circuit, observed: &[Lit]) -> Result<Vec<u32>, NoMemory> {
+fn inputs_read(memory: &mut Memory, circuit: &Circuit, observed: &[Lit]) -> Vec<u32> {
     let aig = circuit.aig();
     let both = aig.latches_and_gates().saturating_add(aig.gates().len());
-    let Ok(read) = table(alloc, 0u32, observed.len().saturating_add(both)) else {
-        return Err(NoMemory);
-    };
+    let read = memory.table(0u32, observed.len().saturating_add(both));
     let mut notes = Notes {
         inputs: aig.inputs(),
         read,
         many: 0,
     };
     notes.note_all(observed, aig.latches(), aig.gates());
-    Ok(notes.into_rising())
+    notes.into_rising()
 }
 
 impl Inputs {
     /// All inputs where they are few, else those that are read, where properties read these literals.
-    ///
-    /// # Errors
-    ///
-    /// `NoMemory` where a table is refused.
-    pub fn of(alloc: Global, circuit: &Circuit, observed: &[Lit]) -> Result<Inputs, NoMemory> {
+    pub fn of(memory: &mut Memory, circuit: &Circuit, observed: &[Lit]) -> Inputs {
         let all = circuit.aig().inputs();
         if all as usize <= circuit.aig().latches_and_gates() {
-            let read = Vec::new(alloc);
-            return Ok(Inputs {
+            return Inputs {
                 all,
                 many: all,
-                read,
-            });
+                read: memory.nothing(),
+            };
         }
-        match inputs_read(alloc, circuit, observed) {
-            Ok(read) => Ok(Inputs {
-                all,
-                many: number(read.len()),
-                read,
-            }),
-            Err(refused) => Err(refused),
+        let read = inputs_read(memory, circuit, observed);
+        Inputs {
+            all,
+            many: number(read.len()),
+            read,
         }
     }
 
@@ -185,44 +175,32 @@ fn put_observed(inputs: &Inputs, properties: &[Lit], observed: &mut [Literal]) {
 }
 
 /// A draft whose latches, gates and properties are all none.
-fn blank(alloc: Global, aig: &Aig, inputs: u32, properties: usize) -> Result<Draft, NoMemory> {
-    let Ok(latches) = table(alloc, DraftLatch::NONE, aig.latches().len()) else {
-        return Err(NoMemory);
-    };
-    let Ok(gates) = table(alloc, Pair::NONE, aig.gates().len()) else {
-        return Err(NoMemory);
-    };
-    let Ok(observed) = table(alloc, Literal::FALSE, properties) else {
-        return Err(NoMemory);
-    };
-    Ok(Draft {
+fn blank(memory: &mut Memory, aig: &Aig, inputs: u32, properties: usize) -> Draft {
+    let latches = memory.table(DraftLatch::NONE, aig.latches().len());
+    let gates = memory.table(Pair::NONE, aig.gates().len());
+    let observed = memory.table(Literal::FALSE, properties);
+    Draft {
         inputs,
         latches,
         gates,
         observed,
-    })
+    }
 }
 
 /// The draft that a circuit is, with these inputs, whose properties read these literals.
-///
-/// # Errors
-///
-/// `NoMemory` where a table is refused.
 pub(crate) fn draft_of(
-    alloc: Global,
+    memory: &mut Memory,
     circuit: &Circuit,
     keep: &Keep,
     inputs: &Inputs,
     properties: &[Lit],
-) -> Result<Draft, NoMemory> {
+) -> Draft {
     let aig = circuit.aig();
-    let Ok(mut draft) = blank(alloc, aig, inputs.many, properties.len()) else {
-        return Err(NoMemory);
-    };
+    let mut draft = blank(memory, aig, inputs.many, properties.len());
     put_latches(inputs, keep, aig.latches(), draft.latches.as_mut_slice());
     put_gates(inputs, aig.gates(), draft.gates.as_mut_slice());
     put_observed(inputs, properties, draft.observed.as_mut_slice());
-    Ok(draft)
+    draft
 }
 
 /// Puts what stands for each latch and gate that a property reads, from a first variable on.
@@ -235,20 +213,14 @@ fn put_stands(stands: &mut [Literal], first: u32, properties: &[Lit], observed: 
 }
 
 /// What stands for each latch and gate of a circuit that a property reads, where these literals stand for those of its properties.
-///
-/// # Errors
-///
-/// `NoMemory` where a table is refused.
 pub(crate) fn stands_of(
-    alloc: Global,
+    memory: &mut Memory,
     aig: &Aig,
     properties: &[Lit],
     observed: &[Literal],
-) -> Result<Vec<Literal>, NoMemory> {
-    let Ok(mut stands) = table(alloc, Literal::FALSE, aig.latches_and_gates()) else {
-        return Err(NoMemory);
-    };
+) -> Vec<Literal> {
+    let mut stands = memory.table(Literal::FALSE, aig.latches_and_gates());
     let first = aig.first_latch();
     put_stands(stands.as_mut_slice(), first, properties, observed);
-    Ok(stands)
+    stands
 }

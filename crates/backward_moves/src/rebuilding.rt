@@ -8,11 +8,9 @@ use crate::copies::{
 use crate::latching::{Latching, latching_of};
 use crate::shared::{Shared, set_pair};
 use crate::sweeping::sweep;
-use aig_graph::NoMemory;
 use backward_sets::{
-    Bordered, Draft, DraftLatch, Literal, Pair, Wish, Wishes, entry, has_mark, table, wish_of,
+    Bordered, Draft, DraftLatch, Literal, Memory, Pair, Wish, Wishes, entry, has_mark, wish_of,
 };
-use std::alloc::Global;
 
 /// What the latches of before a frame hold, by those after it: gates over these, which have the variables from 1 on, and a literal for each.
 pub(crate) struct FrameMap {
@@ -50,16 +48,10 @@ impl Rebuilt {
     }
 
     /// Drops gates that nothing reads. By variable whether it is the copy of a gate of the set.
-    ///
-    /// # Errors
-    ///
-    /// `NoMemory` where a table is refused.
-    pub fn sweep(&mut self, alloc: Global, inside: &[bool]) -> Result<Vec<bool>, NoMemory> {
-        let Ok(numbers) = sweep(alloc, &mut self.draft) else {
-            return Err(NoMemory);
-        };
+    pub fn sweep(&mut self, memory: &mut Memory, inside: &[bool]) -> Vec<bool> {
+        let numbers = sweep(memory, &mut self.draft);
         let copies = self.copies.as_slice();
-        marks_of(alloc, &self.draft, inside, copies, numbers.as_slice())
+        marks_of(memory, &self.draft, inside, copies, numbers.as_slice())
     }
 }
 
@@ -129,20 +121,14 @@ fn put_standing(stands: &[Literal], lits: &[Literal], all: &mut [Literal]) {
 }
 
 /// The literals that stand for these.
-///
-/// # Errors
-///
-/// `NoMemory` where the table is refused.
 pub(crate) fn all_standing(
-    alloc: Global,
+    memory: &mut Memory,
     stands: &[Literal],
     lits: &[Literal],
-) -> Result<Vec<Literal>, NoMemory> {
-    let Ok(mut all) = table(alloc, Literal::FALSE, lits.len()) else {
-        return Err(NoMemory);
-    };
+) -> Vec<Literal> {
+    let mut all = memory.table(Literal::FALSE, lits.len());
     put_standing(stands, lits, all.as_mut_slice());
-    Ok(all)
+    all
 }
 
 /// The latches after a frame, and the gates behind them so far.
@@ -155,19 +141,17 @@ struct Side {
 impl Side {
     /// The copies of the set's gates come after the latches.
     fn new(
-        alloc: Global,
+        memory: &mut Memory,
         draft: &Draft,
         set: &Bordered,
         wishes: &[Wish],
         after: u32,
-    ) -> Result<Side, NoMemory> {
-        let Ok(latching) = latching_of(alloc, draft, set, wishes, after) else {
-            return Err(NoMemory);
-        };
+    ) -> Side {
+        let latching = latching_of(memory, draft, set, wishes, after);
         let end = draft.first_latch().wrapping_add(latching.many);
-        match Shared::after(alloc, end, room(draft, set, wishes)) {
-            Ok(gates) => Ok(Side { gates, latching }),
-            Err(refused) => Err(refused),
+        Side {
+            gates: Shared::after(memory, end, room(draft, set, wishes)),
+            latching,
         }
     }
 
@@ -248,36 +232,28 @@ impl Side {
     }
 
     /// The map of the states after a frame to those before it, where no gates stand here yet but the copies of the set's.
-    fn map(&self, alloc: Global, draft: &Draft, stands: &[Literal]) -> Result<FrameMap, NoMemory> {
-        let Ok(mut gates) = table(alloc, Pair::NONE, self.gates.many() as usize) else {
-            return Err(NoMemory);
-        };
-        let Ok(mut outputs) = table(alloc, Literal::FALSE, draft.latches.len()) else {
-            return Err(NoMemory);
-        };
+    fn map(&self, memory: &mut Memory, draft: &Draft, stands: &[Literal]) -> FrameMap {
+        let mut gates = memory.table(Pair::NONE, self.gates.many() as usize);
+        let mut outputs = memory.table(Literal::FALSE, draft.latches.len());
         lower_gates(&self.gates, draft.inputs, gates.as_mut_slice());
         lower_latches(draft, stands, outputs.as_mut_slice());
-        Ok(FrameMap { gates, outputs })
+        FrameMap { gates, outputs }
     }
 
     /// Puts all gates, and what stands for the variables of before. The map of the states after a frame to those before it.
     fn finish(
         &mut self,
-        alloc: Global,
+        memory: &mut Memory,
         draft: &Draft,
         set: &Bordered,
         wishes: &Wishes,
         stands: &mut [Literal],
-    ) -> Result<FrameMap, NoMemory> {
+    ) -> FrameMap {
         self.put_all(draft, set, wishes);
         self.put_latches(draft, wishes, stands);
-        match self.map(alloc, draft, stands) {
-            Ok(map) => {
-                self.put_others(draft, set, stands);
-                Ok(map)
-            }
-            Err(refused) => Err(refused),
-        }
+        let map = self.map(memory, draft, stands);
+        self.put_others(draft, set, stands);
+        map
     }
 
     /// The draft after a frame, with its map.
@@ -298,28 +274,16 @@ impl Side {
 }
 
 /// The draft after a frame over a set, by the wishes at its border, which takes so many latches. Gates that nothing reads are still there.
-///
-/// # Errors
-///
-/// `NoMemory` where a table is refused.
 pub(crate) fn rebuild(
-    alloc: Global,
+    memory: &mut Memory,
     draft: &Draft,
     set: &Bordered,
     wishes: &Wishes,
     after: u32,
-) -> Result<Rebuilt, NoMemory> {
-    let Ok(mut stands) = table(alloc, Literal::NONE, draft.size()) else {
-        return Err(NoMemory);
-    };
-    let Ok(mut side) = Side::new(alloc, draft, set, wishes.of.as_slice(), after) else {
-        return Err(NoMemory);
-    };
-    let Ok(map) = side.finish(alloc, draft, set, wishes, stands.as_mut_slice()) else {
-        return Err(NoMemory);
-    };
-    match all_standing(alloc, stands.as_slice(), draft.observed.as_slice()) {
-        Ok(observed) => Ok(side.into_rebuilt(draft.inputs, observed, map)),
-        Err(refused) => Err(refused),
-    }
+) -> Rebuilt {
+    let mut stands = memory.table(Literal::NONE, draft.size());
+    let mut side = Side::new(memory, draft, set, wishes.of.as_slice(), after);
+    let map = side.finish(memory, draft, set, wishes, stands.as_mut_slice());
+    let observed = all_standing(memory, stands.as_slice(), draft.observed.as_slice());
+    side.into_rebuilt(draft.inputs, observed, map)
 }

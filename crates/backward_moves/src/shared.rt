@@ -1,8 +1,6 @@
 //! Gates of which no two have the same fan-ins, by the rules by which maps are checked. An open table has the places of the gates.
 
-use aig_graph::NoMemory;
-use backward_sets::{Literal, Pair, entry, number, set_entry, table};
-use std::alloc::Global;
+use backward_sets::{Literal, Memory, Pair, entry, number, set_entry};
 
 /// The smallest table.
 const SMALLEST: usize = 16;
@@ -78,23 +76,15 @@ pub(crate) fn set_pair(pairs: &mut [Pair], place: u32, pair: Pair) {
 
 impl Shared {
     /// No gates yet, from a first variable on, with room for so many. Of more there must not be.
-    ///
-    /// # Errors
-    ///
-    /// `NoMemory` where a table is refused.
-    pub fn after(alloc: Global, first: u32, room: usize) -> Result<Shared, NoMemory> {
-        let Ok(gates) = table(alloc, Pair::NONE, room) else {
-            return Err(NoMemory);
-        };
-        let Ok(table) = table(alloc, 0u32, size_for(room)) else {
-            return Err(NoMemory);
-        };
-        Ok(Shared {
+    pub fn after(memory: &mut Memory, first: u32, room: usize) -> Shared {
+        let gates = memory.table(Pair::NONE, room);
+        let table = memory.table(0u32, size_for(room));
+        Shared {
             first,
             gates,
             many: 0,
             table,
-        })
+        }
     }
 
     /// Whether an entry is empty, or that of this gate.

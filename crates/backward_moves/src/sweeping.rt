@@ -1,9 +1,7 @@
 //! Gates that no property and no latch reaches are dropped.
 
 use crate::shared::set_pair;
-use aig_graph::NoMemory;
-use backward_sets::{Draft, DraftLatch, Literal, Pair, entry, number, set_entry, table};
-use std::alloc::Global;
+use backward_sets::{Draft, DraftLatch, Literal, Memory, Pair, entry, number, set_entry};
 
 /// Puts 1 at each variable that a property or a latch reaches.
 fn mark_reached(draft: &Draft, reached: &mut [u32]) {
@@ -81,16 +79,10 @@ fn renumber(draft: &mut Draft, numbers: &[u32], end: u32) {
 }
 
 /// Drops the gates of a draft that nothing reaches. By variable the new numbers; variables that went have 0.
-///
-/// # Errors
-///
-/// `NoMemory` where a table is refused.
-pub(crate) fn sweep(alloc: Global, draft: &mut Draft) -> Result<Vec<u32>, NoMemory> {
-    let Ok(mut numbers) = table(alloc, 0u32, draft.size()) else {
-        return Err(NoMemory);
-    };
+pub(crate) fn sweep(memory: &mut Memory, draft: &mut Draft) -> Vec<u32> {
+    let mut numbers = memory.table(0u32, draft.size());
     mark_reached(draft, numbers.as_mut_slice());
     let end = number_reached(draft.first_gate(), numbers.as_mut_slice());
     renumber(draft, numbers.as_slice(), end);
-    Ok(numbers)
+    numbers
 }

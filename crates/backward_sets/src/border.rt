@@ -1,10 +1,9 @@
 //! A set of gates, and its border: what the set's gates read from outside of it, and what latches that take part read.
 
 use crate::drafts::Draft;
+use crate::memory::Memory;
 use crate::starts::{Wish, wish_of};
-use crate::tables::{has_mark, number, set_mark, table};
-use aig_graph::NoMemory;
-use std::alloc::Global;
+use crate::tables::{has_mark, number, set_mark};
 
 /// A set of gates and its border, by variable.
 #[derive(Drop)]
@@ -58,16 +57,10 @@ fn mark_border(draft: &Draft, inside: &[bool], border: &mut [bool]) {
 }
 
 /// By variable whether it is in the border of a set.
-///
-/// # Errors
-///
-/// `NoMemory` where the table is refused.
-pub fn border_of(alloc: Global, draft: &Draft, inside: &[bool]) -> Result<Vec<bool>, NoMemory> {
-    let Ok(mut border) = table(alloc, false, draft.size()) else {
-        return Err(NoMemory);
-    };
+pub fn border_of(memory: &mut Memory, draft: &Draft, inside: &[bool]) -> Vec<bool> {
+    let mut border = memory.table(false, draft.size());
     mark_border(draft, inside, border.as_mut_slice());
-    Ok(border)
+    border
 }
 
 /// Whether a set may move as it is: its gates may, and so each gate that reads one is in it.

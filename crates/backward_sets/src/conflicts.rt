@@ -4,11 +4,10 @@
 use crate::border::Bordered;
 use crate::drafts::{Draft, Pair};
 use crate::literals::Literal;
+use crate::memory::Memory;
 use crate::starts::{Wish, wish_of};
-use crate::tables::{has_mark, set_mark, table};
+use crate::tables::{has_mark, set_mark};
 use crate::wishes::Wishes;
-use aig_graph::NoMemory;
-use std::alloc::Global;
 
 /// A latch's wish has more weight than those of all gates.
 const LATCH_WEIGHT: u32 = 1 << 20;
@@ -117,21 +116,15 @@ impl<'a> Contest<'a> {
 }
 
 /// Freezes the gates whose wish fewer have. Whether there are any.
-///
-/// # Errors
-///
-/// `NoMemory` where the table is refused.
 pub fn freeze_losers(
-    alloc: Global,
+    memory: &mut Memory,
     draft: &Draft,
     set: &Bordered,
     wishes: &Wishes,
     starts: &[Wish],
     frozen: &mut [bool],
-) -> Result<bool, NoMemory> {
-    let Ok(mut votes) = table(alloc, Votes { zero: 0, one: 0 }, draft.size()) else {
-        return Err(NoMemory);
-    };
+) -> bool {
+    let mut votes = memory.table(Votes { zero: 0, one: 0 }, draft.size());
     put_votes(votes.as_mut_slice(), draft, set, wishes);
     let contest = Contest {
         set,
@@ -139,5 +132,5 @@ pub fn freeze_losers(
         starts,
         votes: votes.as_slice(),
     };
-    Ok(contest.freeze(draft, frozen))
+    contest.freeze(draft, frozen)
 }

@@ -1,9 +1,8 @@
 //! Arcs with room for units, each beside the arc that leads back. The least cut of a network is where the flow of units along its arcs can't
 //! grow any more.
 
-use crate::tables::{entry, number, set_entry, table};
-use aig_graph::NoMemory;
-use std::alloc::Global;
+use crate::memory::Memory;
+use crate::tables::{entry, number, set_entry};
 
 /// More units than ever come to a node.
 pub const UNBOUNDED: u32 = 1 << 30;
@@ -39,19 +38,13 @@ pub struct Flow {
 
 impl Flow {
     /// Nodes without arcs.
-    ///
-    /// # Errors
-    ///
-    /// `NoMemory` where the table is refused.
-    pub fn new(alloc: Global, nodes: usize) -> Result<Flow, NoMemory> {
-        let Ok(heads) = table(alloc, NO_ARC, nodes) else {
-            return Err(NoMemory);
-        };
-        Ok(Flow {
+    pub fn new(memory: &mut Memory, nodes: usize) -> Flow {
+        let heads = memory.table(NO_ARC, nodes);
+        Flow {
             heads,
-            arcs: Vec::new(alloc),
+            arcs: memory.nothing(),
             refused: false,
-        })
+        }
     }
 
     /// Puts one arc, without the one that leads back.

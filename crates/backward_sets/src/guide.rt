@@ -4,9 +4,8 @@
 
 use crate::drafts::Draft;
 use crate::literals::Literal;
-use crate::tables::{entry, number, set_mark, table};
-use aig_graph::NoMemory;
-use std::alloc::Global;
+use crate::memory::Memory;
+use crate::tables::{entry, number, set_mark};
 
 /// How many steps are made.
 const STEPS: u32 = 4;
@@ -113,22 +112,16 @@ fn lane_values(values: &[u64], lane: u32, guide: &mut [bool]) {
 
 impl Lanes {
     /// All rows are 0.
-    fn new(alloc: Global, draft: &Draft) -> Result<Lanes, NoMemory> {
-        let Ok(values) = table(alloc, 0u64, draft.size()) else {
-            return Err(NoMemory);
-        };
-        let Ok(state) = table(alloc, 0u64, draft.latches.len()) else {
-            return Err(NoMemory);
-        };
-        let Ok(wrong) = table(alloc, 0u32, 64) else {
-            return Err(NoMemory);
-        };
-        Ok(Lanes {
+    fn new(memory: &mut Memory, draft: &Draft) -> Lanes {
+        let values = memory.table(0u64, draft.size());
+        let state = memory.table(0u64, draft.latches.len());
+        let wrong = memory.table(0u32, 64);
+        Lanes {
             values,
             state,
             wrong,
             seed: 0x9e37_79b9_7f4a_7c15,
-        })
+        }
     }
 
     /// The next row of inputs: 0 in the first lane, 1 in the second.
@@ -171,28 +164,10 @@ impl Lanes {
     }
 }
 
-/// Writes by variable its value at a step that leads to the resets, as nearly as those that are tried do.
-fn write_guide(alloc: Global, draft: &Draft, guide: &mut [bool]) -> Result<(), NoMemory> {
-    match Lanes::new(alloc, draft) {
-        Ok(mut lanes) => {
-            lanes.run(draft, guide);
-            Ok(())
-        }
-        Err(refused) => Err(refused),
-    }
-}
-
 /// By variable its value at a step that leads to the resets, as nearly as those that are tried do.
-///
-/// # Errors
-///
-/// `NoMemory` where a table is refused.
-pub fn guide_of(alloc: Global, draft: &Draft) -> Result<Vec<bool>, NoMemory> {
-    let Ok(mut guide) = table(alloc, false, draft.size()) else {
-        return Err(NoMemory);
-    };
-    match write_guide(alloc, draft, guide.as_mut_slice()) {
-        Ok(()) => Ok(guide),
-        Err(refused) => Err(refused),
-    }
+pub fn guide_of(memory: &mut Memory, draft: &Draft) -> Vec<bool> {
+    let mut guide = memory.table(false, draft.size());
+    let mut lanes = Lanes::new(memory, draft);
+    lanes.run(draft, guide.as_mut_slice());
+    guide
 }

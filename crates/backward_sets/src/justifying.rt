@@ -5,11 +5,10 @@
 use crate::border::Bordered;
 use crate::drafts::{Draft, Pair};
 use crate::literals::Literal;
+use crate::memory::Memory;
 use crate::starts::Wish;
-use crate::tables::{has_mark, table};
+use crate::tables::has_mark;
 use crate::values::Values;
-use aig_graph::NoMemory;
-use std::alloc::Global;
 
 /// How often the search goes back at most.
 const MOST_BACK: u32 = 1000;
@@ -79,35 +78,29 @@ fn choice_of(guide: &[bool], pair: &Pair) -> Literal {
 impl<'a> Search<'a> {
     /// No choice yet.
     fn new(
-        alloc: Global,
+        memory: &mut Memory,
         draft: &'a Draft,
         set: &'a Bordered,
         starts: &'a [Wish],
-    ) -> Result<Search<'a>, NoMemory> {
-        let Ok(decisions) = table(alloc, Decision::NONE, draft.gates.len()) else {
-            return Err(NoMemory);
-        };
-        let Ok(values) = Values::none(alloc, draft, set, starts) else {
-            return Err(NoMemory);
-        };
-        Ok(Search {
-            values,
-            decisions,
+    ) -> Search<'a> {
+        Search {
+            values: Values::none(memory, draft, set, starts),
+            decisions: memory.table(Decision::NONE, draft.gates.len()),
             depth: 0,
             look: draft.end(),
             back: 0,
-        })
+        }
     }
 
     /// Whether a fan-in of a gate that is to be 0 can still be made 0, and isn't yet.
     fn is_waiting(&self, lit: Literal) -> bool {
-        !self.values.has(lit, false) & !self.values.is_both(lit.var())
+        !self.values.of(lit).zero & !self.values.is_both(lit.var())
     }
 
     /// Whether a gate of the set is to be 0, and no fan-in is yet.
     fn is_open(&self, set: &Bordered, var: u32, pair: &Pair) -> bool {
         set.has(var)
-            & self.values.has(Literal::of(var), false)
+            & self.values.of(Literal::of(var)).zero
             & self.is_waiting(pair.larger)
             & self.is_waiting(pair.smaller)
     }
@@ -190,19 +183,13 @@ impl<'a> Search<'a> {
 }
 
 /// Writes values over those of a guide by which all latches start as they do. Whether such were found; else the guide stays as it is.
-///
-/// # Errors
-///
-/// `NoMemory` where a table is refused.
 pub fn justify(
-    alloc: Global,
+    memory: &mut Memory,
     draft: &Draft,
     set: &Bordered,
     starts: &[Wish],
     guide: &mut [bool],
-) -> Result<bool, NoMemory> {
-    match Search::new(alloc, draft, set, starts) {
-        Ok(mut search) => Ok(search.justify(draft, set, guide)),
-        Err(refused) => Err(refused),
-    }
+) -> bool {
+    let mut search = Search::new(memory, draft, set, starts);
+    search.justify(draft, set, guide)
 }

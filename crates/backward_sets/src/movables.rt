@@ -2,9 +2,8 @@
 //! too. One pass from the last gate down.
 
 use crate::drafts::Draft;
-use crate::tables::{has_mark, number, set_mark, table};
-use aig_graph::NoMemory;
-use std::alloc::Global;
+use crate::memory::Memory;
+use crate::tables::{has_mark, number, set_mark};
 
 /// Marks a variable as read, and takes its other mark where what reads it stays.
 fn mark_fan_in(may: &mut [bool], read: &mut [bool], var: u32, moves: bool) {
@@ -40,18 +39,10 @@ fn mark_gates(draft: &Draft, may: &mut [bool], read: &mut [bool]) {
 }
 
 /// By variable whether it is a gate that may move, where some gates have to stay.
-///
-/// # Errors
-///
-/// `NoMemory` where a table is refused.
-pub fn movable(alloc: Global, draft: &Draft, frozen: &[bool]) -> Result<Vec<bool>, NoMemory> {
-    let Ok(mut read) = table(alloc, false, draft.size()) else {
-        return Err(NoMemory);
-    };
-    let Ok(mut may) = table(alloc, false, draft.size()) else {
-        return Err(NoMemory);
-    };
+pub fn movable(memory: &mut Memory, draft: &Draft, frozen: &[bool]) -> Vec<bool> {
+    let mut read = memory.table(false, draft.size());
+    let mut may = memory.table(false, draft.size());
     mark_leaves(draft, frozen, may.as_mut_slice(), read.as_mut_slice());
     mark_gates(draft, may.as_mut_slice(), read.as_mut_slice());
-    Ok(may)
+    may
 }

@@ -5,11 +5,10 @@
 
 use crate::drafts::Draft;
 use crate::flow::{Flow, UNBOUNDED};
+use crate::memory::Memory;
 use crate::search::Search;
 use crate::starts::{Wish, wish_of};
-use crate::tables::{has_mark, number, set_mark, table};
-use aig_graph::NoMemory;
-use std::alloc::Global;
+use crate::tables::{has_mark, number, set_mark};
 
 /// The node before a variable.
 fn before(var: u32) -> u32 {
@@ -70,63 +69,40 @@ fn mark_near_side(may: &[bool], search: &Search, marks: &mut [bool]) {
     }
 }
 
-/// Marks the gates on the source's side of the least cut that is nearest to it: how many units go over it.
-fn mark_cut(
-    alloc: Global,
-    flow: &mut Flow,
-    draft: &Draft,
-    may: &[bool],
-    marks: &mut [bool],
-) -> Result<u32, NoMemory> {
-    match Search::new(alloc, flow.nodes()) {
-        Ok(mut search) => {
-            let units = search.run(flow, before(draft.end()), after(draft.end()));
-            mark_near_side(may, &search, marks);
-            Ok(units)
-        }
-        Err(refused) => Err(refused),
-    }
-}
-
-/// The same of the network of a draft, which is made for it.
-fn mark_least(
-    alloc: Global,
+/// The network of a draft; marks what the source reaches.
+fn network_of(
+    memory: &mut Memory,
     draft: &Draft,
     may: &[bool],
     starts: &[Wish],
-    marks: &mut [bool],
-) -> Result<u32, NoMemory> {
-    let nodes = draft.size().saturating_mul(2).saturating_add(2);
-    match Flow::new(alloc, nodes) {
-        Ok(mut flow) => {
-            join_latches(&mut flow, draft, marks);
-            join_all(&mut flow, draft, may, starts, marks);
-            if flow.is_refused() {
-                Err(NoMemory)
-            } else {
-                mark_cut(alloc, &mut flow, draft, may, marks)
-            }
-        }
-        Err(refused) => Err(refused),
+    wanted: &mut [bool],
+) -> Flow {
+    let mut flow = Flow::new(memory, draft.size().saturating_mul(2).saturating_add(2));
+    join_latches(&mut flow, draft, wanted);
+    join_all(&mut flow, draft, may, starts, wanted);
+    if flow.is_refused() {
+        memory.refuse();
     }
+    flow
 }
 
 /// By variable whether it is in the smallest set of gates whose border takes the fewest latches, and how many these are.
 ///
-/// # Errors
-///
-/// `NoMemory` where a table is refused.
+/// Where memory was refused nothing is looked for, since a search goes by its tables.
 pub fn least_set(
-    alloc: Global,
+    memory: &mut Memory,
     draft: &Draft,
     may: &[bool],
     starts: &[Wish],
-) -> Result<(Vec<bool>, u32), NoMemory> {
-    let Ok(mut marks) = table(alloc, false, draft.size()) else {
-        return Err(NoMemory);
+) -> (Vec<bool>, u32) {
+    let mut marks = memory.table(false, draft.size());
+    let mut flow = network_of(memory, draft, may, starts, marks.as_mut_slice());
+    let mut search = Search::new(memory, flow.nodes());
+    let units = if memory.is_refused() {
+        u32::MAX
+    } else {
+        search.run(&mut flow, before(draft.end()), after(draft.end()))
     };
-    match mark_least(alloc, draft, may, starts, marks.as_mut_slice()) {
-        Ok(units) => Ok((marks, units)),
-        Err(refused) => Err(refused),
-    }
+    mark_near_side(may, &search, marks.as_mut_slice());
+    (marks, units)
 }

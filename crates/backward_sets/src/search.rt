@@ -2,9 +2,8 @@
 //! ways are short, as they are between latches and the gates before them.
 
 use crate::flow::{Flow, NO_ARC};
-use crate::tables::{entry, has_mark, set_entry, set_mark, table};
-use aig_graph::NoMemory;
-use std::alloc::Global;
+use crate::memory::Memory;
+use crate::tables::{entry, has_mark, set_entry, set_mark};
 
 /// What a step of a search does.
 #[derive(Clone, Copy)]
@@ -36,27 +35,17 @@ fn write_over(numbers: &mut [u32], others: &[u32]) {
 
 impl Search {
     /// No node is visited.
-    ///
-    /// # Errors
-    ///
-    /// `NoMemory` where a table is refused.
-    pub fn new(alloc: Global, nodes: usize) -> Result<Search, NoMemory> {
-        let Ok(way) = table(alloc, 0u32, nodes) else {
-            return Err(NoMemory);
-        };
-        let Ok(next) = table(alloc, 0u32, nodes) else {
-            return Err(NoMemory);
-        };
-        let Ok(seen) = table(alloc, false, nodes) else {
-            return Err(NoMemory);
-        };
-        Ok(Search {
+    pub fn new(memory: &mut Memory, nodes: usize) -> Search {
+        let way = memory.table(0u32, nodes);
+        let next = memory.table(0u32, nodes);
+        let seen = memory.table(false, nodes);
+        Search {
             at: 0,
             way,
             length: 0,
             next,
             seen,
-        })
+        }
     }
 
     /// No node is visited but the first.

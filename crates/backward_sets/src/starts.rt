@@ -2,9 +2,7 @@
 
 use crate::drafts::Draft;
 use crate::literals::Literal;
-use crate::tables::table;
-use aig_graph::NoMemory;
-use std::alloc::Global;
+use crate::memory::Memory;
 
 /// The values that are wished of a variable: none, one of them, or both.
 #[derive(Clone, Copy)]
@@ -28,6 +26,14 @@ impl Wish {
     /// Whether both values are wished.
     pub fn is_both(self) -> bool {
         self.zero & self.one
+    }
+
+    /// The wish of a literal's negation, or the same.
+    pub fn negated_if(self, negated: bool) -> Wish {
+        Wish {
+            zero: (self.zero & !negated) | (self.one & negated),
+            one: (self.one & !negated) | (self.zero & negated),
+        }
     }
 
     /// The wish with this value too.
@@ -74,14 +80,8 @@ fn add_starts(draft: &Draft, wishes: &mut [Wish]) {
 }
 
 /// By variable what the latches that take part wish of it.
-///
-/// # Errors
-///
-/// `NoMemory` where the table is refused.
-pub fn starts_of(alloc: Global, draft: &Draft) -> Result<Vec<Wish>, NoMemory> {
-    let Ok(mut wishes) = table(alloc, Wish::NONE, draft.size()) else {
-        return Err(NoMemory);
-    };
+pub fn starts_of(memory: &mut Memory, draft: &Draft) -> Vec<Wish> {
+    let mut wishes = memory.table(Wish::NONE, draft.size());
     add_starts(draft, wishes.as_mut_slice());
-    Ok(wishes)
+    wishes
 }

@@ -2,24 +2,9 @@
 //!
 //! They are read and written by index behind a look at their length, which is far cheaper to prove than a match on what `get` finds.
 
-use aig_graph::NoMemory;
-use std::alloc::Global;
-
 /// A number of entries; a graph has fewer than these bits hold.
 pub fn number(many: usize) -> u32 {
     (many & 0xffff_ffff) as u32
-}
-
-/// A table of so many entries, which are all the same.
-///
-/// # Errors
-///
-/// `NoMemory` where it is refused.
-pub fn table<T: Copy>(alloc: Global, entry: T, many: usize) -> Result<Vec<T>, NoMemory> {
-    match vec![in alloc; entry; many] {
-        Ok(table) => Ok(table),
-        Err(_) => Err(NoMemory),
-    }
 }
 
 /// Whether a variable has a mark.

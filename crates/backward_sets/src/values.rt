@@ -3,11 +3,10 @@
 use crate::border::Bordered;
 use crate::drafts::{Draft, Pair};
 use crate::literals::Literal;
+use crate::memory::Memory;
 use crate::readers::Readers;
 use crate::starts::{Wish, set_wish, wish_of};
-use crate::tables::{entry, set_entry, set_mark, table};
-use aig_graph::NoMemory;
-use std::alloc::Global;
+use crate::tables::{entry, set_entry, set_mark};
 
 /// Values, and the variables that have one in the order in which they got it.
 #[derive(Drop)]
@@ -26,39 +25,28 @@ pub struct Values<'a> {
 
 impl<'a> Values<'a> {
     /// No values yet.
-    ///
-    /// # Errors
-    ///
-    /// `NoMemory` where a table is refused.
     pub fn none(
-        alloc: Global,
+        memory: &mut Memory,
         draft: &'a Draft,
         set: &'a Bordered,
         starts: &'a [Wish],
-    ) -> Result<Values<'a>, NoMemory> {
-        let Ok(known) = table(alloc, Wish::NONE, draft.size()) else {
-            return Err(NoMemory);
-        };
-        let Ok(trail) = table(alloc, 0u32, draft.size()) else {
-            return Err(NoMemory);
-        };
-        let Ok(readers) = Readers::of(alloc, draft, set) else {
-            return Err(NoMemory);
-        };
-        Ok(Values {
+    ) -> Values<'a> {
+        let known = memory.table(Wish::NONE, draft.size());
+        let trail = memory.table(0u32, draft.size());
+        Values {
             draft,
             set,
             starts,
             known,
             trail,
             count: 0,
-            readers,
-        })
+            readers: Readers::of(memory, draft, set),
+        }
     }
 
-    /// Whether a literal has a value.
-    pub fn has(&self, lit: Literal, value: bool) -> bool {
-        wish_of(self.known.as_slice(), lit.var()).has(value != lit.is_negated())
+    /// The value of a literal; none where it has none yet.
+    pub fn of(&self, lit: Literal) -> Wish {
+        wish_of(self.known.as_slice(), lit.var()).negated_if(lit.is_negated())
     }
 
     /// Whether a variable has either value.
@@ -73,16 +61,14 @@ impl<'a> Values<'a> {
 
     /// Gives a literal a value. Whether it may have it.
     fn set(&mut self, lit: Literal, value: bool) -> bool {
-        if self.has(lit, !value) {
-            return false;
-        }
-        if !self.has(lit, value) & !self.is_both(lit.var()) {
+        let known = self.of(lit);
+        if !known.zero & !known.one & !self.is_both(lit.var()) {
             let wish = Wish::NONE.with(value != lit.is_negated());
             set_wish(self.known.as_mut_slice(), lit.var(), wish);
             set_entry(self.trail.as_mut_slice(), self.count, lit.var());
             self.count = self.count.wrapping_add(1);
         }
-        true
+        !known.has(!value)
     }
 
     /// Takes the last values away, until there are this many.
@@ -94,34 +80,30 @@ impl<'a> Values<'a> {
         self.count = self.count.min(count);
     }
 
-    /// What follows at a gate that is 0, of which a fan-in is 1.
-    fn follow_zero(&mut self, pair: &Pair) -> bool {
-        if self.has(pair.larger, true) {
+    /// What follows at a gate. Whether nothing contradicts.
+    fn follow(&mut self, own: Literal, pair: &Pair) -> bool {
+        let known = self.of(own);
+        let (larger, smaller) = (self.of(pair.larger), self.of(pair.smaller));
+        let one = larger.one & smaller.one;
+        if known.one {
+            return self.set(pair.larger, true) && self.set(pair.smaller, true);
+        }
+        if one | larger.zero | smaller.zero {
+            return self.set(own, one);
+        }
+        if known.zero & larger.one {
             return self.set(pair.smaller, false);
         }
-        if self.has(pair.smaller, true) {
+        if known.zero & smaller.one {
             return self.set(pair.larger, false);
         }
         true
     }
 
-    /// What follows at a gate. Whether nothing contradicts.
-    fn follow(&mut self, var: u32, pair: &Pair) -> bool {
-        let own = Literal::of(var);
-        if self.has(own, true) {
-            return self.set(pair.larger, true) && self.set(pair.smaller, true);
-        }
-        let one = self.has(pair.larger, true) & self.has(pair.smaller, true);
-        if one | self.has(pair.larger, false) | self.has(pair.smaller, false) {
-            return self.set(own, one);
-        }
-        !self.has(own, false) || self.follow_zero(pair)
-    }
-
     /// What follows at the gate of a variable, if it is in the set.
     fn follow_at(&mut self, var: u32) -> bool {
         let pair = self.draft.gate(var);
-        !self.set.has(var) || self.follow(var, &pair)
+        !self.set.has(var) || self.follow(Literal::of(var), &pair)
     }
 
     /// What follows from the value of a variable: at its own gate, and at those that read it.

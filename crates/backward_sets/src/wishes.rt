@@ -4,10 +4,9 @@
 use crate::border::Bordered;
 use crate::drafts::{Draft, Pair};
 use crate::literals::Literal;
-use crate::starts::{Wish, add_wish, wish_of};
-use crate::tables::{has_mark, set_mark, table};
-use aig_graph::NoMemory;
-use std::alloc::Global;
+use crate::memory::Memory;
+use crate::starts::{Wish, add_wish, set_wish, wish_of};
+use crate::tables::{has_mark, number, set_mark};
 
 /// What each variable is wished to be, and of which gates that are to be 0 the larger fan-in makes them so.
 #[derive(Drop)]
@@ -38,6 +37,13 @@ fn price(wishes: &[Wish], set: &Bordered, guide: &Guide, lit: Literal) -> u32 {
     (if known.has(!value) { 100u32 } else { 10 })
         .wrapping_add(far.wrapping_mul(u32::from(other)))
         .wrapping_add(inside.wrapping_mul(u32::from(set.has(lit.var()))))
+}
+
+/// Puts wishes into a table that has none.
+fn copy_wishes(wishes: &[Wish], all: &mut [Wish]) {
+    for var in 0..number(wishes.len()) {
+        set_wish(all, var, wish_of(wishes, var));
+    }
 }
 
 impl Wishes {
@@ -80,25 +86,19 @@ impl Wishes {
 }
 
 /// Hands wishes down a set: first what is forced, then what is to be chosen with what that forces.
-///
-/// # Errors
-///
-/// `NoMemory` where a table is refused.
 pub fn wishes_of(
-    alloc: Global,
+    memory: &mut Memory,
     draft: &Draft,
     set: &Bordered,
     starts: &[Wish],
     guide: &Guide,
-) -> Result<Wishes, NoMemory> {
-    let Ok(of) = Vec::from_slice(alloc, starts) else {
-        return Err(NoMemory);
+) -> Wishes {
+    let mut wishes = Wishes {
+        of: memory.table(Wish::NONE, draft.size()),
+        by_larger: memory.table(false, draft.size()),
     };
-    let Ok(by_larger) = table(alloc, false, draft.size()) else {
-        return Err(NoMemory);
-    };
-    let mut wishes = Wishes { of, by_larger };
+    copy_wishes(starts, wishes.of.as_mut_slice());
     wishes.hand_down(draft, set, guide, false);
     wishes.hand_down(draft, set, guide, true);
-    Ok(wishes)
+    wishes
 }
