@@ -14,7 +14,7 @@ use backward_sets::{
 const MOST_TRIES: u32 = 16;
 
 /// What a frame did: how many latches take part before it and after, how many gates moved, and how many variables have two latches.
-#[derive(Clone, Copy, PartialEq, Eq, Debug)]
+#[derive(Clone, Copy)]
 pub struct FrameCounts {
     pub before: u32,
     pub after: u32,

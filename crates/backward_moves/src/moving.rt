@@ -14,7 +14,7 @@ use std::alloc::Global;
 use std::mem;
 
 /// How far latches may be moved: over so many frames, and with no way of more gates than these, where the circuit has none.
-#[derive(Clone, Copy, PartialEq, Eq, Debug)]
+#[derive(Clone, Copy)]
 pub struct MoveOptions {
     pub frames: u32,
     pub levels: Option<u32>,
