@@ -1,63 +1,67 @@
 //! The set that was moved last, where its copies stand now. What a frame saves doesn't rise from frame to frame, so a set that saves as much as
 //! the last one did is as good as any, and no flow is needed to find it.
 
-use aig_graph::NoMemory;
-use backward_sets::{Draft, entry, set_mark};
-use std::alloc::Global;
+use crate::copies::{VERSIONS, Version, copy_of};
+use backward_sets::{Draft, Literal, Memory, count_marks, entry, has_mark, number, set_mark};
 
-/// The copies of the gates that were moved last, and how many latches that saved.
+/// Marks of the copies of the gates that were moved last, by variable, and how many latches that saved.
 #[derive(Drop)]
 pub(crate) struct Again {
-    gates: Vec<u32>,
+    pub marks: Vec<bool>,
     pub saved: u32,
 }
 
 impl Again {
     /// Nothing was moved yet.
-    pub fn none(alloc: Global) -> Again {
+    pub fn none(memory: &mut Memory) -> Again {
         Again {
-            gates: Vec::new(alloc),
+            marks: memory.nothing(),
             saved: 0,
         }
     }
 
-    /// Copies with these variables, which have these new numbers.
-    ///
-    /// # Errors
-    ///
-    /// `NoMemory` where the list is refused.
-    pub fn of(
-        alloc: Global,
-        draft: &Draft,
-        copied: &[u32],
-        numbers: &[u32],
-        saved: u32,
-    ) -> Result<Again, NoMemory> {
-        let mut gates = Vec::with_capacity(alloc, copied.len())?;
-        for var in copied {
-            let number = entry(numbers, *var);
-            if number >= draft.first_gate() {
-                gates.push(number)?;
-            }
-        }
-        Ok(Again { gates, saved })
-    }
-
     /// Whether there is no set to be moved again.
     pub fn is_empty(&self) -> bool {
-        self.gates.is_empty()
+        count_marks(self.marks.as_slice()) == 0
     }
+}
 
-    /// Marks of the set.
-    ///
-    /// # Errors
-    ///
-    /// `NoMemory` where the table is refused.
-    pub fn marks(&self, alloc: Global, draft: &Draft) -> Result<Vec<bool>, NoMemory> {
-        let mut marks = vec![in alloc; false; draft.size()]?;
-        for var in &self.gates {
-            set_mark(marks.as_mut_slice(), *var, true);
-        }
-        Ok(marks)
+/// Marks the new number of a copy, if it is a gate, of which this is the first.
+fn mark_copy(marks: &mut [bool], numbers: &[u32], first: u32, lit: Literal) {
+    let number = entry(numbers, lit.var());
+    if number >= first {
+        set_mark(marks, number, true);
     }
+}
+
+/// Marks the copies of a set's gates.
+fn mark_copies(
+    marks: &mut [bool],
+    numbers: &[u32],
+    first: u32,
+    inside: &[bool],
+    copies: &[Literal],
+) {
+    for var in 0..number(inside.len()) {
+        if has_mark(inside, var) {
+            for place in 0..VERSIONS {
+                let lit = copy_of(copies, var, Version::of(place));
+                mark_copy(marks, numbers, first, lit);
+            }
+        }
+    }
+}
+
+/// By variable of a draft whether it is the copy of a gate of a set, where copies have these new numbers.
+pub(crate) fn marks_of(
+    memory: &mut Memory,
+    draft: &Draft,
+    inside: &[bool],
+    copies: &[Literal],
+    numbers: &[u32],
+) -> Vec<bool> {
+    let mut marks = memory.table(false, draft.size());
+    let first = draft.first_gate();
+    mark_copies(marks.as_mut_slice(), numbers, first, inside, copies);
+    marks
 }

@@ -1,10 +1,10 @@
 //! The map of all frames, from the maps of each: the last frame's first, so that the gates of each stand once.
 
-use crate::rebuilding::FrameMap;
-use crate::shared::Shared;
-use aig_graph::NoMemory;
-use backward_sets::{Literal, Pair};
-use std::alloc::Global;
+use crate::copies::{set_literal, standing};
+use crate::rebuilding::{FrameMap, all_standing};
+use crate::shared::{Shared, pair_at};
+use backward_sets::{Literal, Memory, Pair, number};
+use std::mem;
 
 /// Gates over the latches after all frames, which have the variables from 1 on, and a literal for each latch of the first draft.
 #[derive(Drop)]
@@ -13,36 +13,43 @@ pub(crate) struct WholeMap {
     pub outputs: Vec<Literal>,
 }
 
-/// What stands for a literal.
-fn standing(stands: &[Literal], lit: Literal) -> Literal {
-    match stands.get(lit.var() as usize) {
-        Some(own) => own.signed_as(lit),
-        None => Literal::FALSE,
+/// Puts what stands for latches after the constant, and then what stands for the gates of a frame's map.
+fn put_stands(stands: &mut [Literal], state: &[Literal], gates: &mut Shared, pairs: &[Pair]) {
+    for place in 0..state.len() {
+        set_literal(stands, number(place).wrapping_add(1), state[place]);
+    }
+    let first = number(state.len()).wrapping_add(1);
+    for place in 0..number(pairs.len()) {
+        let pair = pair_at(pairs, place);
+        let lit = gates.and(
+            standing(stands, pair.larger),
+            standing(stands, pair.smaller),
+        );
+        set_literal(stands, first.wrapping_add(place), lit);
     }
 }
 
 /// What the latches of before a frame hold, where these literals stand for those after it.
 fn through(
-    alloc: Global,
+    memory: &mut Memory,
     gates: &mut Shared,
     map: &FrameMap,
     state: &[Literal],
-) -> Result<Vec<Literal>, NoMemory> {
-    let mut stands = Vec::new(alloc);
-    stands.push(Literal::FALSE)?;
-    for lit in state {
-        stands.push(*lit)?;
+) -> Vec<Literal> {
+    let many = state
+        .len()
+        .saturating_add(1)
+        .saturating_add(map.gates.len());
+    let mut stands = memory.table(Literal::FALSE, many);
+    put_stands(stands.as_mut_slice(), state, gates, map.gates.as_slice());
+    all_standing(memory, stands.as_slice(), map.outputs.as_slice())
+}
+
+/// The literals of latches, which have the variables from 1 on.
+fn number_latches(state: &mut [Literal]) {
+    for place in 0..state.len() {
+        state[place] = Literal::of(number(place).wrapping_add(1));
     }
-    for pair in &map.gates {
-        let larger = standing(stands.as_slice(), pair.larger);
-        let smaller = standing(stands.as_slice(), pair.smaller);
-        stands.push(gates.and(larger, smaller)?)?;
-    }
-    let mut before = Vec::with_capacity(alloc, map.outputs.len())?;
-    for lit in &map.outputs {
-        before.push(standing(stands.as_slice(), *lit))?;
-    }
-    Ok(before)
 }
 
 /// How many gates the maps of frames have.
@@ -55,25 +62,16 @@ fn count_gates(maps: &[FrameMap]) -> usize {
 }
 
 /// The map of frames of which the last leaves so many latches.
-///
-/// # Errors
-///
-/// `NoMemory` where a table is refused.
-pub(crate) fn composed(
-    alloc: Global,
-    maps: &[FrameMap],
-    latches: u32,
-) -> Result<WholeMap, NoMemory> {
-    let mut gates = Shared::after(alloc, latches.wrapping_add(1), count_gates(maps))?;
-    let mut state = Vec::new(alloc);
-    for place in 0..latches {
-        state.push(Literal::of(place.wrapping_add(1)))?;
+pub(crate) fn composed(memory: &mut Memory, maps: &[FrameMap], latches: u32) -> WholeMap {
+    let mut outputs = memory.table(Literal::FALSE, latches as usize);
+    number_latches(outputs.as_mut_slice());
+    let mut gates = Shared::after(memory, latches.wrapping_add(1), count_gates(maps));
+    for place in (0..maps.len()).rev() {
+        let before = through(memory, &mut gates, &maps[place], outputs.as_slice());
+        drop(mem::replace(&mut outputs, before));
     }
-    for map in maps.iter().rev() {
-        state = through(alloc, &mut gates, map, state.as_slice())?;
-    }
-    Ok(WholeMap {
+    WholeMap {
         gates: gates.into_gates(),
-        outputs: state,
-    })
+        outputs,
+    }
 }

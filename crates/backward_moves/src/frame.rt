@@ -4,19 +4,17 @@
 use crate::again::Again;
 use crate::levels::{freeze_long, levels_of};
 use crate::rebuilding::{FrameMap, Rebuilt, rebuild};
-use crate::sweeping::sweep;
-use aig_graph::NoMemory;
 use backward_sets::{
-    Bordered, Draft, Guide, Wish, Wishes, count_marks, freeze_losers, guide_of, is_closed, justify,
-    least_set, movable, starts_of, wishes_of, with_border,
+    Bordered, Draft, Guide, Memory, Wish, Wishes, border_of, count_marks, freeze_losers, guide_of,
+    has_mark, is_closed, justify, least_set, movable, number, set_mark, starts_of, wish_of,
+    wishes_of,
 };
-use std::alloc::Global;
 
 /// How often a flow is asked in a frame.
 const MOST_TRIES: u32 = 16;
 
 /// What a frame did: how many latches take part before it and after, how many gates moved, and how many variables have two latches.
-#[derive(Clone, Copy, PartialEq, Eq, Debug)]
+#[derive(Clone, Copy)]
 pub struct FrameCounts {
     pub before: u32,
     pub after: u32,
@@ -31,15 +29,6 @@ pub(crate) struct Moved {
     pub map: FrameMap,
     pub counts: FrameCounts,
     pub again: Again,
-}
-
-/// What came of an attempt.
-#[derive(Drop)]
-enum Attempt {
-    Moved(Moved),
-    /// Gates were frozen, so that another set may do.
-    Open,
-    Ended,
 }
 
 /// A set with its wishes, and how many latches its border takes.
@@ -60,61 +49,89 @@ struct Frame<'a> {
     frozen: Vec<bool>,
     latches: u32,
     bound: Option<u32>,
+    /// Whether gates were frozen in the last attempt, so that another set may do.
+    open: bool,
+}
+
+/// What latches of both resets read stays: it is a border variable with two latches.
+fn freeze_doubled(starts: &[Wish], frozen: &mut [bool]) {
+    for var in 0..number(starts.len()) {
+        set_mark(frozen, var, wish_of(starts, var).is_both());
+    }
+}
+
+/// Puts marks into a table that has none.
+fn copy_marks(marks: &[bool], all: &mut [bool]) {
+    for var in 0..number(marks.len()) {
+        set_mark(all, var, has_mark(marks, var));
+    }
+}
+
+/// How many latches the border of a set takes, by these wishes.
+fn cost(set: &Bordered, wishes: &[Wish]) -> u32 {
+    count_marks(set.border.as_slice()).wrapping_add(set.doubled(wishes))
+}
+
+/// A set with its border.
+fn bordered(memory: &mut Memory, draft: &Draft, inside: Vec<bool>) -> Bordered {
+    let border = border_of(memory, draft, inside.as_slice());
+    Bordered { inside, border }
 }
 
 impl<'a> Frame<'a> {
-    /// What latches of both resets read stays: it is a border variable with two latches.
-    fn new(alloc: Global, draft: &'a Draft, bound: Option<u32>) -> Result<Frame<'a>, NoMemory> {
-        let starts = starts_of(alloc, draft)?;
-        let mut frozen = Vec::with_capacity(alloc, starts.len())?;
-        for wish in &starts {
-            frozen.push(wish.is_both())?;
-        }
-        Ok(Frame {
+    fn new(memory: &mut Memory, draft: &'a Draft, bound: Option<u32>) -> Frame<'a> {
+        let starts = starts_of(memory, draft);
+        let mut frozen = memory.table(false, draft.size());
+        freeze_doubled(starts.as_slice(), frozen.as_mut_slice());
+        Frame {
             draft,
             starts,
-            guide: guide_of(alloc, draft)?,
+            guide: guide_of(memory, draft),
             frozen,
             latches: draft.taking_part(),
             bound,
-        })
+            open: false,
+        }
     }
 
     /// The wishes of a set.
-    fn settle(&self, alloc: Global, set: Bordered) -> Result<Settled, NoMemory> {
+    fn wishes(&self, memory: &mut Memory, set: &Bordered) -> Wishes {
         let starts = self.starts.as_slice();
-        let mut values = Vec::from_slice(alloc, self.guide.as_slice())?;
-        let solves = justify(alloc, self.draft, &set, starts, values.as_mut_slice())?;
+        let mut values = memory.table(false, self.draft.size());
+        copy_marks(self.guide.as_slice(), values.as_mut_slice());
+        let solves = justify(memory, self.draft, set, starts, values.as_mut_slice());
         let guide = Guide {
             values: values.as_slice(),
             solves,
         };
-        let wishes = wishes_of(alloc, self.draft, &set, starts, &guide)?;
-        let (after, doubled) = set.count(wishes.of.as_slice());
-        Ok(Settled {
-            set,
-            wishes,
-            after,
-            doubled,
-        })
+        wishes_of(memory, self.draft, set, starts, &guide)
     }
 
-    /// The draft after the move, where no way gets too long.
-    fn moved(&self, alloc: Global, settled: &Settled) -> Result<Option<Moved>, NoMemory> {
-        let Rebuilt {
-            mut draft,
-            map,
-            copied,
-        } = rebuild(alloc, self.draft, &settled.set, &settled.wishes)?;
-        let numbers = sweep(alloc, &mut draft)?;
-        if let Some(bound) = self.bound {
-            if levels_of(alloc, &draft)? > bound {
-                return Ok(None);
-            }
+    /// A set with its wishes.
+    fn settle(&self, memory: &mut Memory, set: Bordered) -> Settled {
+        let wishes = self.wishes(memory, &set);
+        let doubled = set.doubled(wishes.of.as_slice());
+        Settled {
+            after: count_marks(set.border.as_slice()).wrapping_add(doubled),
+            doubled,
+            set,
+            wishes,
         }
-        let saved = self.latches.saturating_sub(settled.after);
-        let again = Again::of(alloc, &draft, copied.as_slice(), numbers.as_slice(), saved)?;
-        Ok(Some(Moved {
+    }
+
+    /// Whether a draft has a way that is too long.
+    fn is_long(&self, memory: &mut Memory, draft: &Draft) -> bool {
+        match self.bound {
+            Some(bound) => levels_of(memory, draft) > bound,
+            None => false,
+        }
+    }
+
+    /// What a move comes to, after gates that nothing reads are dropped.
+    fn made(&self, memory: &mut Memory, mut rebuilt: Rebuilt, settled: &Settled) -> Moved {
+        let marks = rebuilt.sweep(memory, settled.set.inside.as_slice());
+        let (draft, map) = rebuilt.into_draft_and_map();
+        Moved {
             draft,
             map,
             counts: FrameCounts {
@@ -123,93 +140,135 @@ impl<'a> Frame<'a> {
                 gates: count_marks(settled.set.inside.as_slice()),
                 doubled: settled.doubled,
             },
-            again,
-        }))
-    }
-
-    /// Moves the last set again, where it saves as many latches as then.
-    fn repeat(&self, alloc: Global, again: &Again) -> Result<Option<Moved>, NoMemory> {
-        if again.is_empty() {
-            return Ok(None);
-        }
-        let may = movable(alloc, self.draft, self.frozen.as_slice())?;
-        let inside = again.marks(alloc, self.draft)?;
-        if !is_closed(self.draft, may.as_slice(), inside.as_slice()) {
-            return Ok(None);
-        }
-        let enough = self.latches.saturating_sub(again.saved);
-        let set = with_border(alloc, self.draft, inside)?;
-        if set.count(self.starts.as_slice()).0 > enough {
-            return Ok(None);
-        }
-        let settled = self.settle(alloc, set)?;
-        if settled.after > enough {
-            return Ok(None);
-        }
-        self.moved(alloc, &settled)
-    }
-
-    /// Freezes gates so that ways don't get too long. Whether another set may do.
-    fn shorten(&mut self, alloc: Global) -> Result<bool, NoMemory> {
-        match self.bound {
-            Some(bound) => freeze_long(alloc, self.draft, bound, self.frozen.as_mut_slice()),
-            None => Ok(false),
+            again: Again {
+                marks,
+                saved: self.latches.saturating_sub(settled.after),
+            },
         }
     }
 
-    /// Freezes gates so that fewer variables have both wishes. Whether another set may do.
-    fn give_way(&mut self, alloc: Global, settled: &Settled) -> Result<bool, NoMemory> {
-        freeze_losers(
-            alloc,
+    /// The draft after the move, where no way gets too long.
+    fn moved(&self, memory: &mut Memory, settled: &Settled) -> Option<Moved> {
+        let (set, wishes) = (&settled.set, &settled.wishes);
+        let rebuilt = rebuild(memory, self.draft, set, wishes, settled.after);
+        if self.is_long(memory, &rebuilt.draft) {
+            None
+        } else {
+            Some(self.made(memory, rebuilt, settled))
+        }
+    }
+
+    /// Whether the last set may move.
+    fn may_repeat(&self, memory: &mut Memory, again: &Again) -> bool {
+        let may = movable(memory, self.draft, self.frozen.as_slice());
+        !again.is_empty() & is_closed(self.draft, may.as_slice(), again.marks.as_slice())
+    }
+
+    /// Moves a set, where its border takes no more latches than these.
+    fn moved_within(&self, memory: &mut Memory, set: Bordered, most: u32) -> Option<Moved> {
+        let settled = self.settle(memory, set);
+        if settled.after > most {
+            None
+        } else {
+            self.moved(memory, &settled)
+        }
+    }
+
+    /// Moves the last set again, where that saves as many latches as then.
+    fn move_last(&self, memory: &mut Memory, again: &Again) -> Option<Moved> {
+        let most = self.latches.saturating_sub(again.saved);
+        let mut inside = memory.table(false, self.draft.size());
+        copy_marks(again.marks.as_slice(), inside.as_mut_slice());
+        let set = bordered(memory, self.draft, inside);
+        if cost(&set, self.starts.as_slice()) > most {
+            None
+        } else {
+            self.moved_within(memory, set, most)
+        }
+    }
+
+    /// Freezes gates so that ways don't get too long.
+    fn shorten(&mut self, memory: &mut Memory) {
+        if let Some(bound) = self.bound {
+            self.open = freeze_long(memory, self.draft, bound, self.frozen.as_mut_slice());
+        }
+    }
+
+    /// Freezes gates so that fewer variables have both wishes.
+    fn give_way(&mut self, memory: &mut Memory, settled: &Settled) {
+        self.open = freeze_losers(
+            memory,
             self.draft,
             &settled.set,
             &settled.wishes,
             self.starts.as_slice(),
             self.frozen.as_mut_slice(),
-        )
+        );
+    }
+
+    /// Moves a set, where that saves latches and no way gets too long; else freezes gates.
+    fn attempt(&mut self, memory: &mut Memory, settled: &Settled) -> Option<Moved> {
+        if settled.after >= self.latches {
+            self.give_way(memory, settled);
+            return None;
+        }
+        let moved = self.moved(memory, settled);
+        if moved.is_none() {
+            self.shorten(memory);
+        }
+        moved
+    }
+
+    /// The set that a flow chooses, and how many latches its border takes by the starts.
+    fn least(&self, memory: &mut Memory) -> (Vec<bool>, u32) {
+        let may = movable(memory, self.draft, self.frozen.as_slice());
+        least_set(memory, self.draft, may.as_slice(), self.starts.as_slice())
     }
 
     /// Moves the set that a flow chooses.
-    fn attempt(&mut self, alloc: Global) -> Result<Attempt, NoMemory> {
-        let may = movable(alloc, self.draft, self.frozen.as_slice())?;
-        let starts = self.starts.as_slice();
-        let Some(set) = least_set(alloc, self.draft, may.as_slice(), starts, self.latches)? else {
-            return Ok(Attempt::Ended);
-        };
-        let settled = self.settle(alloc, set)?;
-        let open = if settled.after < self.latches {
-            match self.moved(alloc, &settled)? {
-                Some(moved) => return Ok(Attempt::Moved(moved)),
-                None => self.shorten(alloc)?,
+    fn attempt_next(&mut self, memory: &mut Memory) -> Option<Moved> {
+        self.open = false;
+        let (inside, units) = self.least(memory);
+        if units >= self.latches {
+            return None;
+        }
+        let set = bordered(memory, self.draft, inside);
+        let settled = self.settle(memory, set);
+        self.attempt(memory, &settled)
+    }
+
+    /// Moves a set that a flow chooses.
+    fn search(&mut self, memory: &mut Memory) -> Option<Moved> {
+        for _ in 0..MOST_TRIES {
+            match self.attempt_next(memory) {
+                None if self.open => {}
+                found => return found,
             }
+        }
+        None
+    }
+
+    /// Moves the last set again, or one that a flow chooses.
+    fn run(&mut self, memory: &mut Memory, again: &Again) -> Option<Moved> {
+        let last = if self.may_repeat(memory, again) {
+            self.move_last(memory, again)
         } else {
-            self.give_way(alloc, &settled)?
+            None
         };
-        Ok(if open { Attempt::Open } else { Attempt::Ended })
+        match last {
+            None => self.search(memory),
+            found => found,
+        }
     }
 }
 
 /// Moves latches backward once, where that saves some.
-///
-/// # Errors
-///
-/// `NoMemory` where a table is refused.
 pub(crate) fn next_frame(
-    alloc: Global,
+    memory: &mut Memory,
     draft: &Draft,
     bound: Option<u32>,
     again: &Again,
-) -> Result<Option<Moved>, NoMemory> {
-    let mut frame = Frame::new(alloc, draft, bound)?;
-    if let Some(moved) = frame.repeat(alloc, again)? {
-        return Ok(Some(moved));
-    }
-    for _ in 0..MOST_TRIES {
-        match frame.attempt(alloc)? {
-            Attempt::Moved(moved) => return Ok(Some(moved)),
-            Attempt::Open => {}
-            Attempt::Ended => return Ok(None),
-        }
-    }
-    Ok(None)
+) -> Option<Moved> {
+    let mut frame = Frame::new(memory, draft, bound);
+    frame.run(memory, again)
 }

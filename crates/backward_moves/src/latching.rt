@@ -1,162 +1,177 @@
 //! The latches after a frame. The first latch that takes part and reads a border variable becomes that variable's latch, and stays where it is
 //! with its sign, so that latches by which nothing is gained stay as they are. New latches follow, in the order of their variables.
 
-use crate::copies::{Copies, Version, copy_of, set_copy};
-use aig_graph::NoMemory;
-use backward_sets::{Bordered, Draft, DraftLatch, DraftReset, Literal, Wish, number, wish_of};
-use std::alloc::Global;
+use crate::copies::{VERSIONS, Version, copy_of, need_of, set_copy};
+use backward_sets::{
+    Bordered, Draft, DraftLatch, DraftReset, Literal, Memory, Wish, entry, set_entry, wish_of,
+};
 
-/// What becomes of a latch.
-#[derive(Clone, Copy)]
-enum Fate {
-    /// It doesn't take part.
-    Stays,
-    /// It becomes the latch of this copy of what it reads.
-    Serves(Version),
-    Goes,
-}
+/// What becomes of a latch that doesn't take part. One that becomes the latch of a copy of what it reads has the number of that version.
+const STAYS: u32 = VERSIONS;
 
-/// The latches after a frame, whose next literals are still those of before it, and what stands for the copies of border variables: the
-/// literal of a latch's number.
+/// What becomes of a latch that goes.
+const GOES: u32 = VERSIONS + 1;
+
+/// The latches after a frame, whose next literals are still those of before it, and what stands for the copies of border variables.
 #[derive(Drop)]
 pub(crate) struct Latching {
+    /// The variable of the first.
+    first: u32,
+    /// Room for all that are put.
     pub latches: Vec<DraftLatch>,
-    pub copies: Vec<Copies>,
-    /// By latch of before the new number of one that doesn't take part.
+    /// How many were put.
+    pub many: u32,
+    /// By variable what stands for each version.
+    pub copies: Vec<Literal>,
+    /// By latch of before what becomes of it, and then the new number of one that doesn't take part.
     pub places: Vec<u32>,
 }
 
-/// The copy whose latch a latch would become.
-fn served(set: &Bordered, wishes: &[Wish], latch: &DraftLatch) -> Option<Version> {
+/// Has a latch that takes part serve for the copy of what it reads, if that is in the border and none does yet.
+fn fate_of(set: &Bordered, wishes: &[Wish], latch: &DraftLatch, copies: &mut [Literal]) -> u32 {
     let var = latch.next.var();
-    if set.borders(var) {
-        Some(Version::picked(wish_of(wishes, var), latch.wish()))
+    let version = Version::picked(wish_of(wishes, var), need_of(latch));
+    let free = copy_of(copies, var, version).code == Literal::NONE.code;
+    if set.borders(var) & free {
+        set_copy(copies, var, version, Literal::FALSE);
+        version.place()
     } else {
-        None
+        GOES
     }
-}
-
-/// Has latches serve that take part: those whose reset is settled, or the others.
-fn serve(
-    draft: &Draft,
-    set: &Bordered,
-    wishes: &[Wish],
-    settled: bool,
-    copies: &mut [Copies],
-    fates: &mut [Fate],
-) {
-    for (latch, fate) in draft.latches.iter().zip(fates.iter_mut()) {
-        if !latch.takes_part() || latch.wish().is_some() != settled {
-            continue;
-        }
-        if let Some(version) = served(set, wishes, latch) {
-            let var = latch.next.var();
-            if copy_of(copies, var, version) == Literal::NONE {
-                set_copy(copies, var, version, Literal::FALSE);
-                *fate = Fate::Serves(version);
-            }
-        }
-    }
-}
-
-/// What becomes of each latch.
-fn fates_of(
-    alloc: Global,
-    draft: &Draft,
-    set: &Bordered,
-    wishes: &[Wish],
-    copies: &mut [Copies],
-) -> Result<Vec<Fate>, NoMemory> {
-    let mut fates = Vec::with_capacity(alloc, draft.latches.len())?;
-    for latch in &draft.latches {
-        fates.push(if latch.takes_part() {
-            Fate::Goes
-        } else {
-            Fate::Stays
-        })?;
-    }
-    serve(draft, set, wishes, true, copies, fates.as_mut_slice());
-    serve(draft, set, wishes, false, copies, fates.as_mut_slice());
-    Ok(fates)
 }
 
 /// The reset of a latch that serves for a copy, by its sign.
 fn reset_for(version: Version, latch: &DraftLatch) -> DraftReset {
-    match version.value() {
-        Some(value) => DraftReset::of(value != latch.next.is_negated()),
-        None => latch.reset,
+    if version.is(false) | version.is(true) {
+        DraftReset::of(version.is(true) != latch.next.is_negated())
+    } else {
+        latch.reset
+    }
+}
+
+/// A new latch for a variable.
+fn new_latch(var: u32) -> DraftLatch {
+    DraftLatch {
+        next: Literal::of(var),
+        reset: DraftReset::Any,
+        origin: None,
+        held: false,
+    }
+}
+
+/// Puts a latch at a place.
+fn set_latch(latches: &mut [DraftLatch], place: u32, latch: DraftLatch) {
+    let place = place as usize;
+    if place < latches.len() {
+        latches[place] = latch;
     }
 }
 
 impl Latching {
-    /// Puts what a latch of before becomes.
-    fn keep(&mut self, latch: &DraftLatch, fate: Fate) -> Result<(), NoMemory> {
-        let place = number(self.latches.len());
-        self.places.push(place)?;
-        match fate {
-            Fate::Stays => self.latches.push(*latch)?,
-            Fate::Serves(version) => {
-                let lit = Literal::of(place).signed_as(latch.next);
-                set_copy(self.copies.as_mut_slice(), latch.next.var(), version, lit);
-                self.latches.push(DraftLatch {
-                    next: latch.next,
-                    reset: reset_for(version, latch),
-                    origin: latch.origin,
-                    held: latch.held,
-                })?;
-            }
-            Fate::Goes => {}
+    /// No latch was put yet.
+    fn new(memory: &mut Memory, draft: &Draft, added: u32) -> Latching {
+        let all = draft.latches.len().saturating_add(added as usize);
+        let latches = memory.table(DraftLatch::NONE, all);
+        let entries = draft.size().saturating_mul(VERSIONS as usize);
+        let copies = memory.table(Literal::NONE, entries);
+        let places = memory.table(STAYS, draft.latches.len());
+        Latching {
+            first: draft.first_latch(),
+            latches,
+            many: 0,
+            copies,
+            places,
         }
-        Ok(())
     }
 
-    /// Puts a new latch for a copy of a border variable that has none.
-    fn add(&mut self, var: u32, version: Version) -> Result<(), NoMemory> {
-        if copy_of(self.copies.as_slice(), var, version) != Literal::NONE {
-            return Ok(());
+    /// Has latches serve that take part: those whose reset is settled, or the others.
+    fn serve(&mut self, draft: &Draft, set: &Bordered, wishes: &[Wish], settled: bool) {
+        for place in 0..draft.many_latches() {
+            let latch = draft.latch(place);
+            if latch.takes_part() & (latch.is_settled() == settled) {
+                let fate = fate_of(set, wishes, &latch, self.copies.as_mut_slice());
+                set_entry(self.places.as_mut_slice(), place, fate);
+            }
         }
-        let lit = Literal::of(number(self.latches.len()));
-        set_copy(self.copies.as_mut_slice(), var, version, lit);
-        self.latches.push(DraftLatch {
-            next: Literal::of(var),
-            reset: match version.value() {
-                Some(value) => DraftReset::of(value),
-                None => DraftReset::Any,
-            },
-            origin: None,
-            held: false,
-        })?;
-        Ok(())
+    }
+
+    /// Puts a latch.
+    fn append(&mut self, latch: DraftLatch) {
+        set_latch(self.latches.as_mut_slice(), self.many, latch);
+        self.many = self.many.wrapping_add(1);
+    }
+
+    /// Puts the latch that serves for a copy: this one, with the copy's reset.
+    fn put(&mut self, latch: &DraftLatch, version: Version) {
+        let lit = Literal::of(self.first.wrapping_add(self.many)).signed_as(latch.next);
+        set_copy(self.copies.as_mut_slice(), latch.next.var(), version, lit);
+        self.append(DraftLatch {
+            next: latch.next,
+            reset: reset_for(version, latch),
+            origin: latch.origin,
+            held: latch.held,
+        });
+    }
+
+    /// Puts what the latch at a place of before becomes.
+    fn keep(&mut self, place: u32, latch: &DraftLatch) {
+        let fate = entry(self.places.as_slice(), place);
+        set_entry(self.places.as_mut_slice(), place, self.many);
+        if fate == STAYS {
+            self.append(*latch);
+        } else if fate < STAYS {
+            self.put(latch, Version::of(fate));
+        }
+    }
+
+    /// Puts new latches for the copies of a border variable that have none.
+    fn add(&mut self, var: u32, wish: Wish) {
+        for place in 0..VERSIONS {
+            let version = Version::of(place);
+            let lit = copy_of(self.copies.as_slice(), var, version);
+            if version.is_wished(wish) & (lit.code == Literal::NONE.code) {
+                self.put(&new_latch(var), version);
+            }
+        }
+    }
+
+    /// Puts what all latches of before become, and new latches for all copies of border variables that have none.
+    fn put_all(&mut self, draft: &Draft, set: &Bordered, wishes: &[Wish]) {
+        for place in 0..draft.many_latches() {
+            self.keep(place, &draft.latch(place));
+        }
+        for var in 0..draft.end() {
+            if set.borders(var) {
+                self.add(var, wish_of(wishes, var));
+            }
+        }
+    }
+
+    /// The latches, and what stands for copies.
+    pub fn into_latches_and_copies(self) -> (Vec<DraftLatch>, Vec<Literal>) {
+        let Latching {
+            first: _first,
+            mut latches,
+            many,
+            copies,
+            places: _places,
+        } = self;
+        latches.truncate(many as usize);
+        (latches, copies)
     }
 }
 
-/// The latches after a frame over a set, by the wishes at its border.
-///
-/// # Errors
-///
-/// `NoMemory` where a table is refused.
+/// The latches after a frame over a set, by the wishes at its border, which takes so many latches.
 pub(crate) fn latching_of(
-    alloc: Global,
+    memory: &mut Memory,
     draft: &Draft,
     set: &Bordered,
     wishes: &[Wish],
-) -> Result<Latching, NoMemory> {
-    let mut copies = vec![in alloc; Copies::NONE; draft.size()]?;
-    let fates = fates_of(alloc, draft, set, wishes, copies.as_mut_slice())?;
-    let mut latching = Latching {
-        latches: Vec::new(alloc),
-        copies,
-        places: Vec::with_capacity(alloc, draft.latches.len())?,
-    };
-    for (latch, fate) in draft.latches.iter().zip(fates.iter()) {
-        latching.keep(latch, *fate)?;
-    }
-    for var in 0..draft.end() {
-        if set.borders(var) {
-            for version in Version::of(wish_of(wishes, var)) {
-                latching.add(var, *version)?;
-            }
-        }
-    }
-    Ok(latching)
+    after: u32,
+) -> Latching {
+    let mut latching = Latching::new(memory, draft, after);
+    latching.serve(draft, set, wishes, true);
+    latching.serve(draft, set, wishes, false);
+    latching.put_all(draft, set, wishes);
+    latching
 }

@@ -1,9 +1,7 @@
 //! How many gates stand one above the other, and which gates have to stay so that no way gets too long. Since each gate that reads a member of a
 //! set is in it, the copies behind a latch before a gate reach what reads the latches of before: how far that is doesn't depend on the set.
 
-use aig_graph::NoMemory;
-use backward_sets::{Draft, entry, has_mark, set_entry, set_mark};
-use std::alloc::Global;
+use backward_sets::{Draft, Memory, entry, has_mark, number, set_entry, set_mark};
 
 /// An entry is at least this number from now on.
 fn lift(numbers: &mut [u32], place: u32, number: u32) {
@@ -11,84 +9,83 @@ fn lift(numbers: &mut [u32], place: u32, number: u32) {
     set_entry(numbers, place, least);
 }
 
-/// The most gates on a way to a latch or a property.
-///
-/// # Errors
-///
-/// `NoMemory` where the table is refused.
-pub(crate) fn levels_of(alloc: Global, draft: &Draft) -> Result<u32, NoMemory> {
-    let mut table = vec![in alloc; 0; draft.size()]?;
-    let levels = table.as_mut_slice();
-    let mut var = draft.first_gate();
-    for pair in &draft.gates {
+/// By variable the most gates on a way to it.
+fn fill_levels(draft: &Draft, levels: &mut [u32]) {
+    for var in draft.first_gate()..draft.end() {
+        let pair = draft.gate(var);
         let below = entry(levels, pair.larger.var()).max(entry(levels, pair.smaller.var()));
         set_entry(levels, var, below.saturating_add(1));
-        var = var.wrapping_add(1);
     }
-    let mut most = 0u32;
-    for latch in &draft.latches {
-        most = most.max(entry(levels, latch.next.var()));
-    }
-    for lit in &draft.observed {
-        most = most.max(entry(levels, lit.var()));
-    }
-    Ok(most)
 }
 
-/// By variable the most gates on a way from it to a latch or a property.
-fn heights_of(alloc: Global, draft: &Draft) -> Result<Vec<u32>, NoMemory> {
-    let mut table = vec![in alloc; 0; draft.size()]?;
-    let heights = table.as_mut_slice();
-    let mut var = draft.end();
-    for pair in draft.gates.iter().rev() {
-        var = var.wrapping_sub(1);
+/// The most at a latch or a property.
+fn most_of(draft: &Draft, levels: &[u32]) -> u32 {
+    let mut most = 0u32;
+    for place in 0..draft.many_latches() {
+        most = most.max(entry(levels, draft.latch(place).next.var()));
+    }
+    for place in 0..number(draft.observed.len()) {
+        most = most.max(entry(levels, draft.observed(place).var()));
+    }
+    most
+}
+
+/// The most gates on a way to a latch or a property.
+pub(crate) fn levels_of(memory: &mut Memory, draft: &Draft) -> u32 {
+    let mut levels = memory.table(0u32, draft.size());
+    fill_levels(draft, levels.as_mut_slice());
+    most_of(draft, levels.as_slice())
+}
+
+/// Counts each gate at its own entry, and has those of its fan-ins be no less.
+fn climb(draft: &Draft, heights: &mut [u32]) {
+    for var in (draft.first_gate()..draft.end()).rev() {
+        let pair = draft.gate(var);
         let height = entry(heights, var).saturating_add(1);
+        set_entry(heights, var, height);
         lift(heights, pair.larger.var(), height);
         lift(heights, pair.smaller.var(), height);
     }
-    Ok(table)
+}
+
+/// Each latch departs from what it reads as high as what reads it.
+fn depart(draft: &Draft, heights: &[u32], departures: &mut [u32]) {
+    for place in 0..draft.many_latches() {
+        let own = draft.first_latch().wrapping_add(place);
+        let next = draft.latch(place).next.var();
+        lift(departures, next, entry(heights, own));
+    }
 }
 
 /// By variable the most gates on a way from a latch before it, through copies of it and of the gates above it, to a latch or a property.
-fn departures_of(alloc: Global, draft: &Draft) -> Result<Vec<u32>, NoMemory> {
-    let heights = heights_of(alloc, draft)?;
-    let mut table = vec![in alloc; 0; draft.size()]?;
-    let departures = table.as_mut_slice();
-    let mut own = draft.first_latch();
-    for latch in &draft.latches {
-        let height = entry(heights.as_slice(), own);
-        lift(departures, latch.next.var(), height);
-        own = own.wrapping_add(1);
-    }
-    let mut var = draft.end();
-    for pair in draft.gates.iter().rev() {
-        var = var.wrapping_sub(1);
-        let departure = entry(departures, var).saturating_add(1);
-        set_entry(departures, var, departure);
-        lift(departures, pair.larger.var(), departure);
-        lift(departures, pair.smaller.var(), departure);
-    }
-    Ok(table)
+fn departures_of(memory: &mut Memory, draft: &Draft) -> Vec<u32> {
+    let mut heights = memory.table(0u32, draft.size());
+    let mut departures = memory.table(0u32, draft.size());
+    climb(draft, heights.as_mut_slice());
+    depart(draft, heights.as_slice(), departures.as_mut_slice());
+    climb(draft, departures.as_mut_slice());
+    departures
 }
 
-/// Freezes the gates that would make a way longer than a bound. Whether one wasn't frozen before.
-///
-/// # Errors
-///
-/// `NoMemory` where a table is refused.
-pub(crate) fn freeze_long(
-    alloc: Global,
-    draft: &Draft,
-    bound: u32,
-    frozen: &mut [bool],
-) -> Result<bool, NoMemory> {
-    let departures = departures_of(alloc, draft)?;
+/// Freezes the gates that depart higher than a bound. Whether one wasn't frozen before.
+fn freeze_above(draft: &Draft, departures: &[u32], bound: u32, frozen: &mut [bool]) -> bool {
     let mut any = false;
     for var in draft.first_gate()..draft.end() {
-        if entry(departures.as_slice(), var) > bound && !has_mark(frozen, var) {
+        if (entry(departures, var) > bound) & !has_mark(frozen, var) {
             set_mark(frozen, var, true);
             any = true;
         }
     }
-    Ok(any)
+    any
+}
+
+/// Freezes the gates that would make a way longer than a bound. Whether one wasn't frozen before.
+pub(crate) fn freeze_long(
+    memory: &mut Memory,
+    draft: &Draft,
+    bound: u32,
+    frozen: &mut [bool],
+) -> bool {
+    let departures = departures_of(memory, draft);
+    freeze_above(draft, departures.as_slice(), bound, frozen)
 }

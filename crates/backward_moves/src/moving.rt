@@ -8,13 +8,13 @@ use crate::reading::{Inputs, draft_of, stands_of};
 use crate::rebuilding::FrameMap;
 use crate::sweeping::sweep;
 use crate::watching::{MoveStage, MoveWatcher};
-use aig_graph::{Circuit, Keep, NoMemory};
-use backward_sets::{Draft, DraftLatch, DraftReset, Literal, Pair, number};
+use aig_graph::{Aig, Circuit, Keep, Lit, NoMemory, property_literals};
+use backward_sets::{Draft, DraftLatch, DraftReset, Literal, Memory, Pair};
 use std::alloc::Global;
 use std::mem;
 
 /// How far latches may be moved: over so many frames, and with no way of more gates than these, where the circuit has none.
-#[derive(Clone, Copy, PartialEq, Eq, Debug)]
+#[derive(Clone, Copy)]
 pub struct MoveOptions {
     pub frames: u32,
     pub levels: Option<u32>,
@@ -49,31 +49,91 @@ impl Drafted {
 }
 
 /// How many latches have a known reset.
-fn known_latches(draft: &Draft) -> u32 {
+fn known_latches(latches: &[DraftLatch]) -> u32 {
     let mut count = 0u32;
-    for latch in &draft.latches {
-        if latch.reset != DraftReset::Free {
-            count = count.wrapping_add(1);
-        }
+    for latch in latches {
+        count = count.wrapping_add(u32::from(latch.reset != DraftReset::Free));
     }
     count
 }
 
 /// A run of frames.
-#[derive(Drop)]
 struct Run {
+    inputs: Inputs,
     draft: Draft,
     again: Again,
     maps: Vec<FrameMap>,
     frames: Vec<FrameCounts>,
 }
 
-impl Run {
-    /// Takes one frame, if it saves a latch. Whether it does.
-    fn advance(&mut self, alloc: Global, bound: Option<u32>) -> Result<bool, NoMemory> {
-        let Some(moved) = next_frame(alloc, &self.draft, bound, &self.again)? else {
-            return Ok(false);
+impl Drop for Run {
+    // written out: docs/PROOFS.md, Drops and exits
+    fn drop(self) {
+        let Run {
+            inputs: _inputs,
+            draft: _draft,
+            again: _again,
+            maps: _maps,
+            frames: _frames,
+        } = self;
+    }
+}
+
+/// Each latch that may start with either value starts with 0, and reads its literal of the first circuit.
+fn restore_latches(latches: &mut [DraftLatch], inputs: &Inputs) {
+    for place in 0..latches.len() {
+        if latches[place].reset == DraftReset::Any {
+            latches[place].reset = DraftReset::Zero;
+        }
+        latches[place].next = inputs.original(latches[place].next);
+    }
+}
+
+/// The gates with literals of the first circuit.
+fn restore_gates(gates: &mut [Pair], inputs: &Inputs) {
+    for place in 0..gates.len() {
+        let pair = gates[place];
+        gates[place] = Pair {
+            larger: inputs.original(pair.larger),
+            smaller: inputs.original(pair.smaller),
         };
+    }
+}
+
+/// The literals as those of the first circuit.
+fn restore_literals(literals: &mut [Literal], inputs: &Inputs) {
+    for place in 0..literals.len() {
+        literals[place] = inputs.original(literals[place]);
+    }
+}
+
+impl Run {
+    /// No frame was taken yet. Gates that nothing reads are dropped.
+    fn new(memory: &mut Memory, circuit: &Circuit, keep: &Keep, properties: &[Lit]) -> Run {
+        let inputs = Inputs::of(memory, circuit, properties);
+        let mut draft = draft_of(memory, circuit, keep, &inputs, properties);
+        drop(sweep(memory, &mut draft));
+        Run {
+            inputs,
+            draft,
+            again: Again::none(memory),
+            maps: memory.nothing(),
+            frames: memory.nothing(),
+        }
+    }
+
+    /// Notes what a frame did.
+    fn note(&mut self, memory: &mut Memory, counts: FrameCounts, map: FrameMap) {
+        if self.frames.push(counts).is_err() {
+            memory.refuse();
+        }
+        if self.maps.push(map).is_err() {
+            memory.refuse();
+        }
+    }
+
+    /// Goes on from what a frame made.
+    fn take(&mut self, memory: &mut Memory, moved: Moved) {
         let Moved {
             draft,
             map,
@@ -82,94 +142,116 @@ impl Run {
         } = moved;
         drop(mem::replace(&mut self.draft, draft));
         drop(mem::replace(&mut self.again, again));
-        self.maps.push(map)?;
-        self.frames.push(counts)?;
-        Ok(true)
+        self.note(memory, counts, map);
+    }
+
+    /// Takes one frame, if it saves a latch. Whether it does, and no memory was refused.
+    fn advance(&mut self, memory: &mut Memory, bound: Option<u32>) -> bool {
+        match next_frame(memory, &self.draft, bound, &self.again) {
+            Some(moved) => {
+                self.take(memory, moved);
+                !memory.is_refused()
+            }
+            None => false,
+        }
     }
 
     /// The stage in which the set of the next frame is looked for.
     fn looking(&self) -> MoveStage {
         MoveStage::Looking {
             taken: self.frames.len(),
-            latches: known_latches(&self.draft),
+            latches: known_latches(self.draft.latches.as_slice()),
             gates: self.draft.gates.len(),
         }
     }
 
-    /// Takes frames until none saves a latch.
+    /// The bound on ways: what is asked for, or the longest where that is more.
+    fn bound(&self, memory: &mut Memory, options: &MoveOptions) -> Option<u32> {
+        match options.levels {
+            Some(levels) => Some(levels.max(levels_of(memory, &self.draft))),
+            None => None,
+        }
+    }
+
+    /// Takes frames until none saves a latch, or memory is refused.
     fn advance_all<W: MoveWatcher>(
         &mut self,
-        alloc: Global,
+        memory: &mut Memory,
         options: &MoveOptions,
         watcher: &mut W,
-    ) -> Result<(), NoMemory> {
-        let bound = match options.levels {
-            Some(levels) => Some(levels.max(levels_of(alloc, &self.draft)?)),
-            None => None,
-        };
+    ) {
+        let bound = self.bound(memory, options);
         for _ in 0..options.frames {
             watcher.begin(self.looking());
-            if !self.advance(alloc, bound)? {
-                return Ok(());
+            if !self.advance(memory, bound) {
+                return;
             }
         }
-        Ok(())
     }
-}
 
-/// Each latch that may start with either value starts with 0.
-fn settle(latches: &mut [DraftLatch]) {
-    for latch in latches.iter_mut() {
-        if latch.reset == DraftReset::Any {
-            latch.reset = DraftReset::Zero;
+    /// Makes the draft one of the first circuit.
+    fn restore(&mut self) {
+        restore_latches(self.draft.latches.as_mut_slice(), &self.inputs);
+        restore_gates(self.draft.gates.as_mut_slice(), &self.inputs);
+        restore_literals(self.draft.observed.as_mut_slice(), &self.inputs);
+    }
+
+    /// The draft of the first circuit, with what stands for what its properties read, and a map.
+    fn into_drafted(self, stands: Vec<Literal>, map: WholeMap) -> Drafted {
+        let Run {
+            inputs: _inputs,
+            draft,
+            again: _again,
+            maps: _maps,
+            frames,
+        } = self;
+        let (latches, gates) = draft.into_latches_and_gates();
+        let WholeMap {
+            gates: map_gates,
+            outputs: map_outputs,
+        } = map;
+        Drafted {
+            latches,
+            gates,
+            stands,
+            map_gates,
+            map_outputs,
+            frames,
         }
     }
-}
 
-/// The literals as those of the first circuit.
-fn restore(draft: &mut Draft, inputs: &Inputs, many: u32) {
-    for latch in draft.latches.iter_mut() {
-        latch.next = inputs.original(many, latch.next);
-    }
-    for pair in draft.gates.iter_mut() {
-        pair.larger = inputs.original(many, pair.larger);
-        pair.smaller = inputs.original(many, pair.smaller);
-    }
-    for lit in draft.observed.iter_mut() {
-        *lit = inputs.original(many, *lit);
+    /// What the run ends in, where frames were taken.
+    fn finished(mut self, memory: &mut Memory, aig: &Aig, properties: &[Lit]) -> Drafted {
+        self.restore();
+        let stands = stands_of(memory, aig, properties, self.draft.observed.as_slice());
+        let map = composed(memory, self.maps.as_slice(), self.draft.many_latches());
+        self.into_drafted(stands, map)
     }
 }
 
-/// What a run ends in.
-fn finished(
-    alloc: Global,
-    run: Run,
-    inputs: &Inputs,
+/// The draft of a circuit whose properties read these literals; none where no frame was taken, or memory was refused.
+fn moved_draft<W: MoveWatcher>(
+    memory: &mut Memory,
     circuit: &Circuit,
-) -> Result<Drafted, NoMemory> {
-    let Run {
-        mut draft,
-        again,
-        maps,
-        frames,
-    } = run;
-    drop(again);
-    let WholeMap { gates, outputs } = composed(
-        alloc,
-        maps.as_slice(),
-        number(draft.latches.len()),
-    )?;
-    settle(draft.latches.as_mut_slice());
-    restore(&mut draft, inputs, circuit.aig().inputs());
-    let stands = stands_of(alloc, circuit, draft.observed.as_slice())?;
-    Ok(Drafted {
-        latches: draft.latches,
-        gates: draft.gates,
-        stands,
-        map_gates: gates,
-        map_outputs: outputs,
-        frames,
-    })
+    keep: &Keep,
+    properties: &[Lit],
+    options: &MoveOptions,
+    watcher: &mut W,
+) -> Option<Drafted> {
+    let mut run = Run::new(memory, circuit, keep, properties);
+    if memory.is_refused() {
+        return None;
+    }
+    run.advance_all(memory, options, watcher);
+    if memory.is_refused() {
+        return None;
+    }
+    watcher.begin(MoveStage::Checking);
+    if run.frames.is_empty() {
+        None
+    } else {
+        Some(run.finished(memory, circuit.aig(), properties))
+    }
 }
 
 /// Moves the latches of a circuit backward that aren't held, as long as that saves some. None where no frame does.
@@ -184,18 +266,15 @@ pub fn draft_moves<W: MoveWatcher>(
     options: &MoveOptions,
     watcher: &mut W,
 ) -> Result<Option<Drafted>, NoMemory> {
-    let (mut draft, inputs) = draft_of(alloc, circuit, keep)?;
-    drop(sweep(alloc, &mut draft)?);
-    let mut run = Run {
-        draft,
-        again: Again::none(alloc),
-        maps: Vec::new(alloc),
-        frames: Vec::new(alloc),
+    let mut memory = Memory::of(alloc);
+    let Ok(properties) = property_literals(alloc, circuit.props()) else {
+        return Err(NoMemory);
     };
-    run.advance_all(alloc, options, watcher)?;
-    watcher.begin(MoveStage::Checking);
-    if run.frames.is_empty() {
-        return Ok(None);
+    let properties = properties.as_slice();
+    let drafted = moved_draft(&mut memory, circuit, keep, properties, options, watcher);
+    if memory.is_refused() {
+        Err(NoMemory)
+    } else {
+        Ok(drafted)
     }
-    Ok(Some(finished(alloc, run, &inputs, circuit)?))
 }

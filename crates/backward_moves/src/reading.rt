@@ -1,104 +1,139 @@
 //! A circuit as a draft. Inputs that nothing reads are left out, since a file of thirty bytes can have hundreds of millions of them.
 
-use aig_graph::{Circuit, Keep, Latch, Lit, NoMemory, Reset, property_literals};
-use backward_sets::{Draft, DraftLatch, DraftReset, Literal, Pair, number};
-use std::alloc::Global;
+use crate::copies::{literal_at, set_literal};
+use aig_graph::{Aig, Circuit, Gate, Keep, Latch, Lit, Reset};
+use backward_sets::{
+    Draft, DraftLatch, DraftReset, Literal, Memory, Pair, entry, number, set_entry,
+};
 
 /// The inputs that something reads, rising.
 #[derive(Drop)]
 pub(crate) struct Inputs {
+    /// How many the circuit has.
+    all: u32,
+    /// How many of them the draft has.
     many: u32,
-    /// Their variables, where some inputs are left out.
-    read: Option<Vec<u32>>,
+    /// Their variables, where some are left out.
+    read: Vec<u32>,
 }
 
-/// Notes the variable of a literal, if it is an input.
-fn note(read: &mut Vec<u32>, inputs: u32, lit: Lit) -> Result<(), NoMemory> {
-    if lit.var() > 0 && lit.var() <= inputs {
-        read.push(lit.var())?;
+/// The inputs that are read, as often as they are.
+#[derive(Drop)]
+struct Notes {
+    inputs: u32,
+    /// Room for all that are noted.
+    read: Vec<u32>,
+    many: u32,
+}
+
+impl Notes {
+    /// Notes the variable of a literal, if it is an input.
+    fn note(&mut self, lit: Lit) {
+        if (lit.var() > 0) & (lit.var() <= self.inputs) {
+            set_entry(self.read.as_mut_slice(), self.many, lit.var());
+            self.many = self.many.wrapping_add(1);
+        }
     }
-    Ok(())
+
+    /// Notes the inputs that properties, latches and gates read.
+    fn note_all(&mut self, observed: &[Lit], latches: &[Latch], gates: &[Gate]) {
+        for lit in observed {
+            self.note(*lit);
+        }
+        for latch in latches {
+            self.note(latch.next);
+        }
+        for gate in gates {
+            self.note(gate.rhs0);
+            self.note(gate.rhs1);
+        }
+    }
+
+    /// The inputs that were noted, rising.
+    fn into_rising(self) -> Vec<u32> {
+        let Notes {
+            inputs: _inputs,
+            mut read,
+            many,
+        } = self;
+        read.truncate(many as usize);
+        read.sort_unstable();
+        read.dedup();
+        read
+    }
 }
 
-/// The inputs that are read, each as often as it is.
-fn noted(alloc: Global, circuit: &Circuit, observed: &[Lit]) -> Result<Vec<u32>, NoMemory> {
+/// The inputs that something reads, rising.
+fn inputs_read(memory: &mut Memory, circuit: &Circuit, observed: &[Lit]) -> Vec<u32> {
     let aig = circuit.aig();
-    let mut read = Vec::new(alloc);
-    for lit in observed {
-        note(&mut read, aig.inputs(), *lit)?;
-    }
-    for latch in aig.latches() {
-        note(&mut read, aig.inputs(), latch.next)?;
-    }
-    for gate in aig.gates() {
-        note(&mut read, aig.inputs(), gate.rhs0)?;
-        note(&mut read, aig.inputs(), gate.rhs1)?;
-    }
-    Ok(read)
+    let both = aig.latches_and_gates().saturating_add(aig.gates().len());
+    let read = memory.table(0u32, observed.len().saturating_add(both));
+    let mut notes = Notes {
+        inputs: aig.inputs(),
+        read,
+        many: 0,
+    };
+    notes.note_all(observed, aig.latches(), aig.gates());
+    notes.into_rising()
 }
 
 impl Inputs {
-    /// All inputs where they are few, else those that are read.
-    fn of(alloc: Global, circuit: &Circuit, observed: &[Lit]) -> Result<Inputs, NoMemory> {
-        let aig = circuit.aig();
-        if aig.inputs() as usize <= aig.latches_and_gates() {
-            return Ok(Inputs {
-                many: aig.inputs(),
-                read: None,
-            });
+    /// All inputs where they are few, else those that are read, where properties read these literals.
+    pub fn of(memory: &mut Memory, circuit: &Circuit, observed: &[Lit]) -> Inputs {
+        let all = circuit.aig().inputs();
+        if all as usize <= circuit.aig().latches_and_gates() {
+            return Inputs {
+                all,
+                many: all,
+                read: memory.nothing(),
+            };
         }
-        let mut read = noted(alloc, circuit, observed)?;
-        read.sort_unstable();
-        read.dedup();
-        Ok(Inputs {
+        let read = inputs_read(memory, circuit, observed);
+        Inputs {
+            all,
             many: number(read.len()),
-            read: Some(read),
-        })
+            read,
+        }
     }
 
-    /// The draft's variable of one of a circuit with so many inputs.
-    fn var(&self, inputs: u32, var: u32) -> u32 {
-        let Some(read) = &self.read else {
+    /// The draft's variable of one of the circuit.
+    fn var(&self, var: u32) -> u32 {
+        if self.many == self.all || var == 0 {
             return var;
-        };
-        if var == 0 {
-            return 0;
         }
-        if var > inputs {
-            return var.wrapping_sub(inputs).wrapping_add(self.many);
+        if var > self.all {
+            return var.wrapping_sub(self.all).wrapping_add(self.many);
         }
-        match read.as_slice().binary_search(&var) {
+        match self.read.as_slice().binary_search(&var) {
             Ok(place) => number(place).wrapping_add(1),
             Err(_) => 0,
         }
     }
 
-    /// The draft's literal of one of a circuit with so many inputs.
-    fn literal(&self, inputs: u32, lit: Lit) -> Literal {
-        Literal::of(self.var(inputs, lit.var())).negated_if(lit.is_negated())
+    /// The draft's literal of one of the circuit.
+    fn literal(&self, lit: Lit) -> Literal {
+        Literal::of(self.var(lit.var())).negated_if(lit.is_negated())
     }
 
-    /// The literal of a circuit with so many inputs that one of the draft is.
-    pub fn original(&self, inputs: u32, lit: Literal) -> Literal {
-        let Some(read) = &self.read else {
-            return lit;
-        };
+    /// The circuit's literal that one of the draft is.
+    pub fn original(&self, lit: Literal) -> Literal {
         let var = lit.var();
-        if var > self.many {
-            let own = var.wrapping_sub(self.many).wrapping_add(inputs);
-            return Literal::of(own).signed_as(lit);
+        if self.many == self.all {
+            return lit;
         }
-        match read.get(var.wrapping_sub(1) as usize) {
-            Some(own) => Literal::of(*own).signed_as(lit),
-            None => lit,
-        }
+        let own = if var > self.many {
+            var.wrapping_sub(self.many).wrapping_add(self.all)
+        } else {
+            entry(self.read.as_slice(), var.wrapping_sub(1))
+        };
+        Literal::of(own).signed_as(lit)
     }
 }
 
 /// A latch of a draft.
-fn latch_of(inputs: &Inputs, many: u32, keep: &Keep, latch: &Latch, position: u32) -> DraftLatch {
+fn latch_of(inputs: &Inputs, keep: &Keep, latch: &Latch, position: u32) -> DraftLatch {
     DraftLatch {
-        next: inputs.literal(many, latch.next),
+        next: inputs.literal(latch.next),
         reset: match latch.reset {
             Reset::Zero => DraftReset::Zero,
             Reset::One => DraftReset::One,
@@ -109,66 +144,83 @@ fn latch_of(inputs: &Inputs, many: u32, keep: &Keep, latch: &Latch, position: u3
     }
 }
 
-/// The draft that a circuit is, and the inputs that it has.
-///
-/// # Errors
-///
-/// `NoMemory` where a table is refused.
-pub(crate) fn draft_of(
-    alloc: Global,
-    circuit: &Circuit,
-    keep: &Keep,
-) -> Result<(Draft, Inputs), NoMemory> {
-    let aig = circuit.aig();
-    let many = aig.inputs();
-    let properties = property_literals(alloc, circuit.props())?;
-    let inputs = Inputs::of(alloc, circuit, properties.as_slice())?;
-    let mut latches = Vec::with_capacity(alloc, aig.latches().len())?;
-    let mut position = 0u32;
-    for latch in aig.latches() {
-        latches.push(latch_of(&inputs, many, keep, latch, position))?;
-        position = position.wrapping_add(1);
+/// Puts the latches of a draft.
+fn put_latches(inputs: &Inputs, keep: &Keep, latches: &[Latch], drafted: &mut [DraftLatch]) {
+    for place in 0..drafted.len() {
+        if place < latches.len() {
+            drafted[place] = latch_of(inputs, keep, &latches[place], number(place));
+        }
     }
-    let mut gates = Vec::with_capacity(alloc, aig.gates().len())?;
-    for gate in aig.gates() {
-        gates.push(Pair {
-            larger: inputs.literal(many, gate.rhs0),
-            smaller: inputs.literal(many, gate.rhs1),
-        })?;
+}
+
+/// Puts the gates of a draft.
+fn put_gates(inputs: &Inputs, gates: &[Gate], drafted: &mut [Pair]) {
+    for place in 0..drafted.len() {
+        if place < gates.len() {
+            drafted[place] = Pair {
+                larger: inputs.literal(gates[place].rhs0),
+                smaller: inputs.literal(gates[place].rhs1),
+            };
+        }
     }
-    let mut observed = Vec::with_capacity(alloc, properties.len())?;
-    for lit in &properties {
-        observed.push(inputs.literal(many, *lit))?;
+}
+
+/// Puts the literals that properties read in a draft.
+fn put_observed(inputs: &Inputs, properties: &[Lit], observed: &mut [Literal]) {
+    for place in 0..observed.len() {
+        if place < properties.len() {
+            observed[place] = inputs.literal(properties[place]);
+        }
     }
-    let draft = Draft {
-        inputs: inputs.many,
+}
+
+/// A draft whose latches, gates and properties are all none.
+fn blank(memory: &mut Memory, aig: &Aig, inputs: u32, properties: usize) -> Draft {
+    let latches = memory.table(DraftLatch::NONE, aig.latches().len());
+    let gates = memory.table(Pair::NONE, aig.gates().len());
+    let observed = memory.table(Literal::FALSE, properties);
+    Draft {
+        inputs,
         latches,
         gates,
         observed,
-    };
-    Ok((draft, inputs))
+    }
+}
+
+/// The draft that a circuit is, with these inputs, whose properties read these literals.
+pub(crate) fn draft_of(
+    memory: &mut Memory,
+    circuit: &Circuit,
+    keep: &Keep,
+    inputs: &Inputs,
+    properties: &[Lit],
+) -> Draft {
+    let aig = circuit.aig();
+    let mut draft = blank(memory, aig, inputs.many, properties.len());
+    put_latches(inputs, keep, aig.latches(), draft.latches.as_mut_slice());
+    put_gates(inputs, aig.gates(), draft.gates.as_mut_slice());
+    put_observed(inputs, properties, draft.observed.as_mut_slice());
+    draft
+}
+
+/// Puts what stands for each latch and gate that a property reads, from a first variable on.
+fn put_stands(stands: &mut [Literal], first: u32, properties: &[Lit], observed: &[Literal]) {
+    for place in 0..properties.len() {
+        let lit = properties[place];
+        let own = literal_at(observed, number(place)).negated_if(lit.is_negated());
+        set_literal(stands, lit.var().wrapping_sub(first), own);
+    }
 }
 
 /// What stands for each latch and gate of a circuit that a property reads, where these literals stand for those of its properties.
-///
-/// # Errors
-///
-/// `NoMemory` where a table is refused.
 pub(crate) fn stands_of(
-    alloc: Global,
-    circuit: &Circuit,
+    memory: &mut Memory,
+    aig: &Aig,
+    properties: &[Lit],
     observed: &[Literal],
-) -> Result<Vec<Literal>, NoMemory> {
-    let aig = circuit.aig();
-    let properties = property_literals(alloc, circuit.props())?;
-    let mut stands = vec![in alloc; Literal::FALSE; aig.latches_and_gates()]?;
-    for (lit, own) in properties.iter().zip(observed) {
-        if lit.var() >= aig.first_latch() {
-            let place = lit.var().wrapping_sub(aig.first_latch());
-            if let Some(entry) = stands.get_mut(place as usize) {
-                *entry = own.negated_if(lit.is_negated());
-            }
-        }
-    }
-    Ok(stands)
+) -> Vec<Literal> {
+    let mut stands = memory.table(Literal::FALSE, aig.latches_and_gates());
+    let first = aig.first_latch();
+    put_stands(stands.as_mut_slice(), first, properties, observed);
+    stands
 }

@@ -1,150 +1,78 @@
 //! The draft after a frame, and the map of its states to those before it. Behind the latches stand copies of the set's gates, which read the
 //! latches; in the map stand the same copies, whose variables are lower, since it has no inputs but the latches. What read a latch reads the copy of what the latch read.
 
-use crate::copies::{Copies, Version, copy_of, set_copy};
-use crate::latching::{Latching, latching_of};
-use crate::shared::Shared;
-use aig_graph::NoMemory;
-use backward_sets::{
-    Bordered, Draft, DraftLatch, Literal, Pair, Wishes, has_mark, number, wish_of,
+use crate::again::marks_of;
+use crate::copies::{
+    VERSIONS, Version, copy_of, literal_at, need_of, set_copy, set_literal, standing,
 };
-use std::alloc::Global;
+use crate::latching::{Latching, latching_of};
+use crate::shared::{Shared, set_pair};
+use crate::sweeping::sweep;
+use backward_sets::{
+    Bordered, Draft, DraftLatch, Literal, Memory, Pair, Wish, Wishes, entry, has_mark, wish_of,
+};
 
 /// What the latches of before a frame hold, by those after it: gates over these, which have the variables from 1 on, and a literal for each.
-#[derive(Drop)]
 pub(crate) struct FrameMap {
     pub gates: Vec<Pair>,
     pub outputs: Vec<Literal>,
 }
 
-/// A draft and its map, with the gates of the set and their copies.
+impl Drop for FrameMap {
+    // written out: docs/PROOFS.md, Drops and exits
+    fn drop(self) {
+        let FrameMap {
+            gates: _gates,
+            outputs: _outputs,
+        } = self;
+    }
+}
+
+/// A draft and its map, with the copies of the variables of before.
 #[derive(Drop)]
 pub(crate) struct Rebuilt {
     pub draft: Draft,
     pub map: FrameMap,
-    pub copied: Vec<u32>,
+    pub copies: Vec<Literal>,
 }
 
-/// Gates over latches, and what stands there for each copy.
-#[derive(Drop)]
-struct Side {
-    gates: Shared,
-    copies: Vec<Copies>,
-}
+impl Rebuilt {
+    /// The draft and its map alone.
+    pub fn into_draft_and_map(self) -> (Draft, FrameMap) {
+        let Rebuilt {
+            draft,
+            map,
+            copies: _copies,
+        } = self;
+        (draft, map)
+    }
 
-/// The values that the fan-ins have to have at step 0 for a copy, where they matter.
-fn needs(version: Version, by_larger: bool, pair: &Pair) -> (Option<bool>, Option<bool>) {
-    let (larger, smaller) = (pair.larger.is_negated(), pair.smaller.is_negated());
-    match version {
-        Version::One => (Some(!larger), Some(!smaller)),
-        Version::Zero if by_larger => (Some(larger), None),
-        Version::Zero => (None, Some(smaller)),
-        Version::Any => (None, None),
+    /// Drops gates that nothing reads. By variable whether it is the copy of a gate of the set.
+    pub fn sweep(&mut self, memory: &mut Memory, inside: &[bool]) -> Vec<bool> {
+        let numbers = sweep(memory, &mut self.draft);
+        let copies = self.copies.as_slice();
+        marks_of(memory, &self.draft, inside, copies, numbers.as_slice())
     }
 }
 
-impl Side {
-    /// The latches stand for the copies of border variables. The copies of the set's gates come after them.
-    fn new(alloc: Global, draft: &Draft, latching: &Latching) -> Result<Side, NoMemory> {
-        let first = draft.first_latch();
-        let mut copies = Vec::with_capacity(alloc, latching.copies.len())?;
-        for of_var in &latching.copies {
-            let mut shifted = Copies::NONE;
-            for version in [Version::Zero, Version::One, Version::Any] {
-                let lit = of_var.get(version);
-                if lit != Literal::NONE {
-                    let var = lit.var().wrapping_add(first);
-                    shifted.set(version, Literal::of(var).signed_as(lit));
-                }
-            }
-            copies.push(shifted)?;
-        }
-        let end = first.wrapping_add(number(latching.latches.len()));
-        Ok(Side {
-            gates: Shared::after(alloc, end, draft.gates.len())?,
-            copies,
-        })
+/// The value that a fan-in has to have at step 0 for a copy, where it matters. A copy that is to be 0 needs the fan-in that makes it so.
+fn need(version: Version, makes_zero: bool, lit: Literal) -> Wish {
+    if version.is(true) | (version.is(false) & makes_zero) {
+        Wish::NONE.with(version.is(true) != lit.is_negated())
+    } else {
+        Wish::NONE
     }
+}
 
-    /// What stands for a literal where its variable's copy is picked by this need.
-    fn literal(&self, wishes: &Wishes, lit: Literal, need: Option<bool>) -> Literal {
-        let wish = wish_of(wishes.of.as_slice(), lit.var());
-        let version = Version::picked(wish, need);
-        copy_of(self.copies.as_slice(), lit.var(), version).signed_as(lit)
-    }
-
-    /// Puts the copies of a gate of the set.
-    fn put(&mut self, wishes: &Wishes, var: u32, pair: &Pair) -> Result<(), NoMemory> {
-        let by_larger = has_mark(wishes.by_larger.as_slice(), var);
-        for version in Version::of(wish_of(wishes.of.as_slice(), var)) {
-            let (larger, smaller) = needs(*version, by_larger, pair);
-            let a = self.literal(wishes, pair.larger, larger);
-            let b = self.literal(wishes, pair.smaller, smaller);
-            let lit = self.gates.and(a, b)?;
-            set_copy(self.copies.as_mut_slice(), var, *version, lit);
-        }
-        Ok(())
-    }
-
-    /// Puts the copies of all gates of the set.
-    fn put_all(&mut self, draft: &Draft, set: &Bordered, wishes: &Wishes) -> Result<(), NoMemory> {
-        let mut var = draft.first_gate();
-        for pair in &draft.gates {
-            if set.has(var) {
-                self.put(wishes, var, pair)?;
-            }
-            var = var.wrapping_add(1);
-        }
-        Ok(())
-    }
-
-    /// What stands for a latch of before, where it has this variable if it doesn't take part.
-    fn latch(&self, wishes: &Wishes, latch: &DraftLatch, own: u32) -> Literal {
-        if latch.takes_part() {
-            self.literal(wishes, latch.next, latch.wish())
-        } else {
-            Literal::of(own)
+/// How many gates stand behind the latches at most: the copies of the set's, and the others.
+fn room(draft: &Draft, set: &Bordered, wishes: &[Wish]) -> usize {
+    let mut many = draft.gates.len();
+    for var in draft.first_gate()..draft.end() {
+        if set.has(var) & wish_of(wishes, var).is_both() {
+            many = many.saturating_add(1);
         }
     }
-
-    /// The same of all latches.
-    fn put_latches(
-        &self,
-        draft: &Draft,
-        latching: &Latching,
-        wishes: &Wishes,
-        stands: &mut Vec<Literal>,
-    ) -> Result<(), NoMemory> {
-        let first = draft.first_latch();
-        for (latch, place) in draft.latches.iter().zip(latching.places.iter()) {
-            stands.push(self.latch(wishes, latch, first.wrapping_add(*place)))?;
-        }
-        Ok(())
-    }
-
-    /// The map of the states after a frame to those before it, where no gates stand here yet but the copies of the set's.
-    fn map(
-        &self,
-        alloc: Global,
-        draft: &Draft,
-        latching: &Latching,
-        wishes: &Wishes,
-    ) -> Result<FrameMap, NoMemory> {
-        let many = draft.inputs;
-        let mut gates = Vec::with_capacity(alloc, self.gates.gates().len())?;
-        for pair in self.gates.gates() {
-            gates.push(Pair {
-                larger: lowered(pair.larger, many),
-                smaller: lowered(pair.smaller, many),
-            })?;
-        }
-        let mut outputs = Vec::with_capacity(alloc, draft.latches.len())?;
-        self.put_latches(draft, latching, wishes, &mut outputs)?;
-        for output in outputs.iter_mut() {
-            *output = lowered(*output, many);
-        }
-        Ok(FrameMap { gates, outputs })
-    }
+    many
 }
 
 /// The literal where so many variables fewer stand before it. The constant stays.
@@ -156,120 +84,206 @@ fn lowered(lit: Literal, many: u32) -> Literal {
     }
 }
 
-/// What stands for a literal.
-fn standing(stands: &[Literal], lit: Literal) -> Literal {
-    match stands.get(lit.var() as usize) {
-        Some(own) => own.signed_as(lit),
-        None => Literal::NONE,
+/// Latches read from now on what stands for what they read.
+fn redirect(latches: &mut [DraftLatch], stands: &[Literal]) {
+    for place in 0..latches.len() {
+        latches[place].next = standing(stands, latches[place].next);
+    }
+}
+
+/// Puts what stands for the latches of a draft, where its inputs are left out.
+fn lower_latches(draft: &Draft, stands: &[Literal], outputs: &mut [Literal]) {
+    for place in 0..draft.many_latches() {
+        let own = literal_at(stands, draft.first_latch().wrapping_add(place));
+        set_literal(outputs, place, lowered(own, draft.inputs));
+    }
+}
+
+/// Puts gates where so many variables fewer stand before them.
+fn lower_gates(gates: &Shared, many: u32, lower: &mut [Pair]) {
+    for place in 0..gates.many() {
+        let pair = gates.gate(place);
+        let pair = Pair {
+            larger: lowered(pair.larger, many),
+            smaller: lowered(pair.smaller, many),
+        };
+        set_pair(lower, place, pair);
+    }
+}
+
+/// Puts what stands for literals.
+fn put_standing(stands: &[Literal], lits: &[Literal], all: &mut [Literal]) {
+    for place in 0..all.len() {
+        if place < lits.len() {
+            all[place] = standing(stands, lits[place]);
+        }
     }
 }
 
 /// The literals that stand for these.
-fn all_standing(
-    alloc: Global,
+pub(crate) fn all_standing(
+    memory: &mut Memory,
     stands: &[Literal],
     lits: &[Literal],
-) -> Result<Vec<Literal>, NoMemory> {
-    let mut all = Vec::with_capacity(alloc, lits.len())?;
-    for lit in lits {
-        all.push(standing(stands, *lit))?;
-    }
-    Ok(all)
+) -> Vec<Literal> {
+    let mut all = memory.table(Literal::FALSE, lits.len());
+    put_standing(stands, lits, all.as_mut_slice());
+    all
 }
 
-/// What stands for each variable of before; the gates outside of the set are put after the copies.
-fn stands_of(
-    alloc: Global,
-    draft: &Draft,
-    set: &Bordered,
-    wishes: &Wishes,
-    latching: &Latching,
-    side: &mut Side,
-) -> Result<Vec<Literal>, NoMemory> {
-    let mut stands = Vec::with_capacity(alloc, draft.size())?;
-    for var in 0..draft.first_latch() {
-        stands.push(Literal::of(var))?;
-    }
-    side.put_latches(draft, latching, wishes, &mut stands)?;
-    let mut var = draft.first_gate();
-    for pair in &draft.gates {
-        let lit = if set.has(var) {
-            Literal::NONE
-        } else {
-            let a = standing(stands.as_slice(), pair.larger);
-            let b = standing(stands.as_slice(), pair.smaller);
-            side.gates.and(a, b)?
-        };
-        stands.push(lit)?;
-        var = var.wrapping_add(1);
-    }
-    Ok(stands)
+/// The latches after a frame, and the gates behind them so far.
+#[derive(Drop)]
+struct Side {
+    gates: Shared,
+    latching: Latching,
 }
 
-/// The variables of the copies of the set's gates.
-fn copied_gates(
-    alloc: Global,
-    draft: &Draft,
-    set: &Bordered,
-    copies: &[Copies],
-) -> Result<Vec<u32>, NoMemory> {
-    let mut copied = Vec::new(alloc);
-    for var in draft.first_gate()..draft.end() {
-        if set.has(var) {
-            for version in [Version::Zero, Version::One, Version::Any] {
-                let lit = copy_of(copies, var, version);
-                if lit != Literal::NONE {
-                    copied.push(lit.var())?;
-                }
+impl Side {
+    /// The copies of the set's gates come after the latches.
+    fn new(
+        memory: &mut Memory,
+        draft: &Draft,
+        set: &Bordered,
+        wishes: &[Wish],
+        after: u32,
+    ) -> Side {
+        let latching = latching_of(memory, draft, set, wishes, after);
+        let end = draft.first_latch().wrapping_add(latching.many);
+        Side {
+            gates: Shared::after(memory, end, room(draft, set, wishes)),
+            latching,
+        }
+    }
+
+    /// What stands for a literal where its variable's copy is picked by this need.
+    fn literal(&self, wishes: &Wishes, lit: Literal, need: Wish) -> Literal {
+        let version = Version::picked(wish_of(wishes.of.as_slice(), lit.var()), need);
+        copy_of(self.latching.copies.as_slice(), lit.var(), version).signed_as(lit)
+    }
+
+    /// Puts a copy of a gate of the set.
+    fn put(&mut self, wishes: &Wishes, var: u32, pair: &Pair, version: Version) {
+        let by_larger = has_mark(wishes.by_larger.as_slice(), var);
+        let (larger, smaller) = (
+            need(version, by_larger, pair.larger),
+            need(version, !by_larger, pair.smaller),
+        );
+        let a = self.literal(wishes, pair.larger, larger);
+        let b = self.literal(wishes, pair.smaller, smaller);
+        let lit = self.gates.and(a, b);
+        set_copy(self.latching.copies.as_mut_slice(), var, version, lit);
+    }
+
+    /// Puts the copies of a gate of the set that are wished.
+    fn put_wished(&mut self, wishes: &Wishes, var: u32, pair: &Pair) {
+        let wish = wish_of(wishes.of.as_slice(), var);
+        for place in 0..VERSIONS {
+            if Version::of(place).is_wished(wish) {
+                self.put(wishes, var, pair, Version::of(place));
             }
         }
     }
-    Ok(copied)
-}
 
-/// The latches with what stands for their next literals.
-fn finished_latches(latches: &mut [DraftLatch], stands: &[Literal]) {
-    for latch in latches.iter_mut() {
-        latch.next = standing(stands, latch.next);
+    /// Puts the copies of all gates of the set.
+    fn put_all(&mut self, draft: &Draft, set: &Bordered, wishes: &Wishes) {
+        for var in draft.first_gate()..draft.end() {
+            if set.has(var) {
+                self.put_wished(wishes, var, &draft.gate(var));
+            }
+        }
+    }
+
+    /// What stands for the latch at a place of before.
+    fn latch(&self, draft: &Draft, wishes: &Wishes, place: u32) -> Literal {
+        let latch = draft.latch(place);
+        if latch.takes_part() {
+            self.literal(wishes, latch.next, need_of(&latch))
+        } else {
+            let own = entry(self.latching.places.as_slice(), place);
+            Literal::of(draft.first_latch().wrapping_add(own))
+        }
+    }
+
+    /// Puts what stands for the variables of before the gates.
+    fn put_latches(&self, draft: &Draft, wishes: &Wishes, stands: &mut [Literal]) {
+        let first = draft.first_latch();
+        for var in 0..first {
+            set_literal(stands, var, Literal::of(var));
+        }
+        for place in 0..draft.many_latches() {
+            let lit = self.latch(draft, wishes, place);
+            set_literal(stands, first.wrapping_add(place), lit);
+        }
+    }
+
+    /// Puts the gates outside of the set after the copies, and what stands for them. Has the latches read what stands for what they read.
+    fn put_others(&mut self, draft: &Draft, set: &Bordered, stands: &mut [Literal]) {
+        for var in draft.first_gate()..draft.end() {
+            if !set.has(var) {
+                let pair = draft.gate(var);
+                let lit = self.gates.and(
+                    standing(stands, pair.larger),
+                    standing(stands, pair.smaller),
+                );
+                set_literal(stands, var, lit);
+            }
+        }
+        redirect(self.latching.latches.as_mut_slice(), stands);
+    }
+
+    /// The map of the states after a frame to those before it, where no gates stand here yet but the copies of the set's.
+    fn map(&self, memory: &mut Memory, draft: &Draft, stands: &[Literal]) -> FrameMap {
+        let mut gates = memory.table(Pair::NONE, self.gates.many() as usize);
+        let mut outputs = memory.table(Literal::FALSE, draft.latches.len());
+        lower_gates(&self.gates, draft.inputs, gates.as_mut_slice());
+        lower_latches(draft, stands, outputs.as_mut_slice());
+        FrameMap { gates, outputs }
+    }
+
+    /// Puts all gates, and what stands for the variables of before. The map of the states after a frame to those before it.
+    fn finish(
+        &mut self,
+        memory: &mut Memory,
+        draft: &Draft,
+        set: &Bordered,
+        wishes: &Wishes,
+        stands: &mut [Literal],
+    ) -> FrameMap {
+        self.put_all(draft, set, wishes);
+        self.put_latches(draft, wishes, stands);
+        let map = self.map(memory, draft, stands);
+        self.put_others(draft, set, stands);
+        map
+    }
+
+    /// The draft after a frame, with its map.
+    fn into_rebuilt(self, inputs: u32, observed: Vec<Literal>, map: FrameMap) -> Rebuilt {
+        let Side { gates, latching } = self;
+        let (latches, copies) = latching.into_latches_and_copies();
+        Rebuilt {
+            draft: Draft {
+                inputs,
+                latches,
+                gates: gates.into_gates(),
+                observed,
+            },
+            map,
+            copies,
+        }
     }
 }
 
-/// The draft after a frame over a set, by the wishes at its border. Gates that nothing reads are still there.
-///
-/// # Errors
-///
-/// `NoMemory` where a table is refused.
+/// The draft after a frame over a set, by the wishes at its border, which takes so many latches. Gates that nothing reads are still there.
 pub(crate) fn rebuild(
-    alloc: Global,
+    memory: &mut Memory,
     draft: &Draft,
     set: &Bordered,
     wishes: &Wishes,
-) -> Result<Rebuilt, NoMemory> {
-    let mut latching = latching_of(alloc, draft, set, wishes.of.as_slice())?;
-    let mut side = Side::new(alloc, draft, &latching)?;
-    side.put_all(draft, set, wishes)?;
-    let map = side.map(alloc, draft, &latching, wishes)?;
-    let stands = stands_of(alloc, draft, set, wishes, &latching, &mut side)?;
-    finished_latches(latching.latches.as_mut_slice(), stands.as_slice());
-    let observed = all_standing(alloc, stands.as_slice(), draft.observed.as_slice())?;
-    let copied = copied_gates(alloc, draft, set, side.copies.as_slice())?;
-    let Latching {
-        latches,
-        copies: _copies,
-        places: _places,
-    } = latching;
-    let Side {
-        gates,
-        copies: _own,
-    } = side;
-    Ok(Rebuilt {
-        draft: Draft {
-            inputs: draft.inputs,
-            latches,
-            gates: gates.into_gates(),
-            observed,
-        },
-        map,
-        copied,
-    })
+    after: u32,
+) -> Rebuilt {
+    let mut stands = memory.table(Literal::NONE, draft.size());
+    let mut side = Side::new(memory, draft, set, wishes.of.as_slice(), after);
+    let map = side.finish(memory, draft, set, wishes, stands.as_mut_slice());
+    let observed = all_standing(memory, stands.as_slice(), draft.observed.as_slice());
+    side.into_rebuilt(draft.inputs, observed, map)
 }

@@ -1,9 +1,6 @@
 //! Gates of which no two have the same fan-ins, by the rules by which maps are checked. An open table has the places of the gates.
 
-use aig_graph::NoMemory;
-use backward_sets::{Literal, Pair, number, set_entry};
-use std::alloc::Global;
-use std::mem;
+use backward_sets::{Literal, Memory, Pair, entry, number, set_entry};
 
 /// The smallest table.
 const SMALLEST: usize = 16;
@@ -14,36 +11,28 @@ const LARGEST: usize = 1 << 31;
 /// Gates from a first variable on, and by what they read one more than the place of each; 0 where there is none.
 #[derive(Drop)]
 pub(crate) struct Shared {
-    alloc: Global,
     first: u32,
+    /// Room for all that are put.
     gates: Vec<Pair>,
+    /// How many were put.
+    many: u32,
     table: Vec<u32>,
 }
 
-/// What a gate comes down to, whatever its fan-ins are.
-fn folded(pair: &Pair) -> Option<Literal> {
-    if pair.smaller == Literal::FALSE || pair.larger == pair.smaller.negated_if(true) {
-        Some(Literal::FALSE)
-    } else if pair.smaller == Literal::FALSE.negated_if(true) || pair.larger == pair.smaller {
-        Some(pair.larger)
-    } else {
-        None
-    }
+/// Whether a gate is false, whatever its fan-ins are.
+fn is_false(pair: &Pair) -> bool {
+    (pair.smaller.code == 0) | (pair.larger.code == pair.smaller.code ^ 1)
+}
+
+/// Whether a gate is its larger fan-in.
+fn is_larger(pair: &Pair) -> bool {
+    (pair.smaller.code == 1) | (pair.larger.code == pair.smaller.code)
 }
 
 /// Both literals, the larger first.
 fn ordered(a: Literal, b: Literal) -> Pair {
-    if a.code < b.code {
-        Pair {
-            larger: b,
-            smaller: a,
-        }
-    } else {
-        Pair {
-            larger: a,
-            smaller: b,
-        }
-    }
+    let (larger, smaller) = if a.code < b.code { (b, a) } else { (a, b) };
+    Pair { larger, smaller }
 }
 
 /// Where a gate's entry is looked for first, in a table whose size is one more than the mask.
@@ -59,7 +48,7 @@ fn slot(pair: &Pair, mask: usize) -> usize {
 fn size_for(gates: usize) -> usize {
     let mut size = SMALLEST;
     for _ in 0..usize::BITS {
-        if size / 2 > gates || size >= LARGEST {
+        if (size / 2 > gates) | (size >= LARGEST) {
             return size;
         }
         size = size.saturating_mul(2);
@@ -67,76 +56,81 @@ fn size_for(gates: usize) -> usize {
     size
 }
 
+/// The gate at a place.
+pub(crate) fn pair_at(pairs: &[Pair], place: u32) -> Pair {
+    let place = place as usize;
+    if place < pairs.len() {
+        pairs[place]
+    } else {
+        Pair::NONE
+    }
+}
+
+/// Puts a gate at a place.
+pub(crate) fn set_pair(pairs: &mut [Pair], place: u32, pair: Pair) {
+    let place = place as usize;
+    if place < pairs.len() {
+        pairs[place] = pair;
+    }
+}
+
 impl Shared {
-    /// No gates yet, from a first variable on, with room for so many.
-    ///
-    /// # Errors
-    ///
-    /// `NoMemory` where a table is refused.
-    pub fn after(alloc: Global, first: u32, room: usize) -> Result<Shared, NoMemory> {
-        Ok(Shared {
-            alloc,
+    /// No gates yet, from a first variable on, with room for so many. Of more there must not be.
+    pub fn after(memory: &mut Memory, first: u32, room: usize) -> Shared {
+        let gates = memory.table(Pair::NONE, room);
+        let table = memory.table(0u32, size_for(room));
+        Shared {
             first,
-            gates: Vec::with_capacity(alloc, room)?,
-            table: vec![in alloc; 0; size_for(room)]?,
-        })
+            gates,
+            many: 0,
+            table,
+        }
+    }
+
+    /// Whether an entry is empty, or that of this gate.
+    fn fits(&self, known: u32, pair: &Pair) -> bool {
+        let own = self.gate(known.wrapping_sub(1));
+        (known == 0)
+            | ((own.larger.code == pair.larger.code) & (own.smaller.code == pair.smaller.code))
     }
 
     /// The slot of a gate, or the empty one where it would stand.
-    fn find(&self, pair: &Pair) -> usize {
+    fn find(&self, pair: &Pair) -> u32 {
         let mask = self.table.len().saturating_sub(1);
         let mut at = slot(pair, mask);
         for _ in 0..self.table.len() {
-            let Some(entry) = self.table.get(at).copied() else {
-                return at;
-            };
-            let place = entry.wrapping_sub(1) as usize;
-            if entry == 0 || self.gates.get(place).copied() == Some(*pair) {
-                return at;
+            let known = entry(self.table.as_slice(), number(at));
+            if self.fits(known, pair) {
+                return number(at);
             }
             at = at.wrapping_add(1) & mask;
         }
-        at
-    }
-
-    /// Makes a table of twice the size, where half of it is full.
-    fn grow(&mut self) -> Result<(), NoMemory> {
-        let size = self.table.len();
-        if self.gates.len() < size / 2 {
-            return Ok(());
-        }
-        let larger = vec![in self.alloc; 0; size.saturating_mul(2)]?;
-        drop(mem::replace(&mut self.table, larger));
-        let mut entry = 1u32;
-        for place in 0..self.gates.len() {
-            let pair = self.gates[place];
-            let at = self.find(&pair);
-            set_entry(self.table.as_mut_slice(), number(at), entry);
-            entry = entry.wrapping_add(1);
-        }
-        Ok(())
+        number(at)
     }
 
     /// The literal of the conjunction of two literals.
-    ///
-    /// # Errors
-    ///
-    /// `NoMemory` where a table is refused.
-    pub fn and(&mut self, a: Literal, b: Literal) -> Result<Literal, NoMemory> {
+    pub fn and(&mut self, a: Literal, b: Literal) -> Literal {
         let pair = ordered(a, b);
-        if let Some(lit) = folded(&pair) {
-            return Ok(lit);
+        if is_false(&pair) {
+            return Literal::FALSE;
         }
-        self.grow()?;
+        if is_larger(&pair) {
+            return pair.larger;
+        }
+        self.put(pair)
+    }
+
+    /// The literal of a gate, which is put if it isn't there yet.
+    fn put(&mut self, pair: Pair) -> Literal {
         let at = self.find(&pair);
-        let known = self.table.get(at).copied().unwrap_or(0);
+        let known = entry(self.table.as_slice(), at);
         if known > 0 {
-            return Ok(self.literal(known));
+            return self.literal(known);
         }
-        self.gates.push(pair)?;
-        let entry = number(self.gates.len());
-        set_entry(self.table.as_mut_slice(), number(at), entry);
-        Ok(self.literal(entry))
+        set_pair(self.gates.as_mut_slice(), self.many, pair);
+        self.many = self.many.wrapping_add(1);
+        set_entry(self.table.as_mut_slice(), at, self.many);
+        self.literal(self.many)
     }
 
     /// The literal of the gate that has an entry.
@@ -144,19 +138,25 @@ impl Shared {
         Literal::of(self.first.wrapping_add(entry).wrapping_sub(1))
     }
 
-    /// The gates so far.
-    pub fn gates(&self) -> &[Pair] {
-        self.gates.as_slice()
+    /// How many gates there are so far.
+    pub fn many(&self) -> u32 {
+        self.many
+    }
+
+    /// The gate at a place.
+    pub fn gate(&self, place: u32) -> Pair {
+        pair_at(self.gates.as_slice(), place)
     }
 
     /// The gates alone.
     pub fn into_gates(self) -> Vec<Pair> {
         let Shared {
-            alloc: _alloc,
             first: _first,
-            gates,
+            mut gates,
+            many,
             table: _table,
         } = self;
+        gates.truncate(many as usize);
         gates
     }
 }

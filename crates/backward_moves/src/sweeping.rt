@@ -1,28 +1,38 @@
 //! Gates that no property and no latch reaches are dropped.
 
-use aig_graph::NoMemory;
-use backward_sets::{Draft, Literal, Pair, entry, has_mark, set_mark};
-use std::alloc::Global;
+use crate::shared::set_pair;
+use backward_sets::{Draft, DraftLatch, Literal, Memory, Pair, entry, number, set_entry};
 
-/// By variable whether a property or a latch reaches it.
-fn reached(alloc: Global, draft: &Draft) -> Result<Vec<bool>, NoMemory> {
-    let mut marks = vec![in alloc; false; draft.size()]?;
-    let reached = marks.as_mut_slice();
-    for lit in &draft.observed {
-        set_mark(reached, lit.var(), true);
+/// Puts 1 at each variable that a property or a latch reaches.
+fn mark_reached(draft: &Draft, reached: &mut [u32]) {
+    for place in 0..number(draft.observed.len()) {
+        set_entry(reached, draft.observed(place).var(), 1);
     }
-    for latch in &draft.latches {
-        set_mark(reached, latch.next.var(), true);
+    for place in 0..draft.many_latches() {
+        set_entry(reached, draft.latch(place).next.var(), 1);
     }
-    let mut var = draft.end();
-    for pair in draft.gates.iter().rev() {
-        var = var.wrapping_sub(1);
-        if has_mark(reached, var) {
-            set_mark(reached, pair.larger.var(), true);
-            set_mark(reached, pair.smaller.var(), true);
+    for var in (draft.first_gate()..draft.end()).rev() {
+        if entry(reached, var) > 0 {
+            let pair = draft.gate(var);
+            set_entry(reached, pair.larger.var(), 1);
+            set_entry(reached, pair.smaller.var(), 1);
         }
     }
-    Ok(marks)
+}
+
+/// Numbers the variables that are reached, of which the first gate has this one; those before it stay. Where the numbers end.
+fn number_reached(first: u32, numbers: &mut [u32]) -> u32 {
+    for var in 0..first {
+        set_entry(numbers, var, var);
+    }
+    let mut next = first;
+    for var in first..number(numbers.len()) {
+        if entry(numbers, var) > 0 {
+            set_entry(numbers, var, next);
+            next = next.wrapping_add(1);
+        }
+    }
+    next
 }
 
 /// A literal of a variable's new number.
@@ -30,49 +40,49 @@ fn renumbered(numbers: &[u32], lit: Literal) -> Literal {
     Literal::of(entry(numbers, lit.var())).signed_as(lit)
 }
 
-/// The gates that are reached, and by variable the new numbers. Variables that go have 0.
-fn kept_gates(
-    alloc: Global,
-    draft: &Draft,
-    marks: &[bool],
-) -> Result<(Vec<Pair>, Vec<u32>), NoMemory> {
-    let first = draft.first_gate();
-    let mut numbers = Vec::with_capacity(alloc, draft.size())?;
-    for var in 0..first {
-        numbers.push(var)?;
-    }
-    let mut gates = Vec::new(alloc);
-    let (mut var, mut next) = (first, first);
-    for pair in &draft.gates {
-        if has_mark(marks, var) {
-            gates.push(Pair {
-                larger: renumbered(numbers.as_slice(), pair.larger),
-                smaller: renumbered(numbers.as_slice(), pair.smaller),
-            })?;
-            numbers.push(next)?;
-            next = next.wrapping_add(1);
-        } else {
-            numbers.push(0)?;
+/// Moves the gates that are reached to the front, with their new numbers.
+fn renumber_gates(first: u32, gates: &mut [Pair], numbers: &[u32]) {
+    for place in 0..gates.len() {
+        let own = entry(numbers, first.wrapping_add(number(place)));
+        let pair = gates[place];
+        if own > 0 {
+            let pair = Pair {
+                larger: renumbered(numbers, pair.larger),
+                smaller: renumbered(numbers, pair.smaller),
+            };
+            set_pair(gates, own.wrapping_sub(first), pair);
         }
-        var = var.wrapping_add(1);
     }
-    Ok((gates, numbers))
+}
+
+/// Latches read the new number of what they read.
+fn renumber_latches(latches: &mut [DraftLatch], numbers: &[u32]) {
+    for place in 0..latches.len() {
+        latches[place].next = renumbered(numbers, latches[place].next);
+    }
+}
+
+/// The new numbers of literals.
+fn renumber_literals(literals: &mut [Literal], numbers: &[u32]) {
+    for place in 0..literals.len() {
+        literals[place] = renumbered(numbers, literals[place]);
+    }
+}
+
+/// Drops the gates that have no number, up to this one, and gives literals their new numbers.
+fn renumber(draft: &mut Draft, numbers: &[u32], end: u32) {
+    let first = draft.first_gate();
+    renumber_gates(first, draft.gates.as_mut_slice(), numbers);
+    draft.gates.truncate(end.wrapping_sub(first) as usize);
+    renumber_latches(draft.latches.as_mut_slice(), numbers);
+    renumber_literals(draft.observed.as_mut_slice(), numbers);
 }
 
 /// Drops the gates of a draft that nothing reaches. By variable the new numbers; variables that went have 0.
-///
-/// # Errors
-///
-/// `NoMemory` where a table is refused.
-pub(crate) fn sweep(alloc: Global, draft: &mut Draft) -> Result<Vec<u32>, NoMemory> {
-    let marks = reached(alloc, draft)?;
-    let (gates, numbers) = kept_gates(alloc, draft, marks.as_slice())?;
-    draft.gates = gates;
-    for latch in draft.latches.iter_mut() {
-        latch.next = renumbered(numbers.as_slice(), latch.next);
-    }
-    for lit in draft.observed.iter_mut() {
-        *lit = renumbered(numbers.as_slice(), *lit);
-    }
-    Ok(numbers)
+pub(crate) fn sweep(memory: &mut Memory, draft: &mut Draft) -> Vec<u32> {
+    let mut numbers = memory.table(0u32, draft.size());
+    mark_reached(draft, numbers.as_mut_slice());
+    let end = number_reached(draft.first_gate(), numbers.as_mut_slice());
+    renumber(draft, numbers.as_slice(), end);
+    numbers
 }

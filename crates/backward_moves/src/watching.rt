@@ -1,7 +1,7 @@
 //! What a run of frames calls as each of its stages begins, for callers that show how far it is. The draft doesn't depend on who watches.
 
 /// What a run does from now on.
-#[derive(Clone, Copy, PartialEq, Eq, Debug)]
+#[derive(Clone, Copy)]
 pub enum MoveStage {
     /// Looks for the set of the next frame, and moves latches over it.
     Looking {

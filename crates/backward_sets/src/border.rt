@@ -1,10 +1,9 @@
 //! A set of gates, and its border: what the set's gates read from outside of it, and what latches that take part read.
 
 use crate::drafts::Draft;
+use crate::memory::Memory;
 use crate::starts::{Wish, wish_of};
-use crate::tables::{has_mark, set_mark};
-use aig_graph::NoMemory;
-use std::alloc::Global;
+use crate::tables::{has_mark, number, set_mark};
 
 /// A set of gates and its border, by variable.
 #[derive(Drop)]
@@ -24,70 +23,54 @@ impl Bordered {
         has_mark(self.border.as_slice(), var)
     }
 
-    /// How many latches the border takes, where these are the wishes; and how many variables take two.
-    pub fn count(&self, wishes: &[Wish]) -> (u32, u32) {
-        let (mut latches, mut doubled) = (0u32, 0u32);
-        for (in_border, wish) in self.border.iter().zip(wishes) {
-            if *in_border {
-                latches = latches.wrapping_add(wish.latches());
-                doubled = doubled.wrapping_add(u32::from(wish.is_both()));
-            }
+    /// How many variables of the border take two latches, where these are the wishes.
+    pub fn doubled(&self, wishes: &[Wish]) -> u32 {
+        let mut doubled = 0u32;
+        for var in 0..number(wishes.len()) {
+            let both = self.borders(var) & wish_of(wishes, var).is_both();
+            doubled = doubled.wrapping_add(u32::from(both));
         }
-        (latches, doubled)
+        doubled
     }
 }
 
-/// A set with its border.
-///
-/// # Errors
-///
-/// `NoMemory` where the table is refused.
-pub fn with_border(alloc: Global, draft: &Draft, inside: Vec<bool>) -> Result<Bordered, NoMemory> {
-    let mut marks = vec![in alloc; false; draft.size()]?;
-    let border = marks.as_mut_slice();
-    for latch in &draft.latches {
+/// Marks a variable that is read, unless it is in the set.
+fn mark_outside(border: &mut [bool], inside: &[bool], var: u32) {
+    set_mark(border, var, !has_mark(inside, var));
+}
+
+/// Marks what latches that take part read from outside of a set, and what its gates do.
+fn mark_border(draft: &Draft, inside: &[bool], border: &mut [bool]) {
+    for place in 0..draft.many_latches() {
+        let latch = draft.latch(place);
         if latch.takes_part() {
-            set_mark(border, latch.next.var(), true);
+            mark_outside(border, inside, latch.next.var());
         }
     }
-    let mut var = draft.first_gate();
-    for pair in &draft.gates {
-        if has_mark(inside.as_slice(), var) {
-            set_mark(border, pair.larger.var(), true);
-            set_mark(border, pair.smaller.var(), true);
+    for var in draft.first_gate()..draft.end() {
+        if has_mark(inside, var) {
+            let pair = draft.gate(var);
+            mark_outside(border, inside, pair.larger.var());
+            mark_outside(border, inside, pair.smaller.var());
         }
-        var = var.wrapping_add(1);
     }
-    for (mark, is_inside) in border.iter_mut().zip(inside.iter()) {
-        *mark = *mark && !*is_inside;
-    }
-    Ok(Bordered {
-        inside,
-        border: marks,
-    })
+}
+
+/// By variable whether it is in the border of a set.
+pub fn border_of(memory: &mut Memory, draft: &Draft, inside: &[bool]) -> Vec<bool> {
+    let mut border = memory.table(false, draft.size());
+    mark_border(draft, inside, border.as_mut_slice());
+    border
 }
 
 /// Whether a set may move as it is: its gates may, and so each gate that reads one is in it.
 pub fn is_closed(draft: &Draft, may: &[bool], inside: &[bool]) -> bool {
-    let mut var = draft.first_gate();
-    for pair in &draft.gates {
-        if has_mark(inside, var) {
-            if !has_mark(may, var) {
-                return false;
-            }
-        } else if has_mark(inside, pair.larger.var()) || has_mark(inside, pair.smaller.var()) {
-            return false;
-        }
-        var = var.wrapping_add(1);
+    let mut closed = true;
+    for var in draft.first_gate()..draft.end() {
+        let pair = draft.gate(var);
+        let reads = has_mark(inside, pair.larger.var()) | has_mark(inside, pair.smaller.var());
+        closed = closed & (has_mark(may, var) | !has_mark(inside, var));
+        closed = closed & (has_mark(inside, var) | !reads);
     }
-    true
-}
-
-/// The wishes of a variable, and none of one that isn't in the border.
-pub fn border_wish(set: &Bordered, wishes: &[Wish], var: u32) -> Wish {
-    if set.borders(var) {
-        wish_of(wishes, var)
-    } else {
-        Wish::NONE
-    }
+    closed
 }

@@ -1,14 +1,13 @@
 //! Where a border takes too many latches, since both values are wished of some variables: the gates that wish the value there that fewer wish
 //! stay from then on.
 
-use crate::border::{Bordered, border_wish};
+use crate::border::Bordered;
 use crate::drafts::{Draft, Pair};
 use crate::literals::Literal;
+use crate::memory::Memory;
 use crate::starts::{Wish, wish_of};
-use crate::tables::set_mark;
+use crate::tables::{has_mark, set_mark};
 use crate::wishes::Wishes;
-use aig_graph::NoMemory;
-use std::alloc::Global;
 
 /// A latch's wish has more weight than those of all gates.
 const LATCH_WEIGHT: u32 = 1 << 20;
@@ -20,112 +19,118 @@ struct Votes {
     one: u32,
 }
 
-/// What a gate wishes of its fan-ins: literals that are to be 1.
-#[derive(Clone, Copy)]
-struct Asked {
-    lits: [Option<Literal>; 3],
+/// The literal that a gate wishes to be 1 where it is to be 0 itself.
+fn zero_by(wishes: &Wishes, var: u32, pair: &Pair) -> Literal {
+    let zero = if has_mark(wishes.by_larger.as_slice(), var) {
+        pair.larger
+    } else {
+        pair.smaller
+    };
+    zero.negated_if(true)
 }
 
-/// What a gate of the set wishes.
-fn asked_by(wishes: &Wishes, var: u32, pair: &Pair) -> Asked {
-    let wish = wish_of(wishes.of.as_slice(), var);
-    let by_larger = wishes.by_larger.get(var as usize).copied() == Some(true);
-    let zero = if by_larger { pair.larger } else { pair.smaller };
-    Asked {
-        lits: [
-            if wish.one { Some(pair.larger) } else { None },
-            if wish.one { Some(pair.smaller) } else { None },
-            if wish.zero {
-                Some(zero.negated_if(true))
-            } else {
-                None
-            },
-        ],
+/// The votes on a variable.
+fn votes_on(votes: &[Votes], var: u32) -> Votes {
+    let place = var as usize;
+    if place < votes.len() {
+        votes[place]
+    } else {
+        Votes { zero: 0, one: 0 }
     }
 }
 
 /// A literal is wished to be 1.
 fn vote(votes: &mut [Votes], lit: Literal, weight: u32) {
-    if let Some(votes) = votes.get_mut(lit.var() as usize) {
-        if lit.is_negated() {
-            votes.zero = votes.zero.saturating_add(weight);
-        } else {
-            votes.one = votes.one.saturating_add(weight);
-        }
+    let old = votes_on(votes, lit.var());
+    let place = lit.var() as usize;
+    let (zero, one) = if lit.is_negated() {
+        (weight, 0u32)
+    } else {
+        (0, weight)
+    };
+    if place < votes.len() {
+        votes[place] = Votes {
+            zero: old.zero.saturating_add(zero),
+            one: old.one.saturating_add(one),
+        };
     }
 }
 
-/// The votes of latches and of the set's gates.
-fn votes_of(
-    alloc: Global,
-    draft: &Draft,
-    set: &Bordered,
-    wishes: &Wishes,
-) -> Result<Vec<Votes>, NoMemory> {
-    let mut votes = vec![in alloc; Votes { zero: 0, one: 0 }; draft.size()]?;
-    for latch in &draft.latches {
-        if latch.takes_part() {
-            if let Some(value) = latch.reset.value() {
-                vote(
-                    votes.as_mut_slice(),
-                    latch.next.negated_if(!value),
-                    LATCH_WEIGHT,
-                );
-            }
+/// The votes of latches, and of the set's gates.
+fn put_votes(votes: &mut [Votes], draft: &Draft, set: &Bordered, wishes: &Wishes) {
+    for place in 0..draft.many_latches() {
+        let latch = draft.latch(place);
+        if latch.is_settled() {
+            let lit = latch.next.negated_if(!latch.starts_at_1());
+            vote(votes, lit, LATCH_WEIGHT);
         }
     }
-    let mut var = draft.first_gate();
-    for pair in &draft.gates {
+    for var in draft.first_gate()..draft.end() {
         if set.has(var) {
-            for lit in asked_by(wishes, var, pair).lits {
-                if let Some(lit) = lit {
-                    vote(votes.as_mut_slice(), lit, 1);
-                }
-            }
+            let (pair, wish) = (draft.gate(var), wish_of(wishes.of.as_slice(), var));
+            vote(votes, pair.larger, u32::from(wish.one));
+            vote(votes, pair.smaller, u32::from(wish.one));
+            vote(votes, zero_by(wishes, var, &pair), u32::from(wish.zero));
         }
-        var = var.wrapping_add(1);
     }
-    Ok(votes)
 }
 
-/// Whether a wish is one of two at a border variable, and that which fewer have; where as many have both, that of 1.
-fn loses(set: &Bordered, wishes: &Wishes, starts: &[Wish], votes: &[Votes], lit: Literal) -> bool {
-    let var = lit.var();
-    if !border_wish(set, wishes.of.as_slice(), var).is_both() || wish_of(starts, var).is_both() {
-        return false;
+/// What wishes are compared by: those of all variables, those of latches, and the votes.
+#[derive(Clone, Copy)]
+struct Contest<'a> {
+    set: &'a Bordered,
+    wishes: &'a Wishes,
+    starts: &'a [Wish],
+    votes: &'a [Votes],
+}
+
+impl<'a> Contest<'a> {
+    /// Whether a wish is one of two at a border variable, and that which fewer have; where as many have both, that of 1.
+    fn loses(&self, lit: Literal) -> bool {
+        let var = lit.var();
+        let votes = votes_on(self.votes, var);
+        self.set.borders(var)
+            & wish_of(self.wishes.of.as_slice(), var).is_both()
+            & !wish_of(self.starts, var).is_both()
+            & (lit.is_negated() != (votes.one <= votes.zero))
     }
-    match votes.get(var as usize) {
-        Some(votes) => lit.is_negated() != (votes.one <= votes.zero),
-        None => false,
+
+    /// Whether a gate of the set has a wish that fewer have.
+    fn has_loser(&self, var: u32, pair: &Pair) -> bool {
+        let wish = wish_of(self.wishes.of.as_slice(), var);
+        (wish.one & (self.loses(pair.larger) | self.loses(pair.smaller)))
+            | (wish.zero & self.loses(zero_by(self.wishes, var, pair)))
+    }
+
+    /// Freezes the gates whose wish fewer have. Whether there are any.
+    fn freeze(&self, draft: &Draft, frozen: &mut [bool]) -> bool {
+        let mut any = false;
+        for var in draft.first_gate()..draft.end() {
+            if self.set.has(var) && self.has_loser(var, &draft.gate(var)) {
+                set_mark(frozen, var, true);
+                any = true;
+            }
+        }
+        any
     }
 }
 
 /// Freezes the gates whose wish fewer have. Whether there are any.
-///
-/// # Errors
-///
-/// `NoMemory` where a table is refused.
 pub fn freeze_losers(
-    alloc: Global,
+    memory: &mut Memory,
     draft: &Draft,
     set: &Bordered,
     wishes: &Wishes,
     starts: &[Wish],
     frozen: &mut [bool],
-) -> Result<bool, NoMemory> {
-    let votes = votes_of(alloc, draft, set, wishes)?;
-    let mut any = false;
-    let mut var = draft.first_gate();
-    for pair in &draft.gates {
-        if set.has(var) {
-            for lit in asked_by(wishes, var, pair).lits {
-                if lit.is_some_and(|it| loses(set, wishes, starts, votes.as_slice(), it)) {
-                    set_mark(frozen, var, true);
-                    any = true;
-                }
-            }
-        }
-        var = var.wrapping_add(1);
-    }
-    Ok(any)
+) -> bool {
+    let mut votes = memory.table(Votes { zero: 0, one: 0 }, draft.size());
+    put_votes(votes.as_mut_slice(), draft, set, wishes);
+    let contest = Contest {
+        set,
+        wishes,
+        starts,
+        votes: votes.as_slice(),
+    };
+    contest.freeze(draft, frozen)
 }

@@ -14,12 +14,11 @@ pub enum DraftReset {
 }
 
 impl DraftReset {
-    /// The value at step 0, where it is settled.
-    pub fn value(self) -> Option<bool> {
+    /// Whether the value at step 0 is settled.
+    pub fn is_settled(self) -> bool {
         match self {
-            DraftReset::Zero => Some(false),
-            DraftReset::One => Some(true),
-            DraftReset::Free | DraftReset::Any => None,
+            DraftReset::Zero | DraftReset::One => true,
+            DraftReset::Free | DraftReset::Any => false,
         }
     }
 
@@ -43,26 +42,46 @@ pub struct DraftLatch {
 }
 
 impl DraftLatch {
+    /// What stands where there is no latch.
+    pub const NONE: DraftLatch = DraftLatch {
+        next: Literal::NONE,
+        reset: DraftReset::Free,
+        origin: None,
+        held: true,
+    };
+
     /// Whether it may move: its reset isn't free, and it isn't held.
     pub fn takes_part(&self) -> bool {
-        self.reset != DraftReset::Free && !self.held
+        (self.reset != DraftReset::Free) & !self.held
     }
 
-    /// What its next variable has to be a step before, where its reset is settled.
-    pub fn wish(&self) -> Option<bool> {
-        Some(self.reset.value()? != self.next.is_negated())
+    /// Whether it may move, and its value at step 0 is settled.
+    pub fn is_settled(&self) -> bool {
+        self.reset.is_settled() & !self.held
+    }
+
+    /// Whether its value at step 0 is 1.
+    pub fn starts_at_1(&self) -> bool {
+        self.reset == DraftReset::One
     }
 }
 
 /// The fan-ins of a gate.
-#[derive(Clone, Copy, PartialEq, Eq)]
+#[derive(Clone, Copy)]
 pub struct Pair {
     pub larger: Literal,
     pub smaller: Literal,
 }
 
+impl Pair {
+    /// What stands where there is no gate.
+    pub const NONE: Pair = Pair {
+        larger: Literal::FALSE,
+        smaller: Literal::FALSE,
+    };
+}
+
 /// A circuit as it is drafted.
-#[derive(Drop)]
 pub struct Draft {
     pub inputs: u32,
     pub latches: Vec<DraftLatch>,
@@ -71,15 +90,43 @@ pub struct Draft {
     pub observed: Vec<Literal>,
 }
 
+impl Drop for Draft {
+    // written out: docs/PROOFS.md, Drops and exits
+    fn drop(self) {
+        let Draft {
+            inputs: _inputs,
+            latches: _latches,
+            gates: _gates,
+            observed: _observed,
+        } = self;
+    }
+}
+
 impl Draft {
+    /// The latches and the gates alone.
+    pub fn into_latches_and_gates(self) -> (Vec<DraftLatch>, Vec<Pair>) {
+        let Draft {
+            inputs: _inputs,
+            latches,
+            gates,
+            observed: _observed,
+        } = self;
+        (latches, gates)
+    }
+
     /// The variable of the first latch.
     pub fn first_latch(&self) -> u32 {
         self.inputs.wrapping_add(1)
     }
 
+    /// The number of latches.
+    pub fn many_latches(&self) -> u32 {
+        number(self.latches.len())
+    }
+
     /// The variable of the first gate.
     pub fn first_gate(&self) -> u32 {
-        self.first_latch().wrapping_add(number(self.latches.len()))
+        self.first_latch().wrapping_add(self.many_latches())
     }
 
     /// The number of variables.
@@ -92,22 +139,41 @@ impl Draft {
         self.end() as usize
     }
 
-    /// The gate at a variable.
-    pub fn gate(&self, var: u32) -> Option<Pair> {
-        let first = self.first_gate();
-        if var < first {
-            return None;
+    /// The latch with a number from 0 on, and one that takes no part where there is none.
+    pub fn latch(&self, place: u32) -> DraftLatch {
+        let place = place as usize;
+        if place < self.latches.len() {
+            self.latches[place]
+        } else {
+            DraftLatch::NONE
         }
-        self.gates.get(var.wrapping_sub(first) as usize).copied()
+    }
+
+    /// The gate at a variable, and one of constants where there is none.
+    pub fn gate(&self, var: u32) -> Pair {
+        let place = var.wrapping_sub(self.first_gate()) as usize;
+        if place < self.gates.len() {
+            self.gates[place]
+        } else {
+            Pair::NONE
+        }
+    }
+
+    /// The literal of the property with a number from 0 on.
+    pub fn observed(&self, place: u32) -> Literal {
+        let place = place as usize;
+        if place < self.observed.len() {
+            self.observed[place]
+        } else {
+            Literal::FALSE
+        }
     }
 
     /// How many latches take part.
     pub fn taking_part(&self) -> u32 {
         let mut count = 0u32;
-        for latch in &self.latches {
-            if latch.takes_part() {
-                count = count.wrapping_add(1);
-            }
+        for place in 0..self.many_latches() {
+            count = count.wrapping_add(u32::from(self.latch(place).takes_part()));
         }
         count
     }

@@ -1,21 +1,30 @@
 //! Arcs with room for units, each beside the arc that leads back. The least cut of a network is where the flow of units along its arcs can't
 //! grow any more.
 
-use aig_graph::NoMemory;
-use std::alloc::Global;
+use crate::memory::Memory;
+use crate::tables::{entry, number, set_entry};
 
 /// More units than ever come to a node.
 pub const UNBOUNDED: u32 = 1 << 30;
 
-/// No arc.
-const NO_ARC: u32 = u32::MAX;
+/// The number of no arc.
+pub const NO_ARC: u32 = u32::MAX;
 
 /// An arc to a node, with room for so many units more. The next arc from the same node has a link.
 #[derive(Clone, Copy)]
 pub struct Arc {
     pub to: u32,
     pub room: u32,
-    next: u32,
+    pub next: u32,
+}
+
+impl Arc {
+    /// What stands where there is no arc.
+    const NONE: Arc = Arc {
+        to: 0,
+        room: 0,
+        next: NO_ARC,
+    };
 }
 
 /// Nodes and arcs. The arc that leads back has the number with the other lowest bit.
@@ -23,46 +32,40 @@ pub struct Arc {
 pub struct Flow {
     heads: Vec<u32>,
     arcs: Vec<Arc>,
-    count: u32,
+    /// Whether memory was refused for an arc: then arcs are missing.
+    refused: bool,
 }
 
 impl Flow {
     /// Nodes without arcs.
-    ///
-    /// # Errors
-    ///
-    /// `NoMemory` where the table is refused.
-    pub fn new(alloc: Global, nodes: usize) -> Result<Flow, NoMemory> {
-        Ok(Flow {
-            heads: vec![in alloc; NO_ARC; nodes]?,
-            arcs: Vec::new(alloc),
-            count: 0,
-        })
+    pub fn new(memory: &mut Memory, nodes: usize) -> Flow {
+        let heads = memory.table(NO_ARC, nodes);
+        Flow {
+            heads,
+            arcs: memory.nothing(),
+            refused: false,
+        }
     }
 
     /// Puts one arc, without the one that leads back.
-    fn put(&mut self, from: u32, to: u32, room: u32) -> Result<(), NoMemory> {
-        let Some(head) = self.heads.get_mut(from as usize) else {
-            return Ok(());
-        };
-        self.arcs.push(Arc {
-            to,
-            room,
-            next: *head,
-        })?;
-        *head = self.count;
-        self.count = self.count.wrapping_add(1);
-        Ok(())
+    fn put(&mut self, from: u32, to: u32, room: u32) {
+        let number = number(self.arcs.len());
+        let next = entry(self.heads.as_slice(), from);
+        match self.arcs.push(Arc { to, room, next }) {
+            Ok(()) => set_entry(self.heads.as_mut_slice(), from, number),
+            Err(_) => self.refused = true,
+        }
     }
 
     /// Puts an arc from one node to another.
-    ///
-    /// # Errors
-    ///
-    /// `NoMemory` where a table is refused.
-    pub fn join(&mut self, from: u32, to: u32, room: u32) -> Result<(), NoMemory> {
-        self.put(from, to, room)?;
-        self.put(to, from, 0)
+    pub fn join(&mut self, from: u32, to: u32, room: u32) {
+        self.put(from, to, room);
+        self.put(to, from, 0);
+    }
+
+    /// Whether memory was refused for an arc.
+    pub fn is_refused(&self) -> bool {
+        self.refused
     }
 
     /// The number of nodes.
@@ -76,30 +79,33 @@ impl Flow {
     }
 
     /// The arc with a number.
-    pub fn arc(&self, number: u32) -> Option<Arc> {
-        self.arcs.get(number as usize).copied()
-    }
-
-    /// The link to the next arc from the same node.
-    pub fn after(arc: &Arc) -> u32 {
-        arc.next
+    pub fn arc(&self, number: u32) -> Arc {
+        let place = number as usize;
+        if place < self.arcs.len() {
+            self.arcs[place]
+        } else {
+            Arc::NONE
+        }
     }
 
     /// The node from which an arc leads.
     pub fn tail(&self, number: u32) -> u32 {
-        match self.arc(number ^ 1) {
-            Some(back) => back.to,
-            None => 0,
+        self.arc(number ^ 1).to
+    }
+
+    /// An arc has room for so many units from now on.
+    fn set_room(&mut self, number: u32, room: u32) {
+        let place = number as usize;
+        if place < self.arcs.len() {
+            let Arc { to, next, .. } = self.arcs[place];
+            self.arcs[place] = Arc { to, room, next };
         }
     }
 
     /// A unit goes along an arc.
     pub fn send(&mut self, number: u32) {
-        if let Some(arc) = self.arcs.get_mut(number as usize) {
-            arc.room = arc.room.saturating_sub(1);
-        }
-        if let Some(back) = self.arcs.get_mut((number ^ 1) as usize) {
-            back.room = back.room.saturating_add(1);
-        }
+        let back = number ^ 1;
+        self.set_room(number, self.arc(number).room.saturating_sub(1));
+        self.set_room(back, self.arc(back).room.saturating_add(1));
     }
 }

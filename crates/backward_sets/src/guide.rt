@@ -2,15 +2,15 @@
 //! all steps that one is kept after which the fewest latches differ from their resets. Many circuits start in a state that they stay in under
 //! some inputs, so that a step leads there.
 
-use crate::drafts::{Draft, DraftReset};
+use crate::drafts::Draft;
 use crate::literals::Literal;
-use aig_graph::NoMemory;
-use std::alloc::Global;
+use crate::memory::Memory;
+use crate::tables::{entry, number, set_mark};
 
 /// How many steps are made.
 const STEPS: u32 = 4;
 
-/// Rows of values by variable, a bit in each of 64 lanes, and how many latches would start otherwise in each lane.
+/// Rows of values by variable, a bit in each of 64 lanes, the rows of the state, and how many latches would start otherwise in each lane.
 #[derive(Drop)]
 struct Lanes {
     values: Vec<u64>,
@@ -19,32 +19,109 @@ struct Lanes {
     seed: u64,
 }
 
+/// The row of a variable.
+fn row(values: &[u64], var: u32) -> u64 {
+    let place = var as usize;
+    if place < values.len() {
+        values[place]
+    } else {
+        0
+    }
+}
+
 /// The row of a literal.
-fn row(values: &[u64], lit: Literal) -> u64 {
-    let row = match values.get(lit.var() as usize) {
-        Some(row) => *row,
-        None => 0,
-    };
+fn literal_row(values: &[u64], lit: Literal) -> u64 {
+    let row = row(values, lit.var());
     if lit.is_negated() { !row } else { row }
 }
 
-impl Lanes {
-    /// The reset state, with 0 where a reset isn't known.
-    fn new(alloc: Global, draft: &Draft) -> Result<Lanes, NoMemory> {
-        let mut state = Vec::with_capacity(alloc, draft.latches.len())?;
-        for latch in &draft.latches {
-            state.push(if latch.reset == DraftReset::One {
-                u64::MAX
-            } else {
-                0
-            })?;
+/// Puts the row of a variable.
+fn set_row(values: &mut [u64], var: u32, row: u64) {
+    let place = var as usize;
+    if place < values.len() {
+        values[place] = row;
+    }
+}
+
+/// Puts the state in which latches have their resets, where it is 0 so far. A reset that isn't known is 0.
+fn reset_state(draft: &Draft, state: &mut [u64]) {
+    for place in 0..draft.many_latches() {
+        if draft.latch(place).starts_at_1() {
+            set_row(state, place, u64::MAX);
         }
-        Ok(Lanes {
-            values: Vec::with_capacity(alloc, draft.size())?,
+    }
+}
+
+/// Puts the rows of latches, from a state, and of gates.
+fn put_rows(draft: &Draft, state: &[u64], values: &mut [u64]) {
+    for place in 0..draft.many_latches() {
+        set_row(
+            values,
+            draft.first_latch().wrapping_add(place),
+            row(state, place),
+        );
+    }
+    for var in draft.first_gate()..draft.end() {
+        let pair = draft.gate(var);
+        let both = literal_row(values, pair.larger) & literal_row(values, pair.smaller);
+        set_row(values, var, both);
+    }
+}
+
+/// Counts the lanes in which a row is 1.
+fn count_lanes(counts: &mut [u32], row: u64) {
+    let mut left = row;
+    for place in 0..counts.len() {
+        counts[place] = counts[place].wrapping_add(u32::from(left % 2 == 1));
+        left = left / 2;
+    }
+}
+
+/// Puts the state a step later. Counts by lane the latches that take part and don't hold their resets then, if these are settled.
+fn put_state(draft: &Draft, values: &[u64], state: &mut [u64], wrong: &mut [u32]) {
+    for place in 0..draft.many_latches() {
+        let latch = draft.latch(place);
+        let row = literal_row(values, latch.next);
+        set_row(state, place, row);
+        if latch.is_settled() {
+            count_lanes(wrong, if latch.starts_at_1() { !row } else { row });
+        }
+    }
+}
+
+/// The lane with the least count.
+fn least_lane(counts: &[u32]) -> u32 {
+    let (mut best, mut least) = (0u32, u32::MAX);
+    let mut lane = 0u32;
+    for count in counts {
+        if *count < least {
+            best = lane;
+            least = *count;
+        }
+        lane = lane.wrapping_add(1);
+    }
+    best
+}
+
+/// The values of one lane.
+fn lane_values(values: &[u64], lane: u32, guide: &mut [bool]) {
+    for var in 0..number(values.len()) {
+        set_mark(guide, var, row(values, var).wrapping_shr(lane) % 2 == 1);
+    }
+}
+
+impl Lanes {
+    /// All rows are 0.
+    fn new(memory: &mut Memory, draft: &Draft) -> Lanes {
+        let values = memory.table(0u64, draft.size());
+        let state = memory.table(0u64, draft.latches.len());
+        let wrong = memory.table(0u32, 64);
+        Lanes {
+            values,
             state,
-            wrong: vec![in alloc; 0; 64]?,
+            wrong,
             seed: 0x9e37_79b9_7f4a_7c15,
-        })
+        }
     }
 
     /// The next row of inputs: 0 in the first lane, 1 in the second.
@@ -55,87 +132,42 @@ impl Lanes {
         (self.seed & !3) | 2
     }
 
-    /// The values of all variables, from the state.
-    fn evaluate(&mut self, draft: &Draft) -> Result<(), NoMemory> {
-        self.values.clear();
-        self.values.push(0)?;
-        for _ in 0..draft.inputs {
+    /// Makes a step.
+    fn step(&mut self, draft: &Draft) {
+        for var in 1..draft.first_latch() {
             let row = self.input();
-            self.values.push(row)?;
+            set_row(self.values.as_mut_slice(), var, row);
         }
-        for row in &self.state {
-            self.values.push(*row)?;
-        }
-        for pair in &draft.gates {
-            let values = self.values.as_slice();
-            let both = row(values, pair.larger) & row(values, pair.smaller);
-            self.values.push(both)?;
-        }
-        Ok(())
+        put_rows(draft, self.state.as_slice(), self.values.as_mut_slice());
+        self.wrong.fill(0);
+        put_state(
+            draft,
+            self.values.as_slice(),
+            self.state.as_mut_slice(),
+            self.wrong.as_mut_slice(),
+        );
     }
 
-    /// The state a step later. Counts by lane the latches that take part and don't hold their resets then.
-    fn step(&mut self, draft: &Draft) {
-        for count in self.wrong.iter_mut() {
-            *count = 0;
-        }
-        for (latch, state) in draft.latches.iter().zip(self.state.iter_mut()) {
-            *state = row(self.values.as_slice(), latch.next);
-            if let (true, Some(value)) = (latch.takes_part(), latch.reset.value()) {
-                let differs = if value { !*state } else { *state };
-                count_lanes(self.wrong.as_mut_slice(), differs);
+    /// Makes steps. Writes the values of the best.
+    fn run(&mut self, draft: &Draft, guide: &mut [bool]) {
+        reset_state(draft, self.state.as_mut_slice());
+        let mut fewest = u32::MAX;
+        for _ in 0..STEPS {
+            self.step(draft);
+            let lane = least_lane(self.wrong.as_slice());
+            let wrong = entry(self.wrong.as_slice(), lane);
+            if wrong < fewest {
+                fewest = wrong;
+                lane_values(self.values.as_slice(), lane, guide);
             }
         }
     }
 }
 
-/// Counts the lanes in which a row is 1.
-fn count_lanes(counts: &mut [u32], row: u64) {
-    let mut left = row;
-    for count in counts.iter_mut() {
-        *count = count.wrapping_add(u32::from(left % 2 == 1));
-        left /= 2;
-    }
-}
-
-/// The lane with the least count, and that count.
-fn least_lane(counts: &[u32]) -> (u32, u32) {
-    let (mut best, mut least) = (0u32, u32::MAX);
-    let mut lane = 0u32;
-    for count in counts {
-        if *count < least {
-            best = lane;
-            least = *count;
-        }
-        lane = lane.wrapping_add(1);
-    }
-    (best, least)
-}
-
-/// The values of one lane.
-fn lane_values(values: &[u64], lane: u32, guide: &mut [bool]) {
-    for (row, value) in values.iter().zip(guide.iter_mut()) {
-        *value = row.wrapping_shr(lane) % 2 == 1;
-    }
-}
-
 /// By variable its value at a step that leads to the resets, as nearly as those that are tried do.
-///
-/// # Errors
-///
-/// `NoMemory` where a table is refused.
-pub fn guide_of(alloc: Global, draft: &Draft) -> Result<Vec<bool>, NoMemory> {
-    let mut guide = vec![in alloc; false; draft.size()]?;
-    let mut lanes = Lanes::new(alloc, draft)?;
-    let mut fewest = u32::MAX;
-    for _ in 0..STEPS {
-        lanes.evaluate(draft)?;
-        lanes.step(draft);
-        let (lane, wrong) = least_lane(lanes.wrong.as_slice());
-        if wrong < fewest {
-            fewest = wrong;
-            lane_values(lanes.values.as_slice(), lane, guide.as_mut_slice());
-        }
-    }
-    Ok(guide)
+pub fn guide_of(memory: &mut Memory, draft: &Draft) -> Vec<bool> {
+    let mut guide = memory.table(false, draft.size());
+    let mut lanes = Lanes::new(memory, draft);
+    lanes.run(draft, guide.as_mut_slice());
+    guide
 }

@@ -5,11 +5,10 @@
 use crate::border::Bordered;
 use crate::drafts::{Draft, Pair};
 use crate::literals::Literal;
+use crate::memory::Memory;
 use crate::starts::Wish;
 use crate::tables::has_mark;
 use crate::values::Values;
-use aig_graph::NoMemory;
-use std::alloc::Global;
 
 /// How often the search goes back at most.
 const MOST_BACK: u32 = 1000;
@@ -18,104 +17,47 @@ const MOST_BACK: u32 = 1000;
 #[derive(Clone, Copy)]
 struct Decision {
     count: u32,
-    choice: Option<Literal>,
+    choice: Literal,
     look: u32,
+}
+
+impl Decision {
+    /// None.
+    const NONE: Decision = Decision {
+        count: 0,
+        choice: Literal::NONE,
+        look: 0,
+    };
 }
 
 /// A search for values.
 #[derive(Drop)]
 struct Search<'a> {
     values: Values<'a>,
+    /// One a gate at most: the gate of a choice isn't open as long as that stands.
     decisions: Vec<Decision>,
+    /// How many of them stand.
+    depth: u32,
     /// No gate from this variable on is open.
     look: u32,
     back: u32,
 }
 
-impl<'a> Search<'a> {
-    /// Whether a gate is to be 0, and no fan-in is yet.
-    fn is_open(&self, var: u32, pair: &Pair) -> bool {
-        let values = &self.values;
-        values.of(var) == Some(false)
-            && values.literal(pair.larger) != Some(false)
-            && values.literal(pair.smaller) != Some(false)
-            && !values.is_both(pair.larger.var())
-            && !values.is_both(pair.smaller.var())
+/// The decision at a place.
+fn decision_at(decisions: &[Decision], place: u32) -> Decision {
+    let place = place as usize;
+    if place < decisions.len() {
+        decisions[place]
+    } else {
+        Decision::NONE
     }
+}
 
-    /// The last gate that is open.
-    fn next_open(&mut self, draft: &Draft, set: &Bordered) -> Option<Pair> {
-        let first = draft.first_gate();
-        for _ in first..self.look {
-            let var = self.look.wrapping_sub(1);
-            if let Some(pair) = draft.gate(var) {
-                if set.has(var) && self.is_open(var, &pair) {
-                    return Some(pair);
-                }
-            }
-            self.look = var;
-        }
-        None
-    }
-
-    /// Makes a literal 0. Whether nothing contradicts.
-    fn decide(&mut self, choice: Literal) -> Result<bool, NoMemory> {
-        self.decisions.push(Decision {
-            count: self.values.count(),
-            choice: Some(choice),
-            look: self.look,
-        })?;
-        self.values.assume(choice, false)
-    }
-
-    /// Takes back the last choice that can be made otherwise, and makes it so. Whether nothing contradicts; none where there is no such choice.
-    fn retract(&mut self) -> Result<Option<bool>, NoMemory> {
-        for _ in 0..u32::MAX {
-            let Some(decision) = self.decisions.pop() else {
-                return Ok(None);
-            };
-            self.values.forget(decision.count);
-            self.look = decision.look;
-            if let Some(choice) = decision.choice {
-                self.decisions.push(Decision {
-                    count: decision.count,
-                    choice: None,
-                    look: decision.look,
-                })?;
-                return Ok(Some(self.values.assume(choice, true)?));
-            }
-        }
-        Ok(None)
-    }
-
-    /// Goes back until nothing contradicts. Whether it came there.
-    fn mend(&mut self) -> Result<bool, NoMemory> {
-        for _ in 0..MOST_BACK {
-            if self.back >= MOST_BACK {
-                return Ok(false);
-            }
-            self.back = self.back.wrapping_add(1);
-            match self.retract()? {
-                None => return Ok(false),
-                Some(true) => return Ok(true),
-                Some(false) => {}
-            }
-        }
-        Ok(false)
-    }
-
-    /// Makes choices until no gate is open. Whether it came there.
-    fn run(&mut self, draft: &Draft, set: &Bordered, guide: &[bool]) -> Result<bool, NoMemory> {
-        for _ in 0..u64::MAX {
-            let Some(pair) = self.next_open(draft, set) else {
-                return Ok(true);
-            };
-            let choice = choice_of(guide, &pair);
-            if !self.decide(choice)? && !self.mend()? {
-                return Ok(false);
-            }
-        }
-        Ok(false)
+/// Puts a decision at a place.
+fn set_decision(decisions: &mut [Decision], place: u32, decision: Decision) {
+    let place = place as usize;
+    if place < decisions.len() {
+        decisions[place] = decision;
     }
 }
 
@@ -126,52 +68,128 @@ fn is_zero(guide: &[bool], lit: Literal) -> bool {
 
 /// The fan-in that is made 0 first.
 fn choice_of(guide: &[bool], pair: &Pair) -> Literal {
-    if !is_zero(guide, pair.larger) && is_zero(guide, pair.smaller) {
+    if !is_zero(guide, pair.larger) & is_zero(guide, pair.smaller) {
         pair.smaller
     } else {
         pair.larger
     }
 }
 
-/// Gives what latches read the values that their resets wish, with all that follows. Whether nothing contradicts.
-fn begin(values: &mut Values<'_>, draft: &Draft) -> Result<bool, NoMemory> {
-    for latch in &draft.latches {
-        if latch.takes_part() {
-            if let Some(value) = latch.reset.value() {
-                if !values.set(latch.next, value)? {
-                    return Ok(false);
-                }
-            }
+impl<'a> Search<'a> {
+    /// No choice yet.
+    fn new(
+        memory: &mut Memory,
+        draft: &'a Draft,
+        set: &'a Bordered,
+        starts: &'a [Wish],
+    ) -> Search<'a> {
+        Search {
+            values: Values::none(memory, draft, set, starts),
+            decisions: memory.table(Decision::NONE, draft.gates.len()),
+            depth: 0,
+            look: draft.end(),
+            back: 0,
         }
     }
-    values.propagate(0)
+
+    /// Whether a fan-in of a gate that is to be 0 can still be made 0, and isn't yet.
+    fn is_waiting(&self, lit: Literal) -> bool {
+        !self.values.of(lit).zero & !self.values.is_both(lit.var())
+    }
+
+    /// Whether a gate of the set is to be 0, and no fan-in is yet.
+    fn is_open(&self, set: &Bordered, var: u32, pair: &Pair) -> bool {
+        set.has(var)
+            & self.values.of(Literal::of(var)).zero
+            & self.is_waiting(pair.larger)
+            & self.is_waiting(pair.smaller)
+    }
+
+    /// Goes down to the last gate that is open. Whether there is one.
+    fn find_open(&mut self, draft: &Draft, set: &Bordered) -> bool {
+        for _ in draft.first_gate()..self.look {
+            let var = self.look.wrapping_sub(1);
+            if self.is_open(set, var, &draft.gate(var)) {
+                return true;
+            }
+            self.look = var;
+        }
+        false
+    }
+
+    /// Gives a literal a value, which is 0 where the other way is still there. Whether nothing contradicts.
+    fn decide(&mut self, choice: Literal, value: bool) -> bool {
+        let decision = Decision {
+            count: self.values.count(),
+            choice: if value { Literal::NONE } else { choice },
+            look: self.look,
+        };
+        set_decision(self.decisions.as_mut_slice(), self.depth, decision);
+        self.depth = self.depth.wrapping_add(1);
+        self.values.assume(choice, value)
+    }
+
+    /// Takes back the last choice that can be made otherwise, and those after it; no literal where there is no such choice.
+    fn retract(&mut self) -> Literal {
+        for _ in 0..self.depth {
+            self.depth = self.depth.wrapping_sub(1);
+            let decision = decision_at(self.decisions.as_slice(), self.depth);
+            self.values.forget(decision.count);
+            self.look = decision.look;
+            if decision.choice != Literal::NONE {
+                return decision.choice;
+            }
+        }
+        Literal::NONE
+    }
+
+    /// Goes back until nothing contradicts. Whether it came there.
+    fn mend(&mut self) -> bool {
+        for _ in self.back..MOST_BACK {
+            self.back = self.back.wrapping_add(1);
+            let choice = self.retract();
+            if choice == Literal::NONE {
+                return false;
+            }
+            if self.decide(choice, true) {
+                return true;
+            }
+        }
+        false
+    }
+
+    /// Makes choices until no gate is open. Whether it came there.
+    fn run(&mut self, draft: &Draft, set: &Bordered, guide: &[bool]) -> bool {
+        for _ in 0..u64::MAX {
+            if !self.find_open(draft, set) {
+                return true;
+            }
+            let pair = draft.gate(self.look.wrapping_sub(1));
+            if !self.decide(choice_of(guide, &pair), false) && !self.mend() {
+                return false;
+            }
+        }
+        false
+    }
+
+    /// Searches, and writes values over those of a guide where such are found. Whether they were.
+    fn justify(&mut self, draft: &Draft, set: &Bordered, guide: &mut [bool]) -> bool {
+        let found = self.values.begin() && self.run(draft, set, guide);
+        if found {
+            self.values.write_over(guide);
+        }
+        found
+    }
 }
 
 /// Writes values over those of a guide by which all latches start as they do. Whether such were found; else the guide stays as it is.
-///
-/// # Errors
-///
-/// `NoMemory` where a table is refused.
 pub fn justify(
-    alloc: Global,
+    memory: &mut Memory,
     draft: &Draft,
     set: &Bordered,
     starts: &[Wish],
     guide: &mut [bool],
-) -> Result<bool, NoMemory> {
-    let mut values = Values::none(alloc, draft, set, starts)?;
-    if !begin(&mut values, draft)? {
-        return Ok(false);
-    }
-    let mut search = Search {
-        values,
-        decisions: Vec::new(alloc),
-        look: draft.end(),
-        back: 0,
-    };
-    let found = search.run(draft, set, guide)?;
-    if found {
-        search.values.write_over(guide);
-    }
-    Ok(found)
+) -> bool {
+    let mut search = Search::new(memory, draft, set, starts);
+    search.justify(draft, set, guide)
 }

@@ -2,47 +2,47 @@
 //! too. One pass from the last gate down.
 
 use crate::drafts::Draft;
-use crate::tables::{has_mark, set_mark};
-use aig_graph::NoMemory;
-use std::alloc::Global;
+use crate::memory::Memory;
+use crate::tables::{has_mark, number, set_mark};
 
-/// Takes the marks of what properties read, and of what latches read that stay, and marks in the other table what latches read.
-fn mark_leaves(draft: &Draft, may: &mut [bool], read: &mut [bool]) {
-    for lit in &draft.observed {
-        set_mark(may, lit.var(), false);
+/// Marks a variable as read, and takes its other mark where what reads it stays.
+fn mark_fan_in(may: &mut [bool], read: &mut [bool], var: u32, moves: bool) {
+    set_mark(read, var, true);
+    let still = has_mark(may, var) & moves;
+    set_mark(may, var, still);
+}
+
+/// Marks the gates that don't have to stay. Takes the marks of what properties read, and of what latches read that stay, and marks in the other
+/// table what latches read.
+fn mark_leaves(draft: &Draft, frozen: &[bool], may: &mut [bool], read: &mut [bool]) {
+    for var in draft.first_gate()..draft.end() {
+        set_mark(may, var, !has_mark(frozen, var));
     }
-    for latch in &draft.latches {
-        set_mark(read, latch.next.var(), true);
-        if !latch.takes_part() {
-            set_mark(may, latch.next.var(), false);
-        }
+    for place in 0..number(draft.observed.len()) {
+        set_mark(may, draft.observed(place).var(), false);
+    }
+    for place in 0..draft.many_latches() {
+        let latch = draft.latch(place);
+        mark_fan_in(may, read, latch.next.var(), latch.takes_part());
+    }
+}
+
+/// Keeps the marks of the gates that may move.
+fn mark_gates(draft: &Draft, may: &mut [bool], read: &mut [bool]) {
+    for var in (draft.first_gate()..draft.end()).rev() {
+        let moves = has_mark(may, var) & has_mark(read, var);
+        let pair = draft.gate(var);
+        set_mark(may, var, moves);
+        mark_fan_in(may, read, pair.larger.var(), moves);
+        mark_fan_in(may, read, pair.smaller.var(), moves);
     }
 }
 
 /// By variable whether it is a gate that may move, where some gates have to stay.
-///
-/// # Errors
-///
-/// `NoMemory` where a table is refused.
-pub fn movable(alloc: Global, draft: &Draft, frozen: &[bool]) -> Result<Vec<bool>, NoMemory> {
-    let mut marks = vec![in alloc; true; draft.size()]?;
-    let mut reading = vec![in alloc; false; draft.size()]?;
-    let (may, read) = (marks.as_mut_slice(), reading.as_mut_slice());
-    mark_leaves(draft, may, read);
-    for var in 0..draft.first_gate() {
-        set_mark(may, var, false);
-    }
-    let mut var = draft.end();
-    for pair in draft.gates.iter().rev() {
-        var = var.wrapping_sub(1);
-        let moves = has_mark(may, var) && has_mark(read, var) && !has_mark(frozen, var);
-        set_mark(may, var, moves);
-        for lit in [pair.larger, pair.smaller] {
-            set_mark(read, lit.var(), true);
-            if !moves {
-                set_mark(may, lit.var(), false);
-            }
-        }
-    }
-    Ok(marks)
+pub fn movable(memory: &mut Memory, draft: &Draft, frozen: &[bool]) -> Vec<bool> {
+    let mut read = memory.table(false, draft.size());
+    let mut may = memory.table(false, draft.size());
+    mark_leaves(draft, frozen, may.as_mut_slice(), read.as_mut_slice());
+    mark_gates(draft, may.as_mut_slice(), read.as_mut_slice());
+    may
 }

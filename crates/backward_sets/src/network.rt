@@ -3,24 +3,12 @@
 //! its fan-ins, and to after each gate that reads it, and from before what may not move to the sink. So a cut has a set of gates with each gate
 //! that reads a member, and costs a latch for each variable of its border, however many members read that.
 
-use crate::border::{Bordered, with_border};
 use crate::drafts::Draft;
 use crate::flow::{Flow, UNBOUNDED};
-use crate::search::{greatest_flow, reached};
+use crate::memory::Memory;
+use crate::search::Search;
 use crate::starts::{Wish, wish_of};
-use crate::tables::{has_mark, set_mark};
-use aig_graph::NoMemory;
-use std::alloc::Global;
-
-/// A network that grows from the last variable down.
-#[derive(Drop)]
-struct Network {
-    flow: Flow,
-    source: u32,
-    sink: u32,
-    /// Which variables the source reaches by arcs.
-    wanted: Vec<bool>,
-}
+use crate::tables::{has_mark, number, set_mark};
 
 /// The node before a variable.
 fn before(var: u32) -> u32 {
@@ -32,98 +20,89 @@ fn after(var: u32) -> u32 {
     before(var).wrapping_add(1)
 }
 
-impl Network {
-    fn new(alloc: Global, draft: &Draft) -> Result<Network, NoMemory> {
-        let size = draft.size();
-        Ok(Network {
-            flow: Flow::new(alloc, size.saturating_mul(2).saturating_add(2))?,
-            source: before(draft.end()),
-            sink: after(draft.end()),
-            wanted: vec![in alloc; false; size]?,
-        })
-    }
-
-    /// Units come from the source to what latches that take part read.
-    fn join_latches(&mut self, draft: &Draft) -> Result<(), NoMemory> {
-        for latch in &draft.latches {
-            let var = latch.next.var();
-            if latch.takes_part() && !has_mark(self.wanted.as_slice(), var) {
-                set_mark(self.wanted.as_mut_slice(), var, true);
-                self.flow.join(self.source, before(var), UNBOUNDED)?;
-            }
+/// Units come from the source to what latches that take part read, which is marked as wanted.
+fn join_latches(flow: &mut Flow, draft: &Draft, wanted: &mut [bool]) {
+    for place in 0..draft.many_latches() {
+        let latch = draft.latch(place);
+        let var = latch.next.var();
+        if latch.takes_part() & !has_mark(wanted, var) {
+            set_mark(wanted, var, true);
+            flow.join(before(draft.end()), before(var), UNBOUNDED);
         }
-        Ok(())
-    }
-
-    /// Units go on from a gate that may move to a fan-in.
-    fn join_fan_in(&mut self, may: &[bool], var: u32, fan_in: u32) -> Result<(), NoMemory> {
-        set_mark(self.wanted.as_mut_slice(), fan_in, true);
-        self.flow.join(after(var), before(fan_in), UNBOUNDED)?;
-        if has_mark(may, fan_in) {
-            self.flow.join(after(fan_in), after(var), UNBOUNDED)?;
-        }
-        Ok(())
-    }
-
-    /// Units go on from a variable.
-    fn join(&mut self, draft: &Draft, may: &[bool], var: u32, room: u32) -> Result<(), NoMemory> {
-        match draft.gate(var) {
-            Some(pair) if has_mark(may, var) => {
-                self.flow.join(before(var), after(var), room)?;
-                self.join_fan_in(may, var, pair.larger.var())?;
-                self.join_fan_in(may, var, pair.smaller.var())
-            }
-            _ => self.flow.join(before(var), self.sink, room),
-        }
-    }
-
-    /// The gates on the source's side of the least cut that is nearest to it.
-    fn near_side(&self, alloc: Global, may: &[bool]) -> Result<Vec<bool>, NoMemory> {
-        let side = reached(alloc, &self.flow, self.source)?;
-        let mut inside = vec![in alloc; false; may.len()]?;
-        let mut var = 0u32;
-        for mark in inside.iter_mut() {
-            *mark = has_mark(may, var) && has_mark(side.as_slice(), after(var));
-            var = var.wrapping_add(1);
-        }
-        Ok(inside)
     }
 }
 
-/// The network of a draft whose gates with these marks may move.
-fn network_of(
-    alloc: Global,
-    draft: &Draft,
-    may: &[bool],
-    starts: &[Wish],
-) -> Result<Network, NoMemory> {
-    let mut network = Network::new(alloc, draft)?;
-    network.join_latches(draft)?;
+/// Units go on from a gate that may move to a fan-in.
+fn join_fan_in(flow: &mut Flow, may: &[bool], wanted: &mut [bool], var: u32, fan_in: u32) {
+    set_mark(wanted, fan_in, true);
+    flow.join(after(var), before(fan_in), UNBOUNDED);
+    if has_mark(may, fan_in) {
+        flow.join(after(fan_in), after(var), UNBOUNDED);
+    }
+}
+
+/// Units go on from all variables that the source reaches, from the last one down.
+fn join_all(flow: &mut Flow, draft: &Draft, may: &[bool], starts: &[Wish], wanted: &mut [bool]) {
     for var in (0..draft.end()).rev() {
-        if has_mark(network.wanted.as_slice(), var) {
-            network.join(draft, may, var, wish_of(starts, var).latches())?;
+        if has_mark(wanted, var) {
+            let moves = has_mark(may, var);
+            let to = if moves { var } else { draft.end() };
+            let room = if wish_of(starts, var).is_both() {
+                2u32
+            } else {
+                1
+            };
+            flow.join(before(var), after(to), room);
+            if moves {
+                let pair = draft.gate(var);
+                join_fan_in(flow, may, wanted, var, pair.larger.var());
+                join_fan_in(flow, may, wanted, var, pair.smaller.var());
+            }
         }
     }
-    Ok(network)
 }
 
-/// The smallest set of gates whose border takes the fewest latches, where that is fewer than these.
-///
-/// # Errors
-///
-/// `NoMemory` where a table is refused.
-pub fn least_set(
-    alloc: Global,
+/// Keeps the marks of the gates that may move of those whose nodes after them a search reaches.
+fn mark_near_side(may: &[bool], search: &Search, marks: &mut [bool]) {
+    for var in 0..number(may.len()) {
+        set_mark(marks, var, has_mark(may, var) & search.reaches(after(var)));
+    }
+}
+
+/// The network of a draft; marks what the source reaches.
+fn network_of(
+    memory: &mut Memory,
     draft: &Draft,
     may: &[bool],
     starts: &[Wish],
-    latches: u32,
-) -> Result<Option<Bordered>, NoMemory> {
-    let mut network = network_of(alloc, draft, may, starts)?;
-    let (source, sink) = (network.source, network.sink);
-    if greatest_flow(alloc, &mut network.flow, source, sink)? >= latches {
-        return Ok(None);
+    wanted: &mut [bool],
+) -> Flow {
+    let mut flow = Flow::new(memory, draft.size().saturating_mul(2).saturating_add(2));
+    join_latches(&mut flow, draft, wanted);
+    join_all(&mut flow, draft, may, starts, wanted);
+    if flow.is_refused() {
+        memory.refuse();
     }
-    let inside = network.near_side(alloc, may)?;
-    Ok(Some(with_border(alloc, draft, inside)?))
+    flow
+}
+
+/// By variable whether it is in the smallest set of gates whose border takes the fewest latches, and how many these are.
+///
+/// Where memory was refused nothing is looked for, since a search goes by its tables.
+pub fn least_set(
+    memory: &mut Memory,
+    draft: &Draft,
+    may: &[bool],
+    starts: &[Wish],
+) -> (Vec<bool>, u32) {
+    let mut marks = memory.table(false, draft.size());
+    let mut flow = network_of(memory, draft, may, starts, marks.as_mut_slice());
+    let mut search = Search::new(memory, flow.nodes());
+    let units = if memory.is_refused() {
+        u32::MAX
+    } else {
+        search.run(&mut flow, before(draft.end()), after(draft.end()))
+    };
+    mark_near_side(may, &search, marks.as_mut_slice());
+    (marks, units)
 }

@@ -1,143 +1,139 @@
 //! A flow grows in phases, in each of which searches from the source, depth first, visit every node once at most. Few phases are needed where
 //! ways are short, as they are between latches and the gates before them.
 
-use crate::flow::Flow;
+use crate::flow::{Flow, NO_ARC};
+use crate::memory::Memory;
 use crate::tables::{entry, has_mark, set_entry, set_mark};
-use aig_graph::NoMemory;
-use std::alloc::Global;
 
 /// What a step of a search does.
-#[derive(Clone, Copy, PartialEq, Eq)]
+#[derive(Clone, Copy)]
 enum Step {
     On,
     Found,
     Ended,
 }
 
-/// A search: the arcs of the way so far, the next arc to look at of each node, and which nodes were visited.
+/// A search: the arcs of the way so far, of which there are so many, the next arc to look at of each node, and which nodes were visited.
 #[derive(Drop)]
-struct Search {
+pub struct Search {
     at: u32,
+    /// As long as a way that visits all nodes.
     way: Vec<u32>,
+    length: u32,
     next: Vec<u32>,
     seen: Vec<bool>,
 }
 
+/// Writes numbers over others, of which there are as many.
+fn write_over(numbers: &mut [u32], others: &[u32]) {
+    for place in 0..numbers.len() {
+        if place < others.len() {
+            numbers[place] = others[place];
+        }
+    }
+}
+
 impl Search {
-    fn new(alloc: Global, nodes: usize) -> Result<Search, NoMemory> {
-        Ok(Search {
+    /// No node is visited.
+    pub fn new(memory: &mut Memory, nodes: usize) -> Search {
+        let way = memory.table(0u32, nodes);
+        let next = memory.table(0u32, nodes);
+        let seen = memory.table(false, nodes);
+        Search {
             at: 0,
-            way: Vec::new(alloc),
-            next: vec![in alloc; 0; nodes]?,
-            seen: vec![in alloc; false; nodes]?,
-        })
+            way,
+            length: 0,
+            next,
+            seen,
+        }
     }
 
     /// No node is visited but the first.
     fn begin(&mut self, flow: &Flow, source: u32) {
         self.at = source;
-        self.way.clear();
-        for (next, head) in self.next.iter_mut().zip(flow.heads()) {
-            *next = *head;
-        }
-        for seen in self.seen.iter_mut() {
-            *seen = false;
-        }
+        self.length = 0;
+        write_over(self.next.as_mut_slice(), flow.heads());
+        self.seen.fill(false);
         set_mark(self.seen.as_mut_slice(), source, true);
     }
 
     /// Goes back along the way's last arc.
     fn back(&mut self, flow: &Flow) -> Step {
-        match self.way.pop() {
-            Some(number) => {
-                self.at = flow.tail(number);
-                Step::On
-            }
-            None => Step::Ended,
+        if self.length == 0 {
+            return Step::Ended;
         }
+        self.length = self.length.wrapping_sub(1);
+        self.at = flow.tail(entry(self.way.as_slice(), self.length));
+        Step::On
+    }
+
+    /// Goes on along an arc.
+    fn go(&mut self, number: u32, to: u32, sink: u32) -> Step {
+        set_entry(self.way.as_mut_slice(), self.length, number);
+        self.length = self.length.wrapping_add(1);
+        if to == sink {
+            return Step::Found;
+        }
+        set_mark(self.seen.as_mut_slice(), to, true);
+        self.at = to;
+        Step::On
     }
 
     /// Looks at the next arc of the node where the search is.
-    fn step(&mut self, flow: &Flow, sink: u32) -> Result<Step, NoMemory> {
+    fn step(&mut self, flow: &Flow, sink: u32) -> Step {
         let number = entry(self.next.as_slice(), self.at);
-        let Some(arc) = flow.arc(number) else {
-            return Ok(self.back(flow));
-        };
-        set_entry(self.next.as_mut_slice(), self.at, Flow::after(&arc));
-        if arc.room == 0 || has_mark(self.seen.as_slice(), arc.to) {
-            return Ok(Step::On);
+        if number == NO_ARC {
+            return self.back(flow);
         }
-        self.way.push(number)?;
-        if arc.to == sink {
-            return Ok(Step::Found);
+        let arc = flow.arc(number);
+        set_entry(self.next.as_mut_slice(), self.at, arc.next);
+        if (arc.room == 0) | has_mark(self.seen.as_slice(), arc.to) {
+            return Step::On;
         }
-        set_mark(self.seen.as_mut_slice(), arc.to, true);
-        self.at = arc.to;
-        Ok(Step::On)
+        self.go(number, arc.to, sink)
     }
 
     /// Sends a unit along the way that was found, and begins at the source again.
     fn send(&mut self, flow: &mut Flow, source: u32) {
-        for number in &self.way {
-            flow.send(*number);
+        for place in 0..self.length {
+            flow.send(entry(self.way.as_slice(), place));
         }
-        self.way.clear();
+        self.length = 0;
         self.at = source;
     }
 
     /// One phase: how many units it sends.
-    fn phase(&mut self, flow: &mut Flow, source: u32, sink: u32) -> Result<u32, NoMemory> {
+    fn phase(&mut self, flow: &mut Flow, source: u32, sink: u32) -> u32 {
         self.begin(flow, source);
         let mut sent = 0u32;
         for _ in 0..u64::MAX {
-            match self.step(flow, sink)? {
+            match self.step(flow, sink) {
                 Step::On => {}
                 Step::Found => {
                     self.send(flow, source);
                     sent = sent.saturating_add(1);
                 }
-                Step::Ended => return Ok(sent),
+                Step::Ended => return sent,
             }
         }
-        Ok(sent)
+        sent
     }
-}
 
-/// Sends units from the source to the sink until no way is left: how many.
-///
-/// # Errors
-///
-/// `NoMemory` where a table is refused.
-pub fn greatest_flow(
-    alloc: Global,
-    flow: &mut Flow,
-    source: u32,
-    sink: u32,
-) -> Result<u32, NoMemory> {
-    let mut search = Search::new(alloc, flow.nodes())?;
-    let mut total = 0u32;
-    for _ in 0..u32::MAX {
-        let sent = search.phase(flow, source, sink)?;
-        if sent == 0 {
-            return Ok(total);
+    /// Sends units from the source to the sink until no way is left: how many.
+    pub fn run(&mut self, flow: &mut Flow, source: u32, sink: u32) -> u32 {
+        let mut total = 0u32;
+        for _ in 0..u32::MAX {
+            let sent = self.phase(flow, source, sink);
+            if sent == 0 {
+                return total;
+            }
+            total = total.saturating_add(sent);
         }
-        total = total.saturating_add(sent);
+        total
     }
-    Ok(total)
-}
 
-/// The nodes to which units could still go from the source: those on its side of the least cut that is nearest to it.
-///
-/// # Errors
-///
-/// `NoMemory` where a table is refused.
-pub fn reached(alloc: Global, flow: &Flow, source: u32) -> Result<Vec<bool>, NoMemory> {
-    let mut search = Search::new(alloc, flow.nodes())?;
-    search.begin(flow, source);
-    for _ in 0..u64::MAX {
-        if search.step(flow, u32::MAX)? == Step::Ended {
-            return Ok(search.seen);
-        }
+    /// Whether units could still go from the source to a node, after a run. It is on the source's side of the least cut that is nearest to it.
+    pub fn reaches(&self, node: u32) -> bool {
+        has_mark(self.seen.as_slice(), node)
     }
-    Ok(search.seen)
 }

@@ -1,11 +1,11 @@
 //! Which values the variables have to have a step before the start, so that latches start as they do.
 
 use crate::drafts::Draft;
-use aig_graph::NoMemory;
-use std::alloc::Global;
+use crate::literals::Literal;
+use crate::memory::Memory;
 
 /// The values that are wished of a variable: none, one of them, or both.
-#[derive(Clone, Copy, PartialEq, Eq)]
+#[derive(Clone, Copy)]
 pub struct Wish {
     pub zero: bool,
     pub one: bool,
@@ -20,57 +20,68 @@ impl Wish {
 
     /// Whether this value is wished.
     pub fn has(self, value: bool) -> bool {
-        if value { self.one } else { self.zero }
+        (self.one & value) | (self.zero & !value)
     }
 
     /// Whether both values are wished.
     pub fn is_both(self) -> bool {
-        self.zero && self.one
+        self.zero & self.one
     }
 
-    /// How many latches a variable with these wishes takes in a border.
-    pub fn latches(self) -> u32 {
-        if self.is_both() { 2 } else { 1 }
+    /// The wish of a literal's negation, or the same.
+    pub fn negated_if(self, negated: bool) -> Wish {
+        Wish {
+            zero: (self.zero & !negated) | (self.one & negated),
+            one: (self.one & !negated) | (self.zero & negated),
+        }
     }
 
-    /// This value is wished too.
-    pub fn add(&mut self, value: bool) {
-        if value {
-            self.one = true;
-        } else {
-            self.zero = true;
+    /// The wish with this value too.
+    pub fn with(self, value: bool) -> Wish {
+        Wish {
+            zero: self.zero | !value,
+            one: self.one | value,
         }
     }
 }
 
 /// The wishes of a variable.
 pub fn wish_of(wishes: &[Wish], var: u32) -> Wish {
-    match wishes.get(var as usize) {
-        Some(wish) => *wish,
-        None => Wish::NONE,
+    let place = var as usize;
+    if place < wishes.len() {
+        wishes[place]
+    } else {
+        Wish::NONE
     }
 }
 
-/// A value is wished of a variable.
-pub fn add_wish(wishes: &mut [Wish], var: u32, value: bool) {
-    if let Some(wish) = wishes.get_mut(var as usize) {
-        wish.add(value);
+/// A variable has these wishes from now on.
+pub fn set_wish(wishes: &mut [Wish], var: u32, wish: Wish) {
+    let place = var as usize;
+    if place < wishes.len() {
+        wishes[place] = wish;
+    }
+}
+
+/// A value is wished of a literal.
+pub fn add_wish(wishes: &mut [Wish], lit: Literal, value: bool) {
+    let wish = wish_of(wishes, lit.var()).with(value != lit.is_negated());
+    set_wish(wishes, lit.var(), wish);
+}
+
+/// Adds what the latches that take part wish of what they read.
+fn add_starts(draft: &Draft, wishes: &mut [Wish]) {
+    for place in 0..draft.many_latches() {
+        let latch = draft.latch(place);
+        if latch.is_settled() {
+            add_wish(wishes, latch.next, latch.starts_at_1());
+        }
     }
 }
 
 /// By variable what the latches that take part wish of it.
-///
-/// # Errors
-///
-/// `NoMemory` where the table is refused.
-pub fn starts_of(alloc: Global, draft: &Draft) -> Result<Vec<Wish>, NoMemory> {
-    let mut wishes = vec![in alloc; Wish::NONE; draft.size()]?;
-    for latch in &draft.latches {
-        if latch.takes_part() {
-            if let Some(value) = latch.wish() {
-                add_wish(wishes.as_mut_slice(), latch.next.var(), value);
-            }
-        }
-    }
-    Ok(wishes)
+pub fn starts_of(memory: &mut Memory, draft: &Draft) -> Vec<Wish> {
+    let mut wishes = memory.table(Wish::NONE, draft.size());
+    add_starts(draft, wishes.as_mut_slice());
+    wishes
 }

@@ -1,4 +1,6 @@
 //! Tables by variable. What is past the end of a table isn't there.
+//!
+//! They are read and written by index behind a look at their length, which is far cheaper to prove than a match on what `get` finds.
 
 /// A number of entries; a graph has fewer than these bits hold.
 pub fn number(many: usize) -> u32 {
@@ -7,13 +9,15 @@ pub fn number(many: usize) -> u32 {
 
 /// Whether a variable has a mark.
 pub fn has_mark(marks: &[bool], var: u32) -> bool {
-    marks.get(var as usize).copied() == Some(true)
+    let place = var as usize;
+    place < marks.len() && marks[place]
 }
 
 /// Marks a variable, or takes its mark away.
 pub fn set_mark(marks: &mut [bool], var: u32, mark: bool) {
-    if let Some(entry) = marks.get_mut(var as usize) {
-        *entry = mark;
+    let place = var as usize;
+    if place < marks.len() {
+        marks[place] = mark;
     }
 }
 
@@ -21,24 +25,25 @@ pub fn set_mark(marks: &mut [bool], var: u32, mark: bool) {
 pub fn count_marks(marks: &[bool]) -> u32 {
     let mut count = 0u32;
     for mark in marks {
-        if *mark {
-            count = count.wrapping_add(1);
-        }
+        count = count.wrapping_add(u32::from(*mark));
     }
     count
 }
 
 /// The number at a place, and 0 past the end.
 pub fn entry(numbers: &[u32], place: u32) -> u32 {
-    match numbers.get(place as usize) {
-        Some(number) => *number,
-        None => 0,
+    let place = place as usize;
+    if place < numbers.len() {
+        numbers[place]
+    } else {
+        0
     }
 }
 
 /// Puts a number at a place.
 pub fn set_entry(numbers: &mut [u32], place: u32, number: u32) {
-    if let Some(entry) = numbers.get_mut(place as usize) {
-        *entry = number;
+    let place = place as usize;
+    if place < numbers.len() {
+        numbers[place] = number;
     }
 }

@@ -3,11 +3,10 @@
 use crate::border::Bordered;
 use crate::drafts::{Draft, Pair};
 use crate::literals::Literal;
+use crate::memory::Memory;
 use crate::readers::Readers;
-use crate::starts::{Wish, wish_of};
-use crate::tables::number;
-use aig_graph::NoMemory;
-use std::alloc::Global;
+use crate::starts::{Wish, set_wish, wish_of};
+use crate::tables::{entry, set_entry, set_mark};
 
 /// Values, and the variables that have one in the order in which they got it.
 #[derive(Drop)]
@@ -16,50 +15,38 @@ pub struct Values<'a> {
     set: &'a Bordered,
     /// What latches wish. A variable of which they wish both values has whichever is asked for.
     starts: &'a [Wish],
-    known: Vec<Option<bool>>,
+    /// The value of each variable, and none of one that has none yet.
+    known: Vec<Wish>,
+    /// As long as there are variables.
     trail: Vec<u32>,
+    count: u32,
     readers: Readers,
-}
-
-/// The value of a literal whose variable has this one.
-fn signed(value: Option<bool>, lit: Literal) -> Option<bool> {
-    Some(value? != lit.is_negated())
 }
 
 impl<'a> Values<'a> {
     /// No values yet.
-    ///
-    /// # Errors
-    ///
-    /// `NoMemory` where a table is refused.
     pub fn none(
-        alloc: Global,
+        memory: &mut Memory,
         draft: &'a Draft,
         set: &'a Bordered,
         starts: &'a [Wish],
-    ) -> Result<Values<'a>, NoMemory> {
-        let readers = Readers::of(alloc, draft, set)?;
-        Ok(Values {
+    ) -> Values<'a> {
+        let known = memory.table(Wish::NONE, draft.size());
+        let trail = memory.table(0u32, draft.size());
+        Values {
             draft,
             set,
             starts,
-            known: vec![in alloc; None; draft.size()]?,
-            trail: Vec::new(alloc),
-            readers,
-        })
-    }
-
-    /// The value of a variable.
-    pub fn of(&self, var: u32) -> Option<bool> {
-        match self.known.get(var as usize) {
-            Some(value) => *value,
-            None => None,
+            known,
+            trail,
+            count: 0,
+            readers: Readers::of(memory, draft, set),
         }
     }
 
-    /// The value of a literal.
-    pub fn literal(&self, lit: Literal) -> Option<bool> {
-        signed(self.of(lit.var()), lit)
+    /// The value of a literal; none where it has none yet.
+    pub fn of(&self, lit: Literal) -> Wish {
+        wish_of(self.known.as_slice(), lit.var()).negated_if(lit.is_negated())
     }
 
     /// Whether a variable has either value.
@@ -69,127 +56,102 @@ impl<'a> Values<'a> {
 
     /// How many values there are.
     pub fn count(&self) -> u32 {
-        number(self.trail.len())
+        self.count
     }
 
     /// Gives a literal a value. Whether it may have it.
-    ///
-    /// # Errors
-    ///
-    /// `NoMemory` where the list is refused.
-    pub fn set(&mut self, lit: Literal, value: bool) -> Result<bool, NoMemory> {
-        if let Some(known) = self.literal(lit) {
-            return Ok(known == value);
+    fn set(&mut self, lit: Literal, value: bool) -> bool {
+        let known = self.of(lit);
+        if !known.zero & !known.one & !self.is_both(lit.var()) {
+            let wish = Wish::NONE.with(value != lit.is_negated());
+            set_wish(self.known.as_mut_slice(), lit.var(), wish);
+            set_entry(self.trail.as_mut_slice(), self.count, lit.var());
+            self.count = self.count.wrapping_add(1);
         }
-        if self.is_both(lit.var()) {
-            return Ok(true);
-        }
-        if let Some(entry) = self.known.get_mut(lit.var() as usize) {
-            *entry = Some(value != lit.is_negated());
-            self.trail.push(lit.var())?;
-        }
-        Ok(true)
+        !known.has(!value)
     }
 
     /// Takes the last values away, until there are this many.
     pub fn forget(&mut self, count: u32) {
-        for _ in 0..u32::MAX {
-            if self.count() <= count {
-                return;
-            }
-            if let Some(var) = self.trail.pop() {
-                if let Some(entry) = self.known.get_mut(var as usize) {
-                    *entry = None;
-                }
-            }
+        for place in count..self.count {
+            let var = entry(self.trail.as_slice(), place);
+            set_wish(self.known.as_mut_slice(), var, Wish::NONE);
         }
-    }
-
-    /// Both fan-ins have this value. Whether they may.
-    fn set_both(&mut self, pair: &Pair, value: bool) -> Result<bool, NoMemory> {
-        Ok(self.set(pair.larger, value)? && self.set(pair.smaller, value)?)
+        self.count = self.count.min(count);
     }
 
     /// What follows at a gate. Whether nothing contradicts.
-    fn follow(&mut self, var: u32, pair: &Pair) -> Result<bool, NoMemory> {
-        let (larger, smaller) = (self.literal(pair.larger), self.literal(pair.smaller));
-        let own = self.of(var);
-        if own == Some(true) {
-            return self.set_both(pair, true);
+    fn follow(&mut self, own: Literal, pair: &Pair) -> bool {
+        let known = self.of(own);
+        let (larger, smaller) = (self.of(pair.larger), self.of(pair.smaller));
+        let one = larger.one & smaller.one;
+        if known.one {
+            return self.set(pair.larger, true) && self.set(pair.smaller, true);
         }
-        if larger == Some(false) || smaller == Some(false) {
-            return self.set(Literal::of(var), false);
+        if one | larger.zero | smaller.zero {
+            return self.set(own, one);
         }
-        if larger == Some(true) && smaller == Some(true) {
-            return self.set(Literal::of(var), true);
-        }
-        if own == Some(false) && larger == Some(true) {
+        if known.zero & larger.one {
             return self.set(pair.smaller, false);
         }
-        if own == Some(false) && smaller == Some(true) {
+        if known.zero & smaller.one {
             return self.set(pair.larger, false);
         }
-        Ok(true)
+        true
     }
 
     /// What follows at the gate of a variable, if it is in the set.
-    fn follow_at(&mut self, var: u32) -> Result<bool, NoMemory> {
-        match self.draft.gate(var) {
-            Some(pair) if self.set.has(var) => self.follow(var, &pair),
-            _ => Ok(true),
-        }
+    fn follow_at(&mut self, var: u32) -> bool {
+        let pair = self.draft.gate(var);
+        !self.set.has(var) || self.follow(Literal::of(var), &pair)
     }
 
     /// What follows from the value of a variable: at its own gate, and at those that read it.
-    fn follow_from(&mut self, var: u32) -> Result<bool, NoMemory> {
-        if !self.follow_at(var)? {
-            return Ok(false);
-        }
-        let (from, to) = self.readers.places(var);
-        for place in from..to {
+    fn follow_from(&mut self, var: u32) -> bool {
+        let mut fits = self.follow_at(var);
+        for place in self.readers.begin(var)..self.readers.end(var) {
             let reader = self.readers.at(place);
-            if !self.follow_at(reader)? {
-                return Ok(false);
-            }
+            fits = fits && self.follow_at(reader);
         }
-        Ok(true)
+        fits
     }
 
     /// All that follows from the values after the first ones, of which there are this many. Whether nothing contradicts.
-    ///
-    /// # Errors
-    ///
-    /// `NoMemory` where the list is refused.
-    pub fn propagate(&mut self, first: u32) -> Result<bool, NoMemory> {
-        let mut place = first;
-        for _ in 0..u32::MAX {
-            let Some(var) = self.trail.get(place as usize).copied() else {
-                return Ok(true);
-            };
-            if !self.follow_from(var)? {
-                return Ok(false);
+    fn propagate(&mut self, first: u32) -> bool {
+        for place in first..u32::MAX {
+            if place >= self.count {
+                return true;
             }
-            place = place.wrapping_add(1);
+            let var = entry(self.trail.as_slice(), place);
+            if !self.follow_from(var) {
+                return false;
+            }
         }
-        Ok(true)
+        true
     }
 
     /// Gives a literal a value, with all that follows. Whether nothing contradicts.
-    ///
-    /// # Errors
-    ///
-    /// `NoMemory` where the list is refused.
-    pub fn assume(&mut self, lit: Literal, value: bool) -> Result<bool, NoMemory> {
-        let first = self.count();
-        Ok(self.set(lit, value)? && self.propagate(first)?)
+    pub fn assume(&mut self, lit: Literal, value: bool) -> bool {
+        let first = self.count;
+        self.set(lit, value) && self.propagate(first)
+    }
+
+    /// Gives what latches read the values that their resets wish, with all that follows. Whether nothing contradicts.
+    pub fn begin(&mut self) -> bool {
+        for place in 0..self.draft.many_latches() {
+            let latch = self.draft.latch(place);
+            if latch.is_settled() && !self.set(latch.next, latch.starts_at_1()) {
+                return false;
+            }
+        }
+        self.propagate(0)
     }
 
     /// Writes the values over those of a guide.
     pub fn write_over(&self, guide: &mut [bool]) {
-        for (entry, known) in guide.iter_mut().zip(self.known.iter()) {
-            if let Some(value) = known {
-                *entry = *value;
-            }
+        for place in 0..self.count {
+            let var = entry(self.trail.as_slice(), place);
+            set_mark(guide, var, wish_of(self.known.as_slice(), var).one);
         }
     }
 }

@@ -4,10 +4,9 @@
 use crate::border::Bordered;
 use crate::drafts::{Draft, Pair};
 use crate::literals::Literal;
-use crate::starts::{Wish, add_wish, wish_of};
-use crate::tables::{has_mark, set_mark};
-use aig_graph::NoMemory;
-use std::alloc::Global;
+use crate::memory::Memory;
+use crate::starts::{Wish, add_wish, set_wish, wish_of};
+use crate::tables::{has_mark, number, set_mark};
 
 /// What each variable is wished to be, and of which gates that are to be 0 the larger fan-in makes them so.
 #[derive(Drop)]
@@ -25,10 +24,32 @@ pub struct Guide<'a> {
     pub solves: bool,
 }
 
+/// How dear it is to wish that a literal is 0, with these wishes.
+fn price(wishes: &[Wish], set: &Bordered, guide: &Guide, lit: Literal) -> u32 {
+    let value = lit.is_negated();
+    let known = wish_of(wishes, lit.var());
+    let other = has_mark(guide.values, lit.var()) != value;
+    let far = if guide.solves { 1000u32 } else { 30 };
+    let inside = if value { 4u32 } else { 2 };
+    if known.has(value) {
+        return 0;
+    }
+    (if known.has(!value) { 100u32 } else { 10 })
+        .wrapping_add(far.wrapping_mul(u32::from(other)))
+        .wrapping_add(inside.wrapping_mul(u32::from(set.has(lit.var()))))
+}
+
+/// Puts wishes into a table that has none.
+fn copy_wishes(wishes: &[Wish], all: &mut [Wish]) {
+    for var in 0..number(wishes.len()) {
+        set_wish(all, var, wish_of(wishes, var));
+    }
+}
+
 impl Wishes {
     /// Wishes that a literal is 1, or 0.
     fn wish(&mut self, lit: Literal, value: bool) {
-        add_wish(self.of.as_mut_slice(), lit.var(), value != lit.is_negated());
+        add_wish(self.of.as_mut_slice(), lit, value);
     }
 
     /// Wishes both fan-ins of a gate to be 1, where it is to be 1.
@@ -39,64 +60,45 @@ impl Wishes {
         }
     }
 
-    /// How dear it is to wish that a literal is 0.
-    fn price(&self, set: &Bordered, guide: &Guide, lit: Literal) -> u32 {
-        let value = lit.is_negated();
-        let known = wish_of(self.of.as_slice(), lit.var());
-        if known.has(value) {
-            return 0;
-        }
-        let mut price = if known.has(!value) { 100u32 } else { 10 };
-        if has_mark(guide.values, lit.var()) != value {
-            price = price.wrapping_add(if guide.solves { 1000 } else { 30 });
-        }
-        if set.has(lit.var()) {
-            price = price.wrapping_add(if value { 4 } else { 2 });
-        }
-        price
-    }
-
     /// Wishes the cheaper fan-in of a gate to be 0, where it is to be 0.
     fn choose(&mut self, set: &Bordered, guide: &Guide, var: u32, pair: &Pair) {
-        if !wish_of(self.of.as_slice(), var).zero {
-            return;
+        let wishes = self.of.as_slice();
+        if wish_of(wishes, var).zero {
+            let larger = price(wishes, set, guide, pair.larger)
+                <= price(wishes, set, guide, pair.smaller);
+            set_mark(self.by_larger.as_mut_slice(), var, larger);
+            self.wish(if larger { pair.larger } else { pair.smaller }, false);
         }
-        let larger = self.price(set, guide, pair.larger) <= self.price(set, guide, pair.smaller);
-        set_mark(self.by_larger.as_mut_slice(), var, larger);
-        self.wish(if larger { pair.larger } else { pair.smaller }, false);
+    }
+
+    /// Hands down what is forced, and then also what is to be chosen.
+    fn hand_down(&mut self, draft: &Draft, set: &Bordered, guide: &Guide, chooses: bool) {
+        for var in (draft.first_gate()..draft.end()).rev() {
+            if set.has(var) {
+                let pair = draft.gate(var);
+                self.force(var, &pair);
+                if chooses {
+                    self.choose(set, guide, var, &pair);
+                }
+            }
+        }
     }
 }
 
 /// Hands wishes down a set: first what is forced, then what is to be chosen with what that forces.
-///
-/// # Errors
-///
-/// `NoMemory` where a table is refused.
 pub fn wishes_of(
-    alloc: Global,
+    memory: &mut Memory,
     draft: &Draft,
     set: &Bordered,
     starts: &[Wish],
     guide: &Guide,
-) -> Result<Wishes, NoMemory> {
+) -> Wishes {
     let mut wishes = Wishes {
-        of: Vec::from_slice(alloc, starts)?,
-        by_larger: vec![in alloc; false; draft.size()]?,
+        of: memory.table(Wish::NONE, draft.size()),
+        by_larger: memory.table(false, draft.size()),
     };
-    let mut var = draft.end();
-    for pair in draft.gates.iter().rev() {
-        var = var.wrapping_sub(1);
-        if set.has(var) {
-            wishes.force(var, pair);
-        }
-    }
-    var = draft.end();
-    for pair in draft.gates.iter().rev() {
-        var = var.wrapping_sub(1);
-        if set.has(var) {
-            wishes.force(var, pair);
-            wishes.choose(set, guide, var, pair);
-        }
-    }
-    Ok(wishes)
+    copy_wishes(starts, wishes.of.as_mut_slice());
+    wishes.hand_down(draft, set, guide, false);
+    wishes.hand_down(draft, set, guide, true);
+    wishes
 }

@@ -3,176 +3,161 @@ use aag_text::read_aag;
 use aig_graph::{Circuit, Keep};
 use backward_moves::Drafted;
 use backward_retiming::move_as_drafted;
-use backward_sets::{DraftLatch, DraftReset, Literal, Pair};
-use std::alloc::{AllocError, Global};
+use backward_sets::{DraftLatch, DraftReset, Literal, Memory, Pair};
+use std::alloc::Global;
 use std::test::*;
 
 /// A decoder of two inputs, whose first line starts at 1.
 const DECODER: &[u8] =
     b"aag 10 2 4 4 4\n2\n4\n6 14 1\n8 16\n10 18\n12 20\n6\n8\n10\n12\n14 4 2\n16 5 2\n18 4 3\n20 5 3\n";
 
-/// The numbers of a draft of it with two latches: their next literals, whether they start at 1, the gates, which are those of the map too but
-/// for where they begin, and the outputs of the map.
+/// The codes of a draft of it with two latches: their next literals, whether they start at 1, what the gates read, which are those of the map
+/// too but for where they begin, and the outputs of the map.
 #[derive(Clone, Copy)]
 struct Numbers {
-    nexts: [u32; 2],
-    ones: [bool; 2],
-    gates: [(u32, u32); 4],
-    outputs: [u32; 4],
+    nexts: &'static [u32],
+    ones: &'static [bool],
+    larger: &'static [u32],
+    smaller: &'static [u32],
+    outputs: &'static [u32],
 }
 
 const RIGHT: Numbers = Numbers {
-    nexts: [2, 4],
-    ones: [true, true],
-    gates: [(8, 6), (9, 6), (8, 7), (9, 7)],
-    outputs: [6, 8, 10, 12],
+    nexts: &[2, 4],
+    ones: &[true, true],
+    larger: &[8, 9, 8, 9],
+    smaller: &[6, 6, 7, 7],
+    outputs: &[6, 8, 10, 12],
 };
 
-/// A latch that starts otherwise, one with a negated next literal, a gate with another sign, two lines of the map for each other, and numbers that
-/// are out of range: of a gate, of a latch, of an output.
-const WRONG: [Numbers; 7] = [
-    Numbers {
-        nexts: [2, 4],
-        ones: [false, true],
-        gates: [(8, 6), (9, 6), (8, 7), (9, 7)],
-        outputs: [6, 8, 10, 12],
-    },
-    Numbers {
-        nexts: [3, 4],
-        ones: [true, true],
-        gates: [(8, 6), (9, 6), (8, 7), (9, 7)],
-        outputs: [6, 8, 10, 12],
-    },
-    Numbers {
-        nexts: [2, 4],
-        ones: [true, true],
-        gates: [(8, 6), (8, 6), (8, 7), (9, 7)],
-        outputs: [6, 8, 10, 12],
-    },
-    Numbers {
-        nexts: [2, 4],
-        ones: [true, true],
-        gates: [(8, 6), (9, 6), (8, 7), (9, 7)],
-        outputs: [8, 6, 10, 12],
-    },
-    Numbers {
-        nexts: [2, 4],
-        ones: [true, true],
-        gates: [(10, 6), (9, 6), (8, 7), (9, 7)],
-        outputs: [6, 8, 10, 12],
-    },
-    Numbers {
-        nexts: [2, 18],
-        ones: [true, true],
-        gates: [(8, 6), (9, 6), (8, 7), (9, 7)],
-        outputs: [6, 8, 10, 12],
-    },
-    Numbers {
-        nexts: [2, 4],
-        ones: [true, true],
-        gates: [(8, 6), (9, 6), (8, 7), (9, 7)],
-        outputs: [6, 8, 10, 14],
-    },
-];
+/// How many wrong drafts there are.
+const WRONG: u32 = 7;
 
-fn latches_of(alloc: Global, numbers: &Numbers) -> Result<Vec<DraftLatch>, AllocError> {
-    let mut latches = Vec::new(alloc);
-    for (next, one) in numbers.nexts.iter().zip(numbers.ones.iter()) {
-        latches.push(DraftLatch {
-            next: Literal { code: *next },
-            reset: if *one {
-                DraftReset::One
-            } else {
-                DraftReset::Zero
-            },
+/// A wrong draft by its number: a latch that starts otherwise, one with a negated next literal, a gate with another sign, two lines of the map
+/// for each other, and numbers that are out of range: of a gate, of a latch, of an output.
+fn wrong(place: u32) -> Numbers {
+    let mut numbers = RIGHT;
+    if place == 0 {
+        numbers.ones = &[false, true];
+    } else if place == 1 {
+        numbers.nexts = &[3, 4];
+    } else if place == 2 {
+        numbers.larger = &[8, 8, 8, 9];
+    } else if place == 3 {
+        numbers.outputs = &[8, 6, 10, 12];
+    } else if place == 4 {
+        numbers.larger = &[10, 9, 8, 9];
+    } else if place == 5 {
+        numbers.nexts = &[2, 18];
+    } else {
+        numbers.outputs = &[6, 8, 10, 14];
+    }
+    numbers
+}
+
+fn literal_at(codes: &[u32], place: usize) -> Literal {
+    Literal {
+        code: if place < codes.len() { codes[place] } else { 0 },
+    }
+}
+
+fn put_literals(codes: &[u32], literals: &mut [Literal]) {
+    for place in 0..literals.len() {
+        literals[place] = literal_at(codes, place);
+    }
+}
+
+fn put_latches(numbers: &Numbers, latches: &mut [DraftLatch]) {
+    for place in 0..latches.len() {
+        let one = place < numbers.ones.len() && numbers.ones[place];
+        latches[place] = DraftLatch {
+            next: literal_at(numbers.nexts, place),
+            reset: DraftReset::of(one),
             origin: None,
             held: false,
-        })?;
+        };
     }
-    Ok(latches)
 }
 
-fn gates_of(alloc: Global, gates: &[(u32, u32)], less: u32) -> Result<Vec<Pair>, AllocError> {
-    let mut pairs = Vec::new(alloc);
-    for (larger, smaller) in gates {
-        pairs.push(Pair {
+/// Puts gates over literals whose codes are so much less.
+fn put_gates(numbers: &Numbers, less: u32, gates: &mut [Pair]) {
+    for place in 0..gates.len() {
+        gates[place] = Pair {
             larger: Literal {
-                code: larger.saturating_sub(less),
+                code: literal_at(numbers.larger, place).code.wrapping_sub(less),
             },
             smaller: Literal {
-                code: smaller.saturating_sub(less),
+                code: literal_at(numbers.smaller, place).code.wrapping_sub(less),
             },
-        })?;
+        };
     }
-    Ok(pairs)
 }
 
-fn literals_of(alloc: Global, codes: &[u32]) -> Result<Vec<Literal>, AllocError> {
-    let mut literals = Vec::new(alloc);
-    for code in codes {
-        literals.push(Literal { code: *code })?;
+/// A draft with as many latches and gates, which are all none.
+fn blank(memory: &mut Memory) -> Drafted {
+    Drafted {
+        latches: memory.table(DraftLatch::NONE, 2),
+        gates: memory.table(Pair::NONE, 4),
+        stands: memory.table(Literal::FALSE, 8),
+        map_gates: memory.table(Pair::NONE, 4),
+        map_outputs: memory.table(Literal::FALSE, 4),
+        frames: memory.nothing(),
     }
-    Ok(literals)
 }
 
-/// The draft of these numbers.
-fn draft_of(alloc: Global, numbers: &Numbers) -> Result<Drafted, AllocError> {
-    let stands = literals_of(alloc, &[10, 12, 14, 16, 0, 0, 0, 0])?;
-    let map_outputs = literals_of(alloc, &numbers.outputs)?;
-    let map_gates = gates_of(alloc, &numbers.gates, 4)?;
-    let gates = gates_of(alloc, &numbers.gates, 0)?;
-    let latches = latches_of(alloc, numbers)?;
-    Ok(Drafted {
-        latches,
-        gates,
-        stands,
-        map_gates,
-        map_outputs,
-        frames: Vec::new(alloc),
-    })
+/// Makes a draft that of these numbers.
+fn fill(drafted: &mut Drafted, numbers: &Numbers) {
+    put_latches(numbers, drafted.latches.as_mut_slice());
+    put_gates(numbers, 0, drafted.gates.as_mut_slice());
+    put_literals(&[10, 12, 14, 16, 0, 0, 0, 0], drafted.stands.as_mut_slice());
+    put_gates(numbers, 4, drafted.map_gates.as_mut_slice());
+    put_literals(numbers.outputs, drafted.map_outputs.as_mut_slice());
 }
 
-/// How many latches are left of a circuit by a draft, where it is shown.
-fn left_by(alloc: Global, circuit: Circuit, drafted: Drafted) -> Option<(usize, bool)> {
+/// Whether a draft leaves so many latches of a circuit, and is shown.
+fn leaves_of(
+    alloc: Global,
+    circuit: Circuit,
+    drafted: Drafted,
+    latches: usize,
+    is_shown: bool,
+) -> bool {
     match move_as_drafted(alloc, circuit, &Keep::none(), None, drafted) {
         Ok(moved) => {
-            let left = (moved.circuit.aig().latches().len(), moved.is_shown);
+            let left = moved.circuit.aig().latches().len();
+            let shown = moved.is_shown;
             drop(moved);
-            Some(left)
+            (left == latches) & (shown == is_shown)
         }
-        Err(_) => None,
+        Err(_) => false,
     }
 }
 
-fn left_of(alloc: Global, drafted: Drafted) -> Option<(usize, bool)> {
+/// The same of the decoder and a draft of these numbers.
+fn leaves(alloc: Global, numbers: &Numbers, latches: usize, is_shown: bool) -> bool {
+    let mut drafted = blank(&mut Memory::of(alloc));
+    fill(&mut drafted, numbers);
     match read_aag(alloc, DECODER) {
-        Ok(circuit) => left_by(alloc, circuit, drafted),
+        Ok(circuit) => leaves_of(alloc, circuit, drafted, latches, is_shown),
         Err(_) => {
             drop(drafted);
-            None
+            false
         }
-    }
-}
-
-fn left(alloc: Global, numbers: &Numbers) -> Option<(usize, bool)> {
-    match draft_of(alloc, numbers) {
-        Ok(drafted) => left_of(alloc, drafted),
-        Err(_) => None,
     }
 }
 
 fn all_stay(alloc: Global) -> bool {
-    for numbers in WRONG {
-        if left(alloc, &numbers) != Some((4, false)) {
-            return false;
-        }
+    let mut stay = true;
+    for place in 0..WRONG {
+        let stays = leaves(alloc, &wrong(place), 4, false);
+        stay = stay & stays;
     }
-    true
+    stay
 }
 
 #[test]
 fn takes_no_wrong_draft(rt: HostRuntime) {
-    let right = left(rt.alloc(), &RIGHT) == Some((2, true));
+    let right = leaves(rt.alloc(), &RIGHT, 2, true);
     let wrong = all_stay(rt.alloc());
     assert!(rt; right & wrong);
 }
