@@ -4,7 +4,7 @@
 use crate::gathering::{PartFlow, gathered};
 use crate::part_flows::{Cut, part_flow};
 use crate::shares::Sharing;
-use crate::starts::narrow;
+use unit_starts::narrow;
 use aig_graph::NoMemory;
 use pulse::{Crew, OpenGate, PhaseGate};
 use std::alloc::Global;

@@ -4,7 +4,7 @@
 //! others; the calling thread then joins these. Most gates read what stands a little before them, so the lists are short.
 
 use crate::ranges::border;
-use crate::starts::{Region, narrow};
+use unit_starts::{Region, narrow};
 use aig_graph::NoMemory;
 use std::alloc::Global;
 use std::thread;

@@ -1,5 +1,4 @@
-//! Flows of units over a frame that show its chosen least set: starts, pulses that bring what a start leaves, and, over a large frame, workers that each
-//! own whole components of its network.
+//! A flow of units over a large frame, by workers that each own whole components of its network.
 //!
 //! Gates and latches end where no passable gate reads on, so the network of a wide circuit falls into components, which share no arc. What a flow does in
 //! one of them says nothing of another, so each can be worked on as a circuit of its own, in tables that fit in a processor's cache, and nothing is
@@ -16,13 +15,9 @@ mod joining;
 mod least_set;
 mod part_flows;
 mod parts;
-mod pulses;
 mod ranges;
 mod shares;
 mod sizes;
-mod starts;
 
 pub use least_set::{chosen_least_in_parts, chosen_least_sized};
-pub use pulses::{chosen_least_brought, first_flow};
 pub use sizes::Sizes;
-pub use starts::{Region, Started, narrow, start_along, start_in};

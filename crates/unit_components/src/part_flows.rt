@@ -1,8 +1,8 @@
 //! The flow of a part, which is a region of its own: its known latches and its passable gates, with variables from 0 on in the order of their places.
 
 use crate::parts::Parts;
-use crate::pulses::first_flow;
-use crate::starts::Region;
+use unit_pulses::first_flow;
+use unit_starts::Region;
 use aig_graph::{Gate, Latch, Lit, NoMemory, Reset};
 use pulse::{Crew, PhaseGate};
 use std::alloc::Global;

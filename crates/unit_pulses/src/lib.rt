@@ -4,6 +4,7 @@
 //! Workers of a crew share a pulse of many active nodes. Each owns a range of places, so what a pulse leaves is the same for every number of workers.
 //!
 //! What is made here are hints. No clause speaks of a flow's values; the judge of `unit_flows` says whether one shows the chosen least set.
+#![tactic(auto)]
 
 mod active;
 mod bringing;

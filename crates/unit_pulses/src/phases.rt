@@ -3,12 +3,12 @@
 //! Each worker has a range of places. It is given its part and what it owns by value and returns them, in worker order; all else is lent to all
 //! workers. A pulse of few active nodes is made by the calling thread, as worker 0, over all places.
 
-use crate::pulses::delivering::{Owned, owned_by_ranges};
-use crate::pulses::nodes::Nodes;
-use crate::pulses::parts::{Delivery, Part};
-use crate::pulses::search::Search;
-use crate::pulses::sharing::Parts;
-use crate::pulses::spots::FAR;
+use crate::delivering::{Owned, owned_by_ranges};
+use crate::nodes::Nodes;
+use crate::parts::{Delivery, Part};
+use crate::search::Search;
+use crate::sharing::Parts;
+use crate::spots::FAR;
 use aig_graph::NoMemory;
 use pulse::PhaseGate;
 use std::alloc::Global;

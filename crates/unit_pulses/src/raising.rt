@@ -2,9 +2,9 @@
 //!
 //! Such a node has filled each arc to a label that is one less than its own. What else comes to it makes arcs back to labels that are one more.
 
-use crate::pulses::parts::Part;
-use crate::pulses::search::{Before, Search};
-use crate::pulses::spots::{FAR, label_after, label_before, labels_at};
+use crate::parts::Part;
+use crate::search::{Before, Search};
+use crate::spots::{FAR, label_after, label_before, labels_at};
 
 /// A label that an arc leads to which isn't filled in this pulse, or none.
 fn near(label: u32, below: u32) -> u32 {

@@ -1,8 +1,8 @@
 //! The tables of a flow of units by place: what the flow does at each gate, what stands at each place, and which gates read it.
 
-use crate::pulses::readers::Readers;
-use crate::pulses::spots::{Labels, Spot, label_before};
-use crate::starts::{Region, narrow};
+use crate::readers::Readers;
+use crate::spots::{Labels, Spot, label_before};
+use unit_starts::{Region, narrow};
 use aig_graph::{Gate, NoMemory};
 use std::alloc::Global;
 use unit_flows::GateFlow;

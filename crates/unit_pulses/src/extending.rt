@@ -1,7 +1,7 @@
 //! More of a start along the last flow. That flow ended where units left its frame; where a gate of this frame reads on from there, units wait.
 //! In one pass up the gates each that nothing goes through takes a unit that waits after a fan-in, the larger fan-in first.
 
-use crate::starts::{Region, narrow};
+use unit_starts::{Region, narrow};
 use aig_graph::{Gate, NoMemory};
 use std::alloc::Global;
 use std::mem;

@@ -2,8 +2,8 @@
 //! over residual arcs. In the first two sweeps all gates are seen, so that nearly all of the ways are shortest ones; those that follow see the
 //! gates alone whose nodes have no label yet. Sweeps go through memory in order, where a walk back from the sink jumps.
 
-use crate::pulses::search::{FanIns, Search};
-use crate::pulses::spots::{FAR, Labels, Spot, label_before, labels_at};
+use crate::search::{FanIns, Search};
+use crate::spots::{FAR, Labels, Spot, label_before, labels_at};
 use aig_graph::Gate;
 use unit_flows::GateFlow;
 

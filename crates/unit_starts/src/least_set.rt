@@ -3,10 +3,10 @@ ghost use Rattle.std.specs.Prelude.{◌≡◌, IfOk, IfSome, None};
 ghost use Rattle.aig_graph.specs.Border.{IsGreatestLeast};
 ghost use Rattle.aig_graph.specs.Chosen.{IsChosen};
 
-use crate::starts::along::put_along;
-use crate::starts::first_start::{put_start_down, put_start_up};
-use crate::starts::left_units::LeftUnits;
-use crate::starts::region::Region;
+use crate::along::put_along;
+use crate::first_start::{put_start_down, put_start_up};
+use crate::left_units::LeftUnits;
+use crate::region::Region;
 use aig_graph::{Choice, ClosedSet, NoMemory};
 use std::alloc::Global;
 use unit_flows::{Frame, GateFlow, NodeMarks, UnitFlow, mark, shown_by_marks, shown_chosen};

@@ -3,7 +3,7 @@
 //! In the read phase it lists what its active nodes push, and writes nothing else. In the delivery phase it goes through the lists of all workers, and
 //! writes what they change at its places. So what a pulse leaves depends on no order of nodes, and on no number of workers.
 
-use crate::pulses::nodes::Nodes;
+use crate::nodes::Nodes;
 use aig_graph::NoMemory;
 use std::alloc::Global;
 

@@ -3,10 +3,10 @@
 //! It reads the flow that the last pulse left. No arc is pushed from both ends, and labels don't change before the pulse ends, so what other
 //! nodes push meanwhile makes no difference.
 
-use crate::pulses::nodes::Nodes;
-use crate::pulses::parts::{Arc, Kept, Part, Push};
-use crate::pulses::search::{Before, Search};
-use crate::pulses::spots::{label_after, label_before};
+use crate::nodes::Nodes;
+use crate::parts::{Arc, Kept, Part, Push};
+use crate::search::{Before, Search};
+use crate::spots::{label_after, label_before};
 use aig_graph::NoMemory;
 
 /// What becomes of a unit after a place: it goes on to before a gate, or it stays, and the node gets a new label.

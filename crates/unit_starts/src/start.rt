@@ -1,7 +1,7 @@
 //! One start of a circuit's first flow: which gate takes a unit from which fan-in.
 
-use crate::starts::left_units::LeftUnits;
-use crate::starts::region::Region;
+use crate::left_units::LeftUnits;
+use crate::region::Region;
 use aig_graph::NoMemory;
 use std::alloc::Global;
 use std::mem;

@@ -1,8 +1,8 @@
 //! What the pushes of a pulse change at the places that a worker owns.
 
-use crate::pulses::parts::{Arc, Delivery, Part, Push, Range};
-use crate::pulses::raising::raised_with_arrivals;
-use crate::pulses::spots::{Labels, Spot, label_before};
+use crate::parts::{Arc, Delivery, Part, Push, Range};
+use crate::raising::raised_with_arrivals;
+use crate::spots::{Labels, Spot, label_before};
 use aig_graph::NoMemory;
 use std::alloc::Global;
 use unit_flows::GateFlow;

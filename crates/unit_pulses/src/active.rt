@@ -1,8 +1,8 @@
 //! Which nodes have units that could still come to the sink.
 
-use crate::pulses::nodes::Nodes;
-use crate::pulses::search::Search;
-use crate::pulses::spots::{FAR, labels_at};
+use crate::nodes::Nodes;
+use crate::search::Search;
+use crate::spots::{FAR, labels_at};
 use aig_graph::NoMemory;
 use std::alloc::Global;
 

@@ -4,6 +4,7 @@
 //! They go over a region: a whole frame, or some components of its network with tables of their own.
 //!
 //! What is made here are hints. No clause speaks of a flow's values; the judge of `unit_flows` says whether one shows the chosen least set.
+#![tactic(auto)]
 
 mod along;
 mod first_start;

@@ -1,10 +1,10 @@
 //! Rounds of new labels and pulses, until no unit that is left can come to the sink.
 
-use crate::pulses::nodes::Nodes;
-use crate::pulses::phases::{Passage, pulse_alone, pulse_by_crew};
-use crate::pulses::search::Search;
-use crate::pulses::sharing::{Parts, Sharing};
-use crate::starts::Region;
+use crate::nodes::Nodes;
+use crate::phases::{Passage, pulse_alone, pulse_by_crew};
+use crate::search::Search;
+use crate::sharing::{Parts, Sharing};
+use unit_starts::Region;
 use aig_graph::NoMemory;
 use pulse::PhaseGate;
 use std::alloc::Global;

@@ -1,8 +1,8 @@
 //! A flow of units along what an earlier one did at each gate, as far as that leads: from each known latch one is sent to the gate that took it
 //! from there, through that gate or on to before a fan-in, as then, until it leaves or nothing more is known.
 
-use crate::starts::left_units::LeftUnits;
-use crate::starts::region::{Region, narrow};
+use crate::left_units::LeftUnits;
+use crate::region::{Region, narrow};
 use aig_graph::{Gate, Lit, NoMemory};
 use std::alloc::Global;
 use unit_flows::{GateFlow, UnitFlow, filled};

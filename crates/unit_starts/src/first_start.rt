@@ -7,9 +7,9 @@
 //!
 //! Of most circuits one of them brings all units, or all but a few.
 
-use crate::starts::left_units::LeftUnits;
-use crate::starts::region::Region;
-use crate::starts::start::{FanIn, Start};
+use crate::left_units::LeftUnits;
+use crate::region::Region;
+use crate::start::{FanIn, Start};
 use aig_graph::NoMemory;
 use std::alloc::Global;
 use unit_flows::GateFlow;

@@ -2,8 +2,8 @@
 //! the sources of a tiny circuit, so that the smallest ones are worked on by two workers at once, too. What that costs is the start of two threads,
 //! a tenth of such a run; by all of a crew it would be more than half, and on a circuit of some hundred places as much for nothing.
 
-use crate::pulses::nodes::Nodes;
-use crate::pulses::parts::{Delivery, Part};
+use crate::nodes::Nodes;
+use crate::parts::{Delivery, Part};
 use aig_graph::NoMemory;
 use pulse::{Crew, PhaseGate};
 use std::alloc::Global;

@@ -3,10 +3,10 @@
 ghost use Rattle.std.specs.Prelude.{IfOk, IfSome};
 ghost use Rattle.aig_graph.specs.Chosen.{IsChosen};
 
-use crate::pulses::bringing::bring;
-use crate::pulses::extending::extend;
-use crate::pulses::sharing::Sharing;
-use crate::starts::{Region, Started, start_along, start_in};
+use crate::bringing::bring;
+use crate::extending::extend;
+use crate::sharing::Sharing;
+use unit_starts::{Region, Started, start_along, start_in};
 use aig_graph::{Choice, ClosedSet, NoMemory};
 use pulse::{Crew, PhaseGate};
 use std::alloc::Global;
