@@ -16,7 +16,7 @@ OF_OTHERS = {'TooManyNodes': ['dot'], 'NotAMap': ['check', 'miter', 'product', '
 def fault_names():
     """The names of faults that can stand in an object, by the sources, in their order."""
     texts = [(TOP / 'crates' / crate / 'src' / 'fault.rt').read_text(encoding='utf-8') for crate in WITH_FAULTS]
-    names = dict.fromkeys(name for text in texts for name in re.findall(r'=> "(\w+)",', text))
+    names = dict.fromkeys(name for text in texts for name in re.findall(r'\w+::\w+(?:\(_\)| \{ \.\. \})? => "([A-Z]\w+)",', text))
     return [name for name in names if name not in OF_OTHERS]
 
 

@@ -142,7 +142,7 @@ fn certified(
 }
 
 /// The chosen least set, where a flow of units shows it, with its certificate. Where there is none, nothing of the records changes but the flows.
-fn shown_by_units<G: PhaseGate>(
+fn by_units<G: PhaseGate>(
     rt: &(impl Threads + Sync),
     alloc: Global,
     circuit: &Circuit,
@@ -207,7 +207,7 @@ pub fn chosen_least_along<G: PhaseGate>(
     ensures set { IfOk result (IsChosen choice circuit.now keep.now) }
     ensures certificate { IfOk result (AddsOne circuit.now keep.now records.old records.new) }
 {
-    match shown_by_units(rt, alloc, circuit, keep, choice, crew, records)? {
+    match by_units(rt, alloc, circuit, keep, choice, crew, records)? {
         Some(set) => Ok(set),
         None => chosen_by_flow(rt, alloc, circuit, keep, choice, crew, records),
     }

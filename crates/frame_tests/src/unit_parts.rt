@@ -10,7 +10,7 @@ use pulse::{Crew, OpenGate, PhaseGate};
 use std::alloc::{AllocError, Global};
 use std::test::*;
 use std::thread::Threads;
-use unit_components::{Sizes, chosen_least_sized};
+use unit_components::{Sizes, chosen_by_sizes};
 use unit_flows::{Frame, GateFlow, UnitFlow};
 
 /// Each circuit is cut, and a part of over 64 places is large.
@@ -59,7 +59,7 @@ fn shown_gates<R: Threads + Sync, G: PhaseGate>(
         return None;
     };
     let greatest = Choice::Greatest;
-    let shown = chosen_least_sized(rt, alloc, &frame, greatest, crew, sizes, flow);
+    let shown = chosen_by_sizes(rt, alloc, &frame, greatest, crew, sizes, flow);
     drop(frame);
     match shown {
         Ok(Some(set)) => Some(set.vars().len()),

@@ -1,10 +1,9 @@
 //! The flow of a region by its parts: each worker draws one part after another, which it then owns, and hands their flows back; then the crew works on the
 //! large ones. Who draws which part hangs on how fast each worker is; what flows in a part doesn't.
 
+use crate::cut::Cut;
 use crate::gathering::{PartFlow, gathered};
-use crate::part_flows::{Cut, part_flow};
-use crate::shares::Sharing;
-use unit_starts::narrow;
+use crate::part_flows::part_flow;
 use aig_graph::NoMemory;
 use pulse::{Crew, OpenGate, PhaseGate};
 use std::alloc::Global;
@@ -12,17 +11,17 @@ use std::sync::atomic::{AtomicU64, Ordering};
 use std::thread;
 use std::thread::Threads;
 use unit_flows::GateFlow;
+use unit_starts::narrow;
 
 /// The flow of each part that a worker draws: the next one, of which this is the number, until none is left.
 fn drawn_flows<R: Threads + Sync>(
     rt: &R,
     alloc: Global,
     cut: &Cut,
-    sharing: &Sharing,
     next: &AtomicU64,
 ) -> Result<Vec<PartFlow>, NoMemory> {
     let mut found = Vec::new(alloc);
-    draw_all(rt, alloc, cut, sharing, next, &mut found)?;
+    draw_all(rt, alloc, cut, next, &mut found)?;
     Ok(found)
 }
 
@@ -31,7 +30,6 @@ fn draw_all<R: Threads + Sync>(
     rt: &R,
     alloc: Global,
     cut: &Cut,
-    sharing: &Sharing,
     next: &AtomicU64,
     found: &mut Vec<PartFlow>,
 ) -> Result<(), NoMemory> {
@@ -42,24 +40,10 @@ fn draw_all<R: Threads + Sync>(
         if part >= parts {
             return Ok(());
         }
-        if !sharing.is_large(part) {
-            find(rt, alloc, cut, part, &crew, found)?;
+        if !cut.is_large(part) {
+            found.push(part_flow(rt, alloc, cut, part, &crew)?)?;
         }
     }
-    Ok(())
-}
-
-/// Finds the flow of a part.
-fn find<R: Threads + Sync, G: PhaseGate>(
-    rt: &R,
-    alloc: Global,
-    cut: &Cut,
-    part: usize,
-    crew: &Crew<G>,
-    found: &mut Vec<PartFlow>,
-) -> Result<(), NoMemory> {
-    let flows = part_flow(rt, alloc, cut, part, crew)?;
-    found.push(PartFlow { part, flows })?;
     Ok(())
 }
 
@@ -79,7 +63,6 @@ fn bring_drawn<R: Threads + Sync, G: PhaseGate>(
     rt: &R,
     alloc: Global,
     cut: &Cut,
-    sharing: &Sharing,
     crew: &Crew<G>,
     found: &mut Vec<PartFlow>,
 ) -> Result<(), NoMemory> {
@@ -87,7 +70,7 @@ fn bring_drawn<R: Threads + Sync, G: PhaseGate>(
     let next = AtomicU64::new(0);
     let work = |worker: usize| -> Result<Vec<PartFlow>, NoMemory> {
         gate.pass(0, narrow(worker));
-        let flows = drawn_flows(rt, alloc, cut, sharing, &next);
+        let flows = drawn_flows(rt, alloc, cut, &next);
         gate.leave(0, narrow(worker));
         flows
     };
@@ -100,13 +83,12 @@ fn bring_large<R: Threads + Sync, G: PhaseGate>(
     rt: &R,
     alloc: Global,
     cut: &Cut,
-    sharing: &Sharing,
     crew: &Crew<G>,
     found: &mut Vec<PartFlow>,
 ) -> Result<(), NoMemory> {
     for part in 0..cut.parts.count() {
-        if sharing.is_large(part) {
-            find(rt, alloc, cut, part, crew, found)?;
+        if cut.is_large(part) {
+            found.push(part_flow(rt, alloc, cut, part, crew)?)?;
         }
     }
     Ok(())
@@ -121,11 +103,10 @@ pub(crate) fn flow_of_parts<R: Threads + Sync, G: PhaseGate>(
     rt: &R,
     alloc: Global,
     cut: &Cut,
-    sharing: &Sharing,
     crew: &Crew<G>,
 ) -> Result<Vec<GateFlow>, NoMemory> {
     let mut found = Vec::with_capacity(alloc, cut.parts.count())?;
-    let flows = flow_found(rt, alloc, cut, sharing, crew, &mut found);
+    let flows = flow_found(rt, alloc, cut, crew, &mut found);
     drop(found);
     flows
 }
@@ -135,11 +116,10 @@ fn flow_found<R: Threads + Sync, G: PhaseGate>(
     rt: &R,
     alloc: Global,
     cut: &Cut,
-    sharing: &Sharing,
     crew: &Crew<G>,
     found: &mut Vec<PartFlow>,
 ) -> Result<Vec<GateFlow>, NoMemory> {
-    bring_drawn(rt, alloc, cut, sharing, crew, found)?;
-    bring_large(rt, alloc, cut, sharing, crew, found)?;
+    bring_drawn(rt, alloc, cut, crew, found)?;
+    bring_large(rt, alloc, cut, crew, found)?;
     gathered(rt, alloc, cut, found.as_slice(), crew.workers() as usize)
 }

@@ -1,6 +1,6 @@
 //! The flows of parts put in the place of each gate, by workers that each have a range of gates.
 
-use crate::part_flows::Cut;
+use crate::cut::Cut;
 use crate::ranges::{border, count_before, entries};
 use aig_graph::NoMemory;
 use std::alloc::Global;

@@ -4,11 +4,11 @@
 //! others; the calling thread then joins these. Most gates read what stands a little before them, so the lists are short.
 
 use crate::ranges::border;
-use unit_starts::{Region, narrow};
 use aig_graph::NoMemory;
 use std::alloc::Global;
 use std::thread;
 use std::thread::Threads;
+use unit_starts::{Region, narrow};
 
 /// Two places that hang together.
 #[derive(Clone, Copy)]

@@ -3,17 +3,16 @@ ghost use Rattle.std.specs.Prelude.{IfOk, IfSome};
 ghost use Rattle.aig_graph.specs.Chosen.{IsChosen};
 
 use crate::bringing::flow_of_parts;
-use crate::part_flows::Cut;
+use crate::cut::Cut;
 use crate::parts::Parts;
-use unit_pulses::chosen_least_brought;
-use crate::shares::Sharing;
 use crate::sizes::Sizes;
-use unit_starts::Region;
 use aig_graph::{Choice, Circuit, ClosedSet, Keep, NoMemory};
 use pulse::{Crew, PhaseGate};
 use std::alloc::Global;
 use std::thread::Threads;
 use unit_flows::{Frame, GateFlow, UnitFlow, shown_chosen};
+use unit_pulses::chosen_least_brought;
+use unit_starts::Region;
 
 /// Whether parts are worth the work of cutting: where one of them has nearly all places, the others hardly help.
 fn are_worth(parts: &Parts) -> bool {
@@ -47,12 +46,8 @@ fn cut_flow<R: Threads + Sync, G: PhaseGate>(
     let Some(parts) = parts_of(rt, alloc, &region, workers, sizes)? else {
         return Ok(None);
     };
-    let cut = Cut {
-        region,
-        parts: &parts,
-    };
-    let sharing = Sharing::of(&parts, workers, sizes);
-    let flows = flow_of_parts(rt, alloc, &cut, &sharing, crew);
+    let cut = Cut::of(region, &parts, workers, sizes);
+    let flows = flow_of_parts(rt, alloc, &cut, crew);
     drop(parts);
     Ok(Some(flows?))
 }
@@ -63,7 +58,7 @@ fn cut_flow<R: Threads + Sync, G: PhaseGate>(
 /// # Errors
 ///
 /// `NoMemory` where a table or a thread's memory is refused; then `flow` may be that of before, of this run, or none.
-pub fn chosen_least_sized<R: Threads + Sync, G: PhaseGate>(
+pub fn chosen_by_sizes<R: Threads + Sync, G: PhaseGate>(
     rt: &R,
     alloc: Global,
     frame: &Frame,
@@ -109,7 +104,7 @@ pub fn chosen_least_in_parts<G: PhaseGate>(
     ensures { IfOk result (λ shown. IfSome shown (IsChosen choice circuit.now keep.now)) }
 {
     let frame = Frame::new(alloc, circuit, keep)?;
-    let shown = chosen_least_sized(rt, alloc, &frame, choice, crew, Sizes::OF_RUN, flow);
+    let shown = chosen_by_sizes(rt, alloc, &frame, choice, crew, Sizes::OF_RUN, flow);
     drop(frame);
     shown
 }

@@ -10,14 +10,14 @@
 #![tactic(auto)]
 
 mod bringing;
+mod cut;
 mod gathering;
 mod joining;
 mod least_set;
 mod part_flows;
 mod parts;
 mod ranges;
-mod shares;
 mod sizes;
 
-pub use least_set::{chosen_least_in_parts, chosen_least_sized};
+pub use least_set::{chosen_by_sizes, chosen_least_in_parts};
 pub use sizes::Sizes;

@@ -1,26 +1,19 @@
 //! The flow of a part, which is a region of its own: its known latches and its passable gates, with variables from 0 on in the order of their places.
 
-use crate::parts::Parts;
-use unit_pulses::first_flow;
-use unit_starts::Region;
+use crate::cut::Cut;
+use crate::gathering::PartFlow;
 use aig_graph::{Gate, Latch, Lit, NoMemory, Reset};
 use pulse::{Crew, PhaseGate};
 use std::alloc::Global;
 use std::thread::Threads;
-use unit_flows::GateFlow;
+use unit_pulses::first_flow;
+use unit_starts::Region;
 
 /// A known latch, wherever its next literal leads: what reads it from outside the gates is in the marks of what leaves.
 const KNOWN: Latch = Latch {
     next: Lit::FALSE,
     reset: Reset::Zero,
 };
-
-/// A region that is cut, and its parts: lent to all workers.
-#[derive(Clone, Copy)]
-pub(crate) struct Cut<'a> {
-    pub region: Region<'a>,
-    pub parts: &'a Parts,
-}
 
 /// The tables of a part.
 #[derive(Drop)]
@@ -75,7 +68,7 @@ impl Part {
     }
 }
 
-/// The flow at the gates of the part with this number, in order, by the pulses of a crew from a start.
+/// The flow of the part with this number, by the pulses of a crew from a start.
 ///
 /// # Errors
 ///
@@ -86,7 +79,7 @@ pub(crate) fn part_flow<R: Threads + Sync, G: PhaseGate>(
     cut: &Cut,
     number: usize,
     crew: &Crew<G>,
-) -> Result<Vec<GateFlow>, NoMemory> {
+) -> Result<PartFlow, NoMemory> {
     let part = Part::of(alloc, cut, number)?;
     let own = Region {
         first: 0,
@@ -97,5 +90,8 @@ pub(crate) fn part_flow<R: Threads + Sync, G: PhaseGate>(
     };
     let flows = first_flow(rt, alloc, &own, crew);
     drop(part);
-    flows
+    Ok(PartFlow {
+        part: number,
+        flows: flows?,
+    })
 }

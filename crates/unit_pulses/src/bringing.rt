@@ -4,13 +4,13 @@ use crate::nodes::Nodes;
 use crate::phases::{Passage, pulse_alone, pulse_by_crew};
 use crate::search::Search;
 use crate::sharing::{Parts, Sharing};
-use unit_starts::Region;
 use aig_graph::NoMemory;
 use pulse::PhaseGate;
 use std::alloc::Global;
 use std::mem;
 use std::thread::Threads;
 use unit_flows::{GateFlow, NodeMarks};
+use unit_starts::Region;
 
 /// After so many rounds what is left is left to the network.
 const MOST_ROUNDS: u32 = 1024;
@@ -92,13 +92,12 @@ fn pulses_of_round<R: Threads + Sync, G: PhaseGate>(
 fn round<R: Threads + Sync, G: PhaseGate>(
     rt: &R,
     alloc: Global,
-    region: &Region,
     search: &mut Search,
     pulses: &mut Pulses<G>,
 ) -> Result<bool, NoMemory> {
     search.label();
     let mut actives = search.actives(alloc)?;
-    let ended = round_from(rt, alloc, region, search, &mut actives, pulses);
+    let ended = round_from(rt, alloc, search, &mut actives, pulses);
     drop(actives);
     ended
 }
@@ -107,7 +106,6 @@ fn round<R: Threads + Sync, G: PhaseGate>(
 fn round_from<R: Threads + Sync, G: PhaseGate>(
     rt: &R,
     alloc: Global,
-    region: &Region,
     search: &mut Search,
     actives: &mut Nodes,
     pulses: &mut Pulses<G>,
@@ -115,7 +113,7 @@ fn round_from<R: Threads + Sync, G: PhaseGate>(
     if actives.is_empty() {
         return Ok(true);
     }
-    search.list_readers(alloc, region)?;
+    search.list_readers(alloc)?;
     pulses_of_round(rt, alloc, search, actives, pulses)
 }
 
@@ -123,12 +121,11 @@ fn round_from<R: Threads + Sync, G: PhaseGate>(
 fn rounds<R: Threads + Sync, G: PhaseGate>(
     rt: &R,
     alloc: Global,
-    region: &Region,
     search: &mut Search,
     pulses: &mut Pulses<G>,
 ) -> Result<(), NoMemory> {
     for _ in 0..MOST_ROUNDS {
-        if round(rt, alloc, region, search, pulses)? {
+        if round(rt, alloc, search, pulses)? {
             return Ok(());
         }
     }
@@ -165,7 +162,7 @@ fn brought<R: Threads + Sync, G: PhaseGate>(
 ) -> Result<Vec<GateFlow>, NoMemory> {
     let search = Search::new(alloc, region, known);
     let mut search = left_out(search, marks)?;
-    match bring_in(rt, alloc, region, sharing, &mut search) {
+    match bring_in(rt, alloc, sharing, &mut search) {
         Ok(()) => Ok(search.into_flows()),
         Err(error) => {
             drop(search);
@@ -191,12 +188,11 @@ fn left_out<'a>(
 fn bring_in<R: Threads + Sync, G: PhaseGate>(
     rt: &R,
     alloc: Global,
-    region: &Region,
     sharing: Sharing<G>,
     search: &mut Search,
 ) -> Result<(), NoMemory> {
     let mut pulses = Pulses::none(alloc, sharing, search.spots.len())?;
-    let brought = rounds(rt, alloc, region, search, &mut pulses);
+    let brought = rounds(rt, alloc, search, &mut pulses);
     drop(pulses);
     brought
 }

@@ -1,11 +1,11 @@
 //! More of a start along the last flow. That flow ended where units left its frame; where a gate of this frame reads on from there, units wait.
 //! In one pass up the gates each that nothing goes through takes a unit that waits after a fan-in, the larger fan-in first.
 
-use unit_starts::{Region, narrow};
 use aig_graph::{Gate, NoMemory};
 use std::alloc::Global;
 use std::mem;
 use unit_flows::GateFlow;
+use unit_starts::{Region, narrow};
 
 /// By place whether a unit came there, and doesn't leave.
 fn coming(alloc: Global, region: &Region, flows: &[GateFlow]) -> Result<Vec<bool>, NoMemory> {

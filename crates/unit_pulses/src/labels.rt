@@ -96,7 +96,7 @@ fn look(
 impl<'a> Search<'a> {
     /// Sees the gates from the last to the first, where all places end here. Whether a node is newly labelled.
     fn sweep_down(&mut self, end: u32, sees_all: bool) -> bool {
-        let (gates, first) = (self.gates, self.first);
+        let (gates, first) = (self.region.gates, self.region.first);
         let flows = self.flows.as_slice();
         let labels = self.labels.as_mut_slice();
         let spots = self.spots.as_mut_slice();
@@ -113,7 +113,7 @@ impl<'a> Search<'a> {
 
     /// Sees the gates from the first to the last. Whether a node is newly labelled.
     fn sweep_up(&mut self, sees_all: bool) -> bool {
-        let (gates, first) = (self.gates, self.first);
+        let (gates, first) = (self.region.gates, self.region.first);
         let labels = self.labels.as_mut_slice();
         let spots = self.spots.as_mut_slice();
         let mut is_new = false;

@@ -6,12 +6,12 @@ ghost use Rattle.aig_graph.specs.Chosen.{IsChosen};
 use crate::bringing::bring;
 use crate::extending::extend;
 use crate::sharing::Sharing;
-use unit_starts::{Region, Started, start_along, start_in};
 use aig_graph::{Choice, ClosedSet, NoMemory};
 use pulse::{Crew, PhaseGate};
 use std::alloc::Global;
 use std::thread::Threads;
 use unit_flows::{Frame, GateFlow, NodeMarks, SpareTables, UnitFlow, shown_chosen};
+use unit_starts::{Region, Started, start_along, start_in};
 
 /// Fewer units cost less by pulses than a judge that may say no.
 const MANY_BROUGHT: usize = 64;

@@ -2,10 +2,10 @@
 
 use crate::readers::Readers;
 use crate::spots::{Labels, Spot, label_before};
-use unit_starts::{Region, narrow};
 use aig_graph::{Gate, NoMemory};
 use std::alloc::Global;
 use unit_flows::GateFlow;
+use unit_starts::{Region, narrow};
 
 /// The places of a gate's two fan-ins, that of the smaller variable first.
 #[derive(Clone, Copy)]
@@ -46,8 +46,7 @@ pub(crate) struct Before {
 /// A flow of units over the gates of a region, and what its pulses need to know.
 #[derive(Drop)]
 pub(crate) struct Search<'a> {
-    pub gates: &'a [Gate],
-    pub first: u32,
+    pub region: Region<'a>,
     /// How many latches there are, the place of the first gate.
     pub latches: u32,
     /// As many units as an arc without a bound carries at most.
@@ -72,8 +71,7 @@ impl<'a> Search<'a> {
         let spots = spots_of(alloc, region)?;
         let labels = vec![in alloc; Labels::NONE; spots.len()]?;
         let mut search = Search {
-            gates: region.gates,
-            first: region.first,
+            region: *region,
             latches: narrow(region.latches.len()),
             most: narrow(region.known_latches()).saturating_add(1),
             readers: Readers::none(alloc),
@@ -99,9 +97,9 @@ impl<'a> Search<'a> {
     /// # Errors
     ///
     /// `NoMemory` where a table is refused.
-    pub fn list_readers(&mut self, alloc: Global, region: &Region) -> Result<(), NoMemory> {
+    pub fn list_readers(&mut self, alloc: Global) -> Result<(), NoMemory> {
         if self.readers.are_none() {
-            self.readers = Readers::of(alloc, region)?;
+            self.readers = Readers::of(alloc, &self.region)?;
         }
         Ok(())
     }
@@ -118,8 +116,8 @@ impl<'a> Search<'a> {
 
     /// The fan-ins of the gate at a place.
     pub fn fan_ins(&self, place: u32) -> Option<FanIns> {
-        let gate = self.gates.get(self.number(place))?;
-        Some(FanIns::of(gate, self.first))
+        let gate = self.region.gates.get(self.number(place))?;
+        Some(FanIns::of(gate, self.region.first))
     }
 
     /// What the flow does at the gate at a place.
