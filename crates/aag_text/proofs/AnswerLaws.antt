@@ -22,14 +22,14 @@ use Rattle.reader_parts.specs.Parts.{AreNamesWithin}
 use Rattle.reader_parts.proofs.PartLaws.{within}
 use Rattle.aag_text.specs.declared.circuit.lists.RawLists.{RawLists}
 use Rattle.aag_text.specs.Numbering.{has_place, is_placed, placed, placed_latch, placed_gate, is_gate_placed, placed_lists, PlacedLists, if_known}
-use Rattle.aag_text.specs.Arranging.{IsBelow, IsGateBelow, order_or_cycle}
-use Rattle.aag_text.specs.Resolving.{raw_of, AreRead, IsConsistent, ArePlaced, IsOrdered, arranged, placed_reads}
+use Rattle.aag_text.specs.Arranging.{IsBelow, HasFanInsBelow, order_or_cycle}
+use Rattle.aag_text.specs.Resolving.{raw_of, AreListsRead, IsConsistent, PlacedListsFit, IsOrdered, arranged, placed_reads}
 use Rattle.aag_text.proofs.ResolveLaws.{both_left, both_right, placed_is, placing_fails, known_value, length-defined, known_at, by_parts, as_placed, by_position, reads_are, circuit_is, resolved_is, ordering_fails}
 
 -- ---- lists of a reader are consistent
 
 -- lists that have been read have as many items as the header says, and names of things that it counts
-pub consistent : (l : RawLists) (symbols : List RawSymbol) → AreRead l symbols → IsConsistent l
+pub consistent : (l : RawLists) (symbols : List RawSymbol) → AreListsRead l symbols → IsConsistent l
 consistent l symbols read = record {
   inputs = read.counted.inputs;
   latches = read.counted.latches;
@@ -66,7 +66,7 @@ placed_parts : (l : RawLists) → IsConsistent l → 1 + length l.inputs.items +
     → list_all (is_placed l.places (length l.inputs.items + length l.latches.items + length l.gates.items)) l.properties.safety ≡ true
     → list_all (is_placed l.places (length l.inputs.items + length l.latches.items + length l.gates.items)) l.properties.liveness ≡ true
     → list_all (is_gate_placed l.places (length l.inputs.items + length l.latches.items + length l.gates.items)) l.gates.items ≡ true
-    → ArePlaced l.header sizes (as_placed (map (placed_latch l.places) l.latches.items) (map (placed l.places) l.properties.safety) (map (placed l.places) l.properties.liveness) (map (placed_gate l.places) l.gates.items))
+    → PlacedListsFit l.header sizes (as_placed (map (placed_latch l.places) l.latches.items) (map (placed l.places) l.properties.safety) (map (placed l.places) l.properties.liveness) (map (placed_gate l.places) l.gates.items))
 placed_parts l is small sizes same a b d g =
     let many = length-map l.gates.items (placed_gate l.places) in
     let end : 1 + (length l.inputs.items + length l.latches.items + length l.gates.items) ≡ 1 + l.header.inputs + l.header.latches + length (map (placed_gate l.places) l.gates.items)
@@ -86,7 +86,7 @@ placed_parts l is small sizes same a b d g =
       liveness_below = All-map (IsBelow (1 + l.header.inputs + l.header.latches + length (map (placed_gate l.places) l.gates.items))) (placed l.places) l.properties.liveness
           (λ k e less. subst (λ (n : ℕ). variable (placed l.places (get_or l.properties.liveness k e)) < n) end
           (placed_below l.places (length l.inputs.items + length l.latches.items + length l.gates.items) (get_or l.properties.liveness k e) (known_at (is_placed l.places (length l.inputs.items + length l.latches.items + length l.gates.items)) l.properties.liveness d k e less)));
-      gates_below = All-map (IsGateBelow (1 + l.header.inputs + l.header.latches + length (map (placed_gate l.places) l.gates.items))) (placed_gate l.places) l.gates.items
+      gates_below = All-map (HasFanInsBelow (1 + l.header.inputs + l.header.latches + length (map (placed_gate l.places) l.gates.items))) (placed_gate l.places) l.gates.items
           (λ k e less.
           let both = known_at (is_gate_placed l.places (length l.inputs.items + length l.latches.items + length l.gates.items)) l.gates.items g k e less in (
             subst (λ (n : ℕ). variable (placed l.places (get_or l.gates.items k e).rhs0) < n) end (placed_below l.places (length l.inputs.items + length l.latches.items + length l.gates.items) (get_or l.gates.items k e).rhs0 (both_left (is_placed l.places (length l.inputs.items + length l.latches.items + length l.gates.items) (get_or l.gates.items k e).rhs0) (is_placed l.places (length l.inputs.items + length l.latches.items + length l.gates.items) (get_or l.gates.items k e).rhs1) both)),
@@ -97,7 +97,7 @@ placed_parts l is small sizes same a b d g =
 -- what consistent lists give by places fits a circuit of the header's numbers
 pub are_placed : (l : RawLists) → IsConsistent l → 1 + length l.inputs.items + length l.latches.items + length l.gates.items ≤ 2 ^ 28 → (sizes : List ℕ) → sizes ≡ l.properties.sizes → (p : PlacedLists)
     → placed_lists l.places (length l.inputs.items + length l.latches.items + length l.gates.items) l.latches.items l.properties.safety l.properties.liveness l.gates.items ≡ Ok p
-    → ArePlaced l.header sizes p
+    → PlacedListsFit l.header sizes p
 are_placed l is small sizes same p ok =
     let a = list_all (λ (latch : RawLatch). is_placed l.places (length l.inputs.items + length l.latches.items + length l.gates.items) latch.next) l.latches.items in
     let b = list_all (is_placed l.places (length l.inputs.items + length l.latches.items + length l.gates.items)) l.properties.safety in
@@ -107,12 +107,12 @@ are_placed l is small sizes same p ok =
     (sym (by_parts a b d g (map (placed_latch l.places) l.latches.items) (map (placed l.places) l.properties.safety) (map (placed l.places) l.properties.liveness) (map (placed_gate l.places) l.gates.items)) ∙ ok) in
     let three = both_left ((a && b) && d) g parts.0 in
     let two = both_left (a && b) d three in
-    subst (ArePlaced l.header sizes) parts.1
+    subst (PlacedListsFit l.header sizes) parts.1
     (placed_parts l is small sizes same (both_left a b two) (both_right a b two) (both_right (a && b) d three) (both_right ((a && b) && d) g parts.0))
 
 -- ---- the answer
 
-module _ (l : RawLists) (symbols : List RawSymbol) (read : AreRead l symbols) where
+module _ (l : RawLists) (symbols : List RawSymbol) (read : AreListsRead l symbols) where
   by_places : placed_lists l.places (length l.inputs.items + length l.latches.items + length l.gates.items) l.latches.items l.properties.safety l.properties.liveness l.gates.items
       ≡ if_known (is_resolved (raw_of l symbols)) (by_position (raw_of l symbols))
   by_places = placed_is (raw_of l symbols) l.places (length l.inputs.items + length l.latches.items + length l.gates.items) (sym (length-defined (raw_of l symbols))) read.places

@@ -16,30 +16,30 @@ use Rattle.ascii_file.specs.declared.header.Header.{Header}
 use Rattle.reader_parts.specs.Parts.{AreNamesWithin}
 use Rattle.reader_parts.proofs.PartLaws.{netlist_within}
 use Rattle.aag_text.specs.Numbering.{PlacedLists}
-use Rattle.aag_text.specs.Arranging.{AreRanks, AreMovable, IsBelow, IsGateBelow, gate_read, reads_of, order_or_cycle, moved, moved_latch, gates_in_order, graph_in_order}
-use Rattle.aag_text.specs.Resolving.{ArePlaced, IsArranged, placed_reads, arranged}
+use Rattle.aag_text.specs.Arranging.{AreRanks, AreMovable, IsBelow, HasFanInsBelow, gate_read, reads_of_gate, order_or_cycle, moved, moved_latch, gates_in_order, graph_in_order}
+use Rattle.aag_text.specs.Resolving.{PlacedListsFit, IsArranged, placed_reads, arranged}
 use Rattle.aag_text.proofs.GraphLaws.{movable, distinct, graph_is, ends, all_moved_below}
 
-module _ (h : Header) (sizes : List ℕ) (p : PlacedLists) (order ranks : List ℕ) (placed : ArePlaced h sizes p) (is : IsOrder (placed_reads h p) order) (are : AreRanks order ranks) where
+module _ (h : Header) (sizes : List ℕ) (p : PlacedLists) (order ranks : List ℕ) (placed : PlacedListsFit h sizes p) (is : IsOrder (placed_reads h p) order) (are : AreRanks order ranks) where
   -- the ranks of the order may move literals after the latches
   pub movable_by : AreMovable (1 + h.inputs + h.latches) ranks
-  movable_by = movable (1 + h.inputs + h.latches) (placed_reads h p) order ranks is are (omega (arith, placed.small, length-map p.gates (reads_of (1 + h.inputs + h.latches))))
+  movable_by = movable (1 + h.inputs + h.latches) (placed_reads h p) order ranks is are (omega (arith, placed.small, length-map p.gates (reads_of_gate (1 + h.inputs + h.latches))))
 
   -- each place of the order is that of a gate of the file
   pub order_by : All (λ g. g < length p.gates) order
   order_by k d within =
       let less = (distinct (placed_reads h p) order is).below k d within in
-      omega (arith, less, is.as_many, length-map p.gates (reads_of (1 + h.inputs + h.latches)))
+      omega (arith, less, is.as_many, length-map p.gates (reads_of_gate (1 + h.inputs + h.latches)))
 
   -- there is a rank for each gate
   pub ranks_end : length ranks ≡ length p.gates
-  ranks_end = omega (arith, are.as_many, is.as_many, length-map p.gates (reads_of (1 + h.inputs + h.latches)))
+  ranks_end = omega (arith, are.as_many, is.as_many, length-map p.gates (reads_of_gate (1 + h.inputs + h.latches)))
 
   same_first : 1 + h.inputs + h.latches ≡ 1 + h.inputs + length p.latches
   same_first = omega (arith, placed.latches)
 
-  is_first : IsOrder (map (reads_of (1 + h.inputs + length p.latches)) p.gates) order
-  is_first = subst (λ (n : ℕ). IsOrder (map (reads_of n) p.gates) order) same_first is
+  is_first : IsOrder (map (reads_of_gate (1 + h.inputs + length p.latches)) p.gates) order
+  is_first = subst (λ (n : ℕ). IsOrder (map (reads_of_gate n) p.gates) order) same_first is
 
   latches_first : All (λ (latch : Latch). IsBelow (1 + h.inputs + length p.latches + length p.gates) latch.next) p.latches
   latches_first = subst (λ (n : ℕ). All (λ (latch : Latch). IsBelow (n + length p.gates) latch.next) p.latches) same_first placed.latches_below
@@ -101,7 +101,7 @@ pub arranged_parts : (h : Header) (sizes : List ℕ) (p : PlacedLists) (order ra
 arranged_parts h sizes p order ranks slice are same g props a b names = record { ranks = ranks; are_ranks = are; circuit = rw (a, b, same) refl }
 
 -- an arranged circuit is one
-pub netlist_arranged : (h : Header) (sizes : List ℕ) (p : PlacedLists) (order : List ℕ) → ArePlaced h sizes p → IsOrder (placed_reads h p) order
+pub netlist_arranged : (h : Header) (sizes : List ℕ) (p : PlacedLists) (order : List ℕ) → PlacedListsFit h sizes p → IsOrder (placed_reads h p) order
     → (names : Symbols) → AreNamesWithin h names → (c : Netlist) → IsArranged h sizes p names order c → IsNetlist c
 netlist_arranged h sizes p order placed is names within c at = subst IsNetlist (sym at.circuit) (netlist_by h sizes p order at.ranks placed is at.are_ranks names within)
 
@@ -111,9 +111,9 @@ order_found None order e = absurd (cc)
 order_found (Some found) order e = cc
 
 -- the order that was found of a slice of the gates is that of the gates by places
-pub computed_by : (h : Header) (p : PlacedLists) (gates : List Gate) (order : List ℕ) → gates ≡ p.gates → order_or_cycle (ordered (map (reads_of (1 + h.inputs + h.latches)) gates)) ≡ Ok order → ordered (placed_reads h p) ≡ Some order
+pub computed_by : (h : Header) (p : PlacedLists) (gates : List Gate) (order : List ℕ) → gates ≡ p.gates → order_or_cycle (ordered (map (reads_of_gate (1 + h.inputs + h.latches)) gates)) ≡ Ok order → ordered (placed_reads h p) ≡ Some order
 computed_by h p gates order same found =
-    ap (λ (gs : List Gate). ordered (map (reads_of (1 + h.inputs + h.latches)) gs)) (sym same) ∙ order_found (ordered (map (reads_of (1 + h.inputs + h.latches)) gates)) order found
+    ap (λ (gs : List Gate). ordered (map (reads_of_gate (1 + h.inputs + h.latches)) gs)) (sym same) ∙ order_found (ordered (map (reads_of_gate (1 + h.inputs + h.latches)) gates)) order found
 
 -- an order that was computed is the order
 pub order_is : (h : Header) (p : PlacedLists) (order : List ℕ) → ordered (placed_reads h p) ≡ Some order → IsOrder (placed_reads h p) order
@@ -128,9 +128,9 @@ gate_read_below first n lit below = by_test (nat_le first (variable lit)) refl
     by_test false is = tt
 
 -- gates whose fan-ins are below the variables' end read gates of the file
-pub reads_in_file : (first : ℕ) (gates : List Gate) → All (IsGateBelow (first + length gates)) gates → AreReadsInFile (map (reads_of first) gates)
+pub reads_in_file : (first : ℕ) (gates : List Gate) → All (HasFanInsBelow (first + length gates)) gates → AreReadsInFile (map (reads_of_gate first) gates)
 reads_in_file first gates below =
-    subst (λ (n : ℕ). All (ReadsBelow n) (map (reads_of first) gates)) (sym (length-map gates (reads_of first)))
-    (All-map (ReadsBelow (length gates)) (reads_of first) gates
+    subst (λ (n : ℕ). All (ReadsBelow n) (map (reads_of_gate first) gates)) (sym (length-map gates (reads_of_gate first)))
+    (All-map (ReadsBelow (length gates)) (reads_of_gate first) gates
     (λ k d within. let both = below k d within in
     record { first = gate_read_below first (length gates) (get_or gates k d).rhs0 both.0; second = gate_read_below first (length gates) (get_or gates k d).rhs1 both.1 }))

@@ -26,7 +26,7 @@ use Rattle.reader_parts.specs.declared.symbols.SymbolText.TheVariants.{NoSymbol,
 use Rattle.reader_parts.specs.Rows.{clamped, up_to_nine, row_of}
 use Rattle.reader_parts.specs.Symbols.{unnamed, text_without, text_of_item, text_of}
 use Rattle.reader_parts.proofs.SymbolLaws.{without_comment}
-use Rattle.aag_text.specs.Items.{only, item_in}
+use Rattle.aag_text.specs.Items.{only, item_of_numbers}
 use Rattle.aag_text.proofs.CountLaws.{symbols_next}
 
 -- ---- one number
@@ -167,25 +167,25 @@ module _ (h : Header) (raw : Raw) (at : ℕ) (small : h.greatest < 2 ^ 28) where
   one_number make same (Some (n ∷ [])) = same n
   one_number make same (Some (a ∷ b ∷ ns)) = sym (too_many (nat_le (length (map clamped (a ∷ b ∷ ns))) 9) (λ zs. option_map make (only zs)) (map clamped (a ∷ b ∷ ns)) refl)
 
-  latch_numbers : (o : Option (List ℕ)) → take_item h raw at (BadLine at) (option_and_then latch_in o) ≡ take_item h raw at (BadLine at) (option_and_then (item_in Latches) (short o))
+  latch_numbers : (o : Option (List ℕ)) → take_item h raw at (BadLine at) (option_and_then latch_in o) ≡ take_item h raw at (BadLine at) (option_and_then (item_of_numbers Latches) (short o))
   unfolding latch_with
   latch_numbers None = refl
   latch_numbers (Some []) = refl
   latch_numbers (Some (a ∷ [])) = refl
   latch_numbers (Some (a ∷ b ∷ [])) = short_latch-clamped a b
   latch_numbers (Some (a ∷ b ∷ c ∷ [])) = latch-clamped a b c
-  latch_numbers (Some (a ∷ b ∷ c ∷ d ∷ ns)) = sym (too_many (nat_le (length (map clamped (a ∷ b ∷ c ∷ d ∷ ns))) 9) (item_in Latches) (map clamped (a ∷ b ∷ c ∷ d ∷ ns)) refl)
+  latch_numbers (Some (a ∷ b ∷ c ∷ d ∷ ns)) = sym (too_many (nat_le (length (map clamped (a ∷ b ∷ c ∷ d ∷ ns))) 9) (item_of_numbers Latches) (map clamped (a ∷ b ∷ c ∷ d ∷ ns)) refl)
 
-  gate_numbers : (o : Option (List ℕ)) → take_item h raw at (BadLine at) (option_and_then gate_in o) ≡ take_item h raw at (BadLine at) (option_and_then (item_in Gates) (short o))
+  gate_numbers : (o : Option (List ℕ)) → take_item h raw at (BadLine at) (option_and_then gate_in o) ≡ take_item h raw at (BadLine at) (option_and_then (item_of_numbers Gates) (short o))
   gate_numbers None = refl
   gate_numbers (Some []) = refl
   gate_numbers (Some (a ∷ [])) = refl
   gate_numbers (Some (a ∷ b ∷ [])) = refl
   gate_numbers (Some (a ∷ b ∷ c ∷ [])) = gate-clamped a b c
-  gate_numbers (Some (a ∷ b ∷ c ∷ d ∷ ns)) = sym (too_many (nat_le (length (map clamped (a ∷ b ∷ c ∷ d ∷ ns))) 9) (item_in Gates) (map clamped (a ∷ b ∷ c ∷ d ∷ ns)) refl)
+  gate_numbers (Some (a ∷ b ∷ c ∷ d ∷ ns)) = sym (too_many (nat_le (length (map clamped (a ∷ b ∷ c ∷ d ∷ ns))) 9) (item_of_numbers Gates) (map clamped (a ∷ b ∷ c ∷ d ∷ ns)) refl)
 
   by_section : sum raw.sizes ≤ 2 ^ 24 → (line : List ℕ) (section : Section) → is_symbols section ≡ false
-      → take_item h raw at (malformed section at line) (item_of section line) ≡ take_item h raw at (BadLine at) (option_and_then (item_in section) (row_of line))
+      → take_item h raw at (malformed section at line) (item_of section line) ≡ take_item h raw at (BadLine at) (option_and_then (item_of_numbers section) (row_of line))
   unfolding item_of row_of
   by_section most line Inputs e = one_number InputItem input-clamped (numbers_of line)
   by_section most line Latches e = latch_numbers (numbers_of line)
@@ -197,7 +197,7 @@ module _ (h : Header) (raw : Raw) (at : ℕ) (small : h.greatest < 2 ^ 28) where
 
   -- a line before the symbols is read by its numbers
   pub line_by_numbers : sum raw.sizes ≤ 2 ^ 24 → is_complete h raw ≡ false → (line : List ℕ)
-      → read_line h raw at line ≡ take_item h raw at (BadLine at) (option_and_then (item_in (next_section h raw)) (row_of line))
+      → read_line h raw at line ≡ take_item h raw at (BadLine at) (option_and_then (item_of_numbers (next_section h raw)) (row_of line))
   unfolding read_line
   line_by_numbers most e line = by_section most line (next_section h raw) e
 

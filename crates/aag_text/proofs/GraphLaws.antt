@@ -13,7 +13,7 @@ use Rattle.gate_order.specs.Order.{IsOrder}
 use Rattle.gate_order.specs.Cycles.{ReadsGate, does_read, is_gate}
 use Rattle.gate_order.proofs.OrderLaws.{follows_where_true}
 use Rattle.gate_order.proofs.CycleLaws.{each_once, reads_before}
-use Rattle.aag_text.specs.Arranging.{gate_read, reads_of, AreRanks, AreDistinct, AreMovable, IsBelow, moved, moved_latch, moved_gate, no_gate, gates_in_order, graph_in_order}
+use Rattle.aag_text.specs.Arranging.{gate_read, reads_of_gate, AreRanks, AreDistinct, AreMovable, IsBelow, moved, moved_latch, moved_gate, no_gate, gates_in_order, graph_in_order}
 
 -- ---- an order
 
@@ -74,27 +74,27 @@ all_moved_below first ranks are lits all = All-map (IsBelow (first + length rank
 -- ---- gates
 
 -- a fan-in of the gate at a place is a gate at a place below, or no gate
-module _ (first : ℕ) (gates : List Gate) (order ranks : List ℕ) (is : IsOrder (map (reads_of first) gates) order) (are : AreRanks order ranks) where
-  fan_in_before : (k g : ℕ) → slice_get order k ≡ Some g → (lit : ℕ) → (first ≤ variable lit → ReadsGate (map (reads_of first) gates) g (variable lit - first)) → variable (moved first ranks lit) < first + k
+module _ (first : ℕ) (gates : List Gate) (order ranks : List ℕ) (is : IsOrder (map (reads_of_gate first) gates) order) (are : AreRanks order ranks) where
+  fan_in_before : (k g : ℕ) → slice_get order k ≡ Some g → (lit : ℕ) → (first ≤ variable lit → ReadsGate (map (reads_of_gate first) gates) g (variable lit - first)) → variable (moved first ranks lit) < first + k
   fan_in_before k g there lit reads = elim (cases_lt (variable lit) first) [
     | inl less ↦ subst (λ n. variable n < first + k) (sym (moved_low first ranks lit less)) (omega (arith, less))
     | inr more ↦
-        let before = reads_before (map (reads_of first) gates) order is k g (variable lit - first) there (reads more) in
+        let before = reads_before (map (reads_of_gate first) gates) order is k g (variable lit - first) there (reads more) in
         let rank = are.at before.0 (variable lit - first) before.2 in
         omega (arith, moved_high first ranks lit more, rank, before.1)
   ]
 
-  reads_at : (g : ℕ) → g < length gates → slice_get (map (reads_of first) gates) g ≡ Some (reads_of first (get_or gates g no_gate))
-  reads_at g less = slice_get-map (reads_of first) gates g ∙ ap (λ (o : Option Gate). elim o [ None ↦ None | Some gate ↦ Some (reads_of first gate) ]) (slice_get-get_or gates g no_gate less)
+  reads_at : (g : ℕ) → g < length gates → slice_get (map (reads_of_gate first) gates) g ≡ Some (reads_of_gate first (get_or gates g no_gate))
+  reads_at g less = slice_get-map (reads_of_gate first) gates g ∙ ap (λ (o : Option Gate). elim o [ None ↦ None | Some gate ↦ Some (reads_of_gate first gate) ]) (slice_get-get_or gates g no_gate less)
 
-  reads_first : (g : ℕ) → g < length gates → first ≤ variable (get_or gates g no_gate).rhs0 → ReadsGate (map (reads_of first) gates) g (variable (get_or gates g no_gate).rhs0 - first)
+  reads_first : (g : ℕ) → g < length gates → first ≤ variable (get_or gates g no_gate).rhs0 → ReadsGate (map (reads_of_gate first) gates) g (variable (get_or gates g no_gate).rhs0 - first)
   reads_first g less more =
       let gate = get_or gates g no_gate in
       let read : gate_read first gate.rhs0 ≡ Some (variable gate.rhs0 - first) = cond-true _ _ _ (le-leb first (variable gate.rhs0) more) in
       ap (λ (o : Option Reads). does_read o (variable gate.rhs0 - first)) (reads_at g less)
       ∙ or_left _ (is_gate (gate_read first gate.rhs1) (variable gate.rhs0 - first)) (ap (λ (o : Option ℕ). is_gate o (variable gate.rhs0 - first)) read ∙ eq-eqb (variable gate.rhs0 - first) (variable gate.rhs0 - first) refl)
 
-  reads_second : (g : ℕ) → g < length gates → first ≤ variable (get_or gates g no_gate).rhs1 → ReadsGate (map (reads_of first) gates) g (variable (get_or gates g no_gate).rhs1 - first)
+  reads_second : (g : ℕ) → g < length gates → first ≤ variable (get_or gates g no_gate).rhs1 → ReadsGate (map (reads_of_gate first) gates) g (variable (get_or gates g no_gate).rhs1 - first)
   reads_second g less more =
       let gate = get_or gates g no_gate in
       let read : gate_read first gate.rhs1 ≡ Some (variable gate.rhs1 - first) = cond-true _ _ _ (le-leb first (variable gate.rhs1) more) in
@@ -103,7 +103,7 @@ module _ (first : ℕ) (gates : List Gate) (order ranks : List ℕ) (is : IsOrde
 
   gate_at_place : (k g : ℕ) → slice_get order k ≡ Some g → IsGateAt (first + k) (moved_gate first ranks (get_or gates g no_gate))
   gate_at_place k g there =
-      let less : g < length gates = omega (arith, order_below (map (reads_of first) gates) order is k g there, length-map gates (reads_of first)) in
+      let less : g < length gates = omega (arith, order_below (map (reads_of_gate first) gates) order is k g there, length-map gates (reads_of_gate first)) in
       let one = fan_in_before k g there (get_or gates g no_gate).rhs0 (reads_first g less) in
       let two = fan_in_before k g there (get_or gates g no_gate).rhs1 (reads_second g less) in
       gate_below (moved first ranks (get_or gates g no_gate).rhs0) (moved first ranks (get_or gates g no_gate).rhs1) (first + k) one two
@@ -113,16 +113,16 @@ module _ (first : ℕ) (gates : List Gate) (order ranks : List ℕ) (is : IsOrde
 
 -- ---- the graph
 
-module _ (inputs : ℕ) (latches : List Latch) (gates : List Gate) (order ranks : List ℕ) (is : IsOrder (map (reads_of (1 + inputs + length latches)) gates) order) (are : AreRanks order ranks)
+module _ (inputs : ℕ) (latches : List Latch) (gates : List Gate) (order ranks : List ℕ) (is : IsOrder (map (reads_of_gate (1 + inputs + length latches)) gates) order) (are : AreRanks order ranks)
     (small : 1 + inputs + length latches + length gates ≤ 2 ^ 28) (below : All (λ (latch : Latch). IsBelow (1 + inputs + length latches + length gates) latch.next) latches) where
   as_many : length order ≡ length gates
-  as_many = is.as_many ∙ length-map gates (reads_of (1 + inputs + length latches))
+  as_many = is.as_many ∙ length-map gates (reads_of_gate (1 + inputs + length latches))
 
   first : ℕ
   first = 1 + inputs + length latches
 
   can_move : AreMovable (1 + inputs + length latches) ranks
-  can_move = movable (1 + inputs + length latches) (map (reads_of (1 + inputs + length latches)) gates) order ranks is are (omega (arith, small, length-map gates (reads_of (1 + inputs + length latches))))
+  can_move = movable (1 + inputs + length latches) (map (reads_of_gate (1 + inputs + length latches)) gates) order ranks is are (omega (arith, small, length-map gates (reads_of_gate (1 + inputs + length latches))))
 
   -- the variables of the graph in order end where those of the gates by places do
   pub ends : variables_end (graph_in_order inputs latches gates order ranks) ≡ 1 + inputs + length latches + length gates

@@ -16,7 +16,7 @@ use Rattle.ascii_file.specs.Reading.{next_section, with_item, is_of_same}
 use Rattle.ascii_file.specs.Files.{IsInRange, IsDefinable, DefinesApart, HasReset, NamesApart}
 use Rattle.ascii_file.proofs.CheckLaws.{Fits}
 use Rattle.ascii_file.proofs.DistinctItemLaws.{AreApart, apart_and_new, pairs_from}
-use Rattle.aag_text.specs.Filling.{IsFilling, IsRead}
+use Rattle.aag_text.specs.Filling.{IsFilling, IsReadSoFar}
 use Rattle.aag_text.proofs.CountLaws.{room_in}
 
 -- ---- the counts
@@ -243,7 +243,7 @@ names_kept h raw (SymbolItem symbol) names fits = record {
 }
 
 -- one more item that fits
-pub reads : (h : Header) (raw : Raw) (item : Item) → IsRead h raw → next_section h raw ≡ section_of item → Fits h raw item → IsRead h (with_item raw item)
+pub reads : (h : Header) (raw : Raw) (item : Item) → IsReadSoFar h raw → next_section h raw ≡ section_of item → Fits h raw item → IsReadSoFar h (with_item raw item)
 reads h raw item read next fits = record {
   within = read.within;
   filling = fills h raw item read.filling next;

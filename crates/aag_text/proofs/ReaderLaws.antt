@@ -9,7 +9,7 @@ use Rattle.ascii_file.proofs.FaultLaws.{fault_of_bytes}
 use Rattle.ascii_file.specs.Pieces.{fed}
 use Rattle.aag_text.specs.declared.reader.Phase.{Phase}
 use Rattle.aag_text.specs.declared.reader.Phase.TheVariants.{Header, Items, Failed}
-use Rattle.aag_text.specs.Standing.{Follows}
+use Rattle.aag_text.specs.Standing.{HoldsOrFaults}
 use Rattle.aag_text.specs.Readers.{PhaseReads}
 use Rattle.aag_text.proofs.BeginningLaws.{none_ended}
 
@@ -23,7 +23,7 @@ reads_ok (Items items) len bytes reads = is_ok (fed bytes) reads.0.state reads.0
 reads_ok (Failed fault) len bytes reads = absurd reads
 
 -- what an answer says may be weakened
-pub follows_more : {X Y : Type 0} (P Q : Type 0) (r : Result X ReadError) (read : Result Y ReadError) → (P → Q) → Follows P r read → Follows Q r read
+pub follows_more : {X Y : Type 0} (P Q : Type 0) (r : Result X ReadError) (read : Result Y ReadError) → (P → Q) → HoldsOrFaults P r read → HoldsOrFaults Q r read
 follows_more P Q (Ok x) read more follows = more follows
 follows_more P Q (Err e) read more follows = follows
 

@@ -29,7 +29,7 @@ use Rattle.ascii_file.specs.Meaning.{gate_place, gate_reads, with_gates_at, in_o
 use Rattle.ascii_file.specs.Reading.{is_known_among, is_resolved, circuit_in_order, resolve}
 use Rattle.file_words.proofs.AnsweringLaws.{Fails-same, Fails-err, Fails-ok}
 use Rattle.aag_text.specs.Numbering.{is_placed, placed, if_known, placed_lists, PlacedLists}
-use Rattle.aag_text.specs.Arranging.{AreRanks, gate_read, reads_of, moved, moved_latch, moved_gate, no_gate, order_or_cycle}
+use Rattle.aag_text.specs.Arranging.{AreRanks, gate_read, reads_of_gate, moved, moved_latch, moved_gate, no_gate, order_or_cycle}
 use Rattle.aag_text.specs.Resolving.{arranged}
 use Rattle.aag_text.proofs.GraphLaws.{distinct, ranked}
 use Rattle.aag_text.proofs.PositionLaws.{IsReordered}
@@ -216,9 +216,9 @@ module _ (raw : Raw) (apart : DefinesApart raw) (resolved : is_resolved raw ≡ 
       read_same (front_of raw) (back_of raw) apart.apart no_constant first lit first_is known ∙ sym (position_mapped (λ (gate : RawGate). variable gate.lhs) raw.gates (variable lit))
 
   -- the gates read what they read in the file
-  pub reads_are : map (reads_of first) (by_position raw).gates ≡ gate_reads raw
+  pub reads_are : map (reads_of_gate first) (by_position raw).gates ≡ gate_reads raw
   reads_are =
-      map-map (reads_of first) (λ (gate : RawGate). record { rhs0 = literal_in (defined raw) gate.rhs0; rhs1 = literal_in (defined raw) gate.rhs1 }) raw.gates
+      map-map (reads_of_gate first) (λ (gate : RawGate). record { rhs0 = literal_in (defined raw) gate.rhs0; rhs1 = literal_in (defined raw) gate.rhs1 }) raw.gates
       ∙ map_known (λ (gate : RawGate). is_known_among (defined raw) gate.rhs0 && is_known_among (defined raw) gate.rhs1)
       (λ (gate : RawGate). record { first = gate_read first (literal_in (defined raw) gate.rhs0); second = gate_read first (literal_in (defined raw) gate.rhs1) })
       (λ (gate : RawGate). record { first = gate_place raw gate.rhs0; second = gate_place raw gate.rhs1 })
@@ -227,20 +227,20 @@ module _ (raw : Raw) (apart : DefinesApart raw) (resolved : is_resolved raw ≡ 
 
   -- ---- in an order of the gates
 
-  module _ (order ranks : List ℕ) (is : IsOrder (map (reads_of first) (by_position raw).gates) order) (are : AreRanks order ranks) where
-    many_reads : length (map (reads_of first) (by_position raw).gates) ≡ length raw.gates
-    many_reads = length-map (by_position raw).gates (reads_of first) ∙ length-map raw.gates (λ (gate : RawGate). record { rhs0 = literal_in (defined raw) gate.rhs0; rhs1 = literal_in (defined raw) gate.rhs1 })
+  module _ (order ranks : List ℕ) (is : IsOrder (map (reads_of_gate first) (by_position raw).gates) order) (are : AreRanks order ranks) where
+    many_reads : length (map (reads_of_gate first) (by_position raw).gates) ≡ length raw.gates
+    many_reads = length-map (by_position raw).gates (reads_of_gate first) ∙ length-map raw.gates (λ (gate : RawGate). record { rhs0 = literal_in (defined raw) gate.rhs0; rhs1 = literal_in (defined raw) gate.rhs1 })
 
     order_short : (k d : ℕ) → k < length order → get_or order k d < length raw.gates
-    order_short k d less = let below = (distinct (map (reads_of first) (by_position raw).gates) order is).below k d less in omega (arith, below, is.as_many, many_reads)
+    order_short k d less = let below = (distinct (map (reads_of_gate first) (by_position raw).gates) order is).below k d less in omega (arith, below, is.as_many, many_reads)
 
     reordered : IsReordered (front_of raw) (back_of raw) (map (λ (gate : RawGate). variable gate.lhs) (map (λ k. get_or raw.gates k meaning.no_gate) order)) order ranks
     reordered = record {
       apart = apart.apart;
       order_many = omega (arith, is.as_many, many_reads, length-map raw.gates (λ (gate : RawGate). variable gate.lhs));
       order_below = λ j less. let short = order_short j 0 less in omega (arith, short, length-map raw.gates (λ (gate : RawGate). variable gate.lhs));
-      alone = (distinct (map (reads_of first) (by_position raw).gates) order is).alone;
-      ranked = λ g less. ranked (map (reads_of first) (by_position raw).gates) order ranks is are g (omega (arith, less, many_reads, length-map raw.gates (λ (gate : RawGate). variable gate.lhs)));
+      alone = (distinct (map (reads_of_gate first) (by_position raw).gates) order is).alone;
+      ranked = λ g less. ranked (map (reads_of_gate first) (by_position raw).gates) order ranks is are g (omega (arith, less, many_reads, length-map raw.gates (λ (gate : RawGate). variable gate.lhs)));
       again_many = length-map (map (λ k. get_or raw.gates k meaning.no_gate) order) (λ (gate : RawGate). variable gate.lhs) ∙ length-map order (λ k. get_or raw.gates k meaning.no_gate);
       again_at = λ j less.
           get_or-map (λ (gate : RawGate). variable gate.lhs) (map (λ k. get_or raw.gates k meaning.no_gate) order) j meaning.no_gate 0 (omega (arith, less, length-map order (λ k. get_or raw.gates k meaning.no_gate)))
@@ -290,7 +290,7 @@ of_parts h names inputs sizes latches gates safety liveness = record { aig = rec
 
 -- the arranged circuit is that of the raw circuit with its gates in order
 pub circuit_is : (h : Header) (raw : Raw) → DefinesApart raw → is_resolved raw ≡ true → length raw.inputs ≡ h.inputs → length raw.latches ≡ h.latches → (order ranks : List ℕ)
-    → IsOrder (map (reads_of (1 + h.inputs + h.latches)) (by_position raw).gates) order → AreRanks order ranks
+    → IsOrder (map (reads_of_gate (1 + h.inputs + h.latches)) (by_position raw).gates) order → AreRanks order ranks
     → arranged h raw.sizes (by_position raw) (symbols_of raw.symbols) order ranks ≡ circuit_of h (with_gates_at raw order)
 unfolding circuit_of
 circuit_is h raw apart resolved inputs latches order ranks is are =

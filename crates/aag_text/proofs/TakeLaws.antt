@@ -15,7 +15,7 @@ use Rattle.ascii_file.proofs.CheckLaws.{Passes, unless_ok, unless_passes, Fits, 
 use Rattle.file_words.proofs.AnsweringLaws.{Fails-same, Fails-bind, Fails-is}
 use Rattle.reader_parts.specs.Names.{AreNamesOf}
 use Rattle.aag_text.specs.declared.sections.Sections.{Sections}
-use Rattle.aag_text.specs.Filling.{IsRead}
+use Rattle.aag_text.specs.Filling.{IsReadSoFar}
 use Rattle.aag_text.specs.Taking.{raw_of, ArePlacesOf, IsAt, GoesOn, Takes}
 use Rattle.aag_text.proofs.KeepLaws.{variables_of, defines, reads}
 
@@ -52,14 +52,14 @@ module _ (old new : Sections) (symbols : List RawSymbol) (at : ℕ) (fault : Rea
   takes more grown places names =
       let h = old.header in
       let raw = raw_of old symbols in
-      let read : IsRead h (with_item raw item) = reads h raw item stands.read next fits in
+      let read : IsReadSoFar h (with_item raw item) = reads h raw item stands.read next fits in
       let all : defined (with_item raw item) ≡ defined raw ++ variables_of item = defines h raw item stands.read.filling next in
       record {
         symbols = more;
         header = header;
         gives = ap (take_item h raw at fault) is ∙ unless_passes (checks h raw at item) (Ok (with_item raw item)) (passes_where_fits h raw at item fits) ∙ ap Ok grown;
         stands = record {
-          read = subst (λ (g : Header). IsRead g (raw_of new more)) (sym header) (subst (IsRead h) grown read);
+          read = subst (λ (g : Header). IsReadSoFar g (raw_of new more)) (sym header) (subst (IsReadSoFar h) grown read);
           places = subst (ArePlacesOf new.places) (sym all ∙ ap defined grown) places;
           names = names;
         };

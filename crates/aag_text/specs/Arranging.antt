@@ -13,8 +13,8 @@ abbrev pub gate_read : ℕ → ℕ → Option ℕ
 gate_read first lit = if nat_le first (variable lit) then Some (variable lit - first) else None
 
 -- what a gate reads of the other gates
-abbrev pub reads_of : ℕ → Gate → Reads
-reads_of first gate = record { first = gate_read first gate.rhs0; second = gate_read first gate.rhs1 }
+abbrev pub reads_of_gate : ℕ → Gate → Reads
+reads_of_gate first gate = record { first = gate_read first gate.rhs0; second = gate_read first gate.rhs1 }
 
 -- the order, or the fault where there is none
 abbrev pub order_or_cycle : Option (List ℕ) → Result (List ℕ) ReadError
@@ -54,8 +54,8 @@ no_gate = record { rhs0 = 0; rhs1 = 0 }
 abbrev pub IsBelow : ℕ → ℕ → Type 0
 IsBelow end lit = variable lit < end
 
-abbrev pub IsGateBelow : ℕ → Gate → Type 0
-IsGateBelow end gate = IsBelow end gate.rhs0 × IsBelow end gate.rhs1
+abbrev pub HasFanInsBelow : ℕ → Gate → Type 0
+HasFanInsBelow end gate = IsBelow end gate.rhs0 × IsBelow end gate.rhs1
 
 -- the gates in this order
 abbrev pub gates_in_order : ℕ → List ℕ → List ℕ → List Gate → List Gate

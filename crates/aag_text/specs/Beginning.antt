@@ -16,7 +16,7 @@ pub record Awaits (line : HeaderLine) (bytes : List ℕ) : Type 0 where
   pub row : (rest : List ℕ) → header_with line rest ≡ header_row (codes "aag ") (bytes ++ rest)
 
 -- after these bytes the first line is open, or items stand, or there was a fault
-abbrev pub Begins : HeaderLine → List ℕ → Result (Option Items) ReadError → Type 0
-Begins line bytes (Ok None) = Awaits line bytes
-Begins line bytes (Ok (Some items)) = Hold items bytes
-Begins line bytes (Err error) = Fails NoMemory error (fed bytes)
+abbrev pub BeginsItems : HeaderLine → List ℕ → Result (Option Items) ReadError → Type 0
+BeginsItems line bytes (Ok None) = Awaits line bytes
+BeginsItems line bytes (Ok (Some items)) = Hold items bytes
+BeginsItems line bytes (Err error) = Fails NoMemory error (fed bytes)

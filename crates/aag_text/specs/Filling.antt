@@ -18,7 +18,7 @@ pub record IsFilling (h : Header) (raw : Raw) : Type 0 where
   pub gates_after : 0 < length raw.gates → (length raw.inputs ≡ h.inputs) × (length raw.latches ≡ h.latches)
 
 -- the conditions on a file, as far as it has been read
-pub record IsRead (h : Header) (raw : Raw) : Type 0 where
+pub record IsReadSoFar (h : Header) (raw : Raw) : Type 0 where
   pub within : IsHeaderWithin h
   pub filling : IsFilling h raw
   pub in_range : IsInRange h raw

@@ -23,8 +23,8 @@ PhaseHolds (Header line) len bytes = PhaseReads (Header line) len bytes
 PhaseHolds (Items items) len bytes = PhaseReads (Items items) len bytes
 PhaseHolds (Failed fault) len bytes = Fails NoMemory fault (fed bytes)
 
-abbrev pub Reads : AagReader → List ℕ → Type 0
-Reads reader bytes = PhaseReads reader.phase reader.taken bytes
+abbrev pub HasReadBytes : AagReader → List ℕ → Type 0
+HasReadBytes reader bytes = PhaseReads reader.phase reader.taken bytes
 
 abbrev pub Holds : AagReader → List ℕ → Type 0
 Holds reader bytes = PhaseHolds reader.phase reader.taken bytes

@@ -10,7 +10,7 @@ use Rattle.ascii_file.specs.Meaning.{props_of}
 use Rattle.reader_parts.specs.Names.{AreNamesOf}
 use Rattle.reader_parts.specs.Parts.{AreNamesWithin}
 use Rattle.aag_text.specs.Numbering.{PlacedLists}
-use Rattle.aag_text.specs.Arranging.{IsBelow, IsGateBelow, AreRanks, reads_of, moved, graph_in_order}
+use Rattle.aag_text.specs.Arranging.{IsBelow, HasFanInsBelow, AreRanks, reads_of_gate, moved, graph_in_order}
 use Rattle.reader_parts.specs.Places.{place_of}
 use Rattle.ascii_file.specs.Raw.{Raw, RawSymbol, defined, safety_count}
 use Rattle.ascii_file.specs.Files.{IsCountedBy, DefinesApart, NamesApart}
@@ -29,7 +29,7 @@ raw_of l symbols = record {
 }
 
 -- what reading has established: as many items as the header says, each variable defined once, and its place, names of things of their own
-pub record AreRead (l : RawLists) (symbols : List RawSymbol) : Type 0 where
+pub record AreListsRead (l : RawLists) (symbols : List RawSymbol) : Type 0 where
   pub counted : IsCountedBy l.header (raw_of l symbols)
   pub apart : DefinesApart (raw_of l symbols)
   pub names_apart : NamesApart l.header (raw_of l symbols)
@@ -46,7 +46,7 @@ pub record IsConsistent (l : RawLists) : Type 0 where
   pub names : AreNamesWithin l.header l.names
 
 -- the parts fit a circuit of the header's numbers, with one more variable than the end
-pub record ArePlaced (h : Header) (sizes : List ℕ) (p : PlacedLists) : Type 0 where
+pub record PlacedListsFit (h : Header) (sizes : List ℕ) (p : PlacedLists) : Type 0 where
   pub small : 1 + h.inputs + h.latches + length p.gates ≤ 2 ^ 28
   pub latches : length p.latches ≡ h.latches
   pub safety : length p.safety ≡ safety_count h
@@ -55,11 +55,11 @@ pub record ArePlaced (h : Header) (sizes : List ℕ) (p : PlacedLists) : Type 0 
   pub latches_below : All (λ latch. IsBelow (1 + h.inputs + h.latches + length p.gates) latch.next) p.latches
   pub safety_below : All (IsBelow (1 + h.inputs + h.latches + length p.gates)) p.safety
   pub liveness_below : All (IsBelow (1 + h.inputs + h.latches + length p.gates)) p.liveness
-  pub gates_below : All (IsGateBelow (1 + h.inputs + h.latches + length p.gates)) p.gates
+  pub gates_below : All (HasFanInsBelow (1 + h.inputs + h.latches + length p.gates)) p.gates
 
 -- what the gates read of each other
 abbrev pub placed_reads : Header → PlacedLists → List Reads
-placed_reads h p = map (reads_of (1 + h.inputs + h.latches)) p.gates
+placed_reads h p = map (reads_of_gate (1 + h.inputs + h.latches)) p.gates
 
 -- the circuit with the gates in this order and of these ranks
 abbrev pub arranged : Header → List ℕ → PlacedLists → Symbols → List ℕ → List ℕ → Netlist

@@ -38,16 +38,16 @@ pub record HoldBefore (items : Items) (left bytes : List ℕ) : Type 0 where
   pub hold : Hold items taken
 
 -- What a function returned: Ok where P holds, or the fault that reading gives, unless memory ran out.
-abbrev pub Follows : {X Y : Type 0} → Type 0 → Result X ReadError → Result Y ReadError → Type 0
-Follows P (Ok x) read = P
-Follows P (Err error) read = Fails NoMemory error read
+abbrev pub HoldsOrFaults : {X Y : Type 0} → Type 0 → Result X ReadError → Result Y ReadError → Type 0
+HoldsOrFaults P (Ok x) read = P
+HoldsOrFaults P (Err error) read = Fails NoMemory error read
 
 -- What a function returned is what reading gives, and Stands holds of that; unless memory ran out.
-abbrev pub Leads : {X Y : Type 0} → (Y → Type 0) → Result X ReadError → Result Y ReadError → Type 0
-Leads {Y} Stands (Ok x) read = (y : Y) × (read ≡ Ok y) × Stands y
-Leads Stands (Err error) read = Fails NoMemory error read
+abbrev pub LeadsToStanding : {X Y : Type 0} → (Y → Type 0) → Result X ReadError → Result Y ReadError → Type 0
+LeadsToStanding {Y} Stands (Ok x) read = (y : Y) × (read ≡ Ok y) × Stands y
+LeadsToStanding Stands (Err error) read = Fails NoMemory error read
 
 -- What taking the open line returned, whose bytes are these: the state after it, at which the new items stand with no byte of the next
 -- line; or its fault.
 abbrev pub TakesLine : {X : Type 0} → Items → Items → State → List ℕ → Result X ReadError → Type 0
-TakesLine old new state line result = Leads (λ next. StandAt new.sections new.line (old.at + length line + 1) next []) result (take_line state line)
+TakesLine old new state line result = LeadsToStanding (λ next. StandAt new.sections new.line (old.at + length line + 1) next []) result (take_line state line)

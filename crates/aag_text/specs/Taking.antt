@@ -8,7 +8,7 @@ use Rattle.reader_parts.specs.declared.places.Places.{Places}
 use Rattle.reader_parts.specs.Places.{place_of}
 use Rattle.reader_parts.specs.Names.{AreNamesOf}
 use Rattle.aag_text.specs.declared.sections.Sections.{Sections}
-use Rattle.aag_text.specs.Filling.{IsRead}
+use Rattle.aag_text.specs.Filling.{IsReadSoFar}
 
 -- what has been taken, with these symbols
 abbrev pub raw_of : Sections → List RawSymbol → Raw
@@ -28,7 +28,7 @@ ArePlacesOf places variables = (v : ℕ) → place_of places v ≡ position (λ 
 
 -- The items with these symbols have been read: they meet the conditions on a file so far, the places are those of the variables that they define, and the names are those of the symbols.
 pub record IsAt (m : Sections) (symbols : List RawSymbol) : Type 0 where
-  pub read : IsRead m.header (raw_of m symbols)
+  pub read : IsReadSoFar m.header (raw_of m symbols)
   pub places : ArePlacesOf m.places (defined (raw_of m symbols))
   pub names : AreNamesOf m.names symbols
 

@@ -1,5 +1,5 @@
 ghost use Rattle.std.specs.Prelude.{ℕ, List, ◌≡◌, ◌≤◌, ◌++◌, length};
-ghost use Rattle.aag_text.specs.Beginning.{Awaits, Begins};
+ghost use Rattle.aag_text.specs.Beginning.{Awaits, BeginsItems};
 
 use crate::items::Items;
 use file_words::{ReadError, cut};
@@ -15,7 +15,7 @@ pub(crate) fn begin(
 ) -> Result<Option<Items>, ReadError>
     requires { length piece.now ≤ end }
     ensures { (bytes : List ℕ) → Awaits line.old bytes → length (bytes ++ piece.now) ≡ end
-        → Begins line.new (bytes ++ piece.now) result }
+        → BeginsItems line.new (bytes ++ piece.now) result }
 {
     let Some((part, rest)) = cut(piece, b'\n') else {
         line.extend(piece);

@@ -44,7 +44,7 @@ impl Items {
     ghost use Rattle.reader_parts.specs.Open.{numbers_with};
     ghost use Rattle.reader_parts.specs.Symbols.{text_of, text_with};
     ghost use Rattle.aag_text.specs.Taking.{raw_of, IsAt};
-    ghost use Rattle.aag_text.specs.Standing.{StandAt, TakesLine, Follows, Hold};
+    ghost use Rattle.aag_text.specs.Standing.{StandAt, TakesLine, HoldsOrFaults, Hold};
 
     /// The items after a header, whose first line begins at the offset. Takes no memory.
     pub(crate) fn new(alloc: Global, header: Header, at: u64) -> Items
@@ -67,7 +67,7 @@ impl Items {
     pub(crate) fn feed(&mut self, end: u64, piece: &[u8]) -> Result<(), ReadError>
         requires { length piece.now ≤ end }
         ensures { (bytes : List ℕ) → Hold self.old bytes → length (bytes ++ piece.now) ≡ end
-            → Follows (Hold self.new (bytes ++ piece.now)) result (fed (bytes ++ piece.now)) }
+            → HoldsOrFaults (Hold self.new (bytes ++ piece.now)) result (fed (bytes ++ piece.now)) }
     {
         let mut left = piece;
         while let Some((part, rest)) = cut(left, b'\n') {

@@ -53,8 +53,8 @@ impl AagReader {
     ghost use Rattle.ascii_file.specs.Pieces.{fed};
     ghost use Rattle.file_words.specs.declared.fault.ReadError.TheVariants.{NoMemory};
     ghost use Rattle.file_words.specs.Answering.{Gives};
-    ghost use Rattle.aag_text.specs.Standing.{Follows};
-    ghost use Rattle.aag_text.specs.Readers.{Reads, Holds, standing, after_finish};
+    ghost use Rattle.aag_text.specs.Standing.{HoldsOrFaults};
+    ghost use Rattle.aag_text.specs.Readers.{HasReadBytes, Holds, standing, after_finish};
 
     /// A reader to which no byte has come. Takes no memory.
     pub fn new(alloc: Global) -> AagReader
@@ -78,7 +78,7 @@ impl AagReader {
         ensures holds { (bytes : List ℕ) → Holds self.old bytes
             → Holds self.new (bytes ++ piece.now) }
         ensures fed { (bytes : List ℕ) → Holds self.old bytes
-            → Follows (IsOk (fed (bytes ++ piece.now))) result (fed (bytes ++ piece.now)) }
+            → HoldsOrFaults (IsOk (fed (bytes ++ piece.now))) result (fed (bytes ++ piece.now)) }
         ensures answer { result ≡ standing self.new }
         ensures stays { (fault : ReadError) → standing self.old ≡ Err fault
             → standing self.new ≡ Err fault }
@@ -114,7 +114,7 @@ impl AagReader {
 
     fn take(&mut self, piece: &[u8]) -> Result<(), ReadError>
         ensures reads { (bytes : List ℕ) → Holds self.old bytes
-            → Follows (Reads self.new (bytes ++ piece.now)) result (fed (bytes ++ piece.now)) }
+            → HoldsOrFaults (HasReadBytes self.new (bytes ++ piece.now)) result (fed (bytes ++ piece.now)) }
         ensures going { OnOk result (standing self.new ≡ Ok tt) }
         ensures stays { (fault : ReadError) → standing self.old ≡ Err fault → result ≡ Err fault }
     {

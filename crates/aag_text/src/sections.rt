@@ -49,7 +49,7 @@ impl Sections {
     ghost use Rattle.reader_parts.specs.Symbols.{text_of};
     ghost use Rattle.reader_parts.specs.Names.{symbol_at};
     ghost use Rattle.reader_parts.specs.Places.{place_of};
-    ghost use Rattle.aag_text.specs.Items.{item_in};
+    ghost use Rattle.aag_text.specs.Items.{item_of_numbers};
     ghost use Rattle.aag_text.specs.Taking.{raw_of, ArePlacesOf, IsAt, Takes};
 
     /// No item. Takes no memory.
@@ -158,7 +158,7 @@ impl Sections {
         ensures { (symbols : List RawSymbol) → IsAt self.old symbols
             → Takes self.old self.new result
             (reading.take_item self.old.header (raw_of self.old symbols) at (BadLine at)
-            (item_in Inputs numbers.now)) }
+            (item_of_numbers Inputs numbers.now)) }
     {
         let Some(lit) = only(numbers) else {
             return Err(ReadError::BadLine(at));
@@ -174,7 +174,7 @@ impl Sections {
         ensures { (symbols : List RawSymbol) → IsAt self.old symbols
             → Takes self.old self.new result
             (reading.take_item self.old.header (raw_of self.old symbols) at (BadLine at)
-            (item_in Latches numbers.now)) }
+            (item_of_numbers Latches numbers.now)) }
     {
         let Some(latch) = latch_of(numbers) else {
             return Err(ReadError::BadLine(at));
@@ -193,7 +193,7 @@ impl Sections {
         ensures { (symbols : List RawSymbol) → IsAt self.old symbols
             → Takes self.old self.new result
             (reading.take_item self.old.header (raw_of self.old symbols) at (BadLine at)
-            (item_in Safety numbers.now)) }
+            (item_of_numbers Safety numbers.now)) }
     {
         let Some(lit) = only(numbers) else {
             return Err(ReadError::BadLine(at));
@@ -212,7 +212,7 @@ impl Sections {
         ensures { (symbols : List RawSymbol) → IsAt self.old symbols
             → Takes self.old self.new result
             (reading.take_item self.old.header (raw_of self.old symbols) at (BadLine at)
-            (item_in Sizes numbers.now)) }
+            (item_of_numbers Sizes numbers.now)) }
     {
         let Some(size) = only(numbers) else {
             return Err(ReadError::BadLine(at));
@@ -231,7 +231,7 @@ impl Sections {
         ensures { (symbols : List RawSymbol) → IsAt self.old symbols
             → Takes self.old self.new result
             (reading.take_item self.old.header (raw_of self.old symbols) at (BadLine at)
-            (item_in Liveness numbers.now)) }
+            (item_of_numbers Liveness numbers.now)) }
     {
         let Some(lit) = only(numbers) else {
             return Err(ReadError::BadLine(at));
@@ -250,7 +250,7 @@ impl Sections {
         ensures { (symbols : List RawSymbol) → IsAt self.old symbols
             → Takes self.old self.new result
             (reading.take_item self.old.header (raw_of self.old symbols) at (BadLine at)
-            (item_in Gates numbers.now)) }
+            (item_of_numbers Gates numbers.now)) }
     {
         let Some(gate) = gate_of(numbers) else {
             return Err(ReadError::BadLine(at));

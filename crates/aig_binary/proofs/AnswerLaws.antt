@@ -8,12 +8,12 @@ use Rattle.file_words.specs.declared.fault.ReadError.TheVariants.{BadHeader, NoM
 use Rattle.file_words.specs.Answering.{◌>>=◌, Gives}
 use Rattle.ascii_file.specs.Reading.{read_bytes}
 use Rattle.ascii_file.specs.Pieces.{fed}
-use Rattle.aag_text.specs.Standing.{Follows}
+use Rattle.aag_text.specs.Standing.{HoldsOrFaults}
 use Rattle.binary_file.specs.Reading.{State, AtHeader, feed, read_binary}
 use Rattle.binary_reader.specs.Holding.{Answers}
 use Rattle.file_words.specs.declared.spelling.Spelling.{Spelling}
 use Rattle.file_words.specs.declared.spelling.Spelling.TheVariants.{Ascii, Binary}
-use Rattle.aig_binary.specs.Spellings.{spelling_of, read_in, read_any}
+use Rattle.aig_binary.specs.Spellings.{spelling_of, read_in_spelling, read_any}
 use Rattle.aig_binary.specs.Fed.{ascii_fed, binary_fed, fed_in, fed_any}
 use Rattle.file_words.proofs.AnsweringLaws.{Fails-bind}
 use Rattle.aig_binary.proofs.LetterLaws.{none_short}
@@ -29,7 +29,7 @@ unfolding fed_any
 by_spelling bytes spelling named = ap (λ (s : Option Spelling). fed_in s bytes) named
 
 -- the answer of the ASCII reader
-pub ascii_gives : (result : Result (Unit {0}) ReadError) (bytes : List ℕ) → Follows (IsOk (fed bytes)) result (fed bytes) → Gives NoMemory (λ u. u) result (ascii_fed bytes)
+pub ascii_gives : (result : Result (Unit {0}) ReadError) (bytes : List ℕ) → HoldsOrFaults (IsOk (fed bytes)) result (fed bytes) → Gives NoMemory (λ u. u) result (ascii_fed bytes)
 ascii_gives (Ok u) bytes follows = ok_then (fed bytes) follows
 ascii_gives (Err fault) bytes follows = Fails-bind fault (fed bytes) (λ state. Ok tt) follows
 
@@ -39,9 +39,9 @@ binary_gives (Ok u) bytes answers = ap (λ (r : Result State ReadError). r >>= �
 binary_gives (Err fault) bytes answers = Fails-bind fault (feed (AtHeader []) bytes) (λ state. Ok tt) answers
 
 -- bytes are read by the spelling that their first three name
-pub read_by_spelling : (bytes : List ℕ) (spelling : Option Spelling) → spelling_of bytes ≡ spelling → read_any bytes ≡ read_in spelling bytes
+pub read_by_spelling : (bytes : List ℕ) (spelling : Option Spelling) → spelling_of bytes ≡ spelling → read_any bytes ≡ read_in_spelling spelling bytes
 unfolding read_any
-read_by_spelling bytes spelling named = ap (λ (s : Option Spelling). read_in s bytes) named
+read_by_spelling bytes spelling named = ap (λ (s : Option Spelling). read_in_spelling s bytes) named
 
 -- fewer than three bytes have no fault, and three that are neither spelling's have one
 pub fed_short : (bytes : List ℕ) → length bytes < 3 → fed_any bytes ≡ Ok tt
@@ -52,7 +52,7 @@ pub fed_neither : (bytes : List ℕ) → spelling_of bytes ≡ None → 2 < leng
 fed_neither bytes neither many = by_spelling bytes None neither ∙ cond-false (nat_lt (length bytes) 3) (Ok tt) (Err (BadHeader 0)) (le-ltb (length bytes) 3 (omega (arith, many)))
 
 -- the answers of the readers are those of the spelling
-pub fed_ascii : (result : Result (Unit {0}) ReadError) (bytes : List ℕ) → spelling_of bytes ≡ Some Ascii → Follows (IsOk (fed bytes)) result (fed bytes) → Gives NoMemory (λ u. u) result (fed_any bytes)
+pub fed_ascii : (result : Result (Unit {0}) ReadError) (bytes : List ℕ) → spelling_of bytes ≡ Some Ascii → HoldsOrFaults (IsOk (fed bytes)) result (fed bytes) → Gives NoMemory (λ u. u) result (fed_any bytes)
 fed_ascii result bytes spelt follows = subst (λ (read : Result (Unit {0}) ReadError). Gives NoMemory (λ u. u) result read) (sym (by_spelling bytes (Some Ascii) spelt)) (ascii_gives result bytes follows)
 
 -- what the binary reader answers to bytes of its spelling is what feeding them gives

@@ -9,7 +9,7 @@ use Rattle.aig_graph.specs.Circuits.{Netlist}
 use Rattle.file_words.specs.declared.fault.ReadError.{ReadError}
 use Rattle.file_words.specs.declared.fault.ReadError.TheVariants.{NoMemory, BadHeader}
 use Rattle.file_words.specs.declared.spelling.Spelling.{Spelling}
-use Rattle.aig_binary.specs.Spellings.{spelling_of, read_any, read_in}
+use Rattle.aig_binary.specs.Spellings.{spelling_of, read_any, read_in_spelling}
 use Rattle.aig_binary.specs.declared.reading.SpeltCircuit.{SpeltCircuit}
 use Rattle.aig_binary.specs.Pieces.{FailsFrom, IsFinishError}
 use Rattle.aig_binary.specs.Ending.{ReadsToEnd, Spells, IsFaultOfBytes, StopsReading, IsReadError}
@@ -72,7 +72,7 @@ refused s t read e before none = inr (inl (record { error = none; failures = bef
 -- bytes of neither spelling are no circuit
 pub no-circuit : (bytes : List ℕ) (c : Netlist) → spelling_of bytes ≡ None → read_any bytes ≡ Ok c → ⊥
 unfolding read_any
-no-circuit bytes c none read = let clash : Err (BadHeader 0) ≡ Ok c = sym (ap (λ (spelling : Option Spelling). read_in spelling bytes) none) ∙ read in absurd (cc)
+no-circuit bytes c none read = let clash : Err (BadHeader 0) ≡ Ok c = sym (ap (λ (spelling : Option Spelling). read_in_spelling spelling bytes) none) ∙ read in absurd (cc)
 
 -- the last read gave nothing
 pub ended : (s t u : Input) (read piece : List ℕ) (n : ℕ) → ReadsFirst s t read → Consumes t.bytes u.bytes (take n piece) → n ≡ 0 → (n ≡ 0 → IsAtEnd u.bytes) → u.failures ≡ t.failures → ReadsAll s u read

@@ -16,7 +16,7 @@ use Rattle.binary_file.proofs.PieceLaws as binary
 use Rattle.binary_file.proofs.FaultLaws as binary_faults
 use Rattle.file_words.specs.declared.spelling.Spelling.{Spelling}
 use Rattle.file_words.specs.declared.spelling.Spelling.TheVariants.{Ascii, Binary}
-use Rattle.aig_binary.specs.Spellings.{spelling_of, read_in, read_any}
+use Rattle.aig_binary.specs.Spellings.{spelling_of, read_in_spelling, read_any}
 use Rattle.aig_binary.specs.Pieces.{IsFeedError, IsFinishError}
 use Rattle.aig_binary.specs.Fed.{ascii_fed, binary_fed, fed_any}
 use Rattle.aig_binary.proofs.LetterLaws.{letters_stay, named_stays}
@@ -61,7 +61,7 @@ module _ (bytes rest : List ℕ) (e : ReadError) where
   fault_stays is = by_name (spelling_of bytes) refl is
 
 -- neither memory nor a reader has it
-fault_in : (spelling : Option Spelling) (bytes : List ℕ) (e : ReadError) → read_in spelling bytes ≡ Err e → is_fault_of_bytes e ≡ true
+fault_in : (spelling : Option Spelling) (bytes : List ℕ) (e : ReadError) → read_in_spelling spelling bytes ≡ Err e → is_fault_of_bytes e ≡ true
 fault_in None bytes e is = subst (λ (fault : ReadError). is_fault_of_bytes fault ≡ true) (same_err (BadHeader 0) e is) refl
 fault_in (Some Ascii) bytes e is = ascii_faults.fault_of_bytes bytes e is
 fault_in (Some Binary) bytes e is = binary_faults.fault_of_bytes bytes e is

@@ -21,7 +21,7 @@ use Rattle.binary_file.proofs.FileLaws as binary_files
 use Rattle.binary_file.proofs.CountLaws.{the_counts_law}
 use Rattle.file_words.specs.declared.spelling.Spelling.{Spelling}
 use Rattle.file_words.specs.declared.spelling.Spelling.TheVariants.{Ascii, Binary}
-use Rattle.aig_binary.specs.Spellings.{spelling_of, read_in, read_any}
+use Rattle.aig_binary.specs.Spellings.{spelling_of, read_in_spelling, read_any}
 use Rattle.aig_binary.specs.Limits.{ReadsWithin}
 use Rattle.ascii_file.proofs.OneLineLaws.{IsOneLine, HasOneLineNames, parts, joined}
 use Rattle.aig_binary.proofs.LineNameLaws.{IsLine, AreLineNames, lines-are, first_line-is, raw-named, line-named, symbols-are}
@@ -106,7 +106,7 @@ pub reads-within : (bytes : List ℕ) → ReadsWithin bytes
 unfolding read_any
 reads-within bytes c e = by_spelling (spelling_of bytes) e
   where
-    by_spelling : (spelling : Option Spelling) → read_in spelling bytes ≡ Ok c → IsWithinLimits c
+    by_spelling : (spelling : Option Spelling) → read_in_spelling spelling bytes ≡ Ok c → IsWithinLimits c
     by_spelling None none = absurd cc
     by_spelling (Some Ascii) read = ascii-within bytes c read
     by_spelling (Some Binary) read = binary-within bytes c read

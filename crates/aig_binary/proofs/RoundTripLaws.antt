@@ -25,7 +25,7 @@ use Rattle.binary_file.specs.Reading.{circuit_of}
 use Rattle.binary_file.specs.Files.{AreItems, IsBinaryFile}
 use Rattle.binary_file.proofs.FileLaws.{the_reading_law}
 use Rattle.aig_binary.specs.Text.{next_row, gate_deltas, text_binary}
-use Rattle.aig_binary.specs.Laws.{RoundTripLaw}
+use Rattle.aig_binary.specs.Laws.{BinaryRoundTripLaw}
 use Rattle.aig_binary.proofs.LineLaws.{first_line-is, after_line-is, row_then, latch_bytes, gate_bytes}
 use Rattle.aig_binary.proofs.ItemLaws.{same_grown}
 use Rattle.aig_binary.proofs.SpeltItemLaws.{listed, listed-counted, item_bytes, listed-spelt}
@@ -103,6 +103,6 @@ circuit_again c netlist =
     (props_again c) (symbols_again c netlist)
 
 -- the binary text of a circuit within the limits is read as that circuit
-pub the_round_trip_law : (c : Netlist) → RoundTripLaw c
+pub the_round_trip_law : (c : Netlist) → BinaryRoundTripLaw c
 the_round_trip_law c graph netlist within =
     (the_reading_law (text_binary c)).file (written_header c) (listed c) (text-file c graph netlist within) ∙ ap Ok (circuit_again c netlist)

@@ -7,7 +7,7 @@ use Rattle.aig_binary.specs.Text.{text_binary}
 use Rattle.aig_binary.proofs.RoundTripLaws as binary
 use Rattle.file_words.specs.declared.spelling.Spelling.{Spelling}
 use Rattle.file_words.specs.declared.spelling.Spelling.TheVariants.{Ascii, Binary}
-use Rattle.aig_binary.specs.Spellings.{spelling_of, read_in, read_any}
+use Rattle.aig_binary.specs.Spellings.{spelling_of, read_in_spelling, read_any}
 use Rattle.aig_binary.specs.Laws.{SpellingLaw}
 
 ascii_letters : (c : Netlist) → spelling_of (text c) ≡ Some Ascii
@@ -18,9 +18,9 @@ binary_letters : (c : Netlist) → spelling_of (text_binary c) ≡ Some Binary
 unfolding text_binary
 binary_letters c = refl
 
-by_own : (bytes : List ℕ) (spelling : Option Spelling) → spelling_of bytes ≡ spelling → read_any bytes ≡ read_in spelling bytes
+by_own : (bytes : List ℕ) (spelling : Option Spelling) → spelling_of bytes ≡ spelling → read_any bytes ≡ read_in_spelling spelling bytes
 unfolding read_any
-by_own bytes spelling is = ap (λ (s : Option Spelling). read_in s bytes) is
+by_own bytes spelling is = ap (λ (s : Option Spelling). read_in_spelling s bytes) is
 
 -- the text of a circuit in a spelling names that spelling, and is read as the circuit
 pub the_spelling_law : (spelling : Spelling) (c : Netlist) → SpellingLaw spelling c

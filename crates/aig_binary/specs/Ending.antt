@@ -15,12 +15,12 @@ pub record ReadsToEnd (old new : Input) : Type 0 where
   pub failures : new.failures ≡ old.failures
 
 -- what the bytes that were left, where those are known, are read as
-pub record ReadsAs (old : Input) (read : Result Netlist ReadError) : Type 0 where
+pub record LeftBytesReadAs (old : Input) (read : Result Netlist ReadError) : Type 0 where
   pub bytes : (left : List ℕ) → old.bytes ≡ Some left → read_any left ≡ read
 
 -- the bytes that were left, where those are known, are those of the circuit, in the spelling
 pub record Spells (old : Input) (spelt : SpeltCircuit) : Type 0 where
-  pub circuit : ReadsAs old (Ok spelt.circuit)
+  pub circuit : LeftBytesReadAs old (Ok spelt.circuit)
   pub spelling : (left : List ℕ) → old.bytes ≡ Some left → spelling_of left ≡ Some spelt.spelling
 
 -- a read failed
@@ -36,7 +36,7 @@ pub record IsMemoryRefusal (old new : Input) (e : ReadError) : Type 0 where
 -- the bytes, read to their end, have this fault, which is none of memory's or of the reader
 pub record IsFaultOfBytes (old new : Input) (e : ReadError) : Type 0 where
   pub read : ReadsToEnd old new
-  pub fault : ReadsAs old (Err e)
+  pub fault : LeftBytesReadAs old (Err e)
   pub of_bytes : is_fault_of_bytes e ≡ true
 
 -- why the reading stopped

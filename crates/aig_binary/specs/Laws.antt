@@ -14,5 +14,5 @@ pub record SpellingLaw (spelling : Spelling) (c : Netlist) : Type 0 where
   pub read : IsGraph c.aig → IsNetlist c → IsWithinLimits c → read_any (text_in spelling c) ≡ Ok c
 
 -- the binary text of a circuit is read as that circuit
-abbrev pub RoundTripLaw : Netlist → Type 0
-RoundTripLaw c = IsGraph c.aig → IsNetlist c → IsWithinLimits c → read_binary (text_binary c) ≡ Ok c
+abbrev pub BinaryRoundTripLaw : Netlist → Type 0
+BinaryRoundTripLaw c = IsGraph c.aig → IsNetlist c → IsWithinLimits c → read_binary (text_binary c) ≡ Ok c

@@ -12,14 +12,14 @@ use Rattle.aig_binary.specs.declared.any_reader.Phase.{Phase}
 use Rattle.aig_binary.specs.declared.any_reader.Phase.TheVariants.{Letters, InAscii, InBinary, Neither}
 
 -- these bytes have come: fewer than three, or such as the reader of their spelling holds, or neither spelling's
-abbrev pub PhaseHolds : Phase → List ℕ → Type 0
-PhaseHolds (Letters letters) bytes = (letters.items ≡ bytes) × (length bytes < 3)
-PhaseHolds (InAscii reader) bytes = (spelling_of bytes ≡ Some Ascii) × ascii.Holds reader bytes
-PhaseHolds (InBinary reader) bytes = (spelling_of bytes ≡ Some Binary) × binary.Holds reader bytes
-PhaseHolds Neither bytes = (spelling_of bytes ≡ None) × (2 < length bytes)
+abbrev pub PhaseHoldsEither : Phase → List ℕ → Type 0
+PhaseHoldsEither (Letters letters) bytes = (letters.items ≡ bytes) × (length bytes < 3)
+PhaseHoldsEither (InAscii reader) bytes = (spelling_of bytes ≡ Some Ascii) × ascii.Holds reader bytes
+PhaseHoldsEither (InBinary reader) bytes = (spelling_of bytes ≡ Some Binary) × binary.HasBeenFed reader bytes
+PhaseHoldsEither Neither bytes = (spelling_of bytes ≡ None) × (2 < length bytes)
 
-abbrev pub Holds : AnyReader → List ℕ → Type 0
-Holds reader bytes = PhaseHolds reader.phase bytes
+abbrev pub HoldsEither : AnyReader → List ℕ → Type 0
+HoldsEither reader bytes = PhaseHoldsEither reader.phase bytes
 
 -- the error of a result, if it is one
 abbrev pub fault_in : Result (Unit {0}) ReadError → Option ReadError
@@ -30,11 +30,11 @@ fault_in (Err fault) = Some fault
 abbrev pub phase_fault : Phase → Option ReadError
 phase_fault (Letters letters) = None
 phase_fault (InAscii reader) = fault_in (ascii.standing reader)
-phase_fault (InBinary reader) = binary.fault_of reader
+phase_fault (InBinary reader) = binary.reader_fault reader
 phase_fault Neither = Some (BadHeader 0)
 
-abbrev pub fault_of : AnyReader → Option ReadError
-fault_of reader = phase_fault reader.phase
+abbrev pub fault_of_either : AnyReader → Option ReadError
+fault_of_either reader = phase_fault reader.phase
 
 -- the spelling that was read of the first three bytes
 abbrev pub phase_spelling : Phase → Option Spelling

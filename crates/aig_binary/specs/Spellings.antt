@@ -16,14 +16,14 @@ abbrev pub spelling_of : List ℕ → Option Spelling
 spelling_of bytes = if starts_with nat_eq bytes (codes "aag") then Some Ascii else (if starts_with nat_eq bytes (codes "aig") then Some Binary else None)
 
 -- what is read of bytes of a spelling, or of neither
-abbrev pub read_in : Option Spelling → List ℕ → Result Netlist ReadError
-read_in None bytes = Err (BadHeader 0)
-read_in (Some Ascii) bytes = read_bytes bytes
-read_in (Some Binary) bytes = read_binary bytes
+abbrev pub read_in_spelling : Option Spelling → List ℕ → Result Netlist ReadError
+read_in_spelling None bytes = Err (BadHeader 0)
+read_in_spelling (Some Ascii) bytes = read_bytes bytes
+read_in_spelling (Some Binary) bytes = read_binary bytes
 
 -- the circuit of the bytes, or their first fault
 unfoldable pub read_any : List ℕ → Result Netlist ReadError
-read_any bytes = read_in (spelling_of bytes) bytes
+read_any bytes = read_in_spelling (spelling_of bytes) bytes
 
 -- the text of a circuit in a spelling
 abbrev pub text_in : Spelling → Netlist → List ℕ

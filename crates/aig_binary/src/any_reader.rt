@@ -46,12 +46,12 @@ impl AnyReader {
     ghost use Rattle.file_words.specs.Answering.{Gives};
     ghost use Rattle.aig_binary.specs.Spellings.{spelling_of, read_any};
     ghost use Rattle.aig_binary.specs.Fed.{fed_any};
-    ghost use Rattle.aig_binary.specs.Readers.{Holds, fault_of, spelling_read};
+    ghost use Rattle.aig_binary.specs.Readers.{HoldsEither, fault_of_either, spelling_read};
 
     /// A reader to which no byte has come. Takes no memory.
     pub fn new(alloc: Global) -> AnyReader
-        ensures holds { Holds result [] }
-        ensures sound { fault_of result ≡ None }
+        ensures holds { HoldsEither result [] }
+        ensures sound { fault_of_either result ≡ None }
     {
         AnyReader {
             alloc,
@@ -63,7 +63,7 @@ impl AnyReader {
     /// memory, and answers the same after the end of the file.
     pub fn spelling(&self) -> Option<Spelling>
         ensures read { result ≡ spelling_read self.now }
-        ensures named { (bytes : List ℕ) → Holds self.now bytes → result ≡ spelling_of bytes }
+        ensures named { (bytes : List ℕ) → HoldsEither self.now bytes → result ≡ spelling_of bytes }
     {
         match &self.phase {
             Phase::InAscii(_) => Some(Spelling::Ascii),
@@ -79,12 +79,12 @@ impl AnyReader {
     /// `BadHeader` at 0 with the third byte, where the first three are neither spelling's; else the first fault of the
     /// bytes so far, with its offset from the first piece on, or `NoMemory`. Then each further call answers that same one.
     pub fn feed(&mut self, piece: &[u8]) -> Result<(), ReadError>
-        ensures holds { (bytes : List ℕ) → Holds self.old bytes
-            → Holds self.new (bytes ++ piece.now) }
-        ensures fed { (bytes : List ℕ) → Holds self.old bytes
+        ensures holds { (bytes : List ℕ) → HoldsEither self.old bytes
+            → HoldsEither self.new (bytes ++ piece.now) }
+        ensures fed { (bytes : List ℕ) → HoldsEither self.old bytes
             → Gives NoMemory (λ u. u) result (fed_any (bytes ++ piece.now)) }
-        ensures fails { IfErr result (λ fault. fault_of self.new ≡ Some fault) }
-        ensures stays { (fault : ReadError) → fault_of self.old ≡ Some fault → result ≡ Err fault }
+        ensures fails { IfErr result (λ fault. fault_of_either self.new ≡ Some fault) }
+        ensures stays { (fault : ReadError) → fault_of_either self.old ≡ Some fault → result ≡ Err fault }
     {
         match &mut self.phase {
             Phase::Letters(letters) => {
@@ -105,11 +105,11 @@ impl AnyReader {
     /// The first fault of the bytes, or `NoMemory`, and then each further call answers that same one. After a circuit each
     /// further call answers `BadHeader` at 0.
     pub fn finish(&mut self) -> Result<Circuit, ReadError>
-        ensures gives { (bytes : List ℕ) → Holds self.old bytes
+        ensures gives { (bytes : List ℕ) → HoldsEither self.old bytes
             → Gives NoMemory (λ circuit. circuit) result (read_any bytes) }
-        ensures ends { OnOk result (fault_of self.new ≡ Some (BadHeader 0)) }
-        ensures fails { IfErr result (λ fault. fault_of self.new ≡ Some fault) }
-        ensures stays { (fault : ReadError) → fault_of self.old ≡ Some fault → result ≡ Err fault }
+        ensures ends { OnOk result (fault_of_either self.new ≡ Some (BadHeader 0)) }
+        ensures fails { IfErr result (λ fault. fault_of_either self.new ≡ Some fault) }
+        ensures stays { (fault : ReadError) → fault_of_either self.old ≡ Some fault → result ≡ Err fault }
         ensures spelling { spelling_read self.new ≡ spelling_read self.old }
     {
         match &mut self.phase {

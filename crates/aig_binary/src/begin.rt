@@ -4,7 +4,7 @@ ghost use Rattle.file_words.specs.Answering.{Gives};
 ghost use Rattle.file_words.specs.declared.spelling.Spelling.TheVariants.{Ascii, Binary};
 ghost use Rattle.aig_binary.specs.Spellings.{spelling_of};
 ghost use Rattle.aig_binary.specs.Fed.{fed_any};
-ghost use Rattle.aig_binary.specs.Readers.{PhaseHolds, phase_fault};
+ghost use Rattle.aig_binary.specs.Readers.{PhaseHoldsEither, phase_fault};
 
 use crate::any_reader::Phase;
 use crate::first_bytes::spelling;
@@ -24,7 +24,7 @@ pub(crate) struct Begun {
 /// The letters go to the reader as they came: if they ran it out of memory, it answers that again with the piece.
 fn begin_ascii(alloc: Global, begun: &[u8], piece: &[u8]) -> Begun
     requires { spelling_of (begun.now ++ piece.now) ≡ Some Ascii }
-    ensures holds { PhaseHolds result.phase (begun.now ++ piece.now) }
+    ensures holds { PhaseHoldsEither result.phase (begun.now ++ piece.now) }
     ensures fed { Gives NoMemory (λ u. u) result.answer (fed_any (begun.now ++ piece.now)) }
     ensures fails { IfErr result.answer (λ fault. phase_fault result.phase ≡ Some fault) }
 {
@@ -39,7 +39,7 @@ fn begin_ascii(alloc: Global, begun: &[u8], piece: &[u8]) -> Begun
 
 fn begin_binary(alloc: Global, begun: &[u8], piece: &[u8]) -> Begun
     requires { spelling_of (begun.now ++ piece.now) ≡ Some Binary }
-    ensures holds { PhaseHolds result.phase (begun.now ++ piece.now) }
+    ensures holds { PhaseHoldsEither result.phase (begun.now ++ piece.now) }
     ensures fed { Gives NoMemory (λ u. u) result.answer (fed_any (begun.now ++ piece.now)) }
     ensures fails { IfErr result.answer (λ fault. phase_fault result.phase ≡ Some fault) }
 {
@@ -54,7 +54,7 @@ fn begin_binary(alloc: Global, begun: &[u8], piece: &[u8]) -> Begun
 
 /// Takes a piece after fewer than three bytes.
 pub(crate) fn begin(alloc: Global, begun: &[u8], piece: &[u8]) -> Begun
-    ensures holds { PhaseHolds result.phase (begun.now ++ piece.now) }
+    ensures holds { PhaseHoldsEither result.phase (begun.now ++ piece.now) }
     ensures fed { Gives NoMemory (λ u. u) result.answer (fed_any (begun.now ++ piece.now)) }
     ensures fails { IfErr result.answer (λ fault. phase_fault result.phase ≡ Some fault) }
 {

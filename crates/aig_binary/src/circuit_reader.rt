@@ -4,9 +4,9 @@ use aig_graph::Circuit;
 use file_words::{ReadError, Spelling};
 
 impl CircuitReader for AnyReader {
-    ghost use Rattle.aig_binary.specs.Readers.{Holds};
+    ghost use Rattle.aig_binary.specs.Readers.{HoldsEither};
 
-    ghost holds = { Holds };
+    ghost holds = { HoldsEither };
 
     fn feed(&mut self, piece: &[u8]) -> Result<(), ReadError> {
         AnyReader::feed(self, piece)

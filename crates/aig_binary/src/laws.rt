@@ -1,6 +1,6 @@
 ghost use Rattle.aig_graph.specs.Circuits.{Netlist};
 ghost use Rattle.file_words.specs.declared.spelling.Spelling.{Spelling as SpellingOf};
-ghost use Rattle.aig_binary.specs.Laws.{SpellingLaw, RoundTripLaw};
+ghost use Rattle.aig_binary.specs.Laws.{SpellingLaw, BinaryRoundTripLaw};
 
 /// Each text of a circuit is of its spelling, and is read as that circuit, where the circuit is within the limits of a
 /// header and its names hold no newline. So both texts of a circuit are read as the same one.
@@ -10,5 +10,5 @@ pub fn spelling_law()
 
 /// The binary text of a circuit within the limits of a header, whose names hold no newline, is read as that circuit.
 pub fn round_trip_law()
-    ensures { (c : Netlist) → RoundTripLaw c }
+    ensures { (c : Netlist) → BinaryRoundTripLaw c }
 {}

@@ -2,7 +2,7 @@ ghost use Rattle.std.specs.Prelude.{ℕ, List, ◌≡◌, ◌⊎◌, ◌++◌, O
 ghost use Rattle.file_words.specs.declared.fault.ReadError.TheVariants.{NoMemory};
 ghost use Rattle.file_words.specs.Answering.{Gives};
 ghost use Rattle.aig_binary.specs.Spellings.{read_any};
-ghost use Rattle.aig_binary.specs.Readers.{Holds};
+ghost use Rattle.aig_binary.specs.Readers.{HoldsEither};
 
 use crate::any_reader::AnyReader;
 use aig_graph::Circuit;
@@ -34,7 +34,7 @@ fn read(alloc: Global, bytes: &[u8]) -> Result<Circuit, ReadError>
 
 /// The circuit of a file that ends with these bytes.
 fn read_rest(reader: &mut AnyReader, bytes: &[u8]) -> Result<Circuit, ReadError>
-    ensures { (before : List ℕ) → Holds reader.old before
+    ensures { (before : List ℕ) → HoldsEither reader.old before
         → Gives NoMemory (λ circuit. circuit) result (read_any (before ++ bytes.now)) }
 {
     match reader.feed(bytes) {

@@ -12,7 +12,7 @@ use Rattle.state_maps.specs.MapCircuits.{FreeStay, IsMapCircuit}
 use Rattle.map_checks.specs.Answers.{IsAnswer}
 use Rattle.map_checks.specs.declared.answer.Answer.{Answer}
 use Rattle.map_checks.specs.declared.answer.Answer.TheVariants.{Retiming}
-use Rattle.backward_circuits.specs.MovedBack.{IsTurned}
+use Rattle.backward_circuits.specs.MovedBack.{IsMapBack}
 
 one-more : (k : ℕ) → k + 1 ≡ suc k
 one-more k = omega arith
@@ -75,7 +75,7 @@ module _ (c d : Netlist) (kept : List ℕ) (p : SameStreams c d kept) (many : fr
       }
 
 -- where the check answers that c is a retiming of d, with as many free latches, of which each stays, the map turns around
-turned-by : (c d m : Netlist) (kept : List ℕ) → IsAnswer d c m (Retiming kept) → free_latches d.aig ≡ free_latches c.aig → FreeStay d c m → IsTurned c d m
+turned-by : (c d m : Netlist) (kept : List ℕ) → IsAnswer d c m (Retiming kept) → free_latches d.aig ≡ free_latches c.aig → FreeStay d c m → IsMapBack c d m
 turned-by c d m kept answer many stay = record {
   streams = same_streams-back d c kept answer.1 (sym many);
   map = subst (λ (places : List ℕ). IsMapCircuit d c places m) (all-kept d c kept answer.1 (sym many)) answer.0;
@@ -83,7 +83,7 @@ turned-by c d m kept answer many stay = record {
 }
 
 -- the same of an answer that is one
-pub turned-answer : (c d m : Netlist) (answer : Answer) (kept : List ℕ) → answer ≡ Retiming kept → IsAnswer d c m answer → free_latches d.aig ≡ free_latches c.aig → FreeStay d c m → IsTurned c d m
+pub turned-answer : (c d m : Netlist) (answer : Answer) (kept : List ℕ) → answer ≡ Retiming kept → IsAnswer d c m answer → free_latches d.aig ≡ free_latches c.aig → FreeStay d c m → IsMapBack c d m
 turned-answer c d m answer kept is holds many stay = turned-by c d m kept (subst (λ (a : Answer). IsAnswer d c m a) is holds) many stay
 
 -- in the map of such an answer each latch of c has an output

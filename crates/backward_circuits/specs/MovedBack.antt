@@ -40,7 +40,7 @@ IsWithin None c d = Unit {0}
 IsWithin (Some bound) c d = levels d ≤ max bound (levels c)
 
 -- a map of d's states to those of c, with each free latch of c, which is one of d as it is, and so the streams of c
-pub record IsTurned (c d m : Netlist) : Type 0 where
+pub record IsMapBack (c d m : Netlist) : Type 0 where
   pub streams : SameStreams c d (all_free c.aig)
   pub map : IsMapCircuit d c (all_free d.aig) m
   pub free : FreeStay d c m
@@ -52,6 +52,6 @@ pub record IsFit (c : Netlist) (held : List ℕ) (d m : Netlist) : Type 0 where
 
 -- d does what c does, by no more latches; m maps its states to those of c, and held latches are where they were
 pub record IsMovedBack (c : Netlist) (held : List ℕ) (bound : Option ℕ) (d m : Netlist) : Type 0 where
-  pub turned : IsTurned c d m
+  pub turned : IsMapBack c d m
   pub fit : IsFit c held d m
   pub within : IsWithin bound c d

@@ -2,7 +2,7 @@
 ghost use Rattle.std.specs.Prelude.{◌≡◌, IfOk, IsTrue, length};
 ghost use Rattle.aig_graph.specs.Graph.{free_latches};
 ghost use Rattle.state_maps.specs.MapCircuits.{FreeStay};
-ghost use Rattle.backward_circuits.specs.MovedBack.{IsFit, IsMovedBack, IsTurned};
+ghost use Rattle.backward_circuits.specs.MovedBack.{IsFit, IsMovedBack, IsMapBack};
 
 use crate::bounds::is_within;
 use crate::held::are_held_back;
@@ -44,7 +44,7 @@ fn is_mapped(
     after: &Circuit,
     map: &Circuit,
 ) -> Result<bool, NoMemory>
-    ensures { IfOk result (λ mapped. IsTrue mapped → IsTurned circuit.now after.now map.now) }
+    ensures { IfOk result (λ mapped. IsTrue mapped → IsMapBack circuit.now after.now map.now) }
 {
     match check_map(alloc, after, circuit, map) {
         Ok(Answer::Retiming(kept)) => {

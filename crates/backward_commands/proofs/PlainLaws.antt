@@ -12,7 +12,7 @@ use Rattle.json_reports.specs.Lines.{IsPlain}
 use Rattle.json_reports.specs.Members.{array_of}
 use Rattle.stream_paths.specs.declared.target.Target.{Target}
 use Rattle.command_line.specs.declared.task.Moving.{Moving}
-use Rattle.backward_commands.specs.Printing.{frame_data, map_data_for, moves_data}
+use Rattle.backward_commands.specs.Printing.{backward_frame_data, map_data_for, moves_data}
 use Rattle.backward_commands.specs.declared.answering.Answer.{Answer}
 
 -- it nests at most so many levels
@@ -30,18 +30,18 @@ plain-none = record { whole = refl; nests = omega arith }
 plain-member : {k : List ℕ} {d : Data} {ms : Members} → Plain 3 d → PlainMembers 3 ms → PlainMembers 3 (member k d ms)
 plain-member p q = record { whole = or_from _ _ p.whole q.whole; nests = max-le p.nests q.nests }
 
-plain-frame : (f : FrameCounts) → Plain 2 (frame_data f)
+plain-frame : (f : FrameCounts) → Plain 2 (backward_frame_data f)
 plain-frame f = record { whole = refl; nests = omega arith }
 
-floats-none : (frames : List FrameCounts) → items_have_float (items_of (map frame_data frames)) ≡ false
+floats-none : (frames : List FrameCounts) → items_have_float (items_of (map backward_frame_data frames)) ≡ false
 floats-none [] = refl
 floats-none (f ∷ frames) = let e = plain-frame f in or_from _ _ e.whole (floats-none frames)
 
-nests-most : (frames : List FrameCounts) → items_depth (items_of (map frame_data frames)) ≤ 2
+nests-most : (frames : List FrameCounts) → items_depth (items_of (map backward_frame_data frames)) ≤ 2
 nests-most [] = omega arith
 nests-most (f ∷ frames) = let e = plain-frame f in max-le e.nests (nests-most frames)
 
-plain-frames : (frames : List FrameCounts) → Plain 3 (array_of frame_data frames)
+plain-frames : (frames : List FrameCounts) → Plain 3 (array_of backward_frame_data frames)
 plain-frames frames = let below = nests-most frames in record { whole = floats-none frames; nests = omega (arith, below) }
 
 plain-map : (target : Option Target) (m : Netlist) → Plain 3 (map_data_for target m)

@@ -25,7 +25,7 @@ bound_of bounds.NoLonger = Some 0
 bound_of (bounds.Levels levels) = Some levels
 
 -- the circuit that was read, moved backward as the task asks, with its map; what it had, and in which format both are written
-pub record IsAnswerOf (task : Moving) (spelt : SpeltCircuit) (answer : Answer) : Type 0 where
+pub record IsBackwardAnswerOf (task : Moving) (spelt : SpeltCircuit) (answer : Answer) : Type 0 where
   pub moved : IsAnswerTo spelt.circuit (held_by task.options spelt.circuit) (bound_of task.options.bound) answer.moved
   pub before : answer.before ≡ counts spelt.circuit
   pub spelling : answer.spelling ≡ unwrap_or task.options.spelling spelt.spelling
@@ -34,7 +34,7 @@ pub record IsAnswerOf (task : Moving) (spelt : SpeltCircuit) (answer : Answer) :
 pub record AnswersTask (task : Moving) (before after : Input) (answer : Answer) : Type 0 where
   pub spelt : SpeltCircuit
   pub read : IsCircuitAt task.input before after spelt
-  pub is : IsAnswerOf task spelt answer
+  pub is : IsBackwardAnswerOf task spelt answer
 
 -- a text was written to this, where that is asked for, by what it means that a file was given one
 abbrev pub WritesIfAsked : (List ℕ → List ℕ → Type 0) → Option Target → List ℕ → Output → Output → Type 0

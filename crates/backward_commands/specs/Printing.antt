@@ -24,8 +24,8 @@ abbrev pub frame_line : ℕ → FrameCounts → List ℕ
 frame_line number frame = codes "frame " ++ decimal number ++ codes ": " ++ change frame.before frame.after
 
 -- a line for each frame, which are numbered from 1 on
-abbrev pub frame_lines : List FrameCounts → List ℕ
-frame_lines frames = numbered_lines frame_line 1 frames
+abbrev pub backward_frame_lines : List FrameCounts → List ℕ
+backward_frame_lines frames = numbered_lines frame_line 1 frames
 
 -- a line that the judge refused what was found, where it did
 abbrev pub shown_line : Bool → List ℕ
@@ -35,21 +35,21 @@ shown_line false = codes "not shown: OUT is IN" ++ 10 ∷ []
 -- a line for each frame, the numbers of all latches that were read and that are left, and whether OUT is IN since nothing was shown
 abbrev pub moves_text : Answer → List ℕ
 moves_text answer =
-    frame_lines answer.moved.frames.items ++ codes "latches " ++ change answer.before.latches (length answer.moved.circuit.aig.latches) ++ shown_line answer.moved.is_shown
+    backward_frame_lines answer.moved.frames.items ++ codes "latches " ++ change answer.before.latches (length answer.moved.circuit.aig.latches) ++ shown_line answer.moved.is_shown
 
 -- the latches that take part before and after a frame, the variables that have two latches, and the gates that moved
-abbrev pub frame_data : FrameCounts → Data
-frame_data f =
+abbrev pub backward_frame_data : FrameCounts → Data
+backward_frame_data f =
     object (member (codes "after") (count f.after) (member (codes "before") (count f.before) (member (codes "doubled") (count f.doubled) (member (codes "gates") (count f.gates) no_members))))
 
 -- how many constraints and gates a map has
-abbrev pub map_data : Netlist → Data
-map_data m = object (member (codes "constraints") (count (length m.props.constraints)) (member (codes "gates") (count (length m.aig.gates)) no_members))
+abbrev pub map_circuit_data : Netlist → Data
+map_circuit_data m = object (member (codes "constraints") (count (length m.props.constraints)) (member (codes "gates") (count (length m.aig.gates)) no_members))
 
 -- the same where one is written
 abbrev pub map_data_for : Option Target → Netlist → Data
 map_data_for None m = null
-map_data_for (Some target) m = map_data m
+map_data_for (Some target) m = map_circuit_data m
 
 -- what the written circuit has and what the one had that was read, each frame, what the map has, and whether nothing was found that the judge refused
 abbrev pub moves_data : Moving → Answer → Counts → Data
@@ -57,7 +57,7 @@ moves_data task answer after =
     object (member (codes "after") (circuit_data after)
     (member (codes "before") (circuit_data answer.before)
     (member (codes "command") (string (codes "backward"))
-    (member (codes "frames") (array_of frame_data answer.moved.frames.items)
+    (member (codes "frames") (array_of backward_frame_data answer.moved.frames.items)
     (member (codes "map") (map_data_for task.map answer.moved.map)
     (member (codes "shown") (boolean answer.moved.is_shown)
     (member (codes "status") (count 0) no_members)))))))

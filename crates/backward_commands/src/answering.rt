@@ -2,7 +2,7 @@
 ghost use Rattle.std.specs.Prelude.{◌≡◌, IfOk};
 ghost use Rattle.backward_retiming.specs.Answered.{IsAnswerTo};
 ghost use Rattle.command_endings.specs.HeldNames.{held_by};
-ghost use Rattle.backward_commands.specs.Moving.{AnswersTask, IsAnswerOf, bound_of};
+ghost use Rattle.backward_commands.specs.Moving.{AnswersTask, IsBackwardAnswerOf, bound_of};
 ghost use Rattle.backward_commands.specs.Moving as wanted;
 
 use aig_binary::{Spelling, SpeltCircuit};
@@ -73,7 +73,7 @@ fn answer_of<'a, W: MoveWatcher>(
     task: &Moving<'a>,
     watcher: &mut W,
 ) -> Result<Answer, Failure<'a>>
-    ensures { IfOk result (IsAnswerOf task.now spelt) }
+    ensures { IfOk result (IsBackwardAnswerOf task.now spelt) }
 {
     let SpeltCircuit { circuit, spelling } = spelt;
     let spelling = task.options.spelling.unwrap_or(spelling);

@@ -3,7 +3,7 @@ ghost use Rattle.std.specs.Prelude.{◌≡◌};
 ghost use Rattle.counted_io.specs.Buffered.{Puts};
 ghost use Rattle.counted_io.specs.Output.{Writes};
 ghost use Rattle.reports.specs.Retimings.{change};
-ghost use Rattle.backward_commands.specs.Printing.{frame_line, frame_lines, moves_text};
+ghost use Rattle.backward_commands.specs.Printing.{frame_line, backward_frame_lines, moves_text};
 ghost use Rattle.backward_commands.specs.Printing as wanted;
 
 use crate::answering::Answer;
@@ -32,7 +32,7 @@ fn put_frame<W: CountedWrite>(out: &mut Buffered<'_, W>, number: u64, frame: Fra
 
 /// Puts the lines of the frames.
 fn put_frames<W: CountedWrite>(out: &mut Buffered<'_, W>, frames: &[FrameCounts])
-    ensures { Puts W.output out.old out.new (frame_lines frames.now) }
+    ensures { Puts W.output out.old out.new (backward_frame_lines frames.now) }
 {
     for (k, frame) in frames.iter().enumerate() {
         put_frame(out, 1 + k as u64, *frame);

@@ -3,7 +3,7 @@ ghost use Rattle.std.specs.Prelude.{◌≡◌, IfOk, OnOk};
 ghost use Rattle.serde_json.specs.Data.{no_members, object, put};
 ghost use Rattle.serde_json.specs.View.{members_view, view};
 ghost use Rattle.json_reports.specs.Members.{array_of, count};
-ghost use Rattle.backward_commands.specs.Printing.{frame_data, map_data, map_data_for, moves_data};
+ghost use Rattle.backward_commands.specs.Printing.{backward_frame_data, map_circuit_data, map_data_for, moves_data};
 
 use crate::answering::Answer;
 use backward_moves::FrameCounts;
@@ -33,7 +33,7 @@ fn put_frame(
     frame: FrameCounts,
 ) -> Result<(), AllocError>
     ensures { OnOk result (members_view members.old.entries ≡ no_members
-        → object (members_view members.new.entries) ≡ frame_data frame) }
+        → object (members_view members.new.entries) ≡ backward_frame_data frame) }
 {
     put_count(members, alloc, "after", u64::from(frame.after))?;
     put_count(members, alloc, "before", u64::from(frame.before))?;
@@ -42,7 +42,7 @@ fn put_frame(
 }
 
 fn frame_object(alloc: Global, frame: FrameCounts) -> Result<Value, AllocError>
-    ensures { IfOk result (λ v. view v ≡ frame_data frame) }
+    ensures { IfOk result (λ v. view v ≡ backward_frame_data frame) }
 {
     let mut members = Map::new(alloc);
     put_frame(&mut members, alloc, frame)?;
@@ -50,7 +50,7 @@ fn frame_object(alloc: Global, frame: FrameCounts) -> Result<Value, AllocError>
 }
 
 fn frames_array(alloc: Global, frames: &[FrameCounts]) -> Result<Value, AllocError>
-    ensures { IfOk result (λ v. view v ≡ array_of frame_data frames.now) }
+    ensures { IfOk result (λ v. view v ≡ array_of backward_frame_data frames.now) }
 {
     let mut list = Vec::new(alloc);
     for frame in frames {
@@ -67,7 +67,7 @@ fn put_map(
     answer: &Answer,
 ) -> Result<(), AllocError>
     ensures { OnOk result (members_view members.old.entries ≡ no_members
-        → object (members_view members.new.entries) ≡ map_data answer.now.moved.map) }
+        → object (members_view members.new.entries) ≡ map_circuit_data answer.now.moved.map) }
 {
     let map = &answer.moved.map;
     put_count(

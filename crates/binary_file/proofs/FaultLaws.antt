@@ -11,7 +11,7 @@ use Rattle.ascii_file.specs.Raw.{Raw, nothing_yet}
 use Rattle.ascii_file.specs.Items.{Item, InputItem, LatchItem, SafetyItem, SizeItem, LivenessItem, GateItem, SymbolItem, begins_comment}
 use Rattle.ascii_file.specs.Reading.{with_item, malformed, is_symbols}
 use Rattle.ascii_file.proofs.FaultLaws.{IsFaultOrOk, AreOfBytes, choice, in_turn, checked, item_checks, form}
-use Rattle.binary_file.specs.Headers.{header_of, header_checks}
+use Rattle.binary_file.specs.Headers.{header_of, binary_header_checks}
 use Rattle.binary_file.specs.Items.{next_section, next_gate, item_in}
 use Rattle.binary_file.specs.Reading.{State, AtHeader, InLine, InFirst, InSecond, InComment, before_item, checked_header, read_header, end_header, line_checks, take_item, read_line, end_line, end_first, end_second, delta_step, step, feed, complete, finish, read_raw, circuit_of, read_binary}
 
@@ -40,7 +40,7 @@ line_ended h raw at line =
 
 header_found : (found : Option Header) → IsFaultOrOk (checked_header found)
 header_found None = refl
-header_found (Some h) = checked (header_checks h) (Ok h) (refl, (refl, (refl, (refl, (refl, (refl, (refl, tt))))))) tt
+header_found (Some h) = checked (binary_header_checks h) (Ok h) (refl, (refl, (refl, (refl, (refl, (refl, (refl, tt))))))) tt
 
 header_read : (line : List ℕ) → IsFaultOrOk (read_header line)
 unfolding read_header

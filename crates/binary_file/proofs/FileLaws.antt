@@ -17,7 +17,7 @@ use Rattle.binary_file.specs.Headers.{header_of}
 use Rattle.binary_file.specs.Items.{next_section, first_line, after_line}
 use Rattle.binary_file.specs.Reading.{State, InLine, InFirst, InComment, is_gates, before_item, read_header, end_header, read_line, end_line, feed, finish, read_raw, circuit_of, read_binary}
 use Rattle.binary_file.specs.Files.{IsLine, IsItem, AreItems, with_items, IsBinaryFile}
-use Rattle.binary_file.specs.Laws.{ReadingLaw}
+use Rattle.binary_file.specs.Laws.{BinaryReadingLaw}
 use Rattle.binary_file.proofs.FaultLaws.{fault_of_bytes}
 use Rattle.binary_file.proofs.StepLaws.{line_fed, header_fed, comment_fed, after_line_shorter}
 use Rattle.binary_file.proofs.ItemLaws.{header_read, header_was_read, no_gate, item_ended, LineRead, line_was_read}
@@ -232,7 +232,7 @@ circuit_was_read bytes c e =
     (found.0.0, found.0.1, file_was_read bytes found.0 found.1, sym (same_ok (circuit_of found.0.0 found.0.1) c found.2))
 
 -- bytes are read as a circuit exactly where they are a binary file of one, else there is a fault of the bytes
-pub the_reading_law : (bytes : List ℕ) → ReadingLaw bytes
+pub the_reading_law : (bytes : List ℕ) → BinaryReadingLaw bytes
 the_reading_law bytes = record {
   file = circuit_read bytes;
   read = circuit_was_read bytes;

@@ -14,14 +14,14 @@ use Rattle.ascii_file.specs.Reading.{with_item, malformed, is_symbols}
 use Rattle.ascii_file.proofs.CheckLaws as ascii
 use Rattle.ascii_file.proofs.CheckLaws.{Passes, unless_ok, unless_passes, same_ok, passes_where_reset, reset_where_it_passes}
 use Rattle.ascii_file.proofs.StepLaws.{section_is, no_comment, same_some}
-use Rattle.binary_file.specs.Headers.{header_of, header_checks, IsHeaderWithin}
+use Rattle.binary_file.specs.Headers.{header_of, binary_header_checks, IsHeaderWithin}
 use Rattle.binary_file.specs.Items.{next_section, next_latch, latch_in, item_in}
 use Rattle.binary_file.specs.Reading.{InComment, before_item, checked_header, read_header, line_checks, take_item, read_line, end_line}
 use Rattle.binary_file.specs.Files.{Fits}
 
 -- ---- the header
 
-header_passes : (h : Header) → IsHeaderWithin h → Passes (header_checks h)
+header_passes : (h : Header) → IsHeaderWithin h → Passes (binary_header_checks h)
 header_passes h within = (
   le-ltb (2 ^ 28 - 1) h.greatest within.greatest,
   (
@@ -42,7 +42,7 @@ header_passes h within = (
   ),
 )
 
-header_within : (h : Header) → Passes (header_checks h) → IsHeaderWithin h
+header_within : (h : Header) → Passes (binary_header_checks h) → IsHeaderWithin h
 header_within h (greatest, (outputs, (bad, (constraints, (justice, (fairness, (total, end))))))) = record {
   greatest = ltb-false (2 ^ 28 - 1) h.greatest greatest;
   outputs = ltb-false (2 ^ 24) h.outputs outputs;
@@ -56,7 +56,7 @@ header_within h (greatest, (outputs, (bad, (constraints, (justice, (fairness, (t
 -- a line that spells a header within the limits is read as that header
 pub header_read : (line : List ℕ) (h : Header) → header_of line ≡ Some h → IsHeaderWithin h → read_header line ≡ Ok h
 unfolding read_header
-header_read line h spelt within = ap checked_header spelt ∙ unless_passes (header_checks h) (Ok h) (header_passes h within)
+header_read line h spelt within = ap checked_header spelt ∙ unless_passes (binary_header_checks h) (Ok h) (header_passes h within)
 
 -- a header that is read is within the limits, and the line spells it
 pub header_was_read : (line : List ℕ) (h : Header) → read_header line ≡ Ok h → (header_of line ≡ Some h) × IsHeaderWithin h
@@ -66,7 +66,7 @@ header_was_read line h e = by_found (header_of line) refl e
     by_found : (found : Option Header) → header_of line ≡ found → checked_header found ≡ Ok h → (header_of line ≡ Some h) × IsHeaderWithin h
     by_found None is e = absurd cc
     by_found (Some g) is e =
-        let checked = unless_ok (header_checks g) (Ok g) h e in
+        let checked = unless_ok (binary_header_checks g) (Ok g) h e in
         let same : g ≡ h = same_ok g h checked.1 in
         (is ∙ ap Some same, subst IsHeaderWithin same (header_within g checked.0))
 

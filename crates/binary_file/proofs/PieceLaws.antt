@@ -3,7 +3,7 @@ use Rattle.std.proofs.Common.{ℕ, ◌≡◌, List, [], ◌∷◌, ◌++◌, len
 use Rattle.file_words.specs.declared.fault.ReadError.{ReadError}
 use Rattle.file_words.specs.Answering.{◌>>=◌}
 use Rattle.binary_file.specs.Reading.{State, AtHeader, step, feed, finish, read_raw, circuit_of, read_binary}
-use Rattle.binary_file.specs.Laws.{PiecesLaw}
+use Rattle.binary_file.specs.Laws.{BinaryPiecesLaw}
 
 feed-append : (bytes more : List ℕ) (state : State) → feed state (bytes ++ more) ≡ (feed state bytes >>= λ s. feed s more)
 unfolding feed
@@ -22,5 +22,5 @@ stays bytes more e was =
     (feed-append bytes more (AtHeader []) ∙ ap (λ (r : Result State ReadError). r >>= λ s. feed s more) was)
 
 -- feeding joined bytes is feeding them one after the other, and a fault of the first is that of the whole
-pub the_pieces_law : (bytes more : List ℕ) → PiecesLaw bytes more
+pub the_pieces_law : (bytes more : List ℕ) → BinaryPiecesLaw bytes more
 the_pieces_law bytes more = record { joined = feed-append bytes more (AtHeader []); stays = stays bytes more }

@@ -13,8 +13,8 @@ unfoldable pub header_of : List ℕ → Option Header
 header_of line = if starts_with nat_eq line (codes "aig ") then option_and_then header_in (numbers_of (drop 4 line)) else None
 
 -- the checks of a header; each variable is an input, a latch or a gate
-abbrev pub header_checks : Header → List (Bool × ReadError)
-header_checks h =
+abbrev pub binary_header_checks : Header → List (Bool × ReadError)
+binary_header_checks h =
     (nat_lt (2 ^ 28 - 1) h.greatest, TooLarge 0)
     ∷ (nat_lt (2 ^ 24) h.outputs, TooLarge 0) ∷ (nat_lt (2 ^ 24) h.bad, TooLarge 0) ∷ (nat_lt (2 ^ 24) h.constraints, TooLarge 0)
     ∷ (nat_lt (2 ^ 24) h.justice, TooLarge 0) ∷ (nat_lt (2 ^ 24) h.fairness, TooLarge 0)

@@ -13,7 +13,7 @@ use Rattle.ascii_file.specs.Raw.{Raw, nothing_yet}
 use Rattle.ascii_file.specs.Items.{Item, LatchItem, GateItem, begins_comment}
 use Rattle.ascii_file.specs.Meaning.{reset_of, props_of, symbols_of}
 use Rattle.ascii_file.specs.Reading.{unless, past_greatest, is_bad_reset, checks, with_item, malformed, is_symbols}
-use Rattle.binary_file.specs.Headers.{header_of, header_checks}
+use Rattle.binary_file.specs.Headers.{header_of, binary_header_checks}
 use Rattle.binary_file.specs.Items.{next_section, next_gate, item_in}
 
 -- where a reader stands. After the header: the raw circuit so far, the offset of the item that has begun, and its bytes
@@ -36,7 +36,7 @@ before_item h raw at = if is_gates (next_section h raw) then InFirst h raw at []
 
 abbrev pub checked_header : Option Header → Result Header ReadError
 checked_header None = Err (BadHeader 0)
-checked_header (Some h) = unless (header_checks h) (Ok h)
+checked_header (Some h) = unless (binary_header_checks h) (Ok h)
 
 unfoldable pub read_header : List ℕ → Result Header ReadError
 read_header line = checked_header (header_of line)
@@ -136,6 +136,6 @@ unfoldable pub read_binary : List ℕ → Result Netlist ReadError
 read_binary bytes = read_raw bytes >>= λ all. Ok (circuit_of all.0 all.1)
 
 -- the first fault of the bytes: neither memory nor a reader has it
-pub record IsFaultOf (bytes : List ℕ) (e : ReadError) : Type 0 where
+pub record IsBinaryFaultOf (bytes : List ℕ) (e : ReadError) : Type 0 where
   pub read : read_binary bytes ≡ Err e
   pub of_bytes : is_fault_of_bytes e ≡ true

@@ -1,16 +1,16 @@
 ghost use Rattle.std.specs.Prelude.{ℕ, List, ◌<◌, ◌^◌};
-ghost use Rattle.binary_file.specs.Laws.{CountsLaw, PiecesLaw, ReadingLaw, DeltaLaws, EndsOnce};
+ghost use Rattle.binary_file.specs.Laws.{CountsLaw, BinaryPiecesLaw, BinaryReadingLaw, DeltaLaws, EndsOnce};
 
 /// Bytes are read, byte by byte, as a circuit exactly where they are a binary file of a raw circuit, and as the circuit
 /// of that raw circuit, as listed. Else what is read is a fault of the bytes.
 pub fn reading_law()
-    ensures { (bytes : List ℕ) → ReadingLaw bytes }
+    ensures { (bytes : List ℕ) → BinaryReadingLaw bytes }
 {}
 
 /// Bytes that come in pieces are fed one after the other, wherever they are cut: also inside a delta. A fault of what was
 /// fed is the fault of the whole, whatever follows.
 pub fn pieces_law()
-    ensures { (bytes more : List ℕ) → PiecesLaw bytes more }
+    ensures { (bytes more : List ℕ) → BinaryPiecesLaw bytes more }
 {}
 
 /// A binary file has as many items of each section as its header says.

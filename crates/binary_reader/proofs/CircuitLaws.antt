@@ -15,7 +15,7 @@ use Rattle.binary_file.specs.Files.{IsWithin}
 use Rattle.binary_file.specs.Items.{next_section}
 use Rattle.binary_file.specs.Reading.{circuit_of}
 use Rattle.reader_parts.proofs.PartLaws.{netlist}
-use Rattle.binary_reader.specs.Contents.{Contents, contents_of, IsAt, section_of, netlist_of}
+use Rattle.binary_reader.specs.Contents.{Contents, contents_of, IsAt, section_to_fill, netlist_of_contents}
 use Rattle.binary_reader.specs.Kept.{IsKept}
 use Rattle.binary_reader.specs.Taking.{circuit_at_end}
 use Rattle.binary_reader.proofs.ContentsLaws.{section_is, are_full}
@@ -24,9 +24,9 @@ use Rattle.binary_reader.proofs.ContentsLaws.{section_is, are_full}
 record AreAll (c : Contents) : Type 0 where
   latches : length c.latches ≡ c.header.latches
   gates : length c.gates ≡ c.header.gates
-  end : variables_end (netlist_of c).aig ≡ c.header.greatest + 1
+  end : variables_end (netlist_of_contents c).aig ≡ c.header.greatest + 1
 
-are_all : (c : Contents) → IsKept c → section_of c ≡ Symbols → AreAll c
+are_all : (c : Contents) → IsKept c → section_to_fill c ≡ Symbols → AreAll c
 are_all c kept here =
     let full = are_full c here in
     let least_latches = full.latches in
@@ -36,11 +36,11 @@ are_all c kept here =
     let total = kept.within.total in
     record { latches = omega (arith, least_latches, most_latches); gates = omega (arith, least_gates, most_gates); end = omega (arith, least_latches, most_latches, least_gates, most_gates, total) }
 
-in_range : (c : Contents) → IsKept c → section_of c ≡ Symbols → (lit : ℕ) → lit ≤ 2 * c.header.greatest + 1 → variable lit < variables_end (netlist_of c).aig
+in_range : (c : Contents) → IsKept c → section_to_fill c ≡ Symbols → (lit : ℕ) → lit ≤ 2 * c.header.greatest + 1 → variable lit < variables_end (netlist_of_contents c).aig
 in_range c kept here lit within = let end = (are_all c kept here).end in omega (arith, within, end)
 
 -- contents of which all sections are full make a graph
-pub graph_kept : (c : Contents) → IsKept c → section_of c ≡ Symbols → IsGraph (netlist_of c).aig
+pub graph_kept : (c : Contents) → IsKept c → section_to_fill c ≡ Symbols → IsGraph (netlist_of_contents c).aig
 graph_kept c kept here =
     let all = are_all c kept here in
     let end = all.end in
@@ -52,11 +52,11 @@ graph_kept c kept here =
       gates = λ k gate there. subst (λ (n : ℕ). IsGateAt (1 + c.header.inputs + n + k) gate) (sym all.latches) (kept.in_range.gates k gate there);
     }
 
-literals_of : (c : Contents) → IsKept c → section_of c ≡ Symbols → (lits : List ℕ) → All (IsWithin c.header) lits → AreLiteralsOf (netlist_of c).aig lits
+literals_of : (c : Contents) → IsKept c → section_to_fill c ≡ Symbols → (lits : List ℕ) → All (IsWithin c.header) lits → AreLiteralsOf (netlist_of_contents c).aig lits
 literals_of c kept here lits within = λ k d less. in_range c kept here (get_or lits k d) (within k d less)
 
 -- contents of which all sections are full make a circuit
-pub netlist_kept : (c : Contents) → IsKept c → section_of c ≡ Symbols → IsNetlist (netlist_of c)
+pub netlist_kept : (c : Contents) → IsKept c → section_to_fill c ≡ Symbols → IsNetlist (netlist_of_contents c)
 netlist_kept c kept here =
     let full = are_full c here in
     let all = are_all c kept here in
@@ -66,8 +66,8 @@ netlist_kept c kept here =
     let most_safety = kept.counted.safety in
     let most_sizes = kept.counted.sizes in
     let most_liveness = kept.counted.liveness in
-    subst (λ (names : SymbolTable). IsNetlist (record { aig = (netlist_of c).aig; props = (netlist_of c).props; symbols = names })) (sym kept.named.names)
-    (netlist c.header (netlist_of c).aig kept.named.symbols c.properties (record {
+    subst (λ (names : SymbolTable). IsNetlist (record { aig = (netlist_of_contents c).aig; props = (netlist_of_contents c).props; symbols = names })) (sym kept.named.names)
+    (netlist c.header (netlist_of_contents c).aig kept.named.symbols c.properties (record {
       inputs = refl;
       latches = all.latches;
       safety = omega (arith, least_safety, most_safety);
@@ -79,12 +79,12 @@ netlist_kept c kept here =
       apart = kept.named.apart;
     }))
 
-netlist_is : (h : Header) (raw : Raw) → netlist_of (contents_of h raw) ≡ circuit_of h raw
+netlist_is : (h : Header) (raw : Raw) → netlist_of_contents (contents_of h raw) ≡ circuit_of h raw
 unfolding circuit_of
 netlist_is h raw = refl
 
 -- what the end of the input gives where no item is missing
-pub ended : (c : Contents) (h : Header) (raw : Raw) (end : ℕ) → IsAt c h raw → section_of c ≡ Symbols → Ok (netlist_of c) ≡ circuit_at_end end h raw
+pub ended : (c : Contents) (h : Header) (raw : Raw) (end : ℕ) → IsAt c h raw → section_to_fill c ≡ Symbols → Ok (netlist_of_contents c) ≡ circuit_at_end end h raw
 ended c h raw end is here =
-    ap (λ (d : Contents). Ok (netlist_of d)) is ∙ ap Ok (netlist_is h raw)
+    ap (λ (d : Contents). Ok (netlist_of_contents d)) is ∙ ap Ok (netlist_is h raw)
     ∙ sym (cond-true (is_symbols (next_section h raw)) (Ok (circuit_of h raw)) (Err (Truncated end)) (ap is_symbols (sym (section_is c h raw is) ∙ here)))

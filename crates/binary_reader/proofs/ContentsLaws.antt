@@ -10,26 +10,26 @@ use Rattle.ascii_file.specs.declared.raw.Section.TheVariants.{Inputs, Latches, S
 use Rattle.ascii_file.specs.Raw.{Raw, safety_count, liveness_count}
 use Rattle.ascii_file.specs.Reading as ascii
 use Rattle.binary_file.specs.Items.{next_section, next_latch, next_gate}
-use Rattle.binary_reader.specs.Contents.{Contents, latch_of, gate_of, IsAt, section_of, latch_literal, gate_literal}
-use Rattle.binary_reader.specs.Items.{with_gate}
+use Rattle.binary_reader.specs.Contents.{Contents, latch_as_listed, gate_as_listed, IsAt, section_to_fill, latch_literal, gate_literal}
+use Rattle.binary_reader.specs.Items.{contents_with_gate}
 
 -- the section of the next item
-pub section_is : (c : Contents) (h : Header) (raw : Raw) → IsAt c h raw → section_of c ≡ next_section h raw
+pub section_is : (c : Contents) (h : Header) (raw : Raw) → IsAt c h raw → section_to_fill c ≡ next_section h raw
 unfolding next_section ascii.next_section
 section_is c h raw is =
-    ap section_of is
+    ap section_to_fill is
     ∙ ap₂ (λ (m n : ℕ). cond (nat_lt m h.latches) Latches (cond (nat_lt (length raw.safety) (safety_count h)) Safety (cond (nat_lt (length raw.sizes) h.justice) Sizes
     (cond (nat_lt (length raw.liveness) (liveness_count h raw)) Liveness (cond (nat_lt n h.gates) Gates Symbols)))))
-    (length-map raw.latches latch_of) (length-map raw.gates gate_of)
+    (length-map raw.latches latch_as_listed) (length-map raw.gates gate_as_listed)
     ∙ sym (cond-false (nat_lt (length raw.inputs) 0) Inputs _ (le-ltb (length raw.inputs) 0 (omega arith)))
 
 -- the literals of the next latch and of the next gate
 pub latch_literal_is : (c : Contents) (h : Header) (raw : Raw) → IsAt c h raw → latch_literal c ≡ next_latch h raw
-latch_literal_is c h raw is = ap latch_literal is ∙ ap (λ (n : ℕ). 2 * (h.inputs + 1 + n)) (length-map raw.latches latch_of)
+latch_literal_is c h raw is = ap latch_literal is ∙ ap (λ (n : ℕ). 2 * (h.inputs + 1 + n)) (length-map raw.latches latch_as_listed)
 
 -- the literal of the next gate by the contents is that by the raw circuit
 pub gate_literal_is : (c : Contents) (h : Header) (raw : Raw) → IsAt c h raw → gate_literal c ≡ next_gate h raw
-gate_literal_is c h raw is = ap gate_literal is ∙ ap (λ (n : ℕ). 2 * (h.inputs + h.latches + 1 + n)) (length-map raw.gates gate_of)
+gate_literal_is c h raw is = ap gate_literal is ∙ ap (λ (n : ℕ). 2 * (h.inputs + h.latches + 1 + n)) (length-map raw.gates gate_as_listed)
 
 -- the first section with room, by whether each has
 abbrev first_with_room : Bool → Bool → Bool → Bool → Bool → Section
@@ -44,7 +44,7 @@ latches_have_room false false false false true is = absurd cc
 latches_have_room false false false false false is = absurd cc
 
 -- of latches there are fewer than the header says where they come next
-pub latch_room : (c : Contents) → section_of c ≡ Latches → length c.latches < c.header.latches
+pub latch_room : (c : Contents) → section_to_fill c ≡ Latches → length c.latches < c.header.latches
 latch_room c is = ltb-true _ _ (latches_have_room _ _ _ _ _ is)
 
 gates_have_room : (a b c d e : Bool) → first_with_room a b c d e ≡ Gates → e ≡ true
@@ -56,7 +56,7 @@ gates_have_room false false false false true is = refl
 gates_have_room false false false false false is = absurd cc
 
 -- and so of gates
-pub gate_room : (c : Contents) → section_of c ≡ Gates → length c.gates < c.header.gates
+pub gate_room : (c : Contents) → section_to_fill c ≡ Gates → length c.gates < c.header.gates
 gate_room c is = ltb-true _ _ (gates_have_room _ _ _ _ _ is)
 
 gates_again : (a b c d e : Bool) → first_with_room a b c d e ≡ Gates → (again : Bool) → again ≡ true → first_with_room a b c d again ≡ Gates
@@ -67,7 +67,7 @@ gates_again false false false true e is again room = absurd cc
 gates_again false false false false e is again room = ap (λ (x : Bool). cond x Gates Symbols) room
 
 -- gates still come next after a gate, where one is missing then
-pub gates_stay : (c : Contents) (gate : Gate) → section_of c ≡ Gates → length (c.gates ++ gate ∷ []) < c.header.gates → section_of (with_gate c gate) ≡ Gates
+pub gates_stay : (c : Contents) (gate : Gate) → section_to_fill c ≡ Gates → length (c.gates ++ gate ∷ []) < c.header.gates → section_to_fill (contents_with_gate c gate) ≡ Gates
 gates_stay c gate is room = gates_again _ _ _ _ _ is (nat_lt (length (c.gates ++ gate ∷ [])) c.header.gates) (lt-ltb (length (c.gates ++ gate ∷ [])) c.header.gates room)
 
 none_has_room : (a b c d e : Bool) → first_with_room a b c d e ≡ Symbols → (a ≡ false) × (b ≡ false) × (c ≡ false) × (d ≡ false) × (e ≡ false)
@@ -92,7 +92,7 @@ pub record AreFull (c : Contents) : Type 0 where
   pub gates : c.header.gates ≤ length c.gates
 
 -- where symbols come next, all other sections are full
-pub are_full : (c : Contents) → section_of c ≡ Symbols → AreFull c
+pub are_full : (c : Contents) → section_to_fill c ≡ Symbols → AreFull c
 are_full c is =
     let full = none_has_room _ _ _ _ _ is in
     record {

@@ -10,7 +10,7 @@ use Rattle.binary_file.specs.declared.deltas.decode.DeltaError.{DeltaError}
 use Rattle.binary_file.specs.declared.deltas.decode.DeltaError.TheVariants.{TooLong}
 use Rattle.binary_file.specs.Reading.{State, feed}
 use Rattle.binary_file.proofs.StepLaws.{delta_fed}
-use Rattle.binary_reader.specs.Cutting.{BeginsWithDelta, AreDeltaStates, IsTaken}
+use Rattle.binary_reader.specs.Cutting.{BeginsWithDelta, AreDeltaStates, IsDeltaTaken}
 
 -- ---- deltas that are whole
 
@@ -102,11 +102,11 @@ module _ (at : ℕ) (state : List ℕ → State) (end_delta : List ℕ → Resul
   fifth_byte old left b high four = goes_on old left b high ∙ ap (λ (r : Result State ReadError). r >>= λ s. feed s left) (cond-true (nat_eq (length old) 4) (Err (BadDelta at)) (Ok (state (old ++ b ∷ []))) (eq-eqb (length old) 4 four))
 
   -- a byte below 128 ends a delta, whose number it gives
-  pub taken_last : (old left : List ℕ) (b : ℕ) → b < 128 → IsTaken state end_delta old [] (b ∷ left) (Some (delta_value (old ++ b ∷ []))) left
+  pub taken_last : (old left : List ℕ) (b : ℕ) → b < 128 → IsDeltaTaken state end_delta old [] (b ∷ left) (Some (delta_value (old ++ b ∷ []))) left
   taken_last old left b small = (old ++ b ∷ [], refl, last_byte old left b small, omega (arith, length_push old b))
 
   -- a byte with the top bit set goes on with a delta of fewer than four bytes before it
-  pub taken_more : (old left : List ℕ) (b : ℕ) → 128 ≤ b → length old < 4 → IsTaken state end_delta old (old ++ b ∷ []) (b ∷ left) None left
+  pub taken_more : (old left : List ℕ) (b : ℕ) → 128 ≤ b → length old < 4 → IsDeltaTaken state end_delta old (old ++ b ∷ []) (b ∷ left) None left
   taken_more old left b high few = (
     goes_on old left b high
         ∙ ap (λ (r : Result State ReadError). r >>= λ s. feed s left) (cond-false (nat_eq (length old) 4) (Err (BadDelta at)) (Ok (state (old ++ b ∷ []))) (ne_eqb (length old) 4 (λ e. absurd (omega (arith, e, few))))),
@@ -114,7 +114,7 @@ module _ (at : ℕ) (state : List ℕ → State) (end_delta : List ℕ → Resul
   )
 
   -- a delta that the bytes begin with is taken where none has begun
-  pub whole_taken : (piece left : List ℕ) (number : ℕ) → BeginsWithDelta piece number left → IsTaken state end_delta [] [] piece (Some number) left
+  pub whole_taken : (piece left : List ℕ) (number : ℕ) → BeginsWithDelta piece number left → IsDeltaTaken state end_delta [] [] piece (Some number) left
   whole_taken piece left number begins = (
     begins.delta,
     begins.value,
@@ -135,16 +135,16 @@ pub record Pushed (old new : List ℕ) (b : ℕ) (result : Result (Option ℕ) D
 
 -- what a byte makes of a delta without a fault is what reading makes of it
 pub taken_where_pushed : (at : ℕ) (state : List ℕ → State) (end_delta : List ℕ → Result State ReadError) → AreDeltaStates at state end_delta
-    → (old new piece left : List ℕ) (b : ℕ) (number : Option ℕ) → piece ≡ b ∷ left → Pushed old new b (Ok number) → IsTaken state end_delta old new piece number left
+    → (old new piece left : List ℕ) (b : ℕ) (number : Option ℕ) → piece ≡ b ∷ left → Pushed old new b (Ok number) → IsDeltaTaken state end_delta old new piece number left
 taken_where_pushed at state end_delta are old new piece left b number parts pushed =
-    subst (λ (bytes : List ℕ). IsTaken state end_delta old new bytes number left) (sym parts) (elim (cases_lt b 128) [
+    subst (λ (bytes : List ℕ). IsDeltaTaken state end_delta old new bytes number left) (sym parts) (elim (cases_lt b 128) [
       | inl small ↦
           let is = pushed.last small in
-          subst (λ (n : Option ℕ). IsTaken state end_delta old new (b ∷ left) n left) (sym (same_number _ _ is.0)) (subst (λ (n : List ℕ). IsTaken state end_delta old n (b ∷ left) (Some (delta_value (old ++ b ∷ []))) left) (sym is.1) (taken_last at state end_delta are old left b small))
+          subst (λ (n : Option ℕ). IsDeltaTaken state end_delta old new (b ∷ left) n left) (sym (same_number _ _ is.0)) (subst (λ (n : List ℕ). IsDeltaTaken state end_delta old n (b ∷ left) (Some (delta_value (old ++ b ∷ []))) left) (sym is.1) (taken_last at state end_delta are old left b small))
       | inr high ↦ elim (cases_lt (length old) 4) [
         | inl few ↦
             let is = pushed.more high few in
-            subst (λ (n : Option ℕ). IsTaken state end_delta old new (b ∷ left) n left) (sym (same_number _ _ is.0)) (subst (λ (n : List ℕ). IsTaken state end_delta old n (b ∷ left) None left) (sym is.1) (taken_more at state end_delta are old left b high few))
+            subst (λ (n : Option ℕ). IsDeltaTaken state end_delta old new (b ∷ left) n left) (sym (same_number _ _ is.0)) (subst (λ (n : List ℕ). IsDeltaTaken state end_delta old n (b ∷ left) None left) (sym is.1) (taken_more at state end_delta are old left b high few))
         | inr four ↦ absurd (no_error _ (pushed.too_long high (full (length old) four pushed.few)).0)
       ]
     ])

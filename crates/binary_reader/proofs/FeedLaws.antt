@@ -21,7 +21,7 @@ use Rattle.binary_reader.specs.Contents.{Contents}
 use Rattle.binary_reader.specs.declared.items.Items.{Items}
 use Rattle.binary_reader.specs.declared.opened.Opened.{Opened}
 use Rattle.binary_reader.specs.declared.opened.Opened.TheVariants.{Comment}
-use Rattle.binary_reader.specs.Cutting.{IsTaken}
+use Rattle.binary_reader.specs.Cutting.{IsDeltaTaken}
 use Rattle.binary_reader.specs.Opened.{IsInNumbers, IsInSymbol, IsInComment, IsOpened}
 use Rattle.binary_reader.specs.Standing.{Stands, IsFed}
 
@@ -163,17 +163,17 @@ pub record DeltaEnd (at end : ℕ) (state : State) (end_delta : List ℕ → Res
 module _ (at offset end after : ℕ) (states : List ℕ → State) (end_delta : List ℕ → Result State ReadError) (state : State) (old new piece left : List ℕ) (is : state ≡ states old) (begun : at + length old ≡ offset)
     (place : offset + length piece ≡ end) where
   -- a delta whose last byte came ends there
-  pub delta_ended : (more : Option ℕ) (number : ℕ) → more ≡ Some number → ((o : ℕ) → o + length left ≡ end → after ≡ o) → IsTaken states end_delta old new piece more left → DeltaEnd at end state end_delta piece left number after
+  pub delta_ended : (more : Option ℕ) (number : ℕ) → more ≡ Some number → ((o : ℕ) → o + length left ≡ end → after ≡ o) → IsDeltaTaken states end_delta old new piece more left → DeltaEnd at end state end_delta piece left number after
   delta_ended more number is_some next taken =
-      let t = subst (λ (m : Option ℕ). IsTaken states end_delta old new piece m left) is_some taken in
+      let t = subst (λ (m : Option ℕ). IsDeltaTaken states end_delta old new piece m left) is_some taken in
       let here : at + length t.0 + length left ≡ end = let lengths = t.3 in omega (arith, lengths, begun, place) in
       let same : after ≡ at + length t.0 = next (at + length t.0) here in
       record { delta = t.0; value = t.1; fed = ap (λ (s : State). feed s piece) is ∙ t.2; at_after = sym same; place = ap (λ (n : ℕ). n + length left) same ∙ here }
 
   -- where a delta's last byte didn't come, all of the piece was taken
-  pub delta_open : (more : Option ℕ) → more ≡ None → IsTaken states end_delta old new piece more left → (feed state piece ≡ feed (states new) left) × (at + length new + length left ≡ end)
+  pub delta_open : (more : Option ℕ) → more ≡ None → IsDeltaTaken states end_delta old new piece more left → (feed state piece ≡ feed (states new) left) × (at + length new + length left ≡ end)
   delta_open more is_none taken =
-      let t = subst (λ (m : Option ℕ). IsTaken states end_delta old new piece m left) is_none taken in
+      let t = subst (λ (m : Option ℕ). IsDeltaTaken states end_delta old new piece m left) is_none taken in
       (ap (λ (s : State). feed s piece) is ∙ t.0, let lengths = t.1 in omega (arith, lengths, begun, place))
 
 -- in the comment nothing changes

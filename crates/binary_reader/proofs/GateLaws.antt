@@ -12,13 +12,13 @@ use Rattle.ascii_file.specs.Items.{GateItem}
 use Rattle.ascii_file.specs.Reading.{with_item}
 use Rattle.binary_file.specs.Items.{next_gate}
 use Rattle.binary_file.specs.Reading.{InSecond, before_item, end_first, end_second}
-use Rattle.binary_reader.specs.Contents.{Contents, gate_of, contents_of, IsAt}
-use Rattle.binary_reader.specs.Items.{with_gate}
-use Rattle.binary_reader.specs.Taking.{read_first, read_second}
+use Rattle.binary_reader.specs.Contents.{Contents, gate_as_listed, contents_of, IsAt}
+use Rattle.binary_reader.specs.Items.{contents_with_gate}
+use Rattle.binary_reader.specs.Taking.{read_first_delta, read_second_delta}
 use Rattle.binary_reader.proofs.TakingLaws.{Agrees}
 
 -- the end of a first delta
-pub end_first_is : (h : Header) (raw : Raw) (at : ℕ) (delta : List ℕ) → end_first h raw at delta ≡ (read_first h raw at (delta_value delta) >>= λ rhs0. Ok (InSecond h raw (at + length delta) rhs0 []))
+pub end_first_is : (h : Header) (raw : Raw) (at : ℕ) (delta : List ℕ) → end_first h raw at delta ≡ (read_first_delta h raw at (delta_value delta) >>= λ rhs0. Ok (InSecond h raw (at + length delta) rhs0 []))
 unfolding end_first
 end_first_is h raw at delta = by_test (nat_eq (delta_value delta) 0 || nat_lt (next_gate h raw) (delta_value delta))
   where
@@ -28,7 +28,7 @@ end_first_is h raw at delta = by_test (nat_eq (delta_value delta) 0 || nat_lt (n
     by_test false = refl
 
 -- the end of a second delta
-pub end_second_is : (h : Header) (raw : Raw) (at rhs0 : ℕ) (delta : List ℕ) → end_second h raw at rhs0 delta ≡ (read_second h raw at rhs0 (delta_value delta) >>= λ more. Ok (before_item h more (at + length delta)))
+pub end_second_is : (h : Header) (raw : Raw) (at rhs0 : ℕ) (delta : List ℕ) → end_second h raw at rhs0 delta ≡ (read_second_delta h raw at rhs0 (delta_value delta) >>= λ more. Ok (before_item h more (at + length delta)))
 unfolding end_second
 end_second_is h raw at rhs0 delta = by_test (nat_lt rhs0 (delta_value delta))
   where
@@ -39,10 +39,10 @@ end_second_is h raw at rhs0 delta = by_test (nat_lt rhs0 (delta_value delta))
 
 -- the gate of a first fan-in and a second delta that isn't above it
 pub gate_agrees : (c : Contents) (h : Header) (raw : Raw) (at rhs0 delta : ℕ) → IsAt c h raw → delta ≤ rhs0
-    → Agrees h (Ok (with_gate c (record { rhs0 = rhs0; rhs1 = rhs0 - delta }))) (read_second h raw at rhs0 delta)
+    → Agrees h (Ok (contents_with_gate c (record { rhs0 = rhs0; rhs1 = rhs0 - delta }))) (read_second_delta h raw at rhs0 delta)
 gate_agrees c h raw at rhs0 delta is most = (
   with_item raw (GateItem (record { lhs = next_gate h raw; rhs0 = rhs0; rhs1 = rhs0 - delta })),
   cond-false (nat_lt rhs0 delta) (Err (BadDelta at)) _ (le-ltb rhs0 delta most),
-  ap (λ (d : Contents). with_gate d (record { rhs0 = rhs0; rhs1 = rhs0 - delta })) is
-      ∙ ap (λ (gates : List Gate). record (contents_of h raw) { gates = gates }) (sym (map_push gate_of raw.gates (record { lhs = next_gate h raw; rhs0 = rhs0; rhs1 = rhs0 - delta }))),
+  ap (λ (d : Contents). contents_with_gate d (record { rhs0 = rhs0; rhs1 = rhs0 - delta })) is
+      ∙ ap (λ (gates : List Gate). record (contents_of h raw) { gates = gates }) (sym (map_push gate_as_listed raw.gates (record { lhs = next_gate h raw; rhs0 = rhs0; rhs1 = rhs0 - delta }))),
 )

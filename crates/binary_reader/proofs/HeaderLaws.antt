@@ -13,22 +13,22 @@ use Rattle.reader_parts.specs.Limits.{limits, limited}
 use Rattle.reader_parts.proofs.HeaderLaws.{cut, IsCuttable, formed, formed-limited, spelt, header-of-row}
 use Rattle.binary_file.specs.Headers.{header_of, IsHeaderWithin}
 use Rattle.binary_file.specs.Reading.{checked_header, read_header}
-use Rattle.binary_reader.specs.Header.{is_off}
+use Rattle.binary_reader.specs.Header.{is_miscounted}
 
-off-false : (h : Header) → is_off h ≡ false → h.inputs + h.latches + h.gates ≡ h.greatest
+off-false : (h : Header) → is_miscounted h ≡ false → h.inputs + h.latches + h.gates ≡ h.greatest
 off-false h e = by_test (nat_eq (h.inputs + h.latches + h.gates) h.greatest) refl e
   where
     by_test : (test : Bool) → nat_eq (h.inputs + h.latches + h.gates) h.greatest ≡ test → not test ≡ false → h.inputs + h.latches + h.gates ≡ h.greatest
     by_test true is e = eqb-true (h.inputs + h.latches + h.gates) h.greatest is
     by_test false is e = absurd cc
 
-off-cuttable : IsCuttable is_off
+off-cuttable : IsCuttable is_miscounted
 off-cuttable = record {
   bounds = λ h e. omega (arith, off-false h e);
   cuts = λ h greatest. by_test h greatest (nat_eq (h.inputs + h.latches + h.gates) h.greatest) refl;
 }
   where
-    by_test : (h : Header) → h.greatest ≤ 2 ^ 28 - 1 → (test : Bool) → nat_eq (h.inputs + h.latches + h.gates) h.greatest ≡ test → is_off (cut h) ≡ is_off h
+    by_test : (h : Header) → h.greatest ≤ 2 ^ 28 - 1 → (test : Bool) → nat_eq (h.inputs + h.latches + h.gates) h.greatest ≡ test → is_miscounted (cut h) ≡ is_miscounted h
     by_test h greatest true is =
         let same = eqb-true (h.inputs + h.latches + h.gates) h.greatest is in
         ap not (eq-eqb ((cut h).inputs + (cut h).latches + (cut h).gates) (cut h).greatest (omega (arith, same, greatest)) ∙ sym is)
@@ -38,25 +38,25 @@ off-cuttable = record {
 
 -- the header of a binary file by its numbers cut to 32 bits is the header that reading gives
 pub read-header : (row : Option (List ℕ)) (line : List ℕ) → row ≡ header_row (codes "aig ") line
-    → (limited (option_and_then header_in row) >>= λ h. unless ((is_off h, MaxIndex 0) ∷ []) (Ok h)) ≡ read_header line
+    → (limited (option_and_then header_in row) >>= λ h. unless ((is_miscounted h, MaxIndex 0) ∷ []) (Ok h)) ≡ read_header line
 unfolding read_header header_of
 read-header row line e =
-    formed-limited is_off (option_and_then header_in row) ∙ ap (λ (r : Option (List ℕ)). formed is_off (option_and_then header_in r)) e ∙ header-of-row is_off off-cuttable (codes "aig ") line
+    formed-limited is_miscounted (option_and_then header_in row) ∙ ap (λ (r : Option (List ℕ)). formed is_miscounted (option_and_then header_in r)) e ∙ header-of-row is_miscounted off-cuttable (codes "aig ") line
     ∙ by_option (spelt (codes "aig ") line)
   where
-    by_option : (o : Option Header) → formed is_off o ≡ checked_header o
+    by_option : (o : Option Header) → formed is_miscounted o ≡ checked_header o
     by_option None = refl
     by_option (Some h) = refl
 
 -- what the checks say of a header that is taken
-pub is-within : (o : Option Header) (h g : Header) → limited o ≡ Ok h → unless ((is_off h, MaxIndex 0) ∷ []) (Ok h) ≡ Ok g → IsHeaderWithin g
+pub is-within : (o : Option Header) (h g : Header) → limited o ≡ Ok h → unless ((is_miscounted h, MaxIndex 0) ∷ []) (Ok h) ≡ Ok g → IsHeaderWithin g
 is-within None h g first second = absurd cc
 is-within (Some f) h g first second =
     let limit = unless_ok (limits f) (Ok f) h first in
-    let total = unless_ok ((is_off h, MaxIndex 0) ∷ []) (Ok h) g second in
+    let total = unless_ok ((is_miscounted h, MaxIndex 0) ∷ []) (Ok h) g second in
     subst IsHeaderWithin (same_ok h g total.1) (within h (subst (λ (x : Header). Passes (limits x)) (same_ok f h limit.1) limit.0) total.0.0)
   where
-    within : (h : Header) → Passes (limits h) → is_off h ≡ false → IsHeaderWithin h
+    within : (h : Header) → Passes (limits h) → is_miscounted h ≡ false → IsHeaderWithin h
     within h (m, (o, (b, (c, (j, (f, end)))))) e = record {
       greatest = ltb-false (2 ^ 28 - 1) h.greatest m;
       outputs = ltb-false (2 ^ 24) h.outputs o;

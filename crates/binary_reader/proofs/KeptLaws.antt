@@ -15,10 +15,10 @@ use Rattle.ascii_file.proofs.DistinctItemLaws.{pairs_from}
 use Rattle.reader_parts.specs.Names.{AreNamesOf, with_new}
 use Rattle.binary_reader.specs.Contents.{Contents, gate_literal}
 use Rattle.binary_reader.specs.Kept.{AreNamed, IsKept}
-use Rattle.binary_reader.specs.Items.{with_gate}
+use Rattle.binary_reader.specs.Items.{contents_with_gate}
 
 -- one gate more, below the literal of the next one
-pub gate_kept : (c : Contents) (gate : Gate) → length c.gates < c.header.gates → gate.rhs1 ≤ gate.rhs0 → gate.rhs0 < gate_literal c → IsKept c → IsKept (with_gate c gate)
+pub gate_kept : (c : Contents) (gate : Gate) → length c.gates < c.header.gates → gate.rhs1 ≤ gate.rhs0 → gate.rhs0 < gate_literal c → IsKept c → IsKept (contents_with_gate c gate)
 gate_kept c gate room ordered below kept =
     let counted = kept.counted in
     let in_range = kept.in_range in

@@ -23,7 +23,7 @@ use Rattle.reader_parts.specs.Rows.{clamped, up_to_nine, row_of}
 use Rattle.binary_file.specs.Headers.{IsHeaderWithin}
 use Rattle.binary_file.specs.Items.{next_section, next_latch, latch_in, item_in}
 use Rattle.binary_file.specs.Reading.{take_item, read_line}
-use Rattle.binary_reader.specs.Contents.{Contents, latch_of, contents_of, IsAt, section_of, latch_literal}
+use Rattle.binary_reader.specs.Contents.{Contents, latch_as_listed, contents_of, IsAt, section_to_fill, latch_literal}
 use Rattle.binary_reader.specs.Items.{with_latch, with_size, literal_within, safety_taken, size_taken, liveness_taken, reset_in, latch_with, latch_taken}
 use Rattle.binary_reader.proofs.ContentsLaws.{section_is, latch_literal_is, latch_room}
 use Rattle.binary_reader.proofs.TakingLaws.{Agrees}
@@ -127,7 +127,7 @@ module _ (h : Header) (at : ℕ) (small : h.greatest < 2 ^ 28) where
           with_item raw (LatchItem latch),
           refl,
           ap (λ (r : Reset). with_latch (contents_of h raw) (record { next = latch.next; reset = r })) (sym is)
-              ∙ ap (λ (latches : List Latch). record (contents_of h raw) { latches = latches }) (sym (map_push latch_of raw.latches latch)),
+              ∙ ap (λ (latches : List Latch). record (contents_of h raw) { latches = latches }) (sym (map_push latch_as_listed raw.latches latch)),
         )
 
         by_tests : (a b d : Bool) → nat_eq latch.reset 0 ≡ a → nat_eq latch.reset 1 ≡ b
@@ -176,11 +176,11 @@ module _ (c : Contents) (h : Header) (raw : Raw) (at : ℕ) (line : List ℕ) (i
   small = let most = within.greatest in omega (arith, most)
 
   -- reading, by the section of the contents
-  in_section : (section : Section) → section_of c ≡ section → next_section h raw ≡ section
+  in_section : (section : Section) → section_to_fill c ≡ section → next_section h raw ≡ section
   in_section section here = sym (section_is c h raw is) ∙ here
 
   -- a line of a section whose items have the form
-  by_form : (section : Section) (form : List ℕ → Option Item) (taken : Contents → ℕ → List ℕ → Result Contents ReadError) (ns : List ℕ) → section_of c ≡ section → row_of line ≡ Some ns
+  by_form : (section : Section) (form : List ℕ → Option Item) (taken : Contents → ℕ → List ℕ → Result Contents ReadError) (ns : List ℕ) → section_to_fill c ≡ section → row_of line ≡ Some ns
       → by_section h raw at line section ≡ take_item h raw at (BadLine at) (option_and_then form (numbers_of line))
       → ((all : List ℕ) → Agrees h (taken (contents_of h raw) at (map clamped all)) (take_item h raw at (BadLine at) (form all))) → Agrees h (taken c at ns) (by_section h raw at line (next_section h raw))
   by_form section form taken ns here row formed agrees =
@@ -189,22 +189,22 @@ module _ (c : Contents) (h : Header) (raw : Raw) (at : ℕ) (line : List ℕ) (i
       (subst (Agrees h (taken (contents_of h raw) at ns)) (sym formed) (by_numbers h raw at line ns form taken row agrees)))
 
   -- the line of an output, a bad state or a constraint is taken as reading takes it
-  pub line_safety : (ns : List ℕ) → section_of c ≡ Safety → row_of line ≡ Some ns → Agrees h (safety_taken c at ns) (read_line h raw at line)
+  pub line_safety : (ns : List ℕ) → section_to_fill c ≡ Safety → row_of line ≡ Some ns → Agrees h (safety_taken c at ns) (read_line h raw at line)
   unfolding read_line item_of
   line_safety ns here row = by_form Safety (single SafetyItem) safety_taken ns here row refl (safety_agrees h at small raw)
 
   -- the line of a justice or a fairness literal is taken as reading takes it
-  pub line_liveness : (ns : List ℕ) → section_of c ≡ Liveness → row_of line ≡ Some ns → Agrees h (liveness_taken c at ns) (read_line h raw at line)
+  pub line_liveness : (ns : List ℕ) → section_to_fill c ≡ Liveness → row_of line ≡ Some ns → Agrees h (liveness_taken c at ns) (read_line h raw at line)
   unfolding read_line item_of
   line_liveness ns here row = by_form Liveness (single LivenessItem) liveness_taken ns here row refl (liveness_agrees h at small raw)
 
   -- the line of a justice property's size is taken as reading takes it
-  pub line_size : (ns : List ℕ) → section_of c ≡ Sizes → row_of line ≡ Some ns → Agrees h (size_taken c at ns) (read_line h raw at line)
+  pub line_size : (ns : List ℕ) → section_to_fill c ≡ Sizes → row_of line ≡ Some ns → Agrees h (size_taken c at ns) (read_line h raw at line)
   unfolding read_line item_of
   line_size ns here row = by_form Sizes (single SizeItem) size_taken ns here row refl (size_agrees h at small raw)
 
   -- the line of a latch is taken as reading takes it
-  pub line_latch : (ns : List ℕ) → section_of c ≡ Latches → row_of line ≡ Some ns → Agrees h (latch_taken c at ns) (read_line h raw at line)
+  pub line_latch : (ns : List ℕ) → section_to_fill c ≡ Latches → row_of line ≡ Some ns → Agrees h (latch_taken c at ns) (read_line h raw at line)
   unfolding read_line
   line_latch ns here row =
       let room : length c.latches < c.header.latches = latch_room c here in

@@ -13,13 +13,13 @@ use Rattle.ascii_file.specs.Raw.{Raw}
 use Rattle.ascii_file.proofs.CheckLaws.{same_ok}
 use Rattle.binary_file.specs.Items.{next_section, next_gate}
 use Rattle.binary_file.specs.Reading.{State, InFirst, InSecond, InLine, is_gates, before_item, end_first, end_second, feed}
-use Rattle.binary_reader.specs.Contents.{Contents, IsAt, section_of, gate_literal}
+use Rattle.binary_reader.specs.Contents.{Contents, IsAt, section_to_fill, gate_literal}
 use Rattle.binary_reader.specs.Cutting.{BeginsWithGate, IsWholeGate}
 use Rattle.binary_reader.specs.declared.delta.WholeGate.{WholeGate}
-use Rattle.binary_reader.specs.Items.{with_gate}
+use Rattle.binary_reader.specs.Items.{contents_with_gate}
 use Rattle.binary_reader.specs.Opened.{IsInFirst}
 use Rattle.binary_reader.specs.Standing.{Stands, IsFed}
-use Rattle.binary_reader.specs.Taking.{AreGatesTaken, read_first}
+use Rattle.binary_reader.specs.Taking.{AreGatesTaken, read_first_delta}
 use Rattle.binary_reader.specs.declared.items.Items.{Items}
 use Rattle.binary_reader.proofs.ContentsLaws.{section_is, gate_literal_is, gates_stay}
 use Rattle.binary_reader.proofs.CuttingLaws.{whole_taken}
@@ -55,7 +55,7 @@ record GateRead (h : Header) (raw : Raw) (at : ℕ) (new : Contents) (bytes rest
   pub read : feed (InFirst h raw at []) bytes ≡ feed (before_item h more after) rest
 
 gate_read : (h : Header) (raw : Raw) (at : ℕ) (c : Contents) (rhs0 rhs1 : ℕ) (bytes rest : List ℕ) → IsAt c h raw → BeginsWithGate (gate_literal c) rhs0 rhs1 bytes rest
-    → GateRead h raw at (with_gate c (record { rhs0 = rhs0; rhs1 = rhs1 })) bytes rest
+    → GateRead h raw at (contents_with_gate c (record { rhs0 = rhs0; rhs1 = rhs1 })) bytes rest
 gate_read h raw at c rhs0 rhs1 bytes rest is gate =
     let first = gate.first in
     let second = gate.second in
@@ -64,7 +64,7 @@ gate_read h raw at c rhs0 rhs1 bytes rest is gate =
     let below : rhs0 + first ≡ next_gate h raw = gate.below ∙ gate_literal_is c h raw is in
     let one = whole_taken at (InFirst h raw at) (end_first h raw at) (λ delta b. refl) bytes gate.middle first gate.begins in
     let middle : ℕ = at + length one.0 in
-    let fan_in : Ok rhs0 ≡ read_first h raw at first =
+    let fan_in : Ok rhs0 ≡ read_first_delta h raw at first =
     sym (cond-false (nat_eq first 0 || nat_lt (next_gate h raw) first) (Err (BadDelta at)) (Ok (next_gate h raw - first))
     (or_from (nat_eq first 0) (nat_lt (next_gate h raw) first) (ne_eqb first 0 (λ e. absurd (omega (arith, e, some)))) (le-ltb (next_gate h raw) first (omega (arith, below))))
     ∙ ap (λ (n : ℕ). Ok n) (omega (arith, below))) in
@@ -75,7 +75,7 @@ gate_read h raw at c rhs0 rhs1 bytes rest is gate =
     record {
       more = agrees.0;
       after = middle + length two.0;
-      contents = subst (λ (n : ℕ). IsAt (with_gate c (record { rhs0 = rhs0; rhs1 = n })) h agrees.0) (omega (arith, ordered)) agrees.2;
+      contents = subst (λ (n : ℕ). IsAt (contents_with_gate c (record { rhs0 = rhs0; rhs1 = n })) h agrees.0) (omega (arith, ordered)) agrees.2;
       place = omega (arith, lengths, more_lengths);
       read =
           one.2
@@ -86,9 +86,9 @@ gate_read h raw at c rhs0 rhs1 bytes rest is gate =
 
 -- one more whole gate is taken of the bytes that were left, and a gate comes next where one is missing
 pub gate_taken : (h : Header) (raw : Raw) (at : ℕ) (c new : Contents) (lhs : ℕ) (gate : WholeGate) (bytes left : List ℕ)
-    → AreGatesTaken h raw at c bytes left → section_of c ≡ Gates → lhs ≡ gate_literal c → IsWholeGate lhs left gate → gate.len ≤ length left → length left ≤ length bytes
-    → ◌≡◌ {A = Result Contents ReadError} (Ok (with_gate c (record { rhs0 = gate.rhs0; rhs1 = gate.rhs1 }))) (Ok new)
-    → AreGatesTaken h raw at new bytes (take (length left - gate.len) (drop gate.len left)) × (length new.gates < new.header.gates → section_of new ≡ Gates)
+    → AreGatesTaken h raw at c bytes left → section_to_fill c ≡ Gates → lhs ≡ gate_literal c → IsWholeGate lhs left gate → gate.len ≤ length left → length left ≤ length bytes
+    → ◌≡◌ {A = Result Contents ReadError} (Ok (contents_with_gate c (record { rhs0 = gate.rhs0; rhs1 = gate.rhs1 }))) (Ok new)
+    → AreGatesTaken h raw at new bytes (take (length left - gate.len) (drop gate.len left)) × (length new.gates < new.header.gates → section_to_fill new ≡ Gates)
 gate_taken h raw at c new lhs gate bytes left taken here same whole within fewer e =
     let g : Gate = record { rhs0 = gate.rhs0; rhs1 = gate.rhs1 } in
     let rest : List ℕ = drop gate.len left in
@@ -98,7 +98,7 @@ gate_taken h raw at c new lhs gate bytes left taken here same whole within fewer
     let next_place = next.place in
     let some = whole.0 in
     let shorter : length rest < length left = omega (arith, some, within, length-drop gate.len left) in
-    let after : AreGatesTaken h raw at (with_gate c g) bytes rest = record {
+    let after : AreGatesTaken h raw at (contents_with_gate c g) bytes rest = record {
       more = next.more;
       after = next.after;
       contents = next.contents;
@@ -106,8 +106,8 @@ gate_taken h raw at c new lhs gate bytes left taken here same whole within fewer
       read = taken.read ∙ ap (λ (s : State). feed s left) (before_gate h taken.more taken.after (sym (section_is c h taken.more taken.contents) ∙ here)) ∙ next.read;
       none = λ all. absurd (omega (arith, all, fewer, shorter));
     } in
-    subst (λ (d : Contents). AreGatesTaken h raw at d bytes (take (length left - gate.len) (drop gate.len left)) × (length d.gates < d.header.gates → section_of d ≡ Gates)) (same_ok (with_gate c g) new e)
-    (subst (λ (bs : List ℕ). AreGatesTaken h raw at (with_gate c g) bytes bs) (sym (take_rest left gate.len)) after, λ room. gates_stay c g here room)
+    subst (λ (d : Contents). AreGatesTaken h raw at d bytes (take (length left - gate.len) (drop gate.len left)) × (length d.gates < d.header.gates → section_to_fill d ≡ Gates)) (same_ok (contents_with_gate c g) new e)
+    (subst (λ (bs : List ℕ). AreGatesTaken h raw at (contents_with_gate c g) bytes bs) (sym (take_rest left gate.len)) after, λ room. gates_stay c g here room)
 
 -- where no byte of a delta has come it is empty
 pub no_bytes : (delta : List ℕ) (test : Bool) → test ≡ nat_eq (length delta) 0 → test ≡ true → delta ≡ []

@@ -23,19 +23,19 @@ pub record Contents : Type 0 where
   pub names : Symbols
 
 -- a latch and a gate of the circuit by their numbers in the file
-abbrev pub latch_of : RawLatch → Latch
-latch_of latch = record { next = latch.next; reset = reset_of latch.reset }
+abbrev pub latch_as_listed : RawLatch → Latch
+latch_as_listed latch = record { next = latch.next; reset = reset_of latch.reset }
 
-abbrev pub gate_of : RawGate → Gate
-gate_of gate = record { rhs0 = gate.rhs0; rhs1 = gate.rhs1 }
+abbrev pub gate_as_listed : RawGate → Gate
+gate_as_listed gate = record { rhs0 = gate.rhs0; rhs1 = gate.rhs1 }
 
 -- the contents of a raw circuit
 abbrev pub contents_of : Header → Raw → Contents
 contents_of h raw = record {
   header = h;
-  latches = map latch_of raw.latches;
+  latches = map latch_as_listed raw.latches;
   properties = record { safety = raw.safety; sizes = raw.sizes; liveness = raw.liveness };
-  gates = map gate_of raw.gates;
+  gates = map gate_as_listed raw.gates;
   names = symbols_of raw.symbols;
 }
 
@@ -44,8 +44,8 @@ abbrev pub IsAt : Contents → Header → Raw → Type 0
 IsAt c h raw = c ≡ contents_of h raw
 
 -- the first section that isn't full
-abbrev pub section_of : Contents → Section
-section_of c =
+abbrev pub section_to_fill : Contents → Section
+section_to_fill c =
     if nat_lt (length c.latches) c.header.latches then section.Latches else (if nat_lt (length c.properties.safety) (safety_count c.header) then section.Safety
     else (if nat_lt (length c.properties.sizes) c.header.justice then section.Sizes else (if nat_lt (length c.properties.liveness) (sum c.properties.sizes + c.header.fairness) then section.Liveness
     else (if nat_lt (length c.gates) c.header.gates then section.Gates else section.Symbols))))
@@ -58,8 +58,8 @@ abbrev pub gate_literal : Contents → ℕ
 gate_literal c = 2 * (c.header.inputs + c.header.latches + 1 + length c.gates)
 
 -- the circuit of the contents, where all sections are full
-abbrev pub netlist_of : Contents → Netlist
-netlist_of c = record {
+abbrev pub netlist_of_contents : Contents → Netlist
+netlist_of_contents c = record {
   aig = record { inputs = c.header.inputs; latches = c.latches; gates = c.gates };
   props = props_of c.header c.properties.safety c.properties.sizes c.properties.liveness;
   symbols = c.names;

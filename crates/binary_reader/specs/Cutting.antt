@@ -38,7 +38,7 @@ abbrev pub AreDeltaStates : ℕ → (List ℕ → State) → (List ℕ → Resul
 AreDeltaStates at state end_delta = (delta : List ℕ) (b : ℕ) → step (state delta) b ≡ delta_step at delta b (state (delta ++ b ∷ [])) end_delta
 
 -- from a delta begun bytes were taken: up to its last byte, or not so far
-abbrev pub IsTaken : (List ℕ → State) → (List ℕ → Result State ReadError) → List ℕ → List ℕ → List ℕ → Option ℕ → List ℕ → Type 0
-IsTaken state end_delta old new piece None left = (feed (state old) piece ≡ feed (state new) left) × (length new + length left ≡ length old + length piece)
-IsTaken state end_delta old new piece (Some number) left =
+abbrev pub IsDeltaTaken : (List ℕ → State) → (List ℕ → Result State ReadError) → List ℕ → List ℕ → List ℕ → Option ℕ → List ℕ → Type 0
+IsDeltaTaken state end_delta old new piece None left = (feed (state old) piece ≡ feed (state new) left) × (length new + length left ≡ length old + length piece)
+IsDeltaTaken state end_delta old new piece (Some number) left =
     (delta : List ℕ) × (number ≡ delta_value delta) × (feed (state old) piece ≡ (end_delta delta >>= λ s. feed s left)) × (length delta + length left ≡ length old + length piece)

@@ -9,7 +9,7 @@ use Rattle.binary_reader.specs.Stages.{HoldsStage, failure}
 
 -- these bytes were fed, in whatever pieces, and the reader stands where reading does after them, or has failed with their fault, or memory ran out;
 -- unless it has failed, its offset is that of their end
-pub record Holds (reader : AigReader) (bytes : List ℕ) : Type 0 where
+pub record HasBeenFed (reader : AigReader) (bytes : List ℕ) : Type 0 where
   pub count : failure reader.stage ≡ None → length bytes ≡ reader.offset
   pub stage : HoldsStage reader.stage bytes
 
@@ -19,5 +19,5 @@ Answers (Ok x) bytes = (state : State) × (feed (AtHeader []) bytes ≡ Ok state
 Answers (Err fault) bytes = Fails NoMemory fault (feed (AtHeader []) bytes)
 
 -- the fault that every call answers from now on, if there is one
-abbrev pub fault_of : AigReader → Option ReadError
-fault_of reader = failure reader.stage
+abbrev pub reader_fault : AigReader → Option ReadError
+reader_fault reader = failure reader.stage

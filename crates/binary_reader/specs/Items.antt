@@ -26,11 +26,11 @@ with_size c size = record c { properties = record c.properties { sizes = c.prope
 abbrev pub with_liveness : Contents → ℕ → Contents
 with_liveness c lit = record c { properties = record c.properties { liveness = c.properties.liveness ++ lit ∷ [] } }
 
-abbrev pub with_gate : Contents → Gate → Contents
-with_gate c gate = record c { gates = c.gates ++ gate ∷ [] }
+abbrev pub contents_with_gate : Contents → Gate → Contents
+contents_with_gate c gate = record c { gates = c.gates ++ gate ∷ [] }
 
-abbrev pub with_names : Contents → List RawSymbol → Contents
-with_names c symbols = record c { names = symbols_of symbols }
+abbrev pub with_symbol_names : Contents → List RawSymbol → Contents
+with_symbol_names c symbols = record c { names = symbols_of symbols }
 
 -- the only number of a line
 abbrev pub only_number : ℕ → List ℕ → Result ℕ ReadError
@@ -71,4 +71,4 @@ latch_taken c at ns = latch_numbers at ns >>= λ numbers. literal_within c.heade
 abbrev pub symbol_taken : Contents → List RawSymbol → ℕ → RawSymbol → Result Contents ReadError
 symbol_taken c symbols at symbol =
     if nat_le (count_of c.header symbol.kind) symbol.position then Err (BadSymbol at)
-    else (if list_any (is_of_same symbol) symbols then Err (BadSymbol at) else Ok (with_names c (symbols ++ symbol ∷ [])))
+    else (if list_any (is_of_same symbol) symbols then Err (BadSymbol at) else Ok (with_symbol_names c (symbols ++ symbol ∷ [])))

@@ -14,9 +14,9 @@ abbrev pub Stands : Items → ℕ → State → Type 0
 Stands items offset state = IsOpened items.sections items.at offset items.opened state
 
 -- on Ok the reader stands where reading does then; an error is the fault of reading, unless memory ran out
-abbrev pub Reaches : {X : Type 0} → Items → ℕ → Result X ReadError → Result State ReadError → Type 0
-Reaches new offset (Ok x) read = (next : State) × (read ≡ Ok next) × Stands new offset next
-Reaches new offset (Err error) read = Fails NoMemory error read
+abbrev pub StandsAfterReading : {X : Type 0} → Items → ℕ → Result X ReadError → Result State ReadError → Type 0
+StandsAfterReading new offset (Ok x) read = (next : State) × (read ≡ Ok next) × Stands new offset next
+StandsAfterReading new offset (Err error) read = Fails NoMemory error read
 
 -- bytes of a piece that ends at an offset were taken: reading the piece is reading what is left
 pub record IsFed (new : Items) (end : ℕ) (state : State) (piece left : List ℕ) : Type 0 where

@@ -19,12 +19,12 @@ Takes h new (Ok x) read = (raw : Raw) × (read ≡ Ok raw) × IsAt new h raw
 Takes h new (Err error) read = Fails NoMemory error read
 
 -- the first fan-in of the next gate, by its delta at an offset
-abbrev pub read_first : Header → Raw → ℕ → ℕ → Result ℕ ReadError
-read_first h raw at delta = unless (((delta == 0) || nat_lt (next_gate h raw) delta, BadDelta at) ∷ []) (Ok (next_gate h raw - delta))
+abbrev pub read_first_delta : Header → Raw → ℕ → ℕ → Result ℕ ReadError
+read_first_delta h raw at delta = unless (((delta == 0) || nat_lt (next_gate h raw) delta, BadDelta at) ∷ []) (Ok (next_gate h raw - delta))
 
 -- the raw circuit with the next gate, by its first fan-in and its second delta at an offset
-abbrev pub read_second : Header → Raw → ℕ → ℕ → ℕ → Result Raw ReadError
-read_second h raw at rhs0 delta =
+abbrev pub read_second_delta : Header → Raw → ℕ → ℕ → ℕ → Result Raw ReadError
+read_second_delta h raw at rhs0 delta =
     unless ((nat_lt rhs0 delta, BadDelta at) ∷ []) (Ok (with_item raw (GateItem (record { lhs = next_gate h raw; rhs0 = rhs0; rhs1 = rhs0 - delta }))))
 
 -- what an input of this length gives, where it ends after these items

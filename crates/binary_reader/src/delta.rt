@@ -3,7 +3,7 @@ ghost use Rattle.std.specs.Prelude.{ℕ, List, ◌≡◌, ◌<◌, ◌≤◌, �
 ghost use Rattle.file_words.specs.declared.fault.ReadError.{ReadError};
 ghost use Rattle.file_words.specs.declared.fault.ReadError.TheVariants.{BadDelta};
 ghost use Rattle.binary_file.specs.Reading.{State, feed};
-ghost use Rattle.binary_reader.specs.Cutting.{IsWholeDelta, IsWholeGate, AreDeltaStates, IsTaken};
+ghost use Rattle.binary_reader.specs.Cutting.{IsWholeDelta, IsWholeGate, AreDeltaStates, IsDeltaTaken};
 
 use binary_file::{DeltaError, DeltaReader};
 
@@ -29,7 +29,7 @@ pub(crate) fn take_delta<'a>(
     requires { 0 < length piece.now }
     ensures taken { (at : ℕ) (state : List ℕ → State) (end_delta : List ℕ → Result State ReadError)
         → AreDeltaStates at state end_delta
-        → IfOk result (λ taken. IsTaken state end_delta reader.old reader.new piece.now taken.0
+        → IfOk result (λ taken. IsDeltaTaken state end_delta reader.old reader.new piece.now taken.0
         taken.1.now) }
     ensures too_long { (at : ℕ) (state : List ℕ → State) (end_delta : List ℕ
         → Result State ReadError) → AreDeltaStates at state end_delta

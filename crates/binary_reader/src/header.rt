@@ -4,7 +4,7 @@ ghost use Rattle.file_words.specs.declared.fault.ReadError.TheVariants.{MaxIndex
 ghost use Rattle.reader_parts.specs.Header.{header_row, header_with};
 ghost use Rattle.binary_file.specs.Headers.{IsHeaderWithin};
 ghost use Rattle.binary_file.specs.Reading as reading;
-ghost use Rattle.binary_reader.specs.Header.{is_off};
+ghost use Rattle.binary_reader.specs.Header.{is_miscounted};
 
 use ascii_file::Header;
 use file_words::ReadError;
@@ -24,7 +24,7 @@ pub(crate) fn binary_header(line: &mut HeaderLine) -> Result<Header, ReadError>
 
 /// The header, where it counts as many variables as its greatest.
 fn with_all_variables(header: Header) -> Result<Header, ReadError>
-    ensures { result ≡ unless ((is_off header, MaxIndex 0) ∷ []) (Ok header) }
+    ensures { result ≡ unless ((is_miscounted header, MaxIndex 0) ∷ []) (Ok header) }
 {
     let variables = u64::from(header.inputs) + u64::from(header.latches) + u64::from(header.gates);
     if variables == u64::from(header.greatest) {

@@ -45,7 +45,7 @@ impl Items {
     ghost use Rattle.binary_file.specs.Reading.{State, before_item, step, feed, end_first, end_second};
     ghost use Rattle.binary_reader.specs.Contents.{IsAt};
     ghost use Rattle.binary_reader.specs.Opened.{IsInNumbers, IsInSymbol, IsInFirst, IsInSecond};
-    ghost use Rattle.binary_reader.specs.Standing.{Stands, Reaches, Feeds, circuit_at};
+    ghost use Rattle.binary_reader.specs.Standing.{Stands, StandsAfterReading, Feeds, circuit_at};
 
     /// Nothing has come after the header, which ends at the offset. Takes no memory.
     pub(crate) fn new(alloc: Global, header: Header, at: u64) -> Items
@@ -73,7 +73,7 @@ impl Items {
     /// Takes the newline of a line of numbers; the next item begins at the offset.
     fn end_numbers(&mut self, alloc: Global, line: NumberLine, after: u64) -> Result<(), ReadError>
         ensures { (state : State) (offset : ℕ) → IsInNumbers self.old.sections self.old.at offset
-            line state → offset + 1 ≡ after → Reaches self.new after result (step state 10) }
+            line state → offset + 1 ≡ after → StandsAfterReading self.new after result (step state 10) }
     {
         match take_numbers(&mut self.sections, self.at, line) {
             Ok(()) => self.begin(alloc, after),
@@ -85,7 +85,7 @@ impl Items {
     /// Takes the newline of a line after the gates; the next one begins at the offset.
     fn end_symbol(&mut self, alloc: Global, line: SymbolLine, after: u64) -> Result<(), ReadError>
         ensures { (state : State) (offset : ℕ) → IsInSymbol self.old.sections self.old.at offset
-            line state → offset + 1 ≡ after → Reaches self.new after result (step state 10) }
+            line state → offset + 1 ≡ after → StandsAfterReading self.new after result (step state 10) }
     {
         match take_text(&mut self.sections, self.at, line) {
             Ok(true) => self.begin(alloc, after),
@@ -100,7 +100,7 @@ impl Items {
         ensures { (h : Header) (raw : Raw) (delta : List ℕ) → IsAt self.old.sections h raw
             → next_section h raw ≡ Gates → number ≡ delta_value delta
             → self.old.at + length delta ≡ after
-            → Reaches self.new after result (end_first h raw self.old.at delta) }
+            → StandsAfterReading self.new after result (end_first h raw self.old.at delta) }
     {
         match self.sections.first_fan_in(self.at, number) {
             Ok(rhs0) => self.opened = Opened::Second(rhs0, DeltaReader::new()),
@@ -121,7 +121,7 @@ impl Items {
         ensures { (h : Header) (raw : Raw) (delta : List ℕ) → IsAt self.old.sections h raw
             → next_section h raw ≡ Gates → rhs0 < next_gate h raw → number ≡ delta_value delta
             → self.old.at + length delta ≡ after
-            → Reaches self.new after result (end_second h raw self.old.at rhs0 delta) }
+            → StandsAfterReading self.new after result (end_second h raw self.old.at rhs0 delta) }
     {
         match self.sections.take_gate(self.at, rhs0, number) {
             Ok(()) => self.begin(alloc, after),
@@ -306,7 +306,7 @@ impl Items {
     /// Takes a piece that ends at the offset.
     pub(crate) fn feed(&mut self, alloc: Global, end: u64, piece: &[u8]) -> Result<(), ReadError>
         ensures { (state : State) (offset : ℕ) → Stands self.old offset state
-            → offset + length piece.now ≡ end → Reaches self.new end result (feed state piece.now) }
+            → offset + length piece.now ≡ end → StandsAfterReading self.new end result (feed state piece.now) }
     {
         let mut left = piece;
         while !left.is_empty() {

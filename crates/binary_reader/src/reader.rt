@@ -6,7 +6,7 @@ ghost use Rattle.std.specs.Prelude.{ℕ, List, ◌≡◌, ◌++◌};
 ghost use Rattle.file_words.specs.declared.fault.ReadError.TheVariants.{NoMemory};
 ghost use Rattle.file_words.specs.Answering.{Gives};
 ghost use Rattle.binary_file.specs.Reading.{read_binary};
-ghost use Rattle.binary_reader.specs.Holding.{Holds};
+ghost use Rattle.binary_reader.specs.Holding.{HasBeenFed};
 
 use crate::stage::Stage;
 use aig_graph::Circuit;
@@ -41,12 +41,12 @@ impl AigReader {
     ghost use Rattle.file_words.specs.declared.fault.ReadError.TheVariants.{BadHeader, NoMemory};
     ghost use Rattle.file_words.specs.Answering.{Gives};
     ghost use Rattle.binary_file.specs.Reading.{read_binary};
-    ghost use Rattle.binary_reader.specs.Holding.{Holds, Answers, fault_of};
+    ghost use Rattle.binary_reader.specs.Holding.{HasBeenFed, Answers, reader_fault};
 
     /// A reader to which nothing was fed. Takes no memory.
     pub fn new(alloc: Global) -> AigReader
-        ensures holds { Holds result [] }
-        ensures sound { fault_of result ≡ None }
+        ensures holds { HasBeenFed result [] }
+        ensures sound { reader_fault result ≡ None }
     {
         AigReader {
             alloc,
@@ -62,10 +62,10 @@ impl AigReader {
     /// The first fault of the bytes so far, as soon as its last byte has come, with its offset from the first piece on; or
     /// `NoMemory`, also where the pieces come to `2^64` bytes, since no offset is that great. Every later call answers the same.
     pub fn feed(&mut self, piece: &[u8]) -> Result<(), ReadError>
-        ensures held { (bytes : List ℕ) → Holds self.old bytes → Holds self.new (bytes ++ piece.now)
+        ensures held { (bytes : List ℕ) → HasBeenFed self.old bytes → HasBeenFed self.new (bytes ++ piece.now)
             × Answers result (bytes ++ piece.now) }
-        ensures fails { IfErr result (λ fault. fault_of self.new ≡ Some fault) }
-        ensures stays { (fault : ReadError) → fault_of self.old ≡ Some fault → result ≡ Err fault }
+        ensures fails { IfErr result (λ fault. reader_fault self.new ≡ Some fault) }
+        ensures stays { (fault : ReadError) → reader_fault self.old ≡ Some fault → result ≡ Err fault }
     {
         let Some(end) = self.offset.checked_add(piece.len() as u64) else {
             let fault = self.stage.refusal();
@@ -92,11 +92,11 @@ impl AigReader {
     ///
     /// The first fault of the file; `NoMemory`. Every later call answers the same.
     pub fn finish(&mut self) -> Result<Circuit, ReadError>
-        ensures circuit { (bytes : List ℕ) → Holds self.old bytes
+        ensures circuit { (bytes : List ℕ) → HasBeenFed self.old bytes
             → Gives NoMemory (λ c. c) result (read_binary bytes) }
-        ensures ends { OnOk result (fault_of self.new ≡ Some (BadHeader 0)) }
-        ensures fails { IfErr result (λ fault. fault_of self.new ≡ Some fault) }
-        ensures stays { (fault : ReadError) → fault_of self.old ≡ Some fault → result ≡ Err fault }
+        ensures ends { OnOk result (reader_fault self.new ≡ Some (BadHeader 0)) }
+        ensures fails { IfErr result (λ fault. reader_fault self.new ≡ Some fault) }
+        ensures stays { (fault : ReadError) → reader_fault self.old ≡ Some fault → result ≡ Err fault }
     {
         let stage = mem::replace(&mut self.stage, Stage::Failed(ReadError::BadHeader(0)));
         match stage.finish(self.alloc, self.offset) {
@@ -132,7 +132,7 @@ pub fn read_aig(alloc: Global, bytes: &[u8]) -> Result<Circuit, ReadError>
 
 /// The circuit of a file that ends with these bytes.
 fn read_rest(reader: &mut AigReader, bytes: &[u8]) -> Result<Circuit, ReadError>
-    ensures { (before : List ℕ) → Holds reader.old before
+    ensures { (before : List ℕ) → HasBeenFed reader.old before
         → Gives NoMemory (λ c. c) result (read_binary (before ++ bytes.now)) }
 {
     match reader.feed(bytes) {

@@ -56,7 +56,7 @@ impl Sections {
     ghost use Rattle.ascii_file.specs.Raw.{Raw, nothing_yet, safety_count, count_of};
     ghost use Rattle.binary_file.specs.Headers.{IsHeaderWithin};
     ghost use Rattle.binary_file.specs.Items.{next_section};
-    ghost use Rattle.binary_reader.specs.Contents.{IsAt, section_of};
+    ghost use Rattle.binary_reader.specs.Contents.{IsAt, section_to_fill};
 
     /// Nothing is read but the header. Takes no memory.
     pub fn new(alloc: Global, header: Header) -> Sections
@@ -74,7 +74,7 @@ impl Sections {
 
     /// The section of the next item: the first one that isn't full. That of inputs has no items.
     pub fn section(&self) -> Section
-        ensures here { result ≡ section_of self.now }
+        ensures here { result ≡ section_to_fill self.now }
         ensures next { (h : Header) (raw : Raw) → IsAt self.now h raw
             → result ≡ next_section h raw }
     {
@@ -82,7 +82,7 @@ impl Sections {
     }
 
     fn first_with_room(&self) -> Section
-        ensures { result ≡ section_of self.now }
+        ensures { result ≡ section_to_fill self.now }
     {
         let header = self.header;
         let properties = &self.properties;

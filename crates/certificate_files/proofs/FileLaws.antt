@@ -10,7 +10,7 @@ use Rattle.certificate_files.specs.declared.fault.CertError.TheVariants.{BadHead
 use Rattle.aig_graph.specs.declared.choice.Choice.{Choice}
 use Rattle.aig_graph.specs.declared.choice.Choice.TheVariants.{Greatest}
 use Rattle.certificate_files.specs.declared.file.CertFile.{CertFile}
-use Rattle.certificate_files.specs.Files.{choice_of, nothing_read, read_blocks, read_chosen, read_second, read_file, read_text, with_choice}
+use Rattle.certificate_files.specs.Files.{choice_in_line, nothing_read, read_blocks, read_chosen, read_second_version, read_file, read_text, with_choice}
 use Rattle.certificate_files.specs.Steps.{read_rest}
 use Rattle.certificate_files.proofs.StepLaws.{same_start}
 
@@ -25,20 +25,20 @@ behind end text line more at first within here = by_case first.starts
 -- ---- the second line
 
 -- a file of the second version without a second line is truncated
-pub second_missing : (at end : ℕ) (rest : List ℕ) → rest ≡ [] → read_second at end (lines rest) ≡ Err (Truncated end)
-second_missing at end rest none = ap (read_second at end) (ap lines none ∙ no_lines)
+pub second_missing : (at end : ℕ) (rest : List ℕ) → rest ≡ [] → read_second_version at end (lines rest) ≡ Err (Truncated end)
+second_missing at end rest none = ap (read_second_version at end) (ap lines none ∙ no_lines)
 
 -- a second line that names a choice gives the file this choice, and the blocks follow
-pub second_chosen : (at end : ℕ) (text line more : List ℕ) (choice : Choice) → IsFirst text line more → length text ≤ end → at ≡ end - length text → choice_of line ≡ Some choice
-    → read_second at end (lines text) ≡ with_choice choice (read_rest end more nothing_read)
+pub second_chosen : (at end : ℕ) (text line more : List ℕ) (choice : Choice) → IsFirst text line more → length text ≤ end → at ≡ end - length text → choice_in_line line ≡ Some choice
+    → read_second_version at end (lines text) ≡ with_choice choice (read_rest end more nothing_read)
 second_chosen at end text line more choice first within here is =
-    ap (read_second at end) first.whole ∙ ap (λ (o : Option Choice). read_chosen at end o (lines more) (length line)) is
+    ap (read_second_version at end) first.whole ∙ ap (λ (o : Option Choice). read_chosen at end o (lines more) (length line)) is
     ∙ ap (with_choice choice) (same_start (at + length line + 1) end more nothing_read (behind end text line more at first within here))
 
 -- a second line that names no choice is a fault of that line
-pub second_other : (at end : ℕ) (text line more : List ℕ) → IsFirst text line more → choice_of line ≡ None → read_second at end (lines text) ≡ Err (BadLine at)
+pub second_other : (at end : ℕ) (text line more : List ℕ) → IsFirst text line more → choice_in_line line ≡ None → read_second_version at end (lines text) ≡ Err (BadLine at)
 second_other at end text line more first is =
-    ap (read_second at end) first.whole ∙ ap (λ (o : Option Choice). read_chosen at end o (lines more) (length line)) is
+    ap (read_second_version at end) first.whole ∙ ap (λ (o : Option Choice). read_chosen at end o (lines more) (length line)) is
 
 -- ---- the first line
 
@@ -50,7 +50,7 @@ word_length : (text word : List ℕ) → is_word text word ≡ true → length w
 word_length text word is = eqb-true (length word) (length text) (and_parts (length word == length text) _ is).0
 
 abbrev by_words : Bool → Bool → ℕ → List (List ℕ) → Result CertFile CertError
-by_words one two end rest = cond one (with_choice Greatest (read_blocks 15 end nothing_read rest)) (cond two (read_second 15 end rest) (Err (BadHeader 0)))
+by_words one two end rest = cond one (with_choice Greatest (read_blocks 15 end nothing_read rest)) (cond two (read_second_version 15 end rest) (Err (BadHeader 0)))
 
 by_first : (end : ℕ) (text line more : List ℕ) → IsFirst text line more → read_file end (lines text) ≡ by_words (is_word line (codes "fretime-cert 1")) (is_word line (codes "fretime-cert 2")) end (lines more)
 by_first end text line more first = ap (read_file end) first.whole
@@ -71,7 +71,7 @@ first_version end text line more first whole is =
 
 -- after the line of the second version the line of the choice follows
 pub second_version : (end : ℕ) (text line more : List ℕ) → IsFirst text line more → is_word line (codes "fretime-cert 1") ≡ false → is_word line (codes "fretime-cert 2") ≡ true
-    → read_file end (lines text) ≡ read_second 15 end (lines more)
+    → read_file end (lines text) ≡ read_second_version 15 end (lines more)
 second_version end text line more first differs is =
     by_first end text line more first
     ∙ ap (λ (one : Bool). by_words one (is_word line (codes "fretime-cert 2")) end (lines more)) differs

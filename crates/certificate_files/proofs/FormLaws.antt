@@ -10,7 +10,7 @@ use Rattle.reader_parts.specs.Rows.{clamped, up_to_nine, row_of}
 use Rattle.certificate_files.specs.declared.fault.CertError.{CertError}
 use Rattle.certificate_files.specs.declared.fault.CertError.TheVariants.{BadLine, TooLarge}
 use Rattle.certificate_files.specs.declared.forms.FrameLine.{FrameLine}
-use Rattle.certificate_files.specs.Files.{begins_with, is_point, point_of, is_small, Saying, Frame, Gate, Route, frame_of, gate_of, route_of, saying_of}
+use Rattle.certificate_files.specs.Files.{begins_with, is_point, point_of_word, is_small, Saying, Frame, Gate, Route, frame_saying, gate_saying, route_of, saying_of}
 use Rattle.certificate_files.specs.Forms.{framed, gated, routed}
 
 -- ---- the letters
@@ -26,13 +26,13 @@ begins_not letters line never = by_test (begins_with letters line) refl
 -- what is said by a line that begins with none of the letters, or with some
 abbrev said : Bool → Bool → Bool → List ℕ → Option Saying
 said frame gate route line =
-    cond frame (frame_of (numbers_of (drop 6 line))) (cond gate (gate_of (numbers_of (drop 2 line))) (cond route (route_of (pieces (drop 2 line))) None))
+    cond frame (frame_saying (numbers_of (drop 6 line))) (cond gate (gate_saying (numbers_of (drop 2 line))) (cond route (route_of (pieces (drop 2 line))) None))
 
 said_by : (line : List ℕ) → saying_of line ≡ said (begins_with (codes "frame ") line) (begins_with (codes "g ") line) (begins_with (codes "r ") line) line
 unfolding saying_of
 said_by line = refl
 
-framed-gate : (at : ℕ) (o : Option (List ℕ)) → framed at (gate_of o) ≡ Err (BadLine at)
+framed-gate : (at : ℕ) (o : Option (List ℕ)) → framed at (gate_saying o) ≡ Err (BadLine at)
 framed-gate at None = refl
 framed-gate at (Some []) = refl
 framed-gate at (Some (v ∷ [])) = refl
@@ -41,11 +41,11 @@ framed-gate at (Some (v ∷ w ∷ ns)) = refl
 framed-route : (at : ℕ) (words : List (List ℕ)) → framed at (route_of words) ≡ Err (BadLine at)
 framed-route at words = by_test (list_all is_point words)
   where
-    by_test : (b : Bool) → framed at (cond b (Some (Route (map point_of words))) None) ≡ Err (BadLine at)
+    by_test : (b : Bool) → framed at (cond b (Some (Route (map point_of_word words))) None) ≡ Err (BadLine at)
     by_test true = refl
     by_test false = refl
 
-gated-frame : (at : ℕ) (o : Option (List ℕ)) → gated at (frame_of o) ≡ Err (BadLine at)
+gated-frame : (at : ℕ) (o : Option (List ℕ)) → gated at (frame_saying o) ≡ Err (BadLine at)
 gated-frame at None = refl
 gated-frame at (Some []) = refl
 gated-frame at (Some (a ∷ [])) = refl
@@ -56,11 +56,11 @@ gated-frame at (Some (a ∷ b ∷ c ∷ d ∷ ns)) = refl
 gated-route : (at : ℕ) (words : List (List ℕ)) → gated at (route_of words) ≡ Err (BadLine at)
 gated-route at words = by_test (list_all is_point words)
   where
-    by_test : (b : Bool) → gated at (cond b (Some (Route (map point_of words))) None) ≡ Err (BadLine at)
+    by_test : (b : Bool) → gated at (cond b (Some (Route (map point_of_word words))) None) ≡ Err (BadLine at)
     by_test true = refl
     by_test false = refl
 
-routed-frame : (at : ℕ) (o : Option (List ℕ)) → routed at (frame_of o) ≡ Err (BadLine at)
+routed-frame : (at : ℕ) (o : Option (List ℕ)) → routed at (frame_saying o) ≡ Err (BadLine at)
 routed-frame at None = refl
 routed-frame at (Some []) = refl
 routed-frame at (Some (a ∷ [])) = refl
@@ -68,7 +68,7 @@ routed-frame at (Some (a ∷ b ∷ [])) = refl
 routed-frame at (Some (a ∷ b ∷ c ∷ [])) = refl
 routed-frame at (Some (a ∷ b ∷ c ∷ d ∷ ns)) = refl
 
-routed-gate : (at : ℕ) (o : Option (List ℕ)) → routed at (gate_of o) ≡ Err (BadLine at)
+routed-gate : (at : ℕ) (o : Option (List ℕ)) → routed at (gate_saying o) ≡ Err (BadLine at)
 routed-gate at None = refl
 routed-gate at (Some []) = refl
 routed-gate at (Some (v ∷ [])) = refl
@@ -108,12 +108,12 @@ routed_other at line never =
     by_tests false false = refl
 
 -- a line that begins with letters
-pub saying-frame : (line rest : List ℕ) → line ≡ codes "frame " ++ rest → saying_of line ≡ frame_of (numbers_of rest)
+pub saying-frame : (line rest : List ℕ) → line ≡ codes "frame " ++ rest → saying_of line ≡ frame_saying (numbers_of rest)
 unfolding saying_of
 saying-frame line rest is = ap saying_of is
 
 -- a line that begins with the letter of a gate says the gate that its number is
-pub saying-gate : (line rest : List ℕ) → line ≡ codes "g " ++ rest → saying_of line ≡ gate_of (numbers_of rest)
+pub saying-gate : (line rest : List ℕ) → line ≡ codes "g " ++ rest → saying_of line ≡ gate_saying (numbers_of rest)
 unfolding saying_of
 saying-gate line rest is = ap saying_of is
 
@@ -144,17 +144,17 @@ unfolding row_of
 row_cut text = refl
 
 -- nine numbers or fewer, of which there are more than three
-framed-many : (at a b c d : ℕ) (ns : List ℕ) → framed at (frame_of (up_to_nine (a ∷ b ∷ c ∷ d ∷ ns))) ≡ Err (BadLine at)
+framed-many : (at a b c d : ℕ) (ns : List ℕ) → framed at (frame_saying (up_to_nine (a ∷ b ∷ c ∷ d ∷ ns))) ≡ Err (BadLine at)
 framed-many at a b c d ns = by_test (nat_le (length (a ∷ b ∷ c ∷ d ∷ ns)) 9)
   where
-    by_test : (t : Bool) → framed at (frame_of (cond t (Some (a ∷ b ∷ c ∷ d ∷ ns)) None)) ≡ Err (BadLine at)
+    by_test : (t : Bool) → framed at (frame_saying (cond t (Some (a ∷ b ∷ c ∷ d ∷ ns)) None)) ≡ Err (BadLine at)
     by_test true = refl
     by_test false = refl
 
-gated-many : (at a b : ℕ) (ns : List ℕ) → gated at (gate_of (up_to_nine (a ∷ b ∷ ns))) ≡ Err (BadLine at)
+gated-many : (at a b : ℕ) (ns : List ℕ) → gated at (gate_saying (up_to_nine (a ∷ b ∷ ns))) ≡ Err (BadLine at)
 gated-many at a b ns = by_test (nat_le (length (a ∷ b ∷ ns)) 9)
   where
-    by_test : (t : Bool) → gated at (gate_of (cond t (Some (a ∷ b ∷ ns)) None)) ≡ Err (BadLine at)
+    by_test : (t : Bool) → gated at (gate_saying (cond t (Some (a ∷ b ∷ ns)) None)) ≡ Err (BadLine at)
     by_test true = refl
     by_test false = refl
 
@@ -183,7 +183,7 @@ gated-one at a =
     by_test true p = ap (λ (v : ℕ). Ok v) (small_is a p)
     by_test false p = refl
 
-framed-cut : (at : ℕ) (o : Option (List ℕ)) → framed at (frame_of (cut_row o)) ≡ framed at (frame_of o)
+framed-cut : (at : ℕ) (o : Option (List ℕ)) → framed at (frame_saying (cut_row o)) ≡ framed at (frame_saying o)
 framed-cut at None = refl
 framed-cut at (Some []) = refl
 framed-cut at (Some (a ∷ [])) = refl
@@ -191,16 +191,16 @@ framed-cut at (Some (a ∷ b ∷ [])) = refl
 framed-cut at (Some (a ∷ b ∷ c ∷ [])) = framed-three at a b c
 framed-cut at (Some (a ∷ b ∷ c ∷ d ∷ ns)) = framed-many at (clamped a) (clamped b) (clamped c) (clamped d) (map clamped ns)
 
-gated-cut : (at : ℕ) (o : Option (List ℕ)) → gated at (gate_of (cut_row o)) ≡ gated at (gate_of o)
+gated-cut : (at : ℕ) (o : Option (List ℕ)) → gated at (gate_saying (cut_row o)) ≡ gated at (gate_saying o)
 gated-cut at None = refl
 gated-cut at (Some []) = refl
 gated-cut at (Some (a ∷ [])) = gated-one at a
 gated-cut at (Some (a ∷ b ∷ ns)) = gated-many at (clamped a) (clamped b) (map clamped ns)
 
 -- a block's first line says by its numbers cut to 32 bits what it says by its numbers
-pub framed-row : (at : ℕ) (line rest : List ℕ) → line ≡ codes "frame " ++ rest → framed at (frame_of (row_of rest)) ≡ framed at (saying_of line)
-framed-row at line rest is = ap (λ (o : Option (List ℕ)). framed at (frame_of o)) (row_cut rest) ∙ framed-cut at (numbers_of rest) ∙ ap (framed at) (sym (saying-frame line rest is))
+pub framed-row : (at : ℕ) (line rest : List ℕ) → line ≡ codes "frame " ++ rest → framed at (frame_saying (row_of rest)) ≡ framed at (saying_of line)
+framed-row at line rest is = ap (λ (o : Option (List ℕ)). framed at (frame_saying o)) (row_cut rest) ∙ framed-cut at (numbers_of rest) ∙ ap (framed at) (sym (saying-frame line rest is))
 
 -- the line of a gate says by its number cut to 32 bits what it says by its number
-pub gated-row : (at : ℕ) (line rest : List ℕ) → line ≡ codes "g " ++ rest → gated at (gate_of (row_of rest)) ≡ gated at (saying_of line)
-gated-row at line rest is = ap (λ (o : Option (List ℕ)). gated at (gate_of o)) (row_cut rest) ∙ gated-cut at (numbers_of rest) ∙ ap (gated at) (sym (saying-gate line rest is))
+pub gated-row : (at : ℕ) (line rest : List ℕ) → line ≡ codes "g " ++ rest → gated at (gate_saying (row_of rest)) ≡ gated at (saying_of line)
+gated-row at line rest is = ap (λ (o : Option (List ℕ)). gated at (gate_saying o)) (row_cut rest) ∙ gated-cut at (numbers_of rest) ∙ ap (gated at) (sym (saying-gate line rest is))

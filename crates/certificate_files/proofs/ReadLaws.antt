@@ -12,10 +12,10 @@ use Rattle.certificate_files.specs.declared.fault.CertError.TheVariants.{BadHead
 use Rattle.aig_graph.specs.declared.choice.Choice.{Choice}
 use Rattle.aig_graph.specs.declared.choice.Choice.TheVariants.{Greatest}
 use Rattle.certificate_files.specs.declared.file.CertFile.{CertFile}
-use Rattle.certificate_files.specs.Files.{begins_with, is_point, point_of, is_small, Saying, Frame, Gate, Route, frame_of, gate_of, route_of, saying_of, Progress, settled, after, sized, taken, ended, read_blocks, nothing_read, with_choice, choice_of, read_chosen, read_second, read_file, read_text}
+use Rattle.certificate_files.specs.Files.{begins_with, is_point, point_of_word, is_small, Saying, Frame, Gate, Route, frame_saying, gate_saying, route_of, saying_of, Progress, settled, progress_after, sized, taken, blocks_at_end, read_blocks, nothing_read, with_choice, choice_in_line, read_chosen, read_second_version, read_file, read_text}
 use Rattle.certificate_files.specs.Forms.{are_small}
 use Rattle.certificate_files.specs.Laws.{is_writable_route, is_writable_block, is_writable, RereadingLaw}
-use Rattle.certificate_files.specs.Steps.{block_of, with_gate, with_route}
+use Rattle.certificate_files.specs.Steps.{certificate_block, block_with_gate, with_route}
 use Rattle.certificate_files.proofs.RoundTripLaws.{the_round_trip_law}
 
 -- ---- a route has a point
@@ -37,7 +37,7 @@ pieces-some (b ∷ bytes) = by_test (b == 32)
     by_test true = omega arith
     by_test false = front-some b (pieces bytes)
 
-frame-point : (o : Option (List ℕ)) → HasPoint (frame_of o)
+frame-point : (o : Option (List ℕ)) → HasPoint (frame_saying o)
 frame-point None = tt
 frame-point (Some []) = tt
 frame-point (Some (a ∷ [])) = tt
@@ -45,20 +45,20 @@ frame-point (Some (a ∷ b ∷ [])) = tt
 frame-point (Some (a ∷ b ∷ c ∷ [])) = tt
 frame-point (Some (a ∷ b ∷ c ∷ d ∷ ns)) = tt
 
-gate-point : (o : Option (List ℕ)) → HasPoint (gate_of o)
+gate-point : (o : Option (List ℕ)) → HasPoint (gate_saying o)
 gate-point None = tt
 gate-point (Some []) = tt
 gate-point (Some (v ∷ [])) = tt
 gate-point (Some (v ∷ w ∷ ns)) = tt
 
-map-some : (ws : List (List ℕ)) → 0 < length ws → 0 < length (map point_of ws)
+map-some : (ws : List (List ℕ)) → 0 < length ws → 0 < length (map point_of_word ws)
 map-some [] some = some
 map-some (w ∷ ws) some = omega arith
 
 route-point : (ws : List (List ℕ)) → 0 < length ws → HasPoint (route_of ws)
 route-point ws some = by_test (list_all is_point ws)
   where
-    by_test : (b : Bool) → HasPoint (cond b (Some (Route (map point_of ws))) None)
+    by_test : (b : Bool) → HasPoint (cond b (Some (Route (map point_of_word ws))) None)
     by_test true = map-some ws some
     by_test false = tt
 
@@ -66,7 +66,7 @@ said-point : (line : List ℕ) → HasPoint (saying_of line)
 unfolding saying_of
 said-point line = by_tests (begins_with (codes "frame ") line) (begins_with (codes "g ") line) (begins_with (codes "r ") line)
   where
-    by_tests : (f g r : Bool) → HasPoint (cond f (frame_of (numbers_of (drop 6 line))) (cond g (gate_of (numbers_of (drop 2 line))) (cond r (route_of (pieces (drop 2 line))) None)))
+    by_tests : (f g r : Bool) → HasPoint (cond f (frame_saying (numbers_of (drop 6 line))) (cond g (gate_saying (numbers_of (drop 2 line))) (cond r (route_of (pieces (drop 2 line))) None)))
     by_tests true g r = frame-point (numbers_of (drop 6 line))
     by_tests false true r = gate-point (numbers_of (drop 2 line))
     by_tests false false true = route-point (pieces (drop 2 line)) (pieces-some (drop 2 line))
@@ -114,20 +114,20 @@ by_size P true x fault has = has refl
 by_size P false x fault has = tt
 
 said_good : (at : ℕ) (p : Progress) (begun : Option Certificate) (lacks : ℕ) (s : Saying) → HasPoint (Some s) → list_all is_writable_block p.blocks ≡ true → Begun begun lacks p.routes
-    → IfOk (sized at s (after p begun lacks s)) IsGood
+    → IfOk (sized at s (progress_after p begun lacks s)) IsGood
 said_good at p None lacks (Frame count gates routes) some all lacking =
-    by_size IsGood (is_small count && is_small gates && is_small routes) (settled p.blocks (block_of count [] []) gates routes) (TooLarge at)
+    by_size IsGood (is_small count && is_small gates && is_small routes) (settled p.blocks (certificate_block count [] []) gates routes) (TooLarge at)
     (λ small. let last = and_parts (is_small count && is_small gates) (is_small routes) small in
     let first = and_parts (is_small count) (is_small gates) last.0 in
     let few_gates = leb-true gates (2 ^ 28 - 1) first.1 in
     let few_routes = leb-true routes (2 ^ 28 - 1) last.1 in
-    settled_good p.blocks (block_of count [] []) gates routes all
+    settled_good p.blocks (certificate_block count [] []) gates routes all
     (record { count = first.0; small = refl; writable = refl; gate_count = omega (arith, few_gates); route_count = omega (arith, few_routes) }))
 said_good at p None lacks (Gate v) some all lacking = tt
 said_good at p None lacks (Route points) some all lacking = tt
 said_good at p (Some b) (suc gates) (Gate v) some all lacking =
-    by_size IsGood (is_small v) (settled p.blocks (with_gate b v) gates p.routes) (TooLarge at)
-    (λ small. let o = lacking.0 in settled_good p.blocks (with_gate b v) gates p.routes all
+    by_size IsGood (is_small v) (settled p.blocks (block_with_gate b v) gates p.routes) (TooLarge at)
+    (λ small. let o = lacking.0 in settled_good p.blocks (block_with_gate b v) gates p.routes all
     (record {
       count = o.count;
       small = one_more is_small b.gates v o.small small;
@@ -167,7 +167,7 @@ abbrev AreWritable : List Certificate → Type 0
 AreWritable blocks = list_all is_writable_block blocks ≡ true
 
 ended_good : (end : ℕ) (blocks : List Certificate) (begun : Option Certificate) (gates routes : ℕ) → AreWritable blocks
-    → IfOk (ended end (record { blocks = blocks; begun = begun; gates = gates; routes = routes })) AreWritable
+    → IfOk (blocks_at_end end (record { blocks = blocks; begun = begun; gates = gates; routes = routes })) AreWritable
 ended_good end blocks None gates routes all = all
 ended_good end blocks (Some b) gates routes all = tt
 
@@ -194,15 +194,15 @@ chosen_good : (at end : ℕ) (o : Option Choice) (rest : List (List ℕ)) (len :
 chosen_good at end None rest len = tt
 chosen_good at end (Some choice) rest len = read_good rest (at + len + 1) end choice
 
-second_good : (at end : ℕ) (ls : List (List ℕ)) → IfOk (read_second at end ls) IsWritable
+second_good : (at end : ℕ) (ls : List (List ℕ)) → IfOk (read_second_version at end ls) IsWritable
 second_good at end [] = tt
-second_good at end (line ∷ rest) = chosen_good at end (choice_of line) rest (length line)
+second_good at end (line ∷ rest) = chosen_good at end (choice_in_line line) rest (length line)
 
 file_good : (end : ℕ) (ls : List (List ℕ)) → IfOk (read_file end ls) IsWritable
 file_good end [] = tt
 file_good end (first ∷ rest) = by_tests (is_word first (codes "fretime-cert 1")) (is_word first (codes "fretime-cert 2"))
   where
-    by_tests : (one two : Bool) → IfOk (cond one (with_choice Greatest (read_blocks 15 end nothing_read rest)) (cond two (read_second 15 end rest) (Err (BadHeader 0)))) IsWritable
+    by_tests : (one two : Bool) → IfOk (cond one (with_choice Greatest (read_blocks 15 end nothing_read rest)) (cond two (read_second_version 15 end rest) (Err (BadHeader 0)))) IsWritable
     by_tests true two = read_good rest 15 end Greatest
     by_tests false true = second_good 15 end rest
     by_tests false false = tt

@@ -16,11 +16,11 @@ use Rattle.aig_graph.specs.declared.choice.Choice.{Choice}
 use Rattle.aig_graph.specs.declared.choice.Choice.TheVariants.{Greatest, Smallest}
 use Rattle.certificate_files.specs.declared.file.CertFile.{CertFile}
 use Rattle.certificate_files.specs.declared.forms.FrameLine.{FrameLine}
-use Rattle.certificate_files.specs.Files.{sign_of, is_point, point_of, is_small, Route, frame_of, gate_of, route_of, saying_of, Progress, settled, taken, read_blocks, nothing_read, with_choice, read_file, read_text}
+use Rattle.certificate_files.specs.Files.{sign_of, is_point, point_of_word, is_small, Route, frame_saying, gate_saying, route_of, saying_of, Progress, settled, taken, read_blocks, nothing_read, with_choice, read_file, read_text}
 use Rattle.certificate_files.specs.Forms.{framed, gated, routed, are_small}
-use Rattle.certificate_files.specs.Laws.{is_writable_route, is_writable_block, RoundTripLaw}
-use Rattle.certificate_files.specs.Steps.{block_of, with_gate, with_route, closed}
-use Rattle.certificate_files.specs.Texts.{sign_code, point_text, route_text, gate_text, frame_text, block_text, choice_text, file_text}
+use Rattle.certificate_files.specs.Laws.{is_writable_route, is_writable_block, CertificatesRoundTripLaw}
+use Rattle.certificate_files.specs.Steps.{certificate_block, block_with_gate, with_route, ended_blocks}
+use Rattle.certificate_files.specs.Texts.{sign_code, point_text, route_text, gate_text, frame_line_text, block_text, choice_text, file_text}
 use Rattle.certificate_files.proofs.FormLaws.{saying-frame, saying-gate, saying-route}
 use Rattle.certificate_files.proofs.StepLaws.{gate_next, route_next, frame_next}
 use Rattle.certificate_files.proofs.WordLaws.{last_of}
@@ -65,7 +65,7 @@ module _ (p : Point) where
       ap₂ (λ (ds : List ℕ) (s : ℕ). is_number ds && (s == 43 || s == 45)) front last
       ∙ and_from (is_number (decimal p.var)) (sign_code p.behind == 43 || sign_code p.behind == 45) (decimal-is_number p.var (small_below p.var small)) (is_sign p.behind)
 
-  point-again : is_small p.var ≡ true → point_of (word_of p) ≡ p
+  point-again : is_small p.var ≡ true → point_of_word (word_of p) ≡ p
   point-again small =
       ap₂ (λ (ds : List ℕ) (s : ℕ). record { var = digits_value ds; behind = s == 43 }) front last
       ∙ ap₂ (λ (v : ℕ) (b : Bool). record { var = v; behind = b }) (decimal-value p.var (small_below p.var small)) (is_behind p.behind)
@@ -86,7 +86,7 @@ words-are_points (p ∷ ps) small =
     let parts = and_parts (is_small p.var) (are_small ps) small in
     and_from (is_point (word_of p)) (list_all is_point (map word_of ps)) (word-is_point p parts.0) (words-are_points ps parts.1)
 
-words-points : (ps : List Point) → are_small ps ≡ true → map point_of (map word_of ps) ≡ ps
+words-points : (ps : List Point) → are_small ps ≡ true → map point_of_word (map word_of ps) ≡ ps
 words-points [] small = refl
 words-points (p ∷ ps) small =
     let parts = and_parts (is_small p.var) (are_small ps) small in
@@ -99,7 +99,7 @@ route-said : (at : ℕ) (ps : List Point) → is_writable_route ps ≡ true → 
 route-said at [] writable = absurd (cc)
 route-said at (p ∷ ps) writable =
     ap (routed at) (saying-route (route_line (p ∷ ps)) (route_words p ps) refl ∙ ap route_of (pieces-route p ps))
-    ∙ ap (routed at) (cond-true (list_all is_point (map word_of (p ∷ ps))) (Some (Route (map point_of (map word_of (p ∷ ps))))) None (words-are_points (p ∷ ps) small))
+    ∙ ap (routed at) (cond-true (list_all is_point (map word_of (p ∷ ps))) (Some (Route (map point_of_word (map word_of (p ∷ ps))))) None (words-are_points (p ∷ ps) small))
     ∙ ap (λ (qs : List Point). routed at (Some (Route qs))) (words-points (p ∷ ps) small)
     ∙ cond-true (are_small (p ∷ ps)) (Ok (p ∷ ps)) (Err (TooLarge at)) small
   where
@@ -113,7 +113,7 @@ gate_line v = codes "g " ++ row_line (v ∷ [])
 
 gate-said : (at v : ℕ) → is_small v ≡ true → gated at (saying_of (gate_line v)) ≡ Ok v
 gate-said at v small =
-    ap (gated at) (saying-gate (gate_line v) (row_line (v ∷ [])) refl ∙ ap gate_of (numbers_of-row_line v [] (small_below v small, tt)))
+    ap (gated at) (saying-gate (gate_line v) (row_line (v ∷ [])) refl ∙ ap gate_saying (numbers_of-row_line v [] (small_below v small, tt)))
     ∙ cond-true (is_small v) (Ok v) (Err (TooLarge at)) small
 
 abbrev frame_line : ℕ → ℕ → ℕ → List ℕ
@@ -123,7 +123,7 @@ frame-said : (at count gates routes : ℕ) → is_small count ≡ true → is_sm
     → framed at (saying_of (frame_line count gates routes)) ≡ Ok (record { count = count; gates = gates; routes = routes })
 frame-said at count gates routes a b c =
     ap (framed at) (saying-frame (frame_line count gates routes) (row_line (count ∷ gates ∷ routes ∷ [])) refl
-    ∙ ap frame_of (numbers_of-row_line count (gates ∷ routes ∷ []) (small_below count a, (small_below gates b, (small_below routes c, tt)))))
+    ∙ ap frame_saying (numbers_of-row_line count (gates ∷ routes ∷ []) (small_below count a, (small_below gates b, (small_below routes c, tt)))))
     ∙ cond-true (is_small count && is_small gates && is_small routes) (Ok (record { count = count; gates = gates; routes = routes })) (Err (TooLarge at))
     (and_from (is_small count && is_small gates) (is_small routes) (and_from (is_small count) (is_small gates) a b) c)
 
@@ -162,8 +162,8 @@ line_of_frame b = frame_line b.count (length b.gates) (length b.routes)
 
 lines-block : (b : Certificate) (rest : List ℕ) → lines (block_text b ++ rest) ≡ line_of_frame b ∷ (map gate_line b.gates ++ (map route_line b.routes ++ lines rest))
 lines-block b rest =
-    ap lines (append_assoc (frame_text b ++ flat_map gate_text b.gates) (flat_map route_text b.routes) rest
-    ∙ append_assoc (frame_text b) (flat_map gate_text b.gates) (flat_map route_text b.routes ++ rest)
+    ap lines (append_assoc (frame_line_text b ++ flat_map gate_text b.gates) (flat_map route_text b.routes) rest
+    ∙ append_assoc (frame_line_text b) (flat_map gate_text b.gates) (flat_map route_text b.routes ++ rest)
     ∙ ap (λ (t : List ℕ). (codes "frame " ++ t) ++ behind) (row-is_line row)
     ∙ ap (λ (t : List ℕ). codes "frame " ++ t) (append_assoc (row_line row) (10 ∷ []) behind))
     ∙ lines-at_newline (line_of_frame b) behind (frame-clean b.count (length b.gates) (length b.routes))
@@ -189,56 +189,56 @@ reads-line end p next line rest result taken_as later at =
     ap (λ (t : Result Progress CertError). t >>= λ q. read_blocks (at + length line + 1) end q rest) (taken_as at) ∙ later (at + length line + 1)
 
 reads-gates : (end : ℕ) (done : List Certificate) (count routes : ℕ) (before gates : List ℕ) (rest : List (List ℕ)) (result : Result (List Certificate) CertError)
-    → list_all is_small gates ≡ true → Reads end (settled done (block_of count (before ++ gates) []) 0 routes) rest result
-    → Reads end (settled done (block_of count before []) (length gates) routes) (map gate_line gates ++ rest) result
+    → list_all is_small gates ≡ true → Reads end (settled done (certificate_block count (before ++ gates) []) 0 routes) rest result
+    → Reads end (settled done (certificate_block count before []) (length gates) routes) (map gate_line gates ++ rest) result
 reads-gates end done count routes before [] rest result small later at =
-    ap (λ (gs : List ℕ). read_blocks at end (settled done (block_of count gs []) 0 routes) rest) (sym (append-nil before)) ∙ later at
+    ap (λ (gs : List ℕ). read_blocks at end (settled done (certificate_block count gs []) 0 routes) rest) (sym (append-nil before)) ∙ later at
 reads-gates end done count routes before (v ∷ vs) rest result small later at =
     let parts = and_parts (is_small v) (list_all is_small vs) small in
-    reads-line end (settled done (block_of count before []) (suc (length vs)) routes) (settled done (block_of count (before ++ v ∷ []) []) (length vs) routes) (gate_line v) (map gate_line vs ++ rest) result
-    (λ a. gate_next a done (block_of count before []) (length vs) routes (saying_of (gate_line v))
-    ∙ ap (λ (t : Result ℕ CertError). t >>= λ w. Ok (settled done (with_gate (block_of count before []) w) (length vs) routes)) (gate-said a v parts.0))
+    reads-line end (settled done (certificate_block count before []) (suc (length vs)) routes) (settled done (certificate_block count (before ++ v ∷ []) []) (length vs) routes) (gate_line v) (map gate_line vs ++ rest) result
+    (λ a. gate_next a done (certificate_block count before []) (length vs) routes (saying_of (gate_line v))
+    ∙ ap (λ (t : Result ℕ CertError). t >>= λ w. Ok (settled done (block_with_gate (certificate_block count before []) w) (length vs) routes)) (gate-said a v parts.0))
     (reads-gates end done count routes (before ++ v ∷ []) vs rest result parts.1
-    (λ a. ap (λ (gs : List ℕ). read_blocks a end (settled done (block_of count gs []) 0 routes) rest) (append_assoc before (v ∷ []) vs) ∙ later a)) at
+    (λ a. ap (λ (gs : List ℕ). read_blocks a end (settled done (certificate_block count gs []) 0 routes) rest) (append_assoc before (v ∷ []) vs) ∙ later a)) at
 
 reads-routes : (end : ℕ) (done : List Certificate) (count : ℕ) (gates : List ℕ) (before routes : List (List Point)) (rest : List (List ℕ)) (result : Result (List Certificate) CertError)
-    → list_all is_writable_route routes ≡ true → Reads end (closed (done ++ block_of count gates (before ++ routes) ∷ [])) rest result
-    → Reads end (settled done (block_of count gates before) 0 (length routes)) (map route_line routes ++ rest) result
+    → list_all is_writable_route routes ≡ true → Reads end (ended_blocks (done ++ certificate_block count gates (before ++ routes) ∷ [])) rest result
+    → Reads end (settled done (certificate_block count gates before) 0 (length routes)) (map route_line routes ++ rest) result
 reads-routes end done count gates before [] rest result small later at =
-    ap (λ (rs : List (List Point)). read_blocks at end (closed (done ++ block_of count gates rs ∷ [])) rest) (sym (append-nil before)) ∙ later at
+    ap (λ (rs : List (List Point)). read_blocks at end (ended_blocks (done ++ certificate_block count gates rs ∷ [])) rest) (sym (append-nil before)) ∙ later at
 reads-routes end done count gates before (r ∷ rs) rest result small later at =
     let parts = and_parts (is_writable_route r) (list_all is_writable_route rs) small in
-    reads-line end (settled done (block_of count gates before) 0 (suc (length rs))) (settled done (block_of count gates (before ++ r ∷ [])) 0 (length rs)) (route_line r) (map route_line rs ++ rest) result
-    (λ a. route_next a done (block_of count gates before) (length rs) (saying_of (route_line r))
-    ∙ ap (λ (t : Result (List Point) CertError). t >>= λ ps. Ok (settled done (with_route (block_of count gates before) ps) 0 (length rs))) (route-said a r parts.0))
+    reads-line end (settled done (certificate_block count gates before) 0 (suc (length rs))) (settled done (certificate_block count gates (before ++ r ∷ [])) 0 (length rs)) (route_line r) (map route_line rs ++ rest) result
+    (λ a. route_next a done (certificate_block count gates before) (length rs) (saying_of (route_line r))
+    ∙ ap (λ (t : Result (List Point) CertError). t >>= λ ps. Ok (settled done (with_route (certificate_block count gates before) ps) 0 (length rs))) (route-said a r parts.0))
     (reads-routes end done count gates (before ++ r ∷ []) rs rest result parts.1
-    (λ a. ap (λ (xs : List (List Point)). read_blocks a end (closed (done ++ block_of count gates xs ∷ [])) rest) (append_assoc before (r ∷ []) rs) ∙ later a)) at
+    (λ a. ap (λ (xs : List (List Point)). read_blocks a end (ended_blocks (done ++ certificate_block count gates xs ∷ [])) rest) (append_assoc before (r ∷ []) rs) ∙ later a)) at
 
 reads-block : (end : ℕ) (done : List Certificate) (b : Certificate) (rest : List (List ℕ)) (result : Result (List Certificate) CertError)
-    → is_writable_block b ≡ true → Reads end (closed (done ++ b ∷ [])) rest result
-    → Reads end (closed done) (line_of_frame b ∷ (map gate_line b.gates ++ (map route_line b.routes ++ rest))) result
+    → is_writable_block b ≡ true → Reads end (ended_blocks (done ++ b ∷ [])) rest result
+    → Reads end (ended_blocks done) (line_of_frame b ∷ (map gate_line b.gates ++ (map route_line b.routes ++ rest))) result
 reads-block end done b rest result writable later =
     let count = and_parts (is_small b.count) _ writable in
     let gates = and_parts (is_small (length b.gates)) _ count.1 in
     let routes = and_parts (is_small (length b.routes)) _ gates.1 in
     let parts = and_parts (list_all is_small b.gates) (list_all is_writable_route b.routes) routes.1 in
-    reads-line end (closed done) (settled done (block_of b.count [] []) (length b.gates) (length b.routes)) (line_of_frame b) (map gate_line b.gates ++ (map route_line b.routes ++ rest)) result
+    reads-line end (ended_blocks done) (settled done (certificate_block b.count [] []) (length b.gates) (length b.routes)) (line_of_frame b) (map gate_line b.gates ++ (map route_line b.routes ++ rest)) result
     (λ at. frame_next at done (saying_of (line_of_frame b))
-    ∙ ap (λ (t : Result FrameLine CertError). t >>= λ f. Ok (settled done (block_of f.count [] []) f.gates f.routes))
+    ∙ ap (λ (t : Result FrameLine CertError). t >>= λ f. Ok (settled done (certificate_block f.count [] []) f.gates f.routes))
     (frame-said at b.count (length b.gates) (length b.routes) count.0 gates.0 routes.0))
     (reads-gates end done b.count (length b.routes) [] b.gates (map route_line b.routes ++ rest) result parts.0
     (reads-routes end done b.count b.gates [] b.routes rest result parts.1 later))
 
-reads-end : (end : ℕ) (done : List Certificate) → Reads end (closed done) (lines []) (Ok done)
+reads-end : (end : ℕ) (done : List Certificate) → Reads end (ended_blocks done) (lines []) (Ok done)
 unfolding read_blocks lines
 reads-end end done at = refl
 
 reads-blocks : (end : ℕ) (done blocks : List Certificate) → list_all is_writable_block blocks ≡ true
-    → Reads end (closed done) (lines (flat_map block_text blocks)) (Ok (done ++ blocks))
+    → Reads end (ended_blocks done) (lines (flat_map block_text blocks)) (Ok (done ++ blocks))
 reads-blocks end done [] writable at = reads-end end done at ∙ ap (λ (bs : List Certificate). Ok bs) (sym (append-nil done))
 reads-blocks end done (b ∷ bs) writable at =
     let parts = and_parts (is_writable_block b) (list_all is_writable_block bs) writable in
-    ap (read_blocks at end (closed done)) (lines-block b (flat_map block_text bs))
+    ap (read_blocks at end (ended_blocks done)) (lines-block b (flat_map block_text bs))
     ∙ reads-block end done b (lines (flat_map block_text bs)) (Ok (done ++ b ∷ bs)) parts.0
     (λ a. reads-blocks end (done ++ b ∷ []) bs parts.1 a ∙ ap (λ (cs : List Certificate). Ok cs) (append_assoc done (b ∷ []) bs)) at
 
@@ -268,7 +268,7 @@ file-chosen end Greatest rest = refl
 file-chosen end Smallest rest = refl
 
 -- what is written of a file that can be written is read as that file
-pub the_round_trip_law : (f : CertFile) → RoundTripLaw f
+pub the_round_trip_law : (f : CertFile) → CertificatesRoundTripLaw f
 unfolding read_text
 the_round_trip_law f writable =
     ap (read_file (length (file_text f))) (file-lines f)

@@ -10,9 +10,9 @@ use Rattle.certificates.specs.declared.certificate.Certificate.{Certificate}
 use Rattle.certificate_files.specs.declared.fault.CertError.{CertError}
 use Rattle.certificate_files.specs.declared.fault.CertError.TheVariants.{TooLarge, Truncated, NoMemory}
 use Rattle.certificate_files.specs.declared.forms.FrameLine.{FrameLine}
-use Rattle.certificate_files.specs.Files.{is_small, Saying, Frame, Gate, Route, saying_of, Progress, settled, taken, ended, read_blocks}
+use Rattle.certificate_files.specs.Files.{is_small, Saying, Frame, Gate, Route, saying_of, Progress, settled, taken, blocks_at_end, read_blocks}
 use Rattle.certificate_files.specs.Forms.{framed, gated, routed, are_small}
-use Rattle.certificate_files.specs.Steps.{read_rest, block_of, with_gate, with_route, closed}
+use Rattle.certificate_files.specs.Steps.{read_rest, certificate_block, block_with_gate, with_route, ended_blocks}
 
 -- ---- one line
 
@@ -52,13 +52,13 @@ read_line end text line more p first within =
 
 -- ---- the end of the text
 
-read_nothing : (end : ℕ) (p : Progress) → read_rest end [] p ≡ ended end p
+read_nothing : (end : ℕ) (p : Progress) → read_rest end [] p ≡ blocks_at_end end p
 unfolding read_blocks lines
 read_nothing end p = refl
 
 -- where no block is open at the end of the text, the blocks have been read
-pub ends_closed : (end : ℕ) (rest : List ℕ) (blocks : List Certificate) → rest ≡ [] → read_rest end rest (closed blocks) ≡ Ok blocks
-ends_closed end rest blocks none = ap (λ (bytes : List ℕ). read_rest end bytes (closed blocks)) none ∙ read_nothing end (closed blocks)
+pub ends_closed : (end : ℕ) (rest : List ℕ) (blocks : List Certificate) → rest ≡ [] → read_rest end rest (ended_blocks blocks) ≡ Ok blocks
+ends_closed end rest blocks none = ap (λ (bytes : List ℕ). read_rest end bytes (ended_blocks blocks)) none ∙ read_nothing end (ended_blocks blocks)
 
 -- a text that ends where gates are lacking is truncated
 pub ends_in_gates : (end : ℕ) (rest : List ℕ) (blocks : List Certificate) (block : Certificate) (gates routes : ℕ) → rest ≡ []
@@ -84,10 +84,10 @@ sized_next false x next fault = refl
 
 -- where gates are lacking, a line has to be that of one, which the block then has
 pub gate_next : (at : ℕ) (blocks : List Certificate) (block : Certificate) (gates routes : ℕ) (said : Option Saying)
-    → taken at (settled blocks block (suc gates) routes) said ≡ next_by (λ v. settled blocks (with_gate block v) gates routes) (gated at said)
+    → taken at (settled blocks block (suc gates) routes) said ≡ next_by (λ v. settled blocks (block_with_gate block v) gates routes) (gated at said)
 gate_next at blocks block gates routes None = refl
 gate_next at blocks block gates routes (Some (Frame a b c)) = refl
-gate_next at blocks block gates routes (Some (Gate v)) = sized_next (is_small v) v (λ w. settled blocks (with_gate block w) gates routes) (TooLarge at)
+gate_next at blocks block gates routes (Some (Gate v)) = sized_next (is_small v) v (λ w. settled blocks (block_with_gate block w) gates routes) (TooLarge at)
 gate_next at blocks block gates routes (Some (Route points)) = refl
 
 -- where routes alone are lacking, a line has to be that of one, which the block then has
@@ -103,10 +103,10 @@ route_next at blocks block routes (Some (Route points)) =
 
 -- where no block is open, a line has to be the first one of a block
 pub frame_next : (at : ℕ) (blocks : List Certificate) (said : Option Saying)
-    → taken at (closed blocks) said ≡ next_by (λ (f : FrameLine). settled blocks (block_of f.count [] []) f.gates f.routes) (framed at said)
+    → taken at (ended_blocks blocks) said ≡ next_by (λ (f : FrameLine). settled blocks (certificate_block f.count [] []) f.gates f.routes) (framed at said)
 frame_next at blocks None = refl
 frame_next at blocks (Some (Frame a b c)) =
-    sized_next (is_small a && is_small b && is_small c) (record { count = a; gates = b; routes = c }) (λ (f : FrameLine). settled blocks (block_of f.count [] []) f.gates f.routes) (TooLarge at)
+    sized_next (is_small a && is_small b && is_small c) (record { count = a; gates = b; routes = c }) (λ (f : FrameLine). settled blocks (certificate_block f.count [] []) f.gates f.routes) (TooLarge at)
 frame_next at blocks (Some (Gate v)) = refl
 frame_next at blocks (Some (Route points)) = refl
 
@@ -119,9 +119,9 @@ leads_given next go (Err e) s read is given = Fails-where e s read (λ fault. is
 -- reading goes on with the gate that a line gives, or ends with its fault
 pub gate_leads : (end : ℕ) (text line more : List ℕ) (blocks : List Certificate) (block : Certificate) (gates routes : ℕ) (r : Result ℕ CertError)
     → IsFirst text line more → length text ≤ end → Gives NoMemory (λ v. v) r (gated (end - length text) (saying_of line))
-    → Leads NoMemory (λ v. read_rest end more (settled blocks (with_gate block v) gates routes)) r (read_rest end text (settled blocks block (suc gates) routes))
+    → Leads NoMemory (λ v. read_rest end more (settled blocks (block_with_gate block v) gates routes)) r (read_rest end text (settled blocks block (suc gates) routes))
 gate_leads end text line more blocks block gates routes r first within given =
-    leads_given (λ v. settled blocks (with_gate block v) gates routes) (read_rest end more) r (gated (end - length text) (saying_of line)) _
+    leads_given (λ v. settled blocks (block_with_gate block v) gates routes) (read_rest end more) r (gated (end - length text) (saying_of line)) _
     (read_line end text line more (settled blocks block (suc gates) routes) first within ∙ ap (λ (t : Result Progress CertError). t >>= read_rest end more) (gate_next (end - length text) blocks block gates routes (saying_of line)))
     given
 
@@ -137,10 +137,10 @@ route_leads end text line more blocks block routes r first within given =
 -- reading goes on with the block that a line begins, or ends with its fault
 pub frame_leads : (end : ℕ) (text line more : List ℕ) (blocks : List Certificate) (r : Result FrameLine CertError)
     → IsFirst text line more → length text ≤ end → Gives NoMemory (λ f. f) r (framed (end - length text) (saying_of line))
-    → Leads NoMemory (λ (f : FrameLine). read_rest end more (settled blocks (block_of f.count [] []) f.gates f.routes)) r (read_rest end text (closed blocks))
+    → Leads NoMemory (λ (f : FrameLine). read_rest end more (settled blocks (certificate_block f.count [] []) f.gates f.routes)) r (read_rest end text (ended_blocks blocks))
 frame_leads end text line more blocks r first within given =
-    leads_given (λ (f : FrameLine). settled blocks (block_of f.count [] []) f.gates f.routes) (read_rest end more) r (framed (end - length text) (saying_of line)) _
-    (read_line end text line more (closed blocks) first within ∙ ap (λ (t : Result Progress CertError). t >>= read_rest end more) (frame_next (end - length text) blocks (saying_of line)))
+    leads_given (λ (f : FrameLine). settled blocks (certificate_block f.count [] []) f.gates f.routes) (read_rest end more) r (framed (end - length text) (saying_of line)) _
+    (read_line end text line more (ended_blocks blocks) first within ∙ ap (λ (t : Result Progress CertError). t >>= read_rest end more) (frame_next (end - length text) blocks (saying_of line)))
     given
 
 -- of a text whose rest has length 0 nothing is left

@@ -10,7 +10,7 @@ use Rattle.reader_parts.specs.Rows.{clamped}
 use Rattle.frame_net.specs.declared.net.Point.{Point}
 use Rattle.certificate_files.specs.declared.fault.CertError.{CertError}
 use Rattle.certificate_files.specs.declared.fault.CertError.TheVariants.{BadLine, TooLarge}
-use Rattle.certificate_files.specs.Files.{sign_of, is_point, point_of, is_small, Route, route_of}
+use Rattle.certificate_files.specs.Files.{sign_of, is_point, point_of_word, is_small, Route, route_of}
 use Rattle.certificate_files.specs.Forms.{number_of, side_of, clamped_point, spelt_point, spelt_at, onto, are_small, sized_points, routed}
 use Rattle.certificate_files.proofs.FormLaws.{small_same, small_is}
 
@@ -68,7 +68,7 @@ no_digits = refl
 -- ---- the points of words
 
 abbrev cut_point : List ℕ → Point
-cut_point w = clamped_point (point_of w)
+cut_point w = clamped_point (point_of_word w)
 
 -- a word that spells a point adds it to those read before
 pub point_pushed : (at : ℕ) (points : List Point) (word : List ℕ) (words : List (List ℕ)) (p : Point) → spelt_point word ≡ Some p
@@ -100,15 +100,15 @@ onto_nothing (Err e) = refl
 
 -- ---- the sizes
 
-small_cut : (ws : List (List ℕ)) → are_small (map cut_point ws) ≡ are_small (map point_of ws)
+small_cut : (ws : List (List ℕ)) → are_small (map cut_point ws) ≡ are_small (map point_of_word ws)
 small_cut [] = refl
-small_cut (w ∷ ws) = ap₂ (λ (a b : Bool). a && b) (small_same (point_of w).var) (small_cut ws)
+small_cut (w ∷ ws) = ap₂ (λ (a b : Bool). a && b) (small_same (point_of_word w).var) (small_cut ws)
 
-cut_same : (ws : List (List ℕ)) → are_small (map point_of ws) ≡ true → map cut_point ws ≡ map point_of ws
+cut_same : (ws : List (List ℕ)) → are_small (map point_of_word ws) ≡ true → map cut_point ws ≡ map point_of_word ws
 cut_same [] small = refl
 cut_same (w ∷ ws) small =
-    let parts = and_parts (is_small (point_of w).var) (are_small (map point_of ws)) small in
-    ap₂ (λ (p : Point) (ps : List Point). p ∷ ps) (ap (λ (v : ℕ). record { var = v; behind = (point_of w).behind }) (small_is (point_of w).var parts.0)) (cut_same ws parts.1)
+    let parts = and_parts (is_small (point_of_word w).var) (are_small (map point_of_word ws)) small in
+    ap₂ (λ (p : Point) (ps : List Point). p ∷ ps) (ap (λ (v : ℕ). record { var = v; behind = (point_of_word w).behind }) (small_is (point_of_word w).var parts.0)) (cut_same ws parts.1)
 
 abbrev sized : ℕ → Result (List Point) CertError → Result (List Point) CertError
 sized at (Ok ps) = sized_points at ps
@@ -117,13 +117,13 @@ sized at (Err e) = Err e
 routed_sized : (at : ℕ) (ws : List (List ℕ)) → routed at (route_of ws) ≡ sized at (spelt_at at ws)
 routed_sized at ws = by_test (list_all is_point ws)
   where
-    by_size : (s : Bool) → are_small (map point_of ws) ≡ s → cond {A = Result (List Point) CertError} s (Ok (map point_of ws)) (Err (TooLarge at)) ≡ cond s (Ok (map cut_point ws)) (Err (TooLarge at))
+    by_size : (s : Bool) → are_small (map point_of_word ws) ≡ s → cond {A = Result (List Point) CertError} s (Ok (map point_of_word ws)) (Err (TooLarge at)) ≡ cond s (Ok (map cut_point ws)) (Err (TooLarge at))
     by_size true small = ap (λ (ps : List Point). Ok ps) (sym (cut_same ws small))
     by_size false small = refl
 
-    by_test : (b : Bool) → routed at (cond b (Some (Route (map point_of ws))) None) ≡ sized at (cond b (Ok (map cut_point ws)) (Err (BadLine at)))
+    by_test : (b : Bool) → routed at (cond b (Some (Route (map point_of_word ws))) None) ≡ sized at (cond b (Ok (map cut_point ws)) (Err (BadLine at)))
     by_test false = refl
-    by_test true = by_size (are_small (map point_of ws)) refl
+    by_test true = by_size (are_small (map point_of_word ws)) refl
         ∙ ap (λ (s : Bool). cond s (Ok (map cut_point ws)) (Err (TooLarge at))) (sym (small_cut ws))
 
 -- a route whose words all spell points is these, where their numbers are small

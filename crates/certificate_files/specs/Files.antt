@@ -20,8 +20,8 @@ sign_of word = slice_index_or word (length word - 1) 0
 abbrev pub is_point : List ℕ → Bool
 is_point word = is_number (take (length word - 1) word) && (sign_of word == 43 || sign_of word == 45)
 
-abbrev pub point_of : List ℕ → Point
-point_of word = record { var = digits_value (take (length word - 1) word); behind = sign_of word == 43 }
+abbrev pub point_of_word : List ℕ → Point
+point_of_word word = record { var = digits_value (take (length word - 1) word); behind = sign_of word == 43 }
 
 abbrev pub is_small : ℕ → Bool
 is_small n = nat_le n (2 ^ 28 - 1)
@@ -33,25 +33,25 @@ pub data Saying : Type 0 where
   Route : List Point → Saying
 
 -- three numbers: the count, and how many gates and routes there are
-abbrev pub frame_of : Option (List ℕ) → Option Saying
-frame_of (Some (count ∷ gates ∷ routes ∷ [])) = Some (Frame count gates routes)
-frame_of _ = None
+abbrev pub frame_saying : Option (List ℕ) → Option Saying
+frame_saying (Some (count ∷ gates ∷ routes ∷ [])) = Some (Frame count gates routes)
+frame_saying _ = None
 
-abbrev pub gate_of : Option (List ℕ) → Option Saying
-gate_of (Some (v ∷ [])) = Some (Gate v)
-gate_of _ = None
+abbrev pub gate_saying : Option (List ℕ) → Option Saying
+gate_saying (Some (v ∷ [])) = Some (Gate v)
+gate_saying _ = None
 
 -- one point or more
 abbrev pub route_of : List (List ℕ) → Option Saying
-route_of words = if list_all is_point words then Some (Route (map point_of words)) else None
+route_of words = if list_all is_point words then Some (Route (map point_of_word words)) else None
 
 abbrev pub begins_with : List ℕ → List ℕ → Bool
 begins_with word line = starts_with (λ a b. a == b) line word
 
 unfoldable pub saying_of : List ℕ → Option Saying
 saying_of line =
-    if begins_with (codes "frame ") line then frame_of (numbers_of (drop 6 line))
-    else (if begins_with (codes "g ") line then gate_of (numbers_of (drop 2 line))
+    if begins_with (codes "frame ") line then frame_saying (numbers_of (drop 6 line))
+    else (if begins_with (codes "g ") line then gate_saying (numbers_of (drop 2 line))
     else (if begins_with (codes "r ") line then route_of (pieces (drop 2 line)) else None))
 
 abbrev pub has_small_numbers : Saying → Bool
@@ -74,11 +74,11 @@ settled blocks block zero zero = record { blocks = blocks ++ block ∷ []; begun
 settled blocks block gates routes = record { blocks = blocks; begun = Some block; gates = gates; routes = routes }
 
 -- what follows a saying; none where another one comes next
-abbrev pub after : Progress → Option Certificate → ℕ → Saying → Option Progress
-after p None lacks (Frame count gates routes) = Some (settled p.blocks (record { count = count; gates = []; routes = [] }) gates routes)
-after p (Some block) (suc lacks) (Gate v) = Some (settled p.blocks (record block { gates = block.gates ++ v ∷ [] }) lacks p.routes)
-after p (Some block) zero (Route points) = Some (settled p.blocks (record block { routes = block.routes ++ points ∷ [] }) 0 (p.routes - 1))
-after p begun lacks saying = None
+abbrev pub progress_after : Progress → Option Certificate → ℕ → Saying → Option Progress
+progress_after p None lacks (Frame count gates routes) = Some (settled p.blocks (record { count = count; gates = []; routes = [] }) gates routes)
+progress_after p (Some block) (suc lacks) (Gate v) = Some (settled p.blocks (record block { gates = block.gates ++ v ∷ [] }) lacks p.routes)
+progress_after p (Some block) zero (Route points) = Some (settled p.blocks (record block { routes = block.routes ++ points ∷ [] }) 0 (p.routes - 1))
+progress_after p begun lacks saying = None
 
 abbrev pub sized : ℕ → Saying → Option Progress → Result Progress CertError
 sized at saying None = Err (BadLine at)
@@ -86,18 +86,18 @@ sized at saying (Some next) = if has_small_numbers saying then Ok next else Err 
 
 abbrev pub taken : ℕ → Progress → Option Saying → Result Progress CertError
 taken at p None = Err (BadLine at)
-taken at p (Some saying) = sized at saying (after p p.begun p.gates saying)
+taken at p (Some saying) = sized at saying (progress_after p p.begun p.gates saying)
 
 -- the blocks, where none is left open at the end
-abbrev pub ended : ℕ → Progress → Result (List Certificate) CertError
-ended end p = ended_by p.begun
+abbrev pub blocks_at_end : ℕ → Progress → Result (List Certificate) CertError
+blocks_at_end end p = ended_by p.begun
   where
     ended_by : Option Certificate → Result (List Certificate) CertError
     ended_by None = Ok p.blocks
     ended_by (Some block) = Err (Truncated end)
 
 unfoldable pub read_blocks : ℕ → ℕ → Progress → List (List ℕ) → Result (List Certificate) CertError
-read_blocks at end p [] = ended end p
+read_blocks at end p [] = blocks_at_end end p
 read_blocks at end p (line ∷ rest) = taken at p (saying_of line) >>= λ next. read_blocks (at + length line + 1) end next rest
 
 -- ---- the file
@@ -109,23 +109,23 @@ abbrev pub with_choice : Choice → Result (List Certificate) CertError → Resu
 with_choice choice (Ok blocks) = Ok (record { choice = choice; blocks = blocks })
 with_choice choice (Err fault) = Err fault
 
-abbrev pub choice_of : List ℕ → Option Choice
-choice_of line = if is_word line (codes "choice greatest") then Some Greatest else (if is_word line (codes "choice smallest") then Some Smallest else None)
+abbrev pub choice_in_line : List ℕ → Option Choice
+choice_in_line line = if is_word line (codes "choice greatest") then Some Greatest else (if is_word line (codes "choice smallest") then Some Smallest else None)
 
 abbrev pub read_chosen : ℕ → ℕ → Option Choice → List (List ℕ) → ℕ → Result CertFile CertError
 read_chosen at end None rest len = Err (BadLine at)
 read_chosen at end (Some choice) rest len = with_choice choice (read_blocks (at + len + 1) end nothing_read rest)
 
 -- in the second version the choice comes next
-abbrev pub read_second : ℕ → ℕ → List (List ℕ) → Result CertFile CertError
-read_second at end [] = Err (Truncated end)
-read_second at end (line ∷ rest) = read_chosen at end (choice_of line) rest (length line)
+abbrev pub read_second_version : ℕ → ℕ → List (List ℕ) → Result CertFile CertError
+read_second_version at end [] = Err (Truncated end)
+read_second_version at end (line ∷ rest) = read_chosen at end (choice_in_line line) rest (length line)
 
 abbrev pub read_file : ℕ → List (List ℕ) → Result CertFile CertError
 read_file end [] = Err (BadHeader 0)
 read_file end (first ∷ rest) =
     if is_word first (codes "fretime-cert 1") then with_choice Greatest (read_blocks 15 end nothing_read rest)
-    else (if is_word first (codes "fretime-cert 2") then read_second 15 end rest else Err (BadHeader 0))
+    else (if is_word first (codes "fretime-cert 2") then read_second_version 15 end rest else Err (BadHeader 0))
 
 -- the certificates of a text, or its first fault
 unfoldable pub read_text : List ℕ → Result CertFile CertError

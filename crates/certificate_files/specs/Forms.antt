@@ -7,7 +7,7 @@ use Rattle.frame_net.specs.declared.net.Point.{Point}
 use Rattle.certificate_files.specs.declared.fault.CertError.{CertError}
 use Rattle.certificate_files.specs.declared.fault.CertError.TheVariants.{BadLine, TooLarge}
 use Rattle.certificate_files.specs.declared.forms.FrameLine.{FrameLine}
-use Rattle.certificate_files.specs.Files.{is_point, point_of, is_small, Saying, Frame, Gate, Route}
+use Rattle.certificate_files.specs.Files.{is_point, point_of_word, is_small, Saying, Frame, Gate, Route}
 
 abbrev pub framed : ℕ → Option Saying → Result FrameLine CertError
 framed at (Some (Frame count gates routes)) = if is_small count && is_small gates && is_small routes then Ok (record { count = count; gates = gates; routes = routes }) else Err (TooLarge at)
@@ -37,11 +37,11 @@ abbrev pub clamped_point : Point → Point
 clamped_point p = record { var = clamped p.var; behind = p.behind }
 
 abbrev pub spelt_point : List ℕ → Option Point
-spelt_point word = if is_point word then Some (clamped_point (point_of word)) else None
+spelt_point word = if is_point word then Some (clamped_point (point_of_word word)) else None
 
 -- the points that words spell, where each of them is one
 abbrev pub spelt_at : ℕ → List (List ℕ) → Result (List Point) CertError
-spelt_at at words = if list_all is_point words then Ok (map (λ w. clamped_point (point_of w)) words) else Err (BadLine at)
+spelt_at at words = if list_all is_point words then Ok (map (λ w. clamped_point (point_of_word w)) words) else Err (BadLine at)
 
 -- points, and those that are read after them
 abbrev pub onto : List Point → Result (List Point) CertError → Result (List Point) CertError

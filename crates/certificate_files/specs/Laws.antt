@@ -20,8 +20,8 @@ abbrev pub is_writable : CertFile → Bool
 is_writable f = list_all is_writable_block f.blocks
 
 -- what was written of a file is read as that file
-abbrev pub RoundTripLaw : CertFile → Type 0
-RoundTripLaw f = is_writable f ≡ true → read_text (file_text f) ≡ Ok f
+abbrev pub CertificatesRoundTripLaw : CertFile → Type 0
+CertificatesRoundTripLaw f = is_writable f ≡ true → read_text (file_text f) ≡ Ok f
 
 -- what was read can be written, and is then read again
 pub record RereadingLaw (f : CertFile) : Type 0 where

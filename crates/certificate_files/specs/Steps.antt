@@ -12,15 +12,15 @@ read_rest end rest p = read_blocks (end - length rest) end p (lines rest)
 
 -- ---- blocks
 
-abbrev pub block_of : ℕ → List ℕ → List (List Point) → Certificate
-block_of count gates routes = record { count = count; gates = gates; routes = routes }
+abbrev pub certificate_block : ℕ → List ℕ → List (List Point) → Certificate
+certificate_block count gates routes = record { count = count; gates = gates; routes = routes }
 
-abbrev pub with_gate : Certificate → ℕ → Certificate
-with_gate block v = record block { gates = block.gates ++ v ∷ [] }
+abbrev pub block_with_gate : Certificate → ℕ → Certificate
+block_with_gate block v = record block { gates = block.gates ++ v ∷ [] }
 
 abbrev pub with_route : Certificate → List Point → Certificate
 with_route block points = record block { routes = block.routes ++ points ∷ [] }
 
 -- blocks that have ended, where none has begun
-abbrev pub closed : List Certificate → Progress
-closed blocks = record { blocks = blocks; begun = None; gates = 0; routes = 0 }
+abbrev pub ended_blocks : List Certificate → Progress
+ended_blocks blocks = record { blocks = blocks; begun = None; gates = 0; routes = 0 }

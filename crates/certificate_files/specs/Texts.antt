@@ -23,11 +23,11 @@ abbrev pub gate_text : ℕ → List ℕ
 gate_text v = codes "g " ++ line (v ∷ [])
 
 -- the count, how many gates and routes there are, and then those
-abbrev pub frame_text : Certificate → List ℕ
-frame_text block = codes "frame " ++ line (block.count ∷ length block.gates ∷ length block.routes ∷ [])
+abbrev pub frame_line_text : Certificate → List ℕ
+frame_line_text block = codes "frame " ++ line (block.count ∷ length block.gates ∷ length block.routes ∷ [])
 
 abbrev pub block_text : Certificate → List ℕ
-block_text block = frame_text block ++ flat_map gate_text block.gates ++ flat_map route_text block.routes
+block_text block = frame_line_text block ++ flat_map gate_text block.gates ++ flat_map route_text block.routes
 
 abbrev pub choice_text : Choice → List ℕ
 choice_text Greatest = codes "choice greatest\n"

@@ -5,7 +5,7 @@ ghost use Rattle.certificates.specs.declared.certificate.Certificate.{Certificat
 ghost use Rattle.certificate_files.specs.declared.fault.CertError.TheVariants.{NoMemory};
 ghost use Rattle.file_words.specs.Answering.{Gives, Leads};
 ghost use Rattle.certificate_files.specs.Files.{settled, nothing_read};
-ghost use Rattle.certificate_files.specs.Steps.{read_rest, block_of, with_gate, with_route, closed};
+ghost use Rattle.certificate_files.specs.Steps.{read_rest, certificate_block, block_with_gate, with_route, ended_blocks};
 ghost use Rattle.std.specs.Prelude.{◌++◌, ◌∷◌};
 
 use crate::fault::CertError;
@@ -24,7 +24,7 @@ fn next_gate(lines: &mut Lines<'_>) -> Result<u32, CertError>
     ensures shorter { length lines.new.rest.now ≤ length lines.old.rest.now }
     ensures reads { (blocks : List Block) (block : Block) (gates routes : ℕ)
         → Leads NoMemory (λ v. read_rest lines.new.end lines.new.rest.now
-        (settled blocks (with_gate block v) gates routes)) result
+        (settled blocks (block_with_gate block v) gates routes)) result
         (read_rest lines.old.end lines.old.rest.now (settled blocks block (suc gates) routes)) }
 {
     let line = next_line(lines)?;
@@ -50,8 +50,8 @@ fn next_frame(lines: &mut Lines<'_>) -> Result<FrameLine, CertError>
     ensures shorter { OnOk result (length lines.new.rest.now < length lines.old.rest.now) }
     ensures reads { (blocks : List Block) → 0 < length lines.old.rest.now
         → Leads NoMemory (λ frame. read_rest lines.new.end lines.new.rest.now
-        (settled blocks (block_of frame.count [] []) frame.gates frame.routes)) result
-        (read_rest lines.old.end lines.old.rest.now (closed blocks)) }
+        (settled blocks (certificate_block frame.count [] []) frame.gates frame.routes)) result
+        (read_rest lines.old.end lines.old.rest.now (ended_blocks blocks)) }
 {
     let line = next_line(lines)?;
     frame_line(&line)
@@ -63,9 +63,9 @@ fn read_gates(alloc: Global, lines: &mut Lines<'_>, count: u32) -> Result<Sequen
     ensures shorter { length lines.new.rest.now ≤ length lines.old.rest.now }
     ensures reads { (blocks : List Block) (stated routes : ℕ)
         → Leads NoMemory (λ gates. read_rest lines.new.end lines.new.rest.now
-        (settled blocks (block_of stated gates []) 0 routes)) result
+        (settled blocks (certificate_block stated gates []) 0 routes)) result
         (read_rest lines.old.end lines.old.rest.now
-        (settled blocks (block_of stated [] []) count routes)) }
+        (settled blocks (certificate_block stated [] []) count routes)) }
 {
     let mut gates = Vec::new(alloc);
     for _ in 0..count {
@@ -81,9 +81,9 @@ fn add_route(alloc: Global, lines: &mut Lines<'_>, routes: &mut Routes) -> Resul
     ensures shorter { length lines.new.rest.now ≤ length lines.old.rest.now }
     ensures reads { (blocks : List Block) (stated left : ℕ) (gates : List ℕ)
         → Leads NoMemory (λ _. read_rest lines.new.end lines.new.rest.now
-        (settled blocks (block_of stated gates routes.new) 0 left)) result
+        (settled blocks (certificate_block stated gates routes.new) 0 left)) result
         (read_rest lines.old.end lines.old.rest.now
-        (settled blocks (block_of stated gates routes.old) 0 (suc left))) }
+        (settled blocks (certificate_block stated gates routes.old) 0 (suc left))) }
 {
     let points = next_route(alloc, lines)?;
     let added = routes.push(points.as_slice());
@@ -105,9 +105,9 @@ fn add_routes(
     ensures shorter { length lines.new.rest.now ≤ length lines.old.rest.now }
     ensures reads { (blocks : List Block) (stated : ℕ) (gates : List ℕ)
         → Leads NoMemory (λ _. read_rest lines.new.end lines.new.rest.now
-        (closed (blocks ++ block_of stated gates routes.new ∷ []))) result
+        (ended_blocks (blocks ++ certificate_block stated gates routes.new ∷ []))) result
         (read_rest lines.old.end lines.old.rest.now
-        (settled blocks (block_of stated gates routes.old) 0 count)) }
+        (settled blocks (certificate_block stated gates routes.old) 0 count)) }
 {
     for _ in 0..count {
         add_route(alloc, lines, routes)?;
@@ -121,9 +121,9 @@ fn read_routes(alloc: Global, lines: &mut Lines<'_>, count: u32) -> Result<Route
     ensures shorter { length lines.new.rest.now ≤ length lines.old.rest.now }
     ensures reads { (blocks : List Block) (stated : ℕ) (gates : List ℕ)
         → Leads NoMemory (λ routes. read_rest lines.new.end lines.new.rest.now
-        (closed (blocks ++ block_of stated gates routes ∷ []))) result
+        (ended_blocks (blocks ++ certificate_block stated gates routes ∷ []))) result
         (read_rest lines.old.end lines.old.rest.now
-        (settled blocks (block_of stated gates []) 0 count)) }
+        (settled blocks (certificate_block stated gates []) 0 count)) }
 {
     let mut routes = Routes::none(alloc);
     match add_routes(alloc, lines, count, &mut routes) {
@@ -141,8 +141,8 @@ fn next_block(alloc: Global, lines: &mut Lines<'_>) -> Result<Certificate, CertE
     ensures shorter { OnOk result (length lines.new.rest.now < length lines.old.rest.now) }
     ensures reads { (blocks : List Block) → 0 < length lines.old.rest.now
         → Leads NoMemory (λ block. read_rest lines.new.end lines.new.rest.now
-        (closed (blocks ++ block ∷ []))) result
-        (read_rest lines.old.end lines.old.rest.now (closed blocks)) }
+        (ended_blocks (blocks ++ block ∷ []))) result
+        (read_rest lines.old.end lines.old.rest.now (ended_blocks blocks)) }
 {
     let frame = next_frame(lines)?;
     let gates = read_gates(alloc, lines, frame.gates)?;

@@ -1,7 +1,7 @@
 //! Lines with nothing but numbers after their first word. Form comes before size: a line of another form is `BadLine`, however
 //! great its numbers.
 ghost use Rattle.std.specs.Prelude.{◌≡◌, ◌++◌, List, ℕ, Some, MatchOption};
-ghost use Rattle.certificate_files.specs.Files.{frame_of, gate_of, is_small, saying_of};
+ghost use Rattle.certificate_files.specs.Files.{frame_saying, gate_saying, is_small, saying_of};
 ghost use Rattle.certificate_files.specs.Forms.{framed, gated};
 
 use crate::fault::CertError;
@@ -36,7 +36,7 @@ pub(crate) fn after_letters<'a>(text: &'a [u8], letters: &[u8]) -> Option<&'a [u
 }
 
 fn frame(at: u64, numbers: &[u32]) -> Result<FrameLine, CertError>
-    ensures { result ≡ framed at (frame_of (Some numbers.now)) }
+    ensures { result ≡ framed at (frame_saying (Some numbers.now)) }
 {
     if numbers.len() != 3 {
         return Err(CertError::BadLine(at));
@@ -69,7 +69,7 @@ pub(crate) fn frame_line(line: &Line<'_>) -> Result<FrameLine, CertError>
 }
 
 fn gate(at: u64, numbers: &[u32]) -> Result<u32, CertError>
-    ensures { result ≡ gated at (gate_of (Some numbers.now)) }
+    ensures { result ≡ gated at (gate_saying (Some numbers.now)) }
 {
     if numbers.len() != 1 {
         return Err(CertError::BadLine(at));

@@ -4,7 +4,7 @@ ghost use Rattle.std.specs.Prelude.{ℕ, [], ◌≡◌, ◌⊎◌, ◌-◌, leng
 ghost use Rattle.file_words.specs.Lines as format;
 ghost use Rattle.certificate_files.specs.declared.fault.CertError.TheVariants.{NoMemory};
 ghost use Rattle.file_words.specs.Answering.{Gives, Leads};
-ghost use Rattle.certificate_files.specs.Files.{choice_of, nothing_read, read_file, read_second, read_text, with_choice};
+ghost use Rattle.certificate_files.specs.Files.{choice_in_line, nothing_read, read_file, read_second_version, read_text, with_choice};
 ghost use Rattle.certificate_files.specs.Steps.{read_rest};
 
 use crate::blocks::read_blocks;
@@ -16,7 +16,7 @@ use file_words::{Lines, is_word};
 use std::alloc::Global;
 
 fn choice(text: &[u8]) -> Option<Choice>
-    ensures { result ≡ choice_of text.now }
+    ensures { result ≡ choice_in_line text.now }
 {
     if is_word(text, b"choice greatest") {
         Some(Choice::Greatest)
@@ -33,7 +33,7 @@ fn second_line(lines: &mut Lines<'_>) -> Result<Choice, CertError>
         (at ≡ lines.old.end - length lines.old.rest.now)
         → Leads NoMemory (λ choice. with_choice choice
         (read_rest lines.new.end lines.new.rest.now nothing_read)) result
-        (read_second at lines.old.end (format.lines lines.old.rest.now)) }
+        (read_second_version at lines.old.end (format.lines lines.old.rest.now)) }
 {
     let line = next_line(lines)?;
     match choice(line.text) {

@@ -4,7 +4,7 @@ ghost use Rattle.std.specs.Prelude.{◌≡◌};
 ghost use Rattle.std.specs.List.{flat_map};
 ghost use Rattle.counted_io.specs.Buffered.{Puts};
 ghost use Rattle.counted_io.specs.Output.{Writes};
-ghost use Rattle.certificate_files.specs.Texts.{sign_code, point_text, route_text, gate_text, frame_text, block_text, choice_text, file_text};
+ghost use Rattle.certificate_files.specs.Texts.{sign_code, point_text, route_text, gate_text, frame_line_text, block_text, choice_text, file_text};
 
 use crate::file::CertFile;
 use crate::filling::Line;
@@ -72,7 +72,7 @@ fn put_gates<W: CountedWrite>(out: &mut Buffered<'_, W>, line: &mut Line, gates:
 
 /// Puts the line that begins a block.
 fn put_frame<W: CountedWrite>(out: &mut Buffered<'_, W>, block: &Certificate)
-    ensures { Puts W.output out.old out.new (frame_text block.now) }
+    ensures { Puts W.output out.old out.new (frame_line_text block.now) }
 {
     let count = u64::from(block.count);
     let gates = block.gates.len() as u64;

@@ -17,12 +17,12 @@ use Rattle.frame_net.specs.Cuts.{IsNetworkOf, NoUnboundedLeaves, leaving}
 use Rattle.frame_net.proofs.SetCutLaws.{closed_sets_are_cuts-law}
 use Rattle.frame_net.proofs.NetLaws.{cuts_are_closed-law}
 use Rattle.frame_net.proofs.LeastCutLaws.{empty-border, arc-counts}
-use Rattle.cut_cert.specs.Gates.{gates_below}
+use Rattle.cut_cert.specs.Gates.{gates_of_nodes_below}
 use Rattle.cut_cert.proofs.GateLaws.{are-gates}
 use Rattle.cut_cert.proofs.SinkWalkLaws.{pair-mate}
 use Rattle.pulse.specs.Values.{RunEnd}
 use Rattle.pulse.specs.Conditions.{IsMaxPreflow, state_of}
-use Rattle.cut_cert.specs.Walks.{AreCarried, out_of, into, Holds}
+use Rattle.cut_cert.specs.Walks.{AreArcFlows, out_of, into, IsPreflowAt}
 use Rattle.cut_cert.proofs.LoweringLaws.{here-zero}
 use Rattle.cut_cert.proofs.ArcPointLaws.{none-out-of-sink}
 
@@ -179,13 +179,13 @@ module _ (c : Netlist) (held : List ℕ) (net : FlowNet) (is : IsNetworkOf c hel
   -- the border of a least set has as many variables as units have reached the sink
   pub least-count : (gates : List ℕ) → IsLeast c held gates → border_size (move_of c held gates) ≡ s.excess 1
   least-count gates least =
-      let found = cuts_are_closed-law c held net side (gates_below net side n) is cut no-unbounded (are-gates c held net is side) in
+      let found = cuts_are_closed-law c held net side (gates_of_nodes_below net side n) is cut no-unbounded (are-gates c held net is side) in
       let its = closed_sets_are_cuts-law c held net gates is least.closed in
-      omega (arith, least.least (gates_below net side n) found.0, found.1, worth, at-most its.0 its.1.is_cut, its.1.count)
+      omega (arith, least.least (gates_of_nodes_below net side n) found.0, found.1, worth, at-most its.0 its.1.is_cut, its.1.count)
 
 -- ---- what each arc carries
 
-module _ (net : FlowNet) (ok : IsFlowNet net) (residuals xs : List ℕ) (carried : AreCarried net residuals xs) where
+module _ (net : FlowNet) (ok : IsFlowNet net) (residuals xs : List ℕ) (carried : AreArcFlows net residuals xs) where
   arc-at : (v k : ℕ) → v < node_count net → k < row_len net v → start net v + k < length net.heads
   arc-at v k h l = omega (arith, h, l, ok.rows (v + 1) (node_count net) (omega (arith, h)) (omega arith), ok.last)
 
@@ -209,7 +209,7 @@ module _ (net : FlowNet) (ok : IsFlowNet net) (residuals xs : List ℕ) (carried
     )
   ]
 
-module _ (net : FlowNet) (ok : IsFlowNet net) (m : RunEnd) (end : IsMaxPreflow net m) (xs : List ℕ) (carried : AreCarried net m.flow.cells.residuals xs) where
+module _ (net : FlowNet) (ok : IsFlowNet net) (m : RunEnd) (end : IsMaxPreflow net m) (xs : List ℕ) (carried : AreArcFlows net m.flow.cells.residuals xs) where
   abbrev res : ℕ → ℕ → ℕ
   res = pair net m.flow.cells.residuals
 
@@ -229,7 +229,7 @@ module _ (net : FlowNet) (ok : IsFlowNet net) (m : RunEnd) (end : IsMaxPreflow n
   )
 
   -- what the arcs of a greatest flow carry is within capacities, and no inner node gives more than it gets
-  pub holds-first : Holds net xs 1
+  pub holds-first : IsPreflowAt net xs 1
   holds-first = record {
     long = carried.long;
     within = λ v w h l. omega (arith, pair-carried net ok m.flow.cells.residuals xs carried v w h);

@@ -6,63 +6,63 @@ use Rattle.std.proofs.lemmas.List.{length-set, get_or-set_same, get_or-set_other
 use Rattle.std.proofs.lemmas.List.Sums.{sum_by-set, count_by-le-length}
 use Rattle.aig_graph.proofs.KindLaws.{element}
 use Rattle.variable_tables.proofs.PlacesLaws.{slice_get_push, slice_get-append_left, slice_get-append_right}
-use Rattle.cut_cert.specs.Fronts.{Front, is_marked, mark, reach}
+use Rattle.cut_cert.specs.Fronts.{SearchFront, is_marked, mark_node, reach_node}
 
 -- ---- one more node
 
-abbrev pub reach_new : Front → ℕ → Front
+abbrev pub reach_new : SearchFront → ℕ → SearchFront
 reach_new r v = record { marks = set r.marks v true; queue = r.queue ++ v ∷ [] }
 
 -- reaching a marked node changes nothing
-pub reach-marked : (r : Front) (v : ℕ) → is_marked r v ≡ true → reach r v ≡ r
-unfolding reach
+pub reach-marked : (r : SearchFront) (v : ℕ) → is_marked r v ≡ true → reach_node r v ≡ r
+unfolding reach_node
 reach-marked r v e = cond-true (is_marked r v) r (reach_new r v) e
 
 -- reaching a node that isn't marked marks and queues it
-pub reach-new : (r : Front) (v : ℕ) → is_marked r v ≡ false → reach r v ≡ reach_new r v
-unfolding reach
+pub reach-new : (r : SearchFront) (v : ℕ) → is_marked r v ≡ false → reach_node r v ≡ reach_new r v
+unfolding reach_node
 reach-new r v e = cond-false (is_marked r v) r (reach_new r v) e
 
 -- a mark that is there stays as it is
-pub mark-marked : (r : Front) (v : ℕ) → is_marked r v ≡ true → mark r v ≡ r
+pub mark-marked : (r : SearchFront) (v : ℕ) → is_marked r v ≡ true → mark_node r v ≡ r
 mark-marked r v e =
     let same : set r.marks v true ≡ r.marks = ap (λ (b : Bool). set r.marks v b) (sym e) ∙ set-get_or r.marks v false in
     ap (λ (marks : List Bool). record { marks = marks; queue = r.queue }) same
 
 -- marking a node leaves as many marks
-pub mark-long : (r : Front) (v : ℕ) → length (mark r v).marks ≡ length r.marks
+pub mark-long : (r : SearchFront) (v : ℕ) → length (mark_node r v).marks ≡ length r.marks
 mark-long r v = length-set r.marks v true
 
 -- the length of the marks stays
-pub reach-long : (r : Front) (v : ℕ) → length (reach r v).marks ≡ length r.marks
+pub reach-long : (r : SearchFront) (v : ℕ) → length (reach_node r v).marks ≡ length r.marks
 reach-long r v = elim (cases_Bool (is_marked r v)) [
-  | inl marked ↦ ap (λ (s : Front). length s.marks) (reach-marked r v marked)
-  | inr fresh ↦ ap (λ (s : Front). length s.marks) (reach-new r v fresh) ∙ length-set r.marks v true
+  | inl marked ↦ ap (λ (s : SearchFront). length s.marks) (reach-marked r v marked)
+  | inr fresh ↦ ap (λ (s : SearchFront). length s.marks) (reach-new r v fresh) ∙ length-set r.marks v true
 ]
 
 -- what was marked stays so, and what was queued
-pub record Grows (r s : Front) : Type 0 where
+pub record Grows (r s : SearchFront) : Type 0 where
   -- what was marked is marked
   pub marks : (v : ℕ) → is_marked r v ≡ true → is_marked s v ≡ true
   -- what was queued stands where it stood
   pub queue : (i v : ℕ) → slice_get r.queue i ≡ Some v → slice_get s.queue i ≡ Some v
 
 -- marks that grow twice have grown
-pub grows-then : (r s t : Front) → Grows r s → Grows s t → Grows r t
+pub grows-then : (r s t : SearchFront) → Grows r s → Grows s t → Grows r t
 grows-then r s t p q = record { marks = λ v e. q.marks v (p.marks v e); queue = λ i v e. q.queue i v (p.queue i v e) }
 
 -- marks that stay have grown
-pub grows-self : (r : Front) → Grows r r
+pub grows-self : (r : SearchFront) → Grows r r
 grows-self r = record { marks = λ v m. m; queue = λ i v m. m }
 
 -- a marked node has a mark in the list
-pub marked-within : (r : Front) (v : ℕ) → is_marked r v ≡ true → v < length r.marks
+pub marked-within : (r : SearchFront) (v : ℕ) → is_marked r v ≡ true → v < length r.marks
 marked-within r v e = elim (cases_lt v (length r.marks)) [
   | inl less ↦ less
   | inr past ↦ (let clash : false ≡ true = sym (get_or_past r.marks v false past) ∙ e in absurd (cc))
 ]
 
-module _ (r : Front) (w : ℕ) (within : w < length r.marks) where
+module _ (r : SearchFront) (w : ℕ) (within : w < length r.marks) where
   new-here : is_marked (reach_new r w) w ≡ true
   new-here = get_or-set_same r.marks w true false within
 
@@ -84,13 +84,13 @@ module _ (r : Front) (w : ℕ) (within : w < length r.marks) where
     queue = λ i v e. slice_get-append_left r.queue (w ∷ []) i v e;
   }
 
-  mark-grows : Grows r (mark r w)
+  mark-grows : Grows r (mark_node r w)
   mark-grows = record { marks = new-grows.marks; queue = λ i v e. e }
 
 -- ---- what the walk keeps
 
 -- nothing is reached of so many nodes
-abbrev pub no_front : ℕ → Front
+abbrev pub no_front : ℕ → SearchFront
 no_front n = record { marks = replicate n false; queue = [] }
 
 -- a node at place k of the queue, or after it
@@ -115,9 +115,9 @@ no-marks n v e =
     absurd (cc)
 
 -- a walk over n nodes: what holds of each marked node, and when a node is read
-module _ (n : ℕ) (Inside : ℕ → Type 0) (HasRead : Front → ℕ → Type 0) where
+module _ (n : ℕ) (Inside : ℕ → Type 0) (HasRead : SearchFront → ℕ → Type 0) where
   -- the queue has marked nodes, no more of them than there are; each marked node waits at place k or after it, or is read
-  pub record Sweeps (r : Front) (k : ℕ) : Type 0 where
+  pub record Sweeps (r : SearchFront) (k : ℕ) : Type 0 where
     -- there is a mark for each node
     pub as_long : length r.marks ≡ n
     -- the place is within the queue, or at its end
@@ -132,14 +132,14 @@ module _ (n : ℕ) (Inside : ℕ → Type 0) (HasRead : Front → ℕ → Type 0
     pub inside : (v : ℕ) → is_marked r v ≡ true → Inside v
 
   -- what reaching keeps, and what it adds
-  pub record Goes (k : ℕ) (r t : Front) : Type 0 where
+  pub record Goes (k : ℕ) (r t : SearchFront) : Type 0 where
     -- the walk has come to place k of the queue
     pub sweeps : Sweeps t k
     -- marks and queue have grown
     pub grows : Grows r t
 
   -- a walk that changes nothing keeps what it keeps
-  pub goes-self : (k : ℕ) (r : Front) → Sweeps r k → Goes k r r
+  pub goes-self : (k : ℕ) (r : SearchFront) → Sweeps r k → Goes k r r
   goes-self k r sweep = record { sweeps = sweep; grows = grows-self r }
 
   -- nothing is marked at the start
@@ -154,11 +154,11 @@ module _ (n : ℕ) (Inside : ℕ → Type 0) (HasRead : Front → ℕ → Type 0
   }
 
   -- no more nodes are marked than there are
-  pub sweeps-few : (r : Front) (k : ℕ) → Sweeps r k → length r.queue ≤ n
+  pub sweeps-few : (r : SearchFront) (k : ℕ) → Sweeps r k → length r.queue ≤ n
   sweeps-few r k sweep = omega (arith, sweep.counted, sweep.as_long, count_by-le-length (λ (b : Bool). b) r.marks)
 
   -- the node at place k has been read
-  pub sweeps-next : (r : Front) (k v : ℕ) → Sweeps r k → slice_get r.queue k ≡ Some v → HasRead r v → Sweeps r (k + 1)
+  pub sweeps-next : (r : SearchFront) (k v : ℕ) → Sweeps r k → slice_get r.queue k ≡ Some v → HasRead r v → Sweeps r (k + 1)
   sweeps-next r k v sweep there reads = record {
     as_long = sweep.as_long;
     within = omega (arith, slice_get_within r.queue k v there);
@@ -177,14 +177,14 @@ module _ (n : ℕ) (Inside : ℕ → Type 0) (HasRead : Front → ℕ → Type 0
   }
 
   -- where the queue is at its end, each marked node is read
-  pub sweeps-read : (r : Front) (k : ℕ) → Sweeps r k → slice_get r.queue k ≡ None → (v : ℕ) → is_marked r v ≡ true → HasRead r v
+  pub sweeps-read : (r : SearchFront) (k : ℕ) → Sweeps r k → slice_get r.queue k ≡ None → (v : ℕ) → is_marked r v ≡ true → HasRead r v
   sweeps-read r k sweep last v e = elim (sweep.pending v e) [
     | inl waits ↦ absurd (waits-end r.queue k v last waits sweep.within)
     | inr done ↦ done
   ]
 
-  module _ (still : (r t : Front) → Grows r t → (v : ℕ) → HasRead r v → HasRead t v) where
-    sweeps-new : (r : Front) (k w : ℕ) → Sweeps r k → Inside w → w < n → is_marked r w ≡ false → Sweeps (reach_new r w) k
+  module _ (still : (r t : SearchFront) → Grows r t → (v : ℕ) → HasRead r v → HasRead t v) where
+    sweeps-new : (r : SearchFront) (k w : ℕ) → Sweeps r k → Inside w → w < n → is_marked r w ≡ false → Sweeps (reach_new r w) k
     sweeps-new r k w sweep way below fresh =
         let h : w < length r.marks = omega (arith, sweep.as_long, below) in
         record {
@@ -217,16 +217,16 @@ module _ (n : ℕ) (Inside : ℕ → Type 0) (HasRead : Front → ℕ → Type 0
         }
 
     -- reaching a node of the kind keeps what the walk keeps, and marks it
-    pub reach-goes : (r : Front) (k v : ℕ) → Sweeps r k → v < n → Inside v → Goes k r (reach r v) × (is_marked (reach r v) v ≡ true)
+    pub reach-goes : (r : SearchFront) (k v : ℕ) → Sweeps r k → v < n → Inside v → Goes k r (reach_node r v) × (is_marked (reach_node r v) v ≡ true)
     reach-goes r k v sweep below way = elim (cases_Bool (is_marked r v)) [
-      | inl marked ↦ subst (λ (t : Front). Goes k r t × (is_marked t v ≡ true)) (sym (reach-marked r v marked)) (goes-self k r sweep, marked)
+      | inl marked ↦ subst (λ (t : SearchFront). Goes k r t × (is_marked t v ≡ true)) (sym (reach-marked r v marked)) (goes-self k r sweep, marked)
       | inr fresh ↦ (
           let h : v < length r.marks = omega (arith, sweep.as_long, below) in
-          subst (λ (t : Front). Goes k r t × (is_marked t v ≡ true)) (sym (reach-new r v fresh))
+          subst (λ (t : SearchFront). Goes k r t × (is_marked t v ≡ true)) (sym (reach-new r v fresh))
           (record { sweeps = sweeps-new r k v sweep way below fresh; grows = new-grows r v h }, new-here r v h))
     ]
 
-    sweeps-mark : (r : Front) (k w : ℕ) → Sweeps r k → Inside w → w < n → HasRead (mark r w) w → Sweeps (mark r w) k
+    sweeps-mark : (r : SearchFront) (k w : ℕ) → Sweeps r k → Inside w → w < n → HasRead (mark_node r w) w → Sweeps (mark_node r w) k
     sweeps-mark r k w sweep way below reads =
         let h : w < length r.marks = omega (arith, sweep.as_long, below) in
         record {
@@ -238,10 +238,10 @@ module _ (n : ℕ) (Inside : ℕ → Type 0) (HasRead : Front → ℕ → Type 0
               omega (arith, counts, one (is_marked r w), old);
           queued = λ i v e. (new-grows r w h).marks v (sweep.queued i v e);
           pending = λ v e. elim (new-cases r w h v e) [
-            | inl same ↦ inr (subst (λ (u : ℕ). HasRead (mark r w) u) (sym same) reads)
+            | inl same ↦ inr (subst (λ (u : ℕ). HasRead (mark_node r w) u) (sym same) reads)
             | inr before ↦ elim (sweep.pending v before) [
               | inl waits ↦ inl waits
-              | inr read ↦ inr (still r (mark r w) (mark-grows r w h) v read)
+              | inr read ↦ inr (still r (mark_node r w) (mark-grows r w h) v read)
             ]
           ];
           inside = λ v e. elim (new-cases r w h v e) [
@@ -255,7 +255,7 @@ module _ (n : ℕ) (Inside : ℕ → Type 0) (HasRead : Front → ℕ → Type 0
         one false = omega arith
 
     -- a node that is marked alone counts as read
-    pub mark-goes : (r : Front) (k v : ℕ) → Sweeps r k → v < n → Inside v → HasRead (mark r v) v → Goes k r (mark r v) × (is_marked (mark r v) v ≡ true)
+    pub mark-goes : (r : SearchFront) (k v : ℕ) → Sweeps r k → v < n → Inside v → HasRead (mark_node r v) v → Goes k r (mark_node r v) × (is_marked (mark_node r v) v ≡ true)
     mark-goes r k v sweep below way reads =
         let h : v < length r.marks = omega (arith, sweep.as_long, below) in
         (record { sweeps = sweeps-mark r k v sweep way below reads; grows = mark-grows r v h }, new-here r v h)

@@ -23,7 +23,7 @@ use Rattle.frame_net.proofs.NodeLaws.{rank-gate, view}
 use Rattle.frame_net.specs.Cuts.{AreGatesOf, IsNetworkOf}
 use Rattle.frame_net.proofs.NetLaws.{gate-range, nodes, point-before}
 use Rattle.frame_net.proofs.PassableLaws.{is_true}
-use Rattle.cut_cert.specs.Gates.{gate_after, gate_of, and_gate, gates_below}
+use Rattle.cut_cert.specs.Gates.{gate_after, gate_of_node, and_gate, gates_of_nodes_below}
 
 abbrev point : ℕ → Bool → Point
 point v behind = record { var = v; behind = behind }
@@ -45,50 +45,50 @@ split true (Some p) v e = (refl, ap (λ (q : Point). Some q) (split-behind p v p
 
 module _ (net : FlowNet) (side : ℕ → Bool) where
   -- a node outside of the set gives no gate
-  pub gate-out : (m : ℕ) → side m ≡ false → gate_of net side m ≡ None
-  unfolding gate_of
+  pub gate-out : (m : ℕ) → side m ≡ false → gate_of_node net side m ≡ None
+  unfolding gate_of_node
   gate-out m e = cond-false (side m) (gate_after (point_of net m)) None e
 
   -- a node of the set gives the gate before which its point lies, if there is one
-  pub gate-in : (m : ℕ) → side m ≡ true → gate_of net side m ≡ gate_after (point_of net m)
-  unfolding gate_of
+  pub gate-in : (m : ℕ) → side m ≡ true → gate_of_node net side m ≡ gate_after (point_of net m)
+  unfolding gate_of_node
   gate-in m e = cond-true (side m) (gate_after (point_of net m)) None e
 
-  gate-means : (m v : ℕ) → gate_of net side m ≡ Some v → (side m ≡ true) × (point_of net m ≡ Some (before_gate v))
-  unfolding gate_of
+  gate-means : (m v : ℕ) → gate_of_node net side m ≡ Some v → (side m ≡ true) × (point_of net m ≡ Some (before_gate v))
+  unfolding gate_of_node
   gate-means m v e = split (side m) (point_of net m) v e
 
-  gate-is : (m v : ℕ) → side m ≡ true → point_of net m ≡ Some (before_gate v) → gate_of net side m ≡ Some v
+  gate-is : (m v : ℕ) → side m ≡ true → point_of net m ≡ Some (before_gate v) → gate_of_node net side m ≡ Some v
   gate-is m v on at = gate-in m on ∙ ap gate_after at
 
   -- ---- one more node
 
   -- below node 0 there is no gate
-  pub gates-none : gates_below net side 0 ≡ []
-  unfolding gates_below
+  pub gates-none : gates_of_nodes_below net side 0 ≡ []
+  unfolding gates_of_nodes_below
   gates-none = refl
 
-  gates-more : (m : ℕ) → gates_below net side (suc m) ≡ and_gate (gate_of net side m) (gates_below net side m)
-  unfolding gates_below
+  gates-more : (m : ℕ) → gates_of_nodes_below net side (suc m) ≡ and_gate (gate_of_node net side m) (gates_of_nodes_below net side m)
+  unfolding gates_of_nodes_below
   gates-more m = refl
 
-  gates-skip : (m : ℕ) → gate_of net side m ≡ None → gates_below net side (suc m) ≡ gates_below net side m
-  gates-skip m e = gates-more m ∙ ap (λ (o : Option ℕ). and_gate o (gates_below net side m)) e
+  gates-skip : (m : ℕ) → gate_of_node net side m ≡ None → gates_of_nodes_below net side (suc m) ≡ gates_of_nodes_below net side m
+  gates-skip m e = gates-more m ∙ ap (λ (o : Option ℕ). and_gate o (gates_of_nodes_below net side m)) e
 
-  gates-take : (m v : ℕ) → gate_of net side m ≡ Some v → gates_below net side (suc m) ≡ gates_below net side m ++ v ∷ []
-  gates-take m v e = gates-more m ∙ ap (λ (o : Option ℕ). and_gate o (gates_below net side m)) e
+  gates-take : (m v : ℕ) → gate_of_node net side m ≡ Some v → gates_of_nodes_below net side (suc m) ≡ gates_of_nodes_below net side m ++ v ∷ []
+  gates-take m v e = gates-more m ∙ ap (λ (o : Option ℕ). and_gate o (gates_of_nodes_below net side m)) e
 
   -- a node of the set before a gate adds that gate
-  pub step-take : (m v : ℕ) (before after : List ℕ) (o : Option ℕ) → o ≡ gate_of net side m → o ≡ Some v → before ≡ gates_below net side m → after ≡ before ++ v ∷ [] → after ≡ gates_below net side (m + 1)
+  pub step-take : (m v : ℕ) (before after : List ℕ) (o : Option ℕ) → o ≡ gate_of_node net side m → o ≡ Some v → before ≡ gates_of_nodes_below net side m → after ≡ before ++ v ∷ [] → after ≡ gates_of_nodes_below net side (m + 1)
   step-take m v before after o is some e step =
       let next : m + 1 ≡ suc m = omega arith in
-      step ∙ ap (λ (xs : List ℕ). xs ++ v ∷ []) e ∙ sym (gates-take m v (sym is ∙ some)) ∙ ap (gates_below net side) (sym next)
+      step ∙ ap (λ (xs : List ℕ). xs ++ v ∷ []) e ∙ sym (gates-take m v (sym is ∙ some)) ∙ ap (gates_of_nodes_below net side) (sym next)
 
   -- any other node adds none
-  pub step-skip : (m : ℕ) (before after : List ℕ) (o : Option ℕ) → o ≡ gate_of net side m → o ≡ None → before ≡ gates_below net side m → after ≡ before → after ≡ gates_below net side (m + 1)
+  pub step-skip : (m : ℕ) (before after : List ℕ) (o : Option ℕ) → o ≡ gate_of_node net side m → o ≡ None → before ≡ gates_of_nodes_below net side m → after ≡ before → after ≡ gates_of_nodes_below net side (m + 1)
   step-skip m before after o is none e step =
       let next : m + 1 ≡ suc m = omega arith in
-      step ∙ e ∙ sym (gates-skip m (sym is ∙ none)) ∙ ap (gates_below net side) (sym next)
+      step ∙ e ∙ sym (gates-skip m (sym is ∙ none)) ∙ ap (gates_of_nodes_below net side) (sym next)
 
   -- ---- members
 
@@ -107,22 +107,22 @@ module _ (net : FlowNet) (side : ℕ → Bool) where
   or-none true e = refl
   or-none false e = absurd (cc)
 
-  no-member : (v : ℕ) → has (gates_below net side 0) v ≡ true → ⊥
+  no-member : (v : ℕ) → has (gates_of_nodes_below net side 0) v ≡ true → ⊥
   no-member v e =
       let clash : false ≡ true = sym (ap (λ (xs : List ℕ). has xs v) gates-none) ∙ e in
       absurd (cc)
 
   -- each of the gates has the node before it in the set
-  pub member-node : (m v : ℕ) → has (gates_below net side m) v ≡ true → HasNode m v
+  pub member-node : (m v : ℕ) → has (gates_of_nodes_below net side m) v ≡ true → HasNode m v
   member-node zero v e = absurd (no-member v e)
-  member-node (suc m) v e = elim (option-cases (gate_of net side m)) [
+  member-node (suc m) v e = elim (option-cases (gate_of_node net side m)) [
     | inl none ↦ (
         let rest = member-node m v (ap (λ (xs : List ℕ). has xs v) (sym (gates-skip m none)) ∙ e) in
         (rest.0, (omega (arith, rest.1.0), rest.1.1)))
     | inr some ↦ (
-        let here : (has (gates_below net side m) v || ((some.0 == v) || false)) ≡ true =
-        sym (ap (λ (xs : List ℕ). has xs v) (gates-take m some.0 some.1) ∙ has-push (gates_below net side m) some.0 v) ∙ e in
-        elim (or_cases (has (gates_below net side m) v) ((some.0 == v) || false) here) [
+        let here : (has (gates_of_nodes_below net side m) v || ((some.0 == v) || false)) ≡ true =
+        sym (ap (λ (xs : List ℕ). has xs v) (gates-take m some.0 some.1) ∙ has-push (gates_of_nodes_below net side m) some.0 v) ∙ e in
+        elim (or_cases (has (gates_of_nodes_below net side m) v) ((some.0 == v) || false) here) [
           | inl before ↦ (let rest = member-node m v before in (rest.0, (omega (arith, rest.1.0), rest.1.1)))
           | inr last ↦ (
               let same : some.0 ≡ v = eqb-true some.0 v (or-none (some.0 == v) last) in
@@ -131,18 +131,18 @@ module _ (net : FlowNet) (side : ℕ → Bool) where
   ]
 
   -- each gate with the node before it in the set is among them
-  pub node-member : (m v : ℕ) → HasNode m v → has (gates_below net side m) v ≡ true
+  pub node-member : (m v : ℕ) → HasNode m v → has (gates_of_nodes_below net side m) v ≡ true
   node-member zero v t = absurd (omega (arith, t.1.0))
   node-member (suc m) v t = elim (cases_eq t.0 m) [
     | inl same ↦ (
-        let some : gate_of net side m ≡ Some v = ap (gate_of net side) (sym same) ∙ gate-is t.0 v t.1.1.0 t.1.1.1 in
-        ap (λ (xs : List ℕ). has xs v) (gates-take m v some) ∙ has-push (gates_below net side m) v v
-        ∙ or_right (has (gates_below net side m) v) ((v == v) || false) (or_left (v == v) false (eq-eqb v v refl)))
+        let some : gate_of_node net side m ≡ Some v = ap (gate_of_node net side) (sym same) ∙ gate-is t.0 v t.1.1.0 t.1.1.1 in
+        ap (λ (xs : List ℕ). has xs v) (gates-take m v some) ∙ has-push (gates_of_nodes_below net side m) v v
+        ∙ or_right (has (gates_of_nodes_below net side m) v) ((v == v) || false) (or_left (v == v) false (eq-eqb v v refl)))
     | inr other ↦ (
-        let rest : has (gates_below net side m) v ≡ true = node-member m v (t.0, (omega (arith, t.1.0, other), t.1.1)) in
-        elim (option-cases (gate_of net side m)) [
+        let rest : has (gates_of_nodes_below net side m) v ≡ true = node-member m v (t.0, (omega (arith, t.1.0, other), t.1.1)) in
+        elim (option-cases (gate_of_node net side m)) [
           | inl none ↦ ap (λ (xs : List ℕ). has xs v) (gates-skip m none) ∙ rest
-          | inr some ↦ ap (λ (xs : List ℕ). has xs v) (gates-take m some.0 some.1) ∙ has-push (gates_below net side m) some.0 v ∙ or_left (has (gates_below net side m) v) ((some.0 == v) || false) rest
+          | inr some ↦ ap (λ (xs : List ℕ). has xs v) (gates-take m some.0 some.1) ∙ has-push (gates_of_nodes_below net side m) some.0 v ∙ or_left (has (gates_of_nodes_below net side m) v) ((some.0 == v) || false) rest
         ])
   ]
 
@@ -180,12 +180,12 @@ module _ (c : Netlist) (held : List ℕ) (net : FlowNet) (is : IsNetworkOf c hel
         ))
       ]
 
-  gates-rise : (m : ℕ) → m ≤ node_count net → IsStrictlyIncreasing (gates_below net side m)
+  gates-rise : (m : ℕ) → m ≤ node_count net → IsStrictlyIncreasing (gates_of_nodes_below net side m)
   gates-rise zero h = subst IsStrictlyIncreasing (sym (gates-none net side)) (λ k l. absurd (omega (arith, l)))
-  gates-rise (suc m) h = elim (option-cases net side (gate_of net side m)) [
+  gates-rise (suc m) h = elim (option-cases net side (gate_of_node net side m)) [
     | inl none ↦ subst IsStrictlyIncreasing (sym (gates-skip net side m none)) (gates-rise m (omega (arith, h)))
     | inr some ↦ (
-        let xs : List ℕ = gates_below net side m in
+        let xs : List ℕ = gates_of_nodes_below net side m in
         let last = gate-means net side m some.0 some.1 in
         subst IsStrictlyIncreasing (sym (gates-take net side m some.0 some.1)) (push-rising xs some.0 (gates-rise m (omega (arith, h))) (λ k l.
         let v : ℕ = slice_index xs k in
@@ -198,7 +198,7 @@ module _ (c : Netlist) (held : List ℕ) (net : FlowNet) (is : IsNetworkOf c hel
       entry xs k l = get_or_default xs k (slice_index xs k) 0 l
 
   -- the gates gathered node by node are those of the set of nodes
-  pub are-gates : AreGatesOf net side (gates_below net side (node_count net))
+  pub are-gates : AreGatesOf net side (gates_of_nodes_below net side (node_count net))
   are-gates = record {
     rising = gates-rise (node_count net) (omega arith);
     each = λ v. (member-node net side (node_count net) v, node-member net side (node_count net) v);
@@ -206,8 +206,8 @@ module _ (c : Netlist) (held : List ℕ) (net : FlowNet) (is : IsNetworkOf c hel
 
 -- at a run's end, the gates of the nodes that can't reach the sink are the greatest least set
 pub greatest-set : (c : Netlist) (held : List ℕ) (net : FlowNet) (m : RunEnd) (side : ℕ → Bool) → IsNetworkOf c held net → IsMaxPreflow net m → IsSourceSide (node_count net) (state_of net m.flow) side
-    → IsGreatestLeast c held (gates_below net side (node_count net))
+    → IsGreatestLeast c held (gates_of_nodes_below net side (node_count net))
 greatest-set c held net m side is end apart =
-    greatest_cut_is_greatest_set-law c held net side (gates_below net side (node_count net)) is
+    greatest_cut_is_greatest_set-law c held net side (gates_of_nodes_below net side (node_count net)) is
     (source_side_greatest (node_count net) (capacity_between net) (state_of net m.flow) side (omega (arith, is.points.each)) end.preflow end.valid end.none_active apart)
     (are-gates c held net is side)

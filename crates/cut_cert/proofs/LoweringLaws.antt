@@ -9,7 +9,7 @@ use Rattle.flow_theory.proofs.SparseRowLaws.{sum_one}
 use Rattle.frame_net.specs.FlowNet.{FlowNet, IsFlowNet, HasMate, node_count, start, row_len, head, mate}
 use Rattle.flow_part.specs.Parts.{pair}
 use Rattle.cut_cert.proofs.SinkWalkLaws.{arc-in, mate-pair}
-use Rattle.cut_cert.specs.Walks.{out_of, into, total, Comes, lowered, here, Holds}
+use Rattle.cut_cert.specs.Walks.{out_of, into, total_outflow, Comes, lowered, here, IsPreflowAt}
 
 -- ---- one place
 
@@ -138,7 +138,7 @@ module _ (net : FlowNet) (ok : IsFlowNet net) (xs : List ℕ) (long : length xs 
   )
 
   -- one less is carried in all
-  pub total-less : total net ys + 1 ≡ total net xs
+  pub total-less : total_outflow net ys + 1 ≡ total_outflow net xs
   total-less = omega (
     arith,
     sum-here (node_count net) (head net w k) tail-in,
@@ -162,7 +162,7 @@ module _ (net : FlowNet) (ok : IsFlowNet net) (xs : List ℕ) (long : length xs 
 -- ---- what a walk back keeps
 
 -- a walk that goes back over an arc leaves at its tail what it left at its head
-pub holds-step : (net : FlowNet) (ok : IsFlowNet net) (xs : List ℕ) (w k : ℕ) → Holds net xs w → Comes net xs w k → Holds net (lowered net xs w k) (head net w k)
+pub holds-step : (net : FlowNet) (ok : IsFlowNet net) (xs : List ℕ) (w k : ℕ) → IsPreflowAt net xs w → Comes net xs w k → IsPreflowAt net (lowered net xs w k) (head net w k)
 holds-step net ok xs w k holds comes = record {
   long = long-after net ok xs holds.long w k comes;
   within = λ v y h l. omega (arith, one-less net ok xs holds.long w k comes v y h, holds.within v y h l);
@@ -170,7 +170,7 @@ holds-step net ok xs w k holds comes = record {
 }
 
 -- at the source or the sink nothing is owed
-pub holds-free : (net : FlowNet) (xs : List ℕ) (at : ℕ) → at ≤ 1 → Holds net xs at → Holds net xs 1
+pub holds-free : (net : FlowNet) (xs : List ℕ) (at : ℕ) → at ≤ 1 → IsPreflowAt net xs at → IsPreflowAt net xs 1
 holds-free net xs at low holds = record {
   long = holds.long;
   within = holds.within;

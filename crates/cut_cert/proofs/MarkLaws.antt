@@ -7,7 +7,7 @@ use Rattle.frame_net.specs.FlowNet.{FlowNet, IsFlowNet, node_count, start, row_l
 use Rattle.cut_cert.proofs.SinkWalkLaws.{arc-in}
 use Rattle.cut_cert.specs.Walks.{here}
 use Rattle.cut_cert.proofs.LoweringLaws.{here-one, here-zero}
-use Rattle.cut_cert.specs.Steps.{steps_of, all_steps, Leads, IsWay, AreWays, is_used}
+use Rattle.cut_cert.specs.Steps.{steps_of, all_steps, HasArc, IsWay, AreWays, is_used}
 
 -- what stands after the first of the elements from a place on are those from the next place on
 pub drop-rest : {A : Type 0} (xs : List A) (i : ℕ) (b : A) (ns : List A) → drop i xs ≡ b ∷ ns → drop (suc i) xs ≡ ns
@@ -30,7 +30,7 @@ pub record Next (net : FlowNet) (a : ℕ) (now rest : List ℕ) (p : Point) (poi
   -- what was left begins with it
   pub is : now ≡ node ∷ rest
   -- an arc leads to it
-  pub leads : Leads net a node
+  pub leads : HasArc net a node
   -- it has the next point
   pub point : point_of net node ≡ Some p
   -- the rest of the way goes on from it

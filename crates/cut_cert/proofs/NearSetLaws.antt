@@ -13,14 +13,14 @@ use Rattle.frame_net.specs.Capacity.{latch_count}
 use Rattle.frame_net.specs.Cuts.{IsNetworkOf}
 use Rattle.frame_net.proofs.SetCutLaws.{closed_sets_are_cuts-law}
 use Rattle.flow_theory.proofs.SparseRowLaws.{sparse-at}
-use Rattle.cut_cert.specs.Gates.{gates_below}
+use Rattle.cut_cert.specs.Gates.{gates_of_nodes_below}
 use Rattle.cut_cert.proofs.GateLaws.{are-gates}
 use Rattle.cut_cert.specs.Walks.{here}
 use Rattle.cut_cert.specs.Shown.{AreLeastRoutes}
 use Rattle.cut_cert.proofs.LoweringLaws.{here-one, here-zero}
 use Rattle.cut_cert.proofs.ArcPointLaws.{one-arc}
 use Rattle.cut_cert.specs.Cuts.{NoneLeaves, IsNearSide}
-use Rattle.cut_cert.specs.Steps.{is_open, is_used, is_behind, all_steps, AreUsed, NoneOpen, IsOpenSide, Leads}
+use Rattle.cut_cert.specs.Steps.{is_open, is_used, is_behind, all_steps, AreUsed, NoneOpen, IsOpenSide, HasArc}
 use Rattle.cut_cert.proofs.NearSideLaws.{none_leaves-cut, near_side_is_smallest-law}
 use Rattle.cut_cert.proofs.SmallestSetLaws.{smallest_cut_is_smallest_set-law}
 use Rattle.cut_cert.proofs.OpenWalkLaws.{open-back, open-else}
@@ -144,7 +144,7 @@ module _ (c : Netlist) (held : List ℕ) (net : FlowNet) (is : IsNetworkOf c hel
       latches-some : (x y : ℕ) → u x y ≤ latch_count c.aig held
       latches-some x y = uses-few c held net is routes shown x y
 
-  arc-of : (x y : ℕ) → x < n → y < n → 0 < s.res x y → Leads net x y
+  arc-of : (x y : ℕ) → x < n → y < n → 0 < s.res x y → HasArc net x y
   arc-of x y h l some = elim (cases_lt 0 (cap x y)) [
     | inl room ↦ leads c held net is x y room
     | inr none ↦ (
@@ -192,5 +192,5 @@ module _ (c : Netlist) (held : List ℕ) (net : FlowNet) (is : IsNetworkOf c hel
   drained v big h = ap (λ (m : ℕ). length ways * m) (here-zero v 1 (λ e. omega (arith, e, big))) ∙ omega arith
 
   -- the gates of the nodes to which open arcs lead from the source are the smallest least set
-  pub near-set : IsSmallestLeast c held (gates_below net side n)
-  near-set = smallest_cut_is_smallest_set-law c held net side (gates_below net side n) is (near_side_is_smallest-law n cap s side two preflow drained near no-sink) (are-gates c held net is side)
+  pub near-set : IsSmallestLeast c held (gates_of_nodes_below net side n)
+  near-set = smallest_cut_is_smallest_set-law c held net side (gates_of_nodes_below net side n) is (near_side_is_smallest-law n cap s side two preflow drained near no-sink) (are-gates c held net is side)

@@ -19,7 +19,7 @@ use Rattle.certificates.specs.Verdicts.{AreRoutes, AreApart}
 use Rattle.certificates.proofs.PassedLaws.{all-none}
 use Rattle.certificates.proofs.DistinctLaws.{distinct-none}
 use Rattle.cut_cert.specs.Shown.{HasNoPointTwice, AreLeastRoutes}
-use Rattle.cut_cert.specs.Walks.{AreCarried, Comes, NoneComes, lowered, into, total, Ready, StepsBack, Stays, Walked, WalkedBack, AreOn, AreSearched, ComesTo, points_of}
+use Rattle.cut_cert.specs.Walks.{AreArcFlows, Comes, NoneComes, lowered, into, total_outflow, Ready, StepsBack, Stays, Walked, WalkedBack, AreOn, AreSearched, ComesTo, points_of}
 use Rattle.cut_cert.proofs.LoweringLaws.{tail-in, total-less, long-after, none-more}
 use Rattle.cut_cert.proofs.WalkLaws.{Distinct, none-is, Walking, walking-start, walking-step, walking-cut, ends-at-source, never-stuck}
 use Rattle.cut_cert.proofs.ArcPointLaws.{no-point}
@@ -35,7 +35,7 @@ pub record SoFar (net : FlowNet) (first xs : List ℕ) (n : ℕ) (marks : List B
   -- the walk stands at a node
   pub node : at < node_count net
   -- less is carried than before the walk
-  pub less : total net xs < total net first
+  pub less : total_outflow net xs < total_outflow net first
   -- no arc carries more than before the walk
   pub none_more : (arc : ℕ) → slice_index xs arc ≤ slice_index first arc
   -- the marks are those of the nodes that it has left
@@ -95,7 +95,7 @@ module _ (net : FlowNet) (ok : IsFlowNet net) where
       record {
         long = ap (λ (zs : List ℕ). length zs) now ∙ long-after net ok xs far.long at back.place back.comes;
         node = omega (arith, to-tail, tail-in net ok xs far.long at back.place back.comes);
-        less = omega (arith, far.less, ap (total net) now, total-less net ok xs far.long at back.place back.comes);
+        less = omega (arith, far.less, ap (total_outflow net) now, total-less net ok xs far.long at back.place back.comes);
         none_more = λ arc. omega (arith, far.none_more arc, ap (λ (zs : List ℕ). slice_index zs arc) now, none-more net ok xs far.long at back.place back.comes arc);
         on = on;
         off = to.off;
@@ -116,8 +116,8 @@ module _ (net : FlowNet) (ok : IsFlowNet net) where
       ]
 
   -- a step back leaves less carried
-  pub falls : (first xs new : List ℕ) (n : ℕ) (marks : List Bool) (at tail : ℕ) (trail : List ℕ) → SoFar net first xs n marks at trail → StepsBack net xs new at tail → total net new < total net xs
-  falls first xs new n marks at tail trail far back = omega (arith, ap (total net) back.carried, total-less net ok xs far.long at back.place back.comes)
+  pub falls : (first xs new : List ℕ) (n : ℕ) (marks : List Bool) (at tail : ℕ) (trail : List ℕ) → SoFar net first xs n marks at trail → StepsBack net xs new at tail → total_outflow net new < total_outflow net xs
+  falls first xs new n marks at tail trail far back = omega (arith, ap (total_outflow net) back.carried, total-less net ok xs far.long at back.place back.comes)
 
   -- a walk that can't go on has come to the source, and its nodes are a route
   pub arrives : (first xs new : List ℕ) (n : ℕ) (marks : List Bool) (at : ℕ) (trail : List ℕ) → n ≡ node_count net → SoFar net first xs n marks at trail → Stays net xs new at → WalkedBack net first new (points_of net trail)
@@ -204,7 +204,7 @@ pub record Gathering (net : FlowNet) (m : RunEnd) (xs : List ℕ) (routes : List
 
 module _ (net : FlowNet) (ok : IsFlowNet net) (m : RunEnd) where
   -- before the first walk there are no routes, and all that the arcs of a greatest flow carry is left
-  pub no-routes : IsMaxPreflow net m → (xs : List ℕ) → AreCarried net m.flow.cells.residuals xs → Gathering net m xs [] 0
+  pub no-routes : IsMaxPreflow net m → (xs : List ℕ) → AreArcFlows net m.flow.cells.residuals xs → Gathering net m xs [] 0
   no-routes end xs carried = record {
     long = carried.long;
     done = λ k l h. absurd (omega (arith, h));

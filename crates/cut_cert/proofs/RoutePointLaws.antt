@@ -22,7 +22,7 @@ use Rattle.flow_theory.proofs.SparseRowLaws.{sparse-none, find_head}
 use Rattle.certificates.specs.Routes.{begins_at, passes, enters, returns_to, may_step, goes_on, is_route}
 use Rattle.certificates.proofs.RouteLaws.{four_parts}
 use Rattle.cut_cert.proofs.ArcPointLaws.{capacity-is}
-use Rattle.cut_cert.specs.Steps.{Leads, IsWay, AreWays}
+use Rattle.cut_cert.specs.Steps.{HasArc, IsWay, AreWays}
 
 -- a gate that a passable gate reads is passable
 pub fan-in-passable : (g : Graph) (held : List ℕ) → IsGraph g → (w v : ℕ) → is_passable g held w ≡ true → gate_reads v (gate_at g w) ≡ true → is_some (gate_at g v) ≡ true → is_passable g held v ≡ true
@@ -126,7 +126,7 @@ module _ (c : Netlist) (held : List ℕ) (net : FlowNet) (is : IsNetworkOf c hel
   number-in p place = omega (arith, number-below c.aig held p place, nodes c held net is)
 
   -- a capacity is an arc
-  pub leads : (x y : ℕ) → 0 < capacity_between net x y → Leads net x y
+  pub leads : (x y : ℕ) → 0 < capacity_between net x y → HasArc net x y
   leads x y some = elim (find_head (row_len net x) (head net x) y) [
     | inl found ↦ (found.0, (found.1.0, found.1.1))
     | inr none ↦ absurd (omega (arith, some, sparse-none (row_len net x) (head net x) (λ k. cap_at net (start net x + k)) y none))

@@ -13,7 +13,7 @@ use Rattle.certificates.specs.Routes.{begins_at, may_step, goes_on, is_route, pa
 use Rattle.certificates.proofs.RouteLaws.{passed-behind, passed-before}
 use Rattle.certificates.proofs.PassedLaws.{passed-none}
 use Rattle.certificates.proofs.DistinctLaws.{distinct-none}
-use Rattle.cut_cert.specs.Walks.{into, Comes, lowered, Holds, Spent, Ready, Walked}
+use Rattle.cut_cert.specs.Walks.{into, Comes, lowered, IsPreflowAt, Spent, Ready, Walked}
 use Rattle.cut_cert.proofs.LoweringLaws.{here-zero, here-one, spot-on, holds-step, holds-free, tail-in, pair-comes, one-less, into-less}
 use Rattle.cut_cert.proofs.ArcPointLaws.{point, step-at, begin-at, end-at, end-inner, none-out-of-sink, one-node, one-arc, one-tail, no-point}
 
@@ -41,7 +41,7 @@ distinct-cons v xs absent d = (none-is v xs absent, d)
 -- the rest of a route, from the node on at which the walk stands; `reached` is what came into the sink before the walk
 pub record Walking (c : Netlist) (held : List ℕ) (net : FlowNet) (past : List ℕ) (reached : ℕ) (xs : List ℕ) (at : ℕ) (rest : List Point) : Type 0 where
   -- no pair carries more than its capacity, and no inner node gives more than it gets, where the walk stands less
-  pub holds : Holds net xs at
+  pub holds : IsPreflowAt net xs at
   -- the walk stands at a node
   pub node : at < node_count net
   -- the node isn't the sink
@@ -63,7 +63,7 @@ module _ (c : Netlist) (held : List ℕ) (net : FlowNet) (ok : IsFlowNet net) (i
   two : 1 < node_count net
   two = omega (arith, ok.two)
 
-  module _ (xs : List ℕ) (w k : ℕ) (holds : Holds net xs w) (comes : Comes net xs w k) where
+  module _ (xs : List ℕ) (w k : ℕ) (holds : IsPreflowAt net xs w) (comes : Comes net xs w k) where
     abbrev ys : List ℕ
     ys = lowered net xs w k
 

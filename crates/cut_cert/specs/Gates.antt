@@ -9,14 +9,14 @@ gate_after None = None
 gate_after (Some point) = if point.behind then None else Some point.var
 
 -- the gate with node v before it, where v is in the set
-unfoldable pub gate_of : FlowNet → (ℕ → Bool) → ℕ → Option ℕ
-gate_of net side v = if side v then gate_after (point_of net v) else None
+unfoldable pub gate_of_node : FlowNet → (ℕ → Bool) → ℕ → Option ℕ
+gate_of_node net side v = if side v then gate_after (point_of net v) else None
 
 abbrev pub and_gate : Option ℕ → List ℕ → List ℕ
 and_gate None gates = gates
 and_gate (Some gate) gates = gates ++ gate ∷ []
 
 -- the gates with a node of the set below m before them
-unfoldable pub gates_below : FlowNet → (ℕ → Bool) → ℕ → List ℕ
-gates_below net side zero = []
-gates_below net side (suc m) = and_gate (gate_of net side m) (gates_below net side m)
+unfoldable pub gates_of_nodes_below : FlowNet → (ℕ → Bool) → ℕ → List ℕ
+gates_of_nodes_below net side zero = []
+gates_of_nodes_below net side (suc m) = and_gate (gate_of_node net side m) (gates_of_nodes_below net side m)

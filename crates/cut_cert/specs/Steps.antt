@@ -24,15 +24,15 @@ all_steps [] x y = 0
 all_steps (nodes ∷ walks) x y = steps_of 0 nodes x y + all_steps walks x y
 
 -- an arc leads from a to b
-abbrev pub Leads : FlowNet → ℕ → ℕ → Type 0
-Leads net a b = (k : ℕ) × ((k < row_len net a) × (head net a k ≡ b))
+abbrev pub HasArc : FlowNet → ℕ → ℕ → Type 0
+HasArc net a b = (k : ℕ) × ((k < row_len net a) × (head net a k ≡ b))
 
 -- the nodes of the points, each at the head of an arc from the one before, the first of an arc from node a
 abbrev pub IsWay : FlowNet → ℕ → List ℕ → List Point → Type 0
 IsWay net a [] [] = Unit {0}
 IsWay net a [] (p ∷ points) = ⊥
 IsWay net a (b ∷ nodes) [] = ⊥
-IsWay net a (b ∷ nodes) (p ∷ points) = Leads net a b × ((point_of net b ≡ Some p) × IsWay net b nodes points)
+IsWay net a (b ∷ nodes) (p ∷ points) = HasArc net a b × ((point_of net b ≡ Some p) × IsWay net b nodes points)
 
 abbrev pub AreWays : FlowNet → List (List ℕ) → List (List Point) → Type 0
 AreWays net [] [] = Unit {0}

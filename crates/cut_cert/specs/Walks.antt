@@ -14,7 +14,7 @@ use Rattle.cut_cert.specs.Shown.{HasNoPointTwice}
 -- ---- what arcs carry
 
 -- the capacity of each arc less its residual, where it is more
-pub record AreCarried (net : FlowNet) (residuals xs : List ℕ) : Type 0 where
+pub record AreArcFlows (net : FlowNet) (residuals xs : List ℕ) : Type 0 where
   pub long : length xs ≡ length net.heads
   pub each : (arc : ℕ) → arc < length net.heads → slice_index xs arc ≡ cap_at net arc - slice_index residuals arc
 
@@ -25,8 +25,8 @@ out_of net xs v = sum_below (node_count net) (pair net xs v)
 abbrev pub into : FlowNet → List ℕ → ℕ → ℕ
 into net xs v = sum_below (node_count net) (λ u. pair net xs u v)
 
-abbrev pub total : FlowNet → List ℕ → ℕ
-total net xs = sum_below (node_count net) (out_of net xs)
+abbrev pub total_outflow : FlowNet → List ℕ → ℕ
+total_outflow net xs = sum_below (node_count net) (out_of net xs)
 
 -- an arc into w that carries something: the mate of w's k-th
 pub record Comes (net : FlowNet) (xs : List ℕ) (w k : ℕ) : Type 0 where
@@ -92,7 +92,7 @@ unfoldable pub here : ℕ → ℕ → ℕ
 here v at = if v == at then 1 else 0
 
 -- No pair carries more than its capacity, and at each inner node no more goes out than comes in; where a walk stands, less.
-pub record Holds (net : FlowNet) (xs : List ℕ) (at : ℕ) : Type 0 where
+pub record IsPreflowAt (net : FlowNet) (xs : List ℕ) (at : ℕ) : Type 0 where
   pub long : length xs ≡ length net.heads
   pub within : (v w : ℕ) → v < node_count net → w < node_count net → pair net xs v w ≤ capacity_between net v w
   pub kept : (v : ℕ) → 1 < v → v < node_count net → out_of net xs v + here v at ≤ into net xs v
@@ -103,12 +103,12 @@ Spent net xs v = (x y : ℕ) → x < node_count net → y < node_count net → p
 
 -- what is left of a flow after routes that pass after these variables
 pub record Ready (net : FlowNet) (xs past : List ℕ) : Type 0 where
-  pub holds : Holds net xs 1
+  pub holds : IsPreflowAt net xs 1
   pub spent : (v : ℕ) → has past v ≡ true → Spent net xs v
 
 -- what a walk has made: a route apart from the earlier ones, and of the units that reached the sink one less
 pub record Walked (c : Netlist) (held : List ℕ) (net : FlowNet) (past : List ℕ) (reached : ℕ) (xs : List ℕ) (route : List Point) : Type 0 where
-  pub holds : Holds net xs 1
+  pub holds : IsPreflowAt net xs 1
   pub right : is_route c held route ≡ true
   pub apart : IsDistinct (λ v w. v == w) (passed route)
   pub off : (v : ℕ) → has (passed route) v ≡ true → has past v ≡ false
@@ -118,7 +118,7 @@ pub record Walked (c : Netlist) (held : List ℕ) (net : FlowNet) (past : List �
 -- the same in every circuit with this network
 pub record WalkedBack (net : FlowNet) (old new : List ℕ) (route : List Point) : Type 0 where
   pub long : length new ≡ length net.heads
-  pub less : total net new < total net old
+  pub less : total_outflow net new < total_outflow net old
   pub none_more : (arc : ℕ) → slice_index new arc ≤ slice_index old arc
   pub once : (c : Netlist) (held : List ℕ) → IsNetworkOf c held net → HasNoPointTwice route
   pub walked : (c : Netlist) (held past : List ℕ) → IsNetworkOf c held net → Ready net old past → Walked c held net past (into net old 1) new route

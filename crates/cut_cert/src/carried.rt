@@ -2,7 +2,7 @@
 ghost use Rattle.std.specs.Prelude.{◌≡◌, ℕ, ◌<◌, ◌≤◌, IfOk, MatchOption, length, replicate};
 ghost use Rattle.frame_net.specs.FlowNet.{node_count, row_len, head};
 ghost use Rattle.pulse.specs.Conditions.{IsMaxPreflow};
-ghost use Rattle.cut_cert.specs.Walks.{AreCarried, Comes, NoneComes, lowered};
+ghost use Rattle.cut_cert.specs.Walks.{AreArcFlows, Comes, NoneComes, lowered};
 
 use aig_graph::NoMemory;
 use frame_net::Net;
@@ -16,7 +16,7 @@ pub(crate) fn carried_by_arcs(
     preflow: &MaxPreflow,
 ) -> Result<Vec<u32>, NoMemory>
     requires { IsMaxPreflow net.now preflow.now }
-    ensures { IfOk result (λ xs. AreCarried net.now preflow.now.flow.cells.residuals xs.items) }
+    ensures { IfOk result (λ xs. AreArcFlows net.now preflow.now.flow.cells.residuals xs.items) }
 {
     net.known_capacities();
     let arcs = net.arcs();

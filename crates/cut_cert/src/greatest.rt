@@ -3,7 +3,7 @@ ghost use Rattle.std.specs.Prelude.{◌≡◌, ◌<◌, IfOk, [], false, length,
 ghost use Rattle.flow_theory.specs.Flow.{IsSourceSide};
 ghost use Rattle.frame_net.specs.FlowNet.{node_count};
 ghost use Rattle.pulse.specs.Conditions.{IsMaxPreflow, state_of};
-ghost use Rattle.cut_cert.specs.Gates.{gate_of, gates_below};
+ghost use Rattle.cut_cert.specs.Gates.{gate_of_node, gates_of_nodes_below};
 ghost use Rattle.cut_cert.specs.Cuts.{IsGreatestLeastOf};
 
 use crate::sink_side::sink_side;
@@ -27,7 +27,7 @@ fn marks_of(alloc: Global, net: &Net, preflow: &MaxPreflow) -> Result<Vec<bool>,
 fn gate_of(net: &Net, marks: &[bool], node: u32) -> Option<u32>
     requires node { node < node_count net.now }
     requires long { length marks.now ≡ node_count net.now }
-    ensures { result ≡ gate_of net.now (λ u. not (slice_index_or marks.now u false)) node }
+    ensures { result ≡ gate_of_node net.now (λ u. not (slice_index_or marks.now u false)) node }
 {
     if marks[node as usize] {
         return None;
@@ -41,7 +41,7 @@ fn gate_of(net: &Net, marks: &[bool], node: u32) -> Option<u32>
 /// The gates whose nodes before them aren't marked, in the order of the nodes.
 fn gates_of(alloc: Global, net: &Net, marks: &[bool]) -> Result<Vec<u32>, NoMemory>
     requires { length marks.now ≡ node_count net.now }
-    ensures { IfOk result (λ gates. gates.items ≡ gates_below net.now
+    ensures { IfOk result (λ gates. gates.items ≡ gates_of_nodes_below net.now
         (λ u. not (slice_index_or marks.now u false)) (node_count net.now)) }
 {
     let mut gates = Vec::new(alloc);

@@ -1,7 +1,7 @@
 //! The gates of the near side.
 ghost use Rattle.std.specs.Prelude.{◌≡◌, ◌<◌, IfOk, [], length, slice_index_or, false};
 ghost use Rattle.frame_net.specs.FlowNet.{node_count};
-ghost use Rattle.cut_cert.specs.Gates.{gate_of, gates_below};
+ghost use Rattle.cut_cert.specs.Gates.{gate_of_node, gates_of_nodes_below};
 ghost use Rattle.cut_cert.specs.Shown.{IsSmallestLeastBy};
 
 use crate::source_side::source_side;
@@ -15,7 +15,7 @@ use std::alloc::Global;
 fn gate_of(net: &Net, marks: &[bool], node: u32) -> Option<u32>
     requires node { node < node_count net.now }
     requires long { length marks.now ≡ node_count net.now }
-    ensures { result ≡ gate_of net.now (λ u. slice_index_or marks.now u false) node }
+    ensures { result ≡ gate_of_node net.now (λ u. slice_index_or marks.now u false) node }
 {
     if !marks[node as usize] {
         return None;
@@ -29,7 +29,7 @@ fn gate_of(net: &Net, marks: &[bool], node: u32) -> Option<u32>
 /// The gates with a marked node before them, in the order of the nodes.
 fn gates_of(alloc: Global, net: &Net, marks: &[bool]) -> Result<Vec<u32>, NoMemory>
     requires { length marks.now ≡ node_count net.now }
-    ensures { IfOk result (λ gates. gates.items ≡ gates_below net.now
+    ensures { IfOk result (λ gates. gates.items ≡ gates_of_nodes_below net.now
         (λ u. slice_index_or marks.now u false) (node_count net.now)) }
 {
     let mut gates = Vec::new(alloc);

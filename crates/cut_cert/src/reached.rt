@@ -1,6 +1,6 @@
 //! What a walk over a network's arcs has reached. The queue is never taken from: a place in it walks from its front to its end.
 ghost use Rattle.std.specs.Prelude.{◌≡◌, ◌<◌, IfOk, OnOk, [], false, length, replicate, slice_get};
-ghost use Rattle.cut_cert.specs.Fronts.{is_marked, mark, reach};
+ghost use Rattle.cut_cert.specs.Fronts.{is_marked, mark_node, reach_node};
 
 use aig_graph::NoMemory;
 use std::alloc::Global;
@@ -15,9 +15,9 @@ pub(crate) struct Reached {
 }
 
 impl Model for Reached {
-    ghost use Rattle.cut_cert.specs.Fronts.{Front};
+    ghost use Rattle.cut_cert.specs.Fronts.{SearchFront};
 
-    ghost Value = { Front };
+    ghost Value = { SearchFront };
 
     ghost view = { λ r. record { marks = r.marks.items; queue = r.queue.items } };
 }
@@ -35,7 +35,7 @@ impl Reached {
     /// Marks and queues a node that isn't marked.
     pub(crate) fn reach(&mut self, node: u32) -> Result<(), NoMemory>
         requires { node < length self.old.marks }
-        ensures { OnOk result (self.new ≡ reach self.old node) }
+        ensures { OnOk result (self.new ≡ reach_node self.old node) }
     {
         if !self.marks[node as usize] {
             self.queue.push(node)?;
@@ -47,7 +47,7 @@ impl Reached {
     /// Marks a node and doesn't queue it.
     pub(crate) fn mark(&mut self, node: u32)
         requires { node < length self.old.marks }
-        ensures { self.new ≡ mark self.old node }
+        ensures { self.new ≡ mark_node self.old node }
     {
         self.marks[node as usize] = true;
     }

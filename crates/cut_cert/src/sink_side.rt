@@ -5,7 +5,7 @@ ghost use Rattle.flow_theory.specs.Flow.{IsSourceSide};
 ghost use Rattle.frame_net.specs.FlowNet.{node_count, row_len};
 ghost use Rattle.pulse.specs.Conditions.{IsMaxPreflow, state_of};
 ghost use Rattle.cut_cert.specs.Fronts.{is_marked};
-ghost use Rattle.cut_cert.specs.SinkWalk.{reach_in_sweep, read_arcs};
+ghost use Rattle.cut_cert.specs.SinkWalk.{reach_node_in_sweep, read_arcs};
 
 use crate::reached::Reached;
 use aig_graph::NoMemory;
@@ -25,7 +25,7 @@ fn has_residual(preflow: &MaxPreflow, arc: u32) -> bool
 /// isn't queued.
 fn reach_in_sweep(side: &mut Reached, node: u32, swept: u32) -> Result<(), NoMemory>
     requires { node < length side.old.marks }
-    ensures { OnOk result (side.new ≡ reach_in_sweep swept side.old node) }
+    ensures { OnOk result (side.new ≡ reach_node_in_sweep swept side.old node) }
 {
     if 1 < node && node < swept {
         side.mark(node);

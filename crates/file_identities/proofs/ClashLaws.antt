@@ -5,7 +5,7 @@ use Rattle.std.specs.Option.{option_or}
 use Rattle.std.proofs.lemmas.Bool.{cond-false, cond-true, false≢true}
 use Rattle.std.proofs.lemmas.List.{at_drop_all, at_drop_more}
 use Rattle.std.proofs.lemmas.Option.{none-some}
-use Rattle.file_identities.specs.Clashes.{AreApart, clash, clash_among, clash_of, clash_with, first_clash}
+use Rattle.file_identities.specs.Clashes.{AreFilesApart, clash, clash_among, clash_of, clash_with, first_clash}
 use Rattle.file_identities.specs.declared.clash.FileClash.{FileClash}
 use Rattle.file_identities.specs.declared.identity.Asked.{Asked}
 
@@ -78,7 +78,7 @@ second_none None b none = none
 second_none (Some x) b none = absurd (none-some x (sym none))
 
 -- where none is found there is none
-pub apart : (written read : List Asked) → first_clash written read ≡ None → AreApart written read
+pub apart : (written read : List Asked) → first_clash written read ≡ None → AreFilesApart written read
 apart [] read none = tt
 apart (first ∷ later) read none =
     let here : clash_with first later read ≡ None = first_none (clash_with first later read) (first_clash later read) none in (

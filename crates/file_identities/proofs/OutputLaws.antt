@@ -5,8 +5,8 @@ use Rattle.std.proofs.lemmas.List.{get_or-map, length-map}
 use Rattle.std.proofs.lemmas.List.Elements.{All-map}
 use Rattle.std.proofs.lemmas.List.Folds.{list_any_more, list_any_none}
 use Rattle.batch_lists.specs.declared.entry.Entry.{Entry}
-use Rattle.file_identities.specs.Clashes.{clash, clash_at, is_same, is_stream, is_written, loses, replaces}
-use Rattle.file_identities.specs.Outputs.{AreOwnBelow, AreWrittenBy, HaveOwnFiles, IsFirstRepeat, IsOutput, IsSameAt, has_number, is_exclusive, is_repeat, output_of, takes_number}
+use Rattle.file_identities.specs.Clashes.{clash, clash_at, is_same, is_stream_place, is_written, loses, replaces}
+use Rattle.file_identities.specs.Outputs.{AreOwnBelow, AreWrittenBy, HaveOwnFiles, IsFirstRepeat, IsOutput, IsSameAt, has_number, is_exclusive, is_repeat, output_use, takes_number}
 use Rattle.file_identities.specs.declared.file_use.FileUse.{FileUse}
 use Rattle.file_identities.specs.declared.identity.Asked.{Asked}
 use Rattle.file_identities.specs.declared.identity.Identity.{Identity}
@@ -80,7 +80,7 @@ taken-more q files i file found within is before =
 -- the files that a list writes are outputs
 pub written-outputs : (entries : List Entry) (files : List Asked) → AreWrittenBy entries files → All (λ asked. IsOutput asked.file) files
 written-outputs entries files written = λ k d within.
-    let outputs : All IsOutput (map output_of entries) = All-map IsOutput output_of entries (λ j e h. record { role = refl; place = refl }) in
+    let outputs : All IsOutput (map output_use entries) = All-map IsOutput output_use entries (λ j e h. record { role = refl; place = refl }) in
     let all : All IsOutput (map file_of files) = subst (λ (uses : List FileUse). All IsOutput uses) (sym written) outputs in
     subst IsOutput (get_or-map file_of files k d d.file within) (all k d.file (omega (arith, within, length-map files file_of)))
   where
@@ -90,7 +90,7 @@ written-outputs entries files written = λ k d within.
 -- as many as it has lines
 pub written-length : (entries : List Entry) (files : List Asked) → AreWrittenBy entries files → length files ≡ length entries
 written-length entries files written =
-    sym (length-map files (λ asked. asked.file)) ∙ ap (λ (uses : List FileUse). length uses) written ∙ length-map entries output_of
+    sym (length-map files (λ asked. asked.file)) ∙ ap (λ (uses : List FileUse). length uses) written ∙ length-map entries output_use
 
 -- what is found among the files that a list writes, told of the list
 pub found-same : (entries : List Entry) (files : List Asked) → AreWrittenBy entries files → (place : Option ℕ)

@@ -5,7 +5,7 @@ use Rattle.std.specs.Option.{option_or}
 use Rattle.std.specs.Str.{bytes_eq}
 use Rattle.std.specs.String.{string_bytes}
 use Rattle.command_line.specs.declared.task.Task.{Task}
-use Rattle.file_identities.specs.FileUses.{read_by, written_by}
+use Rattle.file_identities.specs.FileUses.{files_read_by, written_by}
 use Rattle.file_identities.specs.declared.clash.FileClash.{FileClash}
 use Rattle.file_identities.specs.declared.clash.FileClash.TheVariants.{WrittenTwice, WrittenOver}
 use Rattle.file_identities.specs.declared.file_use.FileUse.{FileUse}
@@ -29,16 +29,16 @@ abbrev pub replaces : Role → Role → Bool
 replaces roles.Remade roles.Original = true
 replaces _ _ = false
 
-abbrev pub is_stream : Place → Bool
-is_stream places.Stdin = true
-is_stream places.Stdout = true
-is_stream (places.File path) = false
+abbrev pub is_stream_place : Place → Bool
+is_stream_place places.Stdin = true
+is_stream_place places.Stdout = true
+is_stream_place (places.File path) = false
 
 -- whether something is lost where the first of two, which is written, and the second are one file
 abbrev pub loses : Keeping → FileUse → FileUse → Bool
 loses Bytes first second = not (replaces first.role second.role)
 loses Pipe first second = is_written second.role
-loses Device first second = is_written second.role && (is_stream first.place || is_stream second.place)
+loses Device first second = is_written second.role && (is_stream_place first.place || is_stream_place second.place)
 
 -- whether two paths lead to one file, or to one that would be made
 abbrev pub is_same : Identity → Identity → Bool
@@ -74,15 +74,15 @@ first_clash [] read = None
 first_clash (first ∷ later) read = option_or (clash_with first later read) (first_clash later read)
 
 -- no file that is written clashes with one that is written after it, or with one that is read
-abbrev pub AreApart : List Asked → List Asked → Type 0
-AreApart [] read = Unit {0}
-AreApart (first ∷ later) read =
-    All (λ other. clash first other ≡ false) later × (All (λ other. clash first other ≡ false) read × AreApart later read)
+abbrev pub AreFilesApart : List Asked → List Asked → Type 0
+AreFilesApart [] read = Unit {0}
+AreFilesApart (first ∷ later) read =
+    All (λ other. clash first other ≡ false) later × (All (λ other. clash first other ≡ false) read × AreFilesApart later read)
 
 -- the files are all that a task writes and reads
 pub record AreFilesOf (task : Task) (written read : List Asked) : Type 0 where
   pub writes : map (λ asked. asked.file) written ≡ written_by task
-  pub reads : map (λ asked. asked.file) read ≡ read_by task
+  pub reads : map (λ asked. asked.file) read ≡ files_read_by task
 
 -- the first clash of a task's files, by some answers of the file system
 pub record IsClashOf (task : Task) (found : Option FileClash) : Type 0 where

@@ -52,16 +52,16 @@ writing_if_asked argument None = None
 writing_if_asked argument (Some target) = Some (writing argument target)
 
 -- what is printed on standard output
-abbrev pub printed : FileUse
-printed = record { argument = Printed; role = roles.Written; place = places.Stdout }
+abbrev pub printed_use : FileUse
+printed_use = record { argument = Printed; role = roles.Written; place = places.Stdout }
 
 -- the lines of a retiming, unless they go to standard error
 abbrev pub printed_by : Retiming → Option FileUse
-printed_by retiming = if takes_stdout retiming then None else Some printed
+printed_by retiming = if takes_stdout retiming then None else Some printed_use
 
 -- the lines of a move backward, unless they go to standard error
 abbrev pub printed_by_moving : Moving → Option FileUse
-printed_by_moving moving = if moving_takes_stdout moving then None else Some printed
+printed_by_moving moving = if moving_takes_stdout moving then None else Some printed_use
 
 -- a stimulus, where one is read
 abbrev pub stimulus_of : Stimuli → Option FileUse
@@ -96,7 +96,7 @@ abbrev pub written_by : Task → List FileUse
 written_by (Retime retiming) = written_by_retiming retiming
 written_by (Backward moving) = written_by_moving moving
 written_by (Convert input output spelling) = given (Some (remade Out output) ∷ [])
-written_by (Sim simulation) = given (Some printed ∷ writing_if_asked Vcd simulation.waves ∷ [])
+written_by (Sim simulation) = given (Some printed_use ∷ writing_if_asked Vcd simulation.waves ∷ [])
 written_by (Miter asking) = given (Some (remade MiterFile asking.output) ∷ writing_if_asked Certificate asking.certificate ∷ [])
 written_by (Product asking) = given (Some (remade ModelFile asking.output) ∷ writing_if_asked CertificateFile asking.certificate ∷ [])
 written_by (Lift lifting) = given (Some (remade ResultFile lifting.output) ∷ [])
@@ -128,5 +128,5 @@ others_read_by (Witness carrying) = []
 others_read_by (Explain name) = []
 
 -- what it reads, and after it the files of names of the latches that it holds
-abbrev pub read_by : Task → List FileUse
-read_by task = others_read_by task ++ map name_file (name_files task)
+abbrev pub files_read_by : Task → List FileUse
+files_read_by task = others_read_by task ++ map name_file (name_files task)

@@ -6,7 +6,7 @@ use Rattle.std.specs.String.{string_bytes}
 use Rattle.batch_lists.specs.declared.entry.Entry.{Entry}
 use Rattle.batch_lists.specs.declared.fault.ListError.{ListError}
 use Rattle.batch_lists.specs.declared.fault.ListError.TheVariants.{BadLine, TooLarge, SameFile, NoMemory}
-use Rattle.file_identities.specs.Clashes.{clash, is_stream}
+use Rattle.file_identities.specs.Clashes.{clash, is_stream_place}
 use Rattle.file_identities.specs.declared.file_use.Argument.TheVariants.{Out}
 use Rattle.file_identities.specs.declared.file_use.FileUse.{FileUse}
 use Rattle.file_identities.specs.declared.file_use.Place.TheVariants as places
@@ -18,13 +18,13 @@ use Rattle.file_identities.specs.declared.identity.Keeping.TheVariants.{Bytes, P
 use Rattle.file_identities.specs.declared.outputs.FileNumber.{FileNumber}
 
 -- the file that a line writes: a circuit that is made of another one
-abbrev pub output_of : Entry → FileUse
-output_of entry = record { argument = Out; role = roles.Remade; place = places.File entry.output }
+abbrev pub output_use : Entry → FileUse
+output_use entry = record { argument = Out; role = roles.Remade; place = places.File entry.output }
 
 -- a file is such a one
 pub record IsOutput (file : FileUse) : Type 0 where
   pub role : file.role ≡ roles.Remade
-  pub place : is_stream file.place ≡ false
+  pub place : is_stream_place file.place ≡ false
 
 -- whether a file clashes with one of those before it
 abbrev pub is_repeat : List Asked → Asked → Bool
@@ -42,7 +42,7 @@ pub record IsFirstRepeat (files : List Asked) (place : ℕ) : Type 0 where
 
 -- the files are those that the lines of a list write, by some answers of the file system
 abbrev pub AreWrittenBy : List Entry → List Asked → Type 0
-AreWrittenBy entries files = map (λ asked. asked.file) files ≡ map output_of entries
+AreWrittenBy entries files = map (λ asked. asked.file) files ≡ map output_use entries
 
 -- each line writes a file of its own
 pub record HaveOwnFiles (entries : List Entry) : Type 0 where
@@ -63,11 +63,11 @@ pub record IsFirstSame (entries : List Entry) (at : ℕ) : Type 0 where
   pub begins : (d : Entry) → (get_or entries place d).at ≡ at
 
 -- why the files that a list writes are refused
-abbrev pub IsRefusal : List Entry → ListError → Type 0
-IsRefusal entries (SameFile at) = IsFirstSame entries at
-IsRefusal entries NoMemory = ⊤
-IsRefusal entries (BadLine at) = ⊥
-IsRefusal entries (TooLarge at) = ⊥
+abbrev pub IsListRefusal : List Entry → ListError → Type 0
+IsListRefusal entries (SameFile at) = IsFirstSame entries at
+IsListRefusal entries NoMemory = ⊤
+IsListRefusal entries (BadLine at) = ⊥
+IsListRefusal entries (TooLarge at) = ⊥
 
 -- whether what is written to a file is lost where something is written to it again: it isn't, where the file keeps nothing
 abbrev pub is_exclusive : Keeping → Bool
@@ -76,8 +76,8 @@ is_exclusive Pipe = true
 is_exclusive Device = false
 
 -- whether two numbers are those of one file
-abbrev pub is_number : FileNumber → FileNumber → Bool
-is_number first second = first.device == second.device && (first.node == second.node && bytes_eq first.name.now second.name.now)
+abbrev pub are_of_one_file : FileNumber → FileNumber → Bool
+are_of_one_file first second = first.device == second.device && (first.node == second.node && bytes_eq first.name.now second.name.now)
 
 -- whether a file has this number
 abbrev pub has_number : Identity → FileNumber → Bool

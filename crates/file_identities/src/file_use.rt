@@ -110,7 +110,7 @@ pub enum Place<'a> {
 
 impl<'a> Place<'a> {
     pub(crate) fn is_stream(self) -> bool
-        ensures { result ≡ wanted.is_stream self.entry }
+        ensures { result ≡ wanted.is_stream_place self.entry }
     {
         match self {
             Place::Stdin | Place::Stdout => true,

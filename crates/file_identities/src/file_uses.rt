@@ -85,7 +85,7 @@ fn writing_if_asked(argument: Argument, target: Option<Target<'_>>) -> Option<Fi
 
 /// What is printed on standard output.
 fn printed<'a>() -> FileUse<'a>
-    ensures { result ≡ wanted.printed }
+    ensures { result ≡ wanted.printed_use }
 {
     FileUse {
         argument: Argument::Printed,
@@ -336,7 +336,7 @@ pub(crate) fn read_by<'a, R: Files>(
     task: &Task<'a>,
 ) -> Result<Vec<Asked<'a>>, AllocError>
     ensures { IfOk result (λ files. map (λ asked. asked.file) files.items
-        ≡ wanted.read_by task.now) }
+        ≡ wanted.files_read_by task.now) }
 {
     let mut files = others_read_by(rt, alloc, task)?;
     match push_name_files(rt, alloc, task.name_files(), &mut files) {

@@ -6,7 +6,7 @@ ghost use Rattle.file_identities.specs.Clashes.{is_same};
 ghost use Rattle.file_identities.specs.declared.identity.Asked.{Asked as File};
 ghost use Rattle.file_identities.specs.declared.identity.Identity.{Identity as Named};
 ghost use Rattle.file_identities.specs.declared.outputs.FileNumber.{FileNumber as Number};
-ghost use Rattle.file_identities.specs.Outputs.{AreOwnBelow, AreWrittenBy, HaveOwnFiles, IsFirstRepeat, IsOutput, IsRefusal, has_number, is_number, is_repeat, takes_number};
+ghost use Rattle.file_identities.specs.Outputs.{AreOwnBelow, AreWrittenBy, HaveOwnFiles, IsFirstRepeat, IsOutput, IsListRefusal, has_number, are_of_one_file, is_repeat, takes_number};
 ghost use Rattle.file_identities.specs.Outputs as wanted;
 
 use crate::file_use::{Argument, FileUse, Place, Role};
@@ -27,7 +27,7 @@ struct FileNumber<'a> {
 
 /// The number of a file.
 fn number_of(file: &Identity) -> FileNumber<'_>
-    ensures number { (q : Number) → is_number result q ≡ has_number file.now q }
+    ensures number { (q : Number) → are_of_one_file result q ≡ has_number file.now q }
     ensures same { (other : Named) → has_number other result ≡ is_same other file.now }
 {
     FileNumber {
@@ -52,8 +52,8 @@ fn take_number_of<'a>(
     taken: &mut HashSet<FileNumber<'a>>,
     file: &'a Identity,
 ) -> Result<(), AllocError>
-    ensures { OnOk result ((q : Number) → contains_by (is_number q) taken.new
-        ≡ cond (takes_number q (Some file.now)) true (contains_by (is_number q) taken.old)) }
+    ensures { OnOk result ((q : Number) → contains_by (are_of_one_file q) taken.new
+        ≡ cond (takes_number q (Some file.now)) true (contains_by (are_of_one_file q) taken.old)) }
 {
     if !is_exclusive(file.keeping) {
         return Ok(());
@@ -67,8 +67,8 @@ fn take_number<'a>(
     taken: &mut HashSet<FileNumber<'a>>,
     file: &'a Asked<'_>,
 ) -> Result<(), AllocError>
-    ensures { OnOk result ((q : Number) → contains_by (is_number q) taken.new
-        ≡ cond (takes_number q file.now.identity) true (contains_by (is_number q) taken.old)) }
+    ensures { OnOk result ((q : Number) → contains_by (are_of_one_file q) taken.new
+        ≡ cond (takes_number q file.now.identity) true (contains_by (are_of_one_file q) taken.old)) }
 {
     match &file.identity {
         Some(identity) => take_number_of(taken, identity),
@@ -80,7 +80,7 @@ fn take_number<'a>(
 fn is_taken(taken: &HashSet<FileNumber<'_>>, file: &Asked<'_>) -> bool
     requires { IsOutput file.now.file }
     ensures { (before : List File) → All (λ first. IsOutput first.file) before
-        → ((q : Number) → contains_by (is_number q) taken.now
+        → ((q : Number) → contains_by (are_of_one_file q) taken.now
         ≡ list_any (λ first. takes_number q first.identity) before)
         → result ≡ is_repeat before file.now }
 {
@@ -108,7 +108,7 @@ fn first_repeat(alloc: Global, files: &[Asked<'_>]) -> Result<Option<usize>, All
 
 /// The file that a line of a list writes.
 fn output_of<'a>(entry: &Entry<'a>) -> FileUse<'a>
-    ensures { result ≡ wanted.output_of entry.now }
+    ensures { result ≡ wanted.output_use entry.now }
 {
     FileUse {
         argument: Argument::Out,
@@ -159,7 +159,7 @@ pub fn check_outputs<R: Files>(
     alloc: Global,
     entries: &[Entry<'_>],
 ) -> Result<(), ListError>
-    ensures { MatchResult result (λ _. HaveOwnFiles entries.now) (IsRefusal entries.now) }
+    ensures { MatchResult result (λ _. HaveOwnFiles entries.now) (IsListRefusal entries.now) }
 {
     match first_same(rt, alloc, entries) {
         Ok(None) => Ok(()),

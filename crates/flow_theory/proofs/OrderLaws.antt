@@ -2,7 +2,7 @@
 use Rattle.std.proofs.Common.{◌≡◌, ℕ, suc, zero, ◌+◌, ◌<◌, ◌==◌, ◌&&◌, ◌||◌, nat_lt, cond, Bool, true, false, List, [], ◌∷◌, arith, refl, ap, sym, ◌∙◌, inl, inr}
 use Rattle.std.proofs.lemmas.Bool.{cases_Bool, eqb-true, false≢true, or_parts}
 use Rattle.flow_theory.specs.Flow.{State, sum_below, least_below, push, is_active, next_res}
-use Rattle.flow_theory.specs.Events.{Moment, state_of, read_at, deliver_at, delivered_res, delivered_excess, delivered_label, read_all, deliver_all, among, Distinct, EachOnce, IsAfterPulse}
+use Rattle.flow_theory.specs.Events.{Moment, state_of, read_at, deliver_at, residual_after_delivery, excess_after_delivery, label_after_delivery, read_all, deliver_all, among, Distinct, EachOnce, IsAfterPulse}
 use Rattle.flow_theory.proofs.SumLaws.{sum_below-same}
 
 -- reads change pushes alone
@@ -44,13 +44,13 @@ deliver_other n t (v ∷ vs) u off =
     let r = deliver_other n (deliver_at n t v) vs u p.1 in
     let e : (u == v) ≡ false = p.0 in
     record {
-      row = λ w. r.row w ∙ ap (λ (b : Bool). cond b (delivered_res t u w) (t.res u w)) e;
-      kept = r.kept ∙ ap (λ (b : Bool). cond b (delivered_excess n t u) (t.excess u)) e;
-      label = r.label ∙ ap (λ (b : Bool). cond b (delivered_label n t u) (t.next u)) e;
+      row = λ w. r.row w ∙ ap (λ (b : Bool). cond b (residual_after_delivery t u w) (t.res u w)) e;
+      kept = r.kept ∙ ap (λ (b : Bool). cond b (excess_after_delivery n t u) (t.excess u)) e;
+      label = r.label ∙ ap (λ (b : Bool). cond b (label_after_delivery n t u) (t.next u)) e;
     }
 
 -- the delivery of a node, whatever was delivered before and after it
-deliver_here : (n : ℕ) (t : Moment) (vs : List ℕ) (u : ℕ) → Distinct vs → among u vs ≡ true → At n (deliver_all n t vs) u (delivered_res t u) (delivered_excess n t u) (delivered_label n t u)
+deliver_here : (n : ℕ) (t : Moment) (vs : List ℕ) (u : ℕ) → Distinct vs → among u vs ≡ true → At n (deliver_all n t vs) u (residual_after_delivery t u) (excess_after_delivery n t u) (label_after_delivery n t u)
 deliver_here n t [] u d on = absurd (false≢true on)
 deliver_here n t (v ∷ vs) u d on = elim (cases_Bool (u == v)) [
   | inl same ↦
@@ -58,9 +58,9 @@ deliver_here n t (v ∷ vs) u d on = elim (cases_Bool (u == v)) [
       let off : among u vs ≡ false = ap (λ (x : ℕ). among x vs) q ∙ d.0 in
       let r = deliver_other n (deliver_at n t v) vs u off in
       record {
-        row = λ w. r.row w ∙ ap (λ (b : Bool). cond b (delivered_res t u w) (t.res u w)) same;
-        kept = r.kept ∙ ap (λ (b : Bool). cond b (delivered_excess n t u) (t.excess u)) same;
-        label = r.label ∙ ap (λ (b : Bool). cond b (delivered_label n t u) (t.next u)) same;
+        row = λ w. r.row w ∙ ap (λ (b : Bool). cond b (residual_after_delivery t u w) (t.res u w)) same;
+        kept = r.kept ∙ ap (λ (b : Bool). cond b (excess_after_delivery n t u) (t.excess u)) same;
+        label = r.label ∙ ap (λ (b : Bool). cond b (label_after_delivery n t u) (t.next u)) same;
       }
   | inr other ↦
       let r = deliver_here n (deliver_at n t v) vs u d.1 (or_true (u == v) (among u vs) other on) in
@@ -89,9 +89,9 @@ any_order n t rs ds er ed =
     let label_same : (v : ℕ) → (read_all n t rs).label v ≡ t.label v = λ v. ap (λ (s : State). s.label v) kept in
     let pushed : (v w : ℕ) → v < n → (read_all n t rs).pushes v w ≡ push n (state_of t) v w =
     λ v w h. reads_push n t rs v w ∙ ap (λ (b : Bool). cond b (push n (state_of t) v w) (t.pushes v w)) (er.all v h) in
-    let here : (v : ℕ) → v < n → At n (deliver_all n (read_all n t rs) ds) v (delivered_res (read_all n t rs) v) (delivered_excess n (read_all n t rs) v) (delivered_label n (read_all n t rs) v) =
+    let here : (v : ℕ) → v < n → At n (deliver_all n (read_all n t rs) ds) v (residual_after_delivery (read_all n t rs) v) (excess_after_delivery n (read_all n t rs) v) (label_after_delivery n (read_all n t rs) v) =
     λ v h. deliver_here n (read_all n t rs) ds v ed.distinct (ed.all v h) in
-    let given : (v w : ℕ) → v < n → w < n → delivered_res (read_all n t rs) v w ≡ next_res n (state_of t) v w =
+    let given : (v w : ℕ) → v < n → w < n → residual_after_delivery (read_all n t rs) v w ≡ next_res n (state_of t) v w =
     λ v w h k. rw (res_same v w, pushed v w h, pushed w v k) refl in
     let sent_same : (v : ℕ) → v < n → sum_below n ((read_all n t rs).pushes v) ≡ sum_below n (push n (state_of t) v) =
     λ v h. sum_below-same n ((read_all n t rs).pushes v) (push n (state_of t) v) (λ w k. pushed v w h) in
@@ -103,11 +103,11 @@ any_order n t rs ds er ed =
       label = λ v h. (here v h).label ∙ same_choice
           (is_active n (state_of (read_all n t rs)) v) (is_active n (state_of t) v)
           (nat_lt (sum_below n ((read_all n t rs).pushes v)) ((read_all n t rs).excess v)) (nat_lt (sum_below n (push n (state_of t) v)) (t.excess v))
-          (least_below n (λ w. cond (nat_lt 0 (delivered_res (read_all n t rs) v w)) ((read_all n t rs).label w + 1) n) n) (least_below n (λ w. cond (nat_lt 0 (next_res n (state_of t) v w)) (t.label w + 1) n) n)
+          (least_below n (λ w. cond (nat_lt 0 (residual_after_delivery (read_all n t rs) v w)) ((read_all n t rs).label w + 1) n) n) (least_below n (λ w. cond (nat_lt 0 (next_res n (state_of t) v w)) (t.label w + 1) n) n)
           ((read_all n t rs).label v) (t.label v)
           (ap (λ (s : State). is_active n s v) kept)
           (ap (λ (x : ℕ). nat_lt x ((read_all n t rs).excess v)) (sent_same v h) ∙ ap (λ (x : ℕ). nat_lt (sum_below n (push n (state_of t) v)) x) (excess_same v))
-          (least_below-same n (λ w. cond (nat_lt 0 (delivered_res (read_all n t rs) v w)) ((read_all n t rs).label w + 1) n) (λ w. cond (nat_lt 0 (next_res n (state_of t) v w)) (t.label w + 1) n) n
+          (least_below-same n (λ w. cond (nat_lt 0 (residual_after_delivery (read_all n t rs) v w)) ((read_all n t rs).label w + 1) n) (λ w. cond (nat_lt 0 (next_res n (state_of t) v w)) (t.label w + 1) n) n
           (λ w k. ap (λ (x : ℕ). cond (nat_lt 0 x) ((read_all n t rs).label w + 1) n) (given v w h k) ∙ ap (λ (y : ℕ). cond (nat_lt 0 (next_res n (state_of t) v w)) (y + 1) n) (label_same w)))
           (label_same v);
     }

@@ -1,7 +1,7 @@
 -- The potential falls in each pulse that leaves a node active.
 use Rattle.std.proofs.Common.{◌≡◌, ℕ, ◌+◌, ◌-◌, ◌*◌, ◌<◌, ◌≤◌, cond, true, false, arith, refl, sym, ◌∙◌, inl, inr, ◌⊎◌}
 use Rattle.std.proofs.lemmas.Bool.{cases_lt, cases_Bool, false≢true}
-use Rattle.flow_theory.specs.Flow.{State, sum_below, push, outflow, inflow, is_active, keeps_excess, next_label, pulse, IsValid, greatest_active_label, potential}
+use Rattle.flow_theory.specs.Flow.{State, sum_below, push, outflow, inflow, is_active, has_excess_left, next_label, pulse, IsValid, greatest_active_label, potential}
 use Rattle.flow_theory.proofs.SumLaws.{some_term, le-greatest_below, greatest_below-le, sum_below-le_const, rise-le, sum_below-le}
 use Rattle.flow_theory.proofs.PushLaws.{Sends, Active, active, is_active-true, sends}
 use Rattle.flow_theory.proofs.PulseLaws.{Stuck, stuck, next_label-ge, next_label-le, stuck-rises, is_stuck-true}
@@ -21,18 +21,18 @@ inflow-below_greatest n s w h =
 
 -- an inactive node is not stuck
 stays : (n : ℕ) (s : State) (w : ℕ) → is_active n s w ≡ false → next_label n s w ≡ s.label w
-stays n s w off = elim (cases_Bool (keeps_excess n s w)) [
+stays n s w off = elim (cases_Bool (has_excess_left n s w)) [
   | inl t ↦ let st : Stuck n s w = stuck n s w t in absurd (false≢true (sym off ∙ st.is_on))
   | inr f ↦ rw f refl
 ]
 
 -- an active node of the next state lies below the top, or had been active and rose
 later_active : (n : ℕ) (s : State) → IsValid n s → (w : ℕ) → w < n → is_active n (pulse n s) w ≡ true
-    → ((next_label n s w ≡ s.label w) × (s.label w < greatest_active_label n s)) ⊎ ((s.label w ≤ greatest_active_label n s) × (keeps_excess n s w ≡ true))
+    → ((next_label n s w ≡ s.label w) × (s.label w < greatest_active_label n s)) ⊎ ((s.label w ≤ greatest_active_label n s) × (has_excess_left n s w ≡ true))
 later_active n s ok w a on =
     let late : Active n (pulse n s) w = active n (pulse n s) w on in
     elim (cases_Bool (is_active n s w)) [
-      | inl was ↦ elim (cases_Bool (keeps_excess n s w)) [
+      | inl was ↦ elim (cases_Bool (has_excess_left n s w)) [
         | inl t ↦ inr (active-le-top n s w a was, t)
         | inr f ↦
             let all : s.excess w ≤ outflow n s w = elim (cases_lt (outflow n s w) (s.excess w)) [ inl lt ↦ absurd (false≢true (sym f ∙ is_stuck-true n s w was lt)) | inr ge ↦ ge ] in

@@ -1,7 +1,7 @@
 -- A pulse keeps a preflow with valid labels.
 use Rattle.std.proofs.Common.{◌≡◌, ℕ, ◌+◌, ◌<◌, ◌≤◌, nat_lt, cond, true, arith, refl, ◌∙◌, inl, inr}
 use Rattle.std.proofs.lemmas.Bool.{cases_lt, cases_Bool, and_parts, ltb-true, lt-ltb, and_from}
-use Rattle.flow_theory.specs.Flow.{State, sum_below, push, outflow, is_active, next_res, keeps_excess, relabelled, next_label, next_excess, pulse, IsPreflow, IsValid}
+use Rattle.flow_theory.specs.Flow.{State, sum_below, push, outflow, is_active, next_res, has_excess_left, relabelled, next_label, next_excess, pulse, IsPreflow, IsValid}
 use Rattle.flow_theory.proofs.SumLaws.{sum_below-add, sum_below-same, least_below-le, least_below-le_start, lt-least_below}
 use Rattle.flow_theory.proofs.PushLaws.{Sends, Active, active, sends, push-le-res, push-is_admissible, room-is_res, outflow-le-excess}
 
@@ -34,7 +34,7 @@ pub record Stuck (n : ℕ) (s : State) (v : ℕ) : Type 0 where
   pub keeps : outflow n s v < s.excess v
 
 -- a node that keeps some of its excess is active, and its pushes sum to less than it
-pub stuck : (n : ℕ) (s : State) (v : ℕ) → keeps_excess n s v ≡ true → Stuck n s v
+pub stuck : (n : ℕ) (s : State) (v : ℕ) → has_excess_left n s v ≡ true → Stuck n s v
 stuck n s v e = let p = and_parts (is_active n s v) (nat_lt (outflow n s v) (s.excess v)) e in
     record { is_on = p.0; keeps = ltb-true (outflow n s v) (s.excess v) p.1 }
 
@@ -69,30 +69,30 @@ lifted-le-head n s v w b r =
 
 -- no label falls in a pulse
 pub next_label-ge : (n : ℕ) (s : State) → IsValid n s → (v : ℕ) → v < n → s.label v ≤ next_label n s v
-next_label-ge n s ok v a = elim (cases_Bool (keeps_excess n s v)) [
+next_label-ge n s ok v a = elim (cases_Bool (has_excess_left n s v)) [
   | inl t ↦ rw t (omega (arith, lifted-rises n s ok v a (stuck n s v t)))
   | inr f ↦ rw f (omega arith)
 ]
 
 -- no label rises above the number of nodes in a pulse
 pub next_label-le : (n : ℕ) (s : State) → IsValid n s → (v : ℕ) → v < n → next_label n s v ≤ n
-next_label-le n s ok v a = elim (cases_Bool (keeps_excess n s v)) [
+next_label-le n s ok v a = elim (cases_Bool (has_excess_left n s v)) [
   | inl t ↦ rw t (least_below-le_start n (λ w. cond (nat_lt 0 (next_res n s v w)) (s.label w + 1) n) n)
   | inr f ↦ rw f (ok.small v a)
 ]
 
 -- an active node whose pushes sum to less than its excess keeps some of it
-pub is_stuck-true : (n : ℕ) (s : State) (v : ℕ) → is_active n s v ≡ true → outflow n s v < s.excess v → keeps_excess n s v ≡ true
+pub is_stuck-true : (n : ℕ) (s : State) (v : ℕ) → is_active n s v ≡ true → outflow n s v < s.excess v → has_excess_left n s v ≡ true
 is_stuck-true n s v on k = and_from (is_active n s v) (nat_lt (outflow n s v) (s.excess v)) on (lt-ltb (outflow n s v) (s.excess v) k)
 
 -- the label of a node that keeps some of its excess rises
-pub stuck-rises : (n : ℕ) (s : State) → IsValid n s → (v : ℕ) → v < n → keeps_excess n s v ≡ true → s.label v < next_label n s v
+pub stuck-rises : (n : ℕ) (s : State) → IsValid n s → (v : ℕ) → v < n → has_excess_left n s v ≡ true → s.label v < next_label n s v
 stuck-rises n s ok v a t = rw t (lifted-rises n s ok v a (stuck n s v t))
 
 next_step : (n : ℕ) (s : State) → IsValid n s → (v w : ℕ) → v < n → w < n → 0 < next_res n s v w → next_label n s v ≤ next_label n s w + 1
 next_step n s ok v w a b r =
     let up = next_label-ge n s ok w b in
-    elim (cases_Bool (keeps_excess n s v)) [
+    elim (cases_Bool (has_excess_left n s v)) [
       | inl t ↦ let l = lifted-le-head n s v w b r in rw t (omega (arith, l, up))
       | inr f ↦ rw f (elim (cases_lt 0 (push n s w v)) [
         | inl back ↦ let t : Sends n s w v = sends n s w v back in omega (arith, t.down, up)
@@ -104,7 +104,7 @@ next_step n s ok v w a b r =
 
 -- the source and the sink are never stuck
 end_stays : (n : ℕ) (s : State) (v : ℕ) → v ≤ 1 → next_label n s v ≡ s.label v
-end_stays n s v h = elim (cases_Bool (keeps_excess n s v)) [
+end_stays n s v h = elim (cases_Bool (has_excess_left n s v)) [
   | inl t ↦ let st : Stuck n s v = stuck n s v t in let on : Active n s v = active n s v st.is_on in absurd (omega (arith, on.inner))
   | inr f ↦ rw f refl
 ]

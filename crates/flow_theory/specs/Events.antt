@@ -17,22 +17,22 @@ abbrev pub read_at : ℕ → Moment → ℕ → Moment
 read_at n t v = record t { pushes = λ u w. cond (u == v) (push n (state_of t) u w) (t.pushes u w) }
 
 -- what Deliver of a node makes of its residuals, its excess and its label
-abbrev pub delivered_res : Moment → ℕ → ℕ → ℕ
-delivered_res t v w = (t.res v w + t.pushes w v) - t.pushes v w
+abbrev pub residual_after_delivery : Moment → ℕ → ℕ → ℕ
+residual_after_delivery t v w = (t.res v w + t.pushes w v) - t.pushes v w
 
-abbrev pub delivered_excess : ℕ → Moment → ℕ → ℕ
-delivered_excess n t v = (t.excess v + sum_below n (λ w. t.pushes w v)) - sum_below n (t.pushes v)
+abbrev pub excess_after_delivery : ℕ → Moment → ℕ → ℕ
+excess_after_delivery n t v = (t.excess v + sum_below n (λ w. t.pushes w v)) - sum_below n (t.pushes v)
 
-abbrev pub delivered_label : ℕ → Moment → ℕ → ℕ
-delivered_label n t v = cond (is_active n (state_of t) v && nat_lt (sum_below n (t.pushes v)) (t.excess v))
-    (least_below n (λ w. cond (nat_lt 0 (delivered_res t v w)) (t.label w + 1) n) n) (t.label v)
+abbrev pub label_after_delivery : ℕ → Moment → ℕ → ℕ
+label_after_delivery n t v = cond (is_active n (state_of t) v && nat_lt (sum_below n (t.pushes v)) (t.excess v))
+    (least_below n (λ w. cond (nat_lt 0 (residual_after_delivery t v w)) (t.label w + 1) n) n) (t.label v)
 
 -- Deliver: node v writes its own row of residuals, its excess and its new label
 abbrev pub deliver_at : ℕ → Moment → ℕ → Moment
 deliver_at n t v = record t {
-  res = λ u w. cond (u == v) (delivered_res t u w) (t.res u w);
-  excess = λ u. cond (u == v) (delivered_excess n t u) (t.excess u);
-  next = λ u. cond (u == v) (delivered_label n t u) (t.next u);
+  res = λ u w. cond (u == v) (residual_after_delivery t u w) (t.res u w);
+  excess = λ u. cond (u == v) (excess_after_delivery n t u) (t.excess u);
+  next = λ u. cond (u == v) (label_after_delivery n t u) (t.next u);
 }
 
 -- the events of one phase, in the list's order
@@ -62,9 +62,9 @@ pub record Event : Type 0 where
   pub node : ℕ
   pub worker : ℕ
 
-abbrev pub nodes_of : List Event → List ℕ
-nodes_of [] = []
-nodes_of (e ∷ es) = e.node ∷ nodes_of es
+abbrev pub nodes_of_events : List Event → List ℕ
+nodes_of_events [] = []
+nodes_of_events (e ∷ es) = e.node ∷ nodes_of_events es
 
 -- the moment after a pulse has the rows, excess and new labels of the pulse of a state
 pub record IsAfterPulse (n : ℕ) (s : State) (t : Moment) : Type 0 where
@@ -73,5 +73,5 @@ pub record IsAfterPulse (n : ℕ) (s : State) (t : Moment) : Type 0 where
   pub label : (v : ℕ) → v < n → t.next v ≡ next_label n s v
 
 abbrev pub AnyOrderIsPulse : Type 0
-AnyOrderIsPulse = (n : ℕ) (t : Moment) (reads delivers : List Event) → EachOnce n (nodes_of reads) → EachOnce n (nodes_of delivers)
-    → IsAfterPulse n (state_of t) (deliver_all n (read_all n t (nodes_of reads)) (nodes_of delivers))
+AnyOrderIsPulse = (n : ℕ) (t : Moment) (reads delivers : List Event) → EachOnce n (nodes_of_events reads) → EachOnce n (nodes_of_events delivers)
+    → IsAfterPulse n (state_of t) (deliver_all n (read_all n t (nodes_of_events reads)) (nodes_of_events delivers))

@@ -45,15 +45,15 @@ abbrev pub next_res : ℕ → State → ℕ → ℕ → ℕ
 next_res n s v w = (s.res v w + push n s w v) - push n s v w
 
 -- v is active and its pushes sum to less than its excess
-abbrev pub keeps_excess : ℕ → State → ℕ → Bool
-keeps_excess n s v = is_active n s v && nat_lt (outflow n s v) (s.excess v)
+abbrev pub has_excess_left : ℕ → State → ℕ → Bool
+has_excess_left n s v = is_active n s v && nat_lt (outflow n s v) (s.excess v)
 
 -- the lesser of n and one more than the least label of a node to which v has a residual after delivery
 abbrev pub relabelled : ℕ → State → ℕ → ℕ
 relabelled n s v = least_below n (λ w. cond (nat_lt 0 (next_res n s v w)) (s.label w + 1) n) n
 
 abbrev pub next_label : ℕ → State → ℕ → ℕ
-next_label n s v = cond (keeps_excess n s v) (relabelled n s v) (s.label v)
+next_label n s v = cond (has_excess_left n s v) (relabelled n s v) (s.label v)
 
 abbrev pub next_excess : ℕ → State → ℕ → ℕ
 next_excess n s v = (s.excess v + inflow n s v) - outflow n s v

@@ -1,5 +1,5 @@
 use Rattle.std.specs.Prelude.{◌≡◌, ℕ, ◌+◌, ◌<◌, ◌≤◌, ◌==◌, cond, Bool, true, false}
-use Rattle.flow_theory.specs.Flow.{State, IsPreflow, IsValid, pulse, is_active, potential, IsCut, IsSourceSide, cut_value, sum_below, next_excess, next_label, keeps_excess, inflow, Walk}
+use Rattle.flow_theory.specs.Flow.{State, IsPreflow, IsValid, pulse, is_active, potential, IsCut, IsSourceSide, cut_value, sum_below, next_excess, next_label, has_excess_left, inflow, Walk}
 
 -- a pulse keeps a preflow with valid labels
 abbrev pub PulseKeepsPreflow : Type 0
@@ -8,7 +8,7 @@ PulseKeepsPreflow = (n : ℕ) (cap : ℕ → ℕ → ℕ) (s : State) → 1 < n 
 
 -- no label falls, and the label of a node that keeps some of its excess rises
 abbrev pub PulseRaisesLabels : Type 0
-PulseRaisesLabels = (n : ℕ) (s : State) → IsValid n s → (v : ℕ) → v < n → (s.label v ≤ next_label n s v) × (keeps_excess n s v ≡ true → s.label v < next_label n s v)
+PulseRaisesLabels = (n : ℕ) (s : State) → IsValid n s → (v : ℕ) → v < n → (s.label v ≤ next_label n s v) × (has_excess_left n s v ≡ true → s.label v < next_label n s v)
 
 -- where some node is active after the pulse, the potential has fallen
 abbrev pub PulseLowersPotential : Type 0

@@ -15,20 +15,20 @@ use Rattle.retimed_circuits.specs.Merging.{MergesIn}
 use Rattle.retimed_circuits.specs.Names.{StayHeld}
 use Rattle.frames.specs.declared.options.Options.{Options}
 use Rattle.frames.specs.declared.run.ReadCircuit.{ReadCircuit}
-use Rattle.frames.specs.Beginning.{IsBegun, IsCleanedRun, IsMergedFrom, StartsFrom, read_before}
+use Rattle.frames.specs.Beginning.{IsRunBegun, IsCleanedRun, IsMergedFrom, StartsFrom, read_before}
 use Rattle.frames.specs.Bounds.{bound_in}
 use Rattle.frames.specs.Following.{ComesOn, IsFollowed, IsReady, IsRetimedFollowed, IsRetimedFrom}
-use Rattle.frames.specs.Merging.{IsStart, reported_of_read}
+use Rattle.frames.specs.Merging.{IsRunStart, reported_of_read}
 use Rattle.frames.specs.Named.{holding_in, kept_by}
 use Rattle.frames.proofs.MergedLaws.{as-it-is, merged-retimed, places-below}
 
 -- a circuit that is cleaned alone
 pub plain-begun : {F : Type 0} (has_come : F → Netlist → Netlist → List ℕ → Type 0) (options : Options) (bound most : Option ℕ) (c : Netlist) (held : List ℕ) (old new : F) (r : Retimed) (now : List ℕ)
     → IsCircuit c → options.merge ≡ false → held ≡ kept_by options c → bound ≡ bound_in options c → most ≡ bound → has_come old c c (all_free c.aig) → IsCleanedRun has_come options bound c held old new r now
-    → IsBegun has_come options most c None r now new
+    → IsRunBegun has_come options most c None r now new
 plain-begun has_come options bound most c held old new r now valid unasked keep right same there run =
     let is = subst (λ (js : List ℕ). IsCleanedRun has_come options bound c js old new r now) keep run in
-    subst (λ (b : Option ℕ). IsBegun has_come options b c None r now new) (sym same) (record {
+    subst (λ (b : Option ℕ). IsRunBegun has_come options b c None r now new) (sym same) (record {
       names = held_of-names (holding_in options) c valid.netlist;
       bound_is = right;
       starts = record {
@@ -41,7 +41,7 @@ plain-begun has_come options bound most c held old new r now valid unasked keep 
 pub merged-begun : {F : Type 0} (has_come : F → Netlist → Netlist → List ℕ → Type 0) (options : Options) (bound most : Option ℕ) (c : Netlist) (held : List ℕ) (first mid : F) (m : MergedStart) (last : F) (r : Retimed)
     (now : List ℕ) (read : Option ReadCircuit) → IsCircuit c → options.merge ≡ true → held ≡ kept_by options c → bound ≡ bound_in options c → most ≡ bound → has_come first c c (all_free c.aig)
     → MergesIn held c m.circuit m.kept_free m.keep m.counts → SameStreams c m.circuit m.kept_free → StayHeld held c m.keep m.circuit → ComesOn has_come first mid c m.circuit m.kept_free
-    → IsMergedFrom has_come options bound m (length c.aig.latches) mid last r now read → IsBegun has_come options most c read r now last
+    → IsMergedFrom has_come options bound m (length c.aig.latches) mid last r now read → IsRunBegun has_come options most c read r now last
 merged-begun has_come options bound most c held first mid m last r now read valid asked keep right same there so streams stand comes from =
     let M : List ℕ → Type 0 = λ js. MergesIn js c m.circuit m.kept_free m.keep m.counts × StayHeld js c m.keep m.circuit in
     let both = subst M keep (so, stand) in
@@ -49,12 +49,12 @@ merged-begun has_come options bound most c held first mid m last r now read vali
     let come : P m.kept_free =
     subst P (composed-all (free_latches c.aig) m.kept_free streams.places.below) (comes c (all_free c.aig) (length-range_with_len 0 (free_latches c.aig)) there) in
     let reported : ReadCircuit = read_before m (length c.aig.latches) in
-    let is : IsStart options c m.circuit m.keep reported =
+    let is : IsRunStart options c m.circuit m.keep reported =
     record { latches = refl; merges = both.0; streams = streams; stays = both.1 } in
     let followed : IsFollowed has_come options bound c m.circuit m.keep reported.kept_free 0 r now last =
     record { underway = from.cleaned.underway; come = from.cleaned.comes c m.kept_free streams.places.each come } in
     let ready : StartsFrom has_come options bound c (Some reported) r now last = record { asked = asked; start = m.circuit; held = m.keep; is = is; followed = followed } in
-    subst (λ (b : Option ℕ). IsBegun has_come options b c read r now last) (sym same) (record {
+    subst (λ (b : Option ℕ). IsRunBegun has_come options b c read r now last) (sym same) (record {
       names = held_of-names (holding_in options) c valid.netlist;
       bound_is = right;
       starts = subst (λ (x : Option ReadCircuit). StartsFrom has_come options bound c x r now last) (sym from.reported) ready;
@@ -62,7 +62,7 @@ merged-begun has_come options bound most c held first mid m last r now read vali
 
 -- what was begun is ready for frames
 pub begun-ready : {F : Type 0} (has_come : F → Netlist → Netlist → List ℕ → Type 0) (options : Options) (bound : Option ℕ) (c : Netlist) (read : Option ReadCircuit) (r : Retimed) (now : List ℕ) (f : F)
-    → IsBegun has_come options bound c read r now f → IsReady has_come options bound c r now f
+    → IsRunBegun has_come options bound c read r now f → IsReady has_come options bound c r now f
 begun-ready has_come options bound c None r now f is = record { start = c; held = kept_by options c; kept = all_free c.aig; followed = is.starts.followed }
 begun-ready has_come options bound c (Some read) r now f is = record { start = is.starts.start; held = is.starts.held; kept = read.kept_free; followed = is.starts.followed }
 
@@ -73,9 +73,9 @@ Ends has_come options bound c r now f end later last =
 
 -- without merging what it is retimed to is what is asked for
 pub plain-finished : {F : Type 0} (has_come : F → Netlist → Netlist → List ℕ → Type 0) (options : Options) (bound : Option ℕ) (c : Netlist) (read : Option ReadCircuit) (r end : Retimed) (now later : List ℕ) (f last : F)
-    → read ≡ None → Ends has_come options bound c r now f end later last → IsBegun has_come options bound c read r now f → IsRetimedFollowed has_come options c end later last
+    → read ≡ None → Ends has_come options bound c r now f end later last → IsRunBegun has_come options bound c read r now f → IsRetimedFollowed has_come options c end later last
 plain-finished has_come options bound c read r end now later f last none ends begun =
-    let ready = subst (λ (x : Option ReadCircuit). IsBegun has_come options bound c x r now f) none begun in
+    let ready = subst (λ (x : Option ReadCircuit). IsRunBegun has_come options bound c x r now f) none begun in
     let is = ends c (kept_by options c) (all_free c.aig) ready.starts.followed in
     record {
       held = as-it-is options bound c end later ready.names ready.starts.unasked ready.bound_is is.retimed is.ends is.stays;
@@ -84,19 +84,19 @@ plain-finished has_come options bound c read r end now later f last none ends be
 
 -- with it the places of free latches are among those of the merged circuit
 pub merged-below : {F : Type 0} (has_come : F → Netlist → Netlist → List ℕ → Type 0) (options : Options) (bound : Option ℕ) (c : Netlist) (read : Option ReadCircuit) (found : ReadCircuit) (r end : Retimed)
-    (now later : List ℕ) (f last : F) → read ≡ Some found → Ends has_come options bound c r now f end later last → IsBegun has_come options bound c read r now f
+    (now later : List ℕ) (f last : F) → read ≡ Some found → Ends has_come options bound c r now f end later last → IsRunBegun has_come options bound c read r now f
     → All (λ place. place < length found.kept_free) end.kept_free
 merged-below has_come options bound c read found r end now later f last some ends begun =
-    let ready = subst (λ (x : Option ReadCircuit). IsBegun has_come options bound c x r now f) some begun in
+    let ready = subst (λ (x : Option ReadCircuit). IsRunBegun has_come options bound c x r now f) some begun in
     let start = ready.starts in
     places-below options bound c start.start start.held found end start.is (ends start.start start.held found.kept_free start.followed).retimed
 
 -- and what the merged circuit is retimed to is what is asked for, reported of the circuit that was read
 pub merged-finished : {F : Type 0} (has_come : F → Netlist → Netlist → List ℕ → Type 0) (options : Options) (bound : Option ℕ) (c : Netlist) (read : Option ReadCircuit) (found : ReadCircuit) (r end whole : Retimed)
     (now later there : List ℕ) (f last final : F) → read ≡ Some found → Ends has_come options bound c r now f end later last → whole ≡ reported_of_read found end → there ≡ later → final ≡ last
-    → IsBegun has_come options bound c read r now f → IsRetimedFollowed has_come options c whole there final
+    → IsRunBegun has_come options bound c read r now f → IsRetimedFollowed has_come options c whole there final
 merged-finished has_come options bound c read found r end whole now later there f last final some ends reported stand same begun =
-    let ready = subst (λ (x : Option ReadCircuit). IsBegun has_come options bound c x r now f) some begun in
+    let ready = subst (λ (x : Option ReadCircuit). IsRunBegun has_come options bound c x r now f) some begun in
     let start = ready.starts in
     let from = ends start.start start.held found.kept_free start.followed in
     let stays = subst (λ (js : List ℕ). StayHeld start.held start.start js end.circuit) (sym stand) from.stays in

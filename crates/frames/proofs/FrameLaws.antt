@@ -35,8 +35,8 @@ use Rattle.normalised_circuits.proofs.FrameLaws.{cleans-normalised, normalised-c
 use Rattle.frames.specs.declared.frame.Frame.{Frame}
 use Rattle.frames.specs.declared.options.Options.{Options}
 use Rattle.frames.specs.Found.{IsAfterMove, Moves}
-use Rattle.frames.specs.Retiming.{IsCleanedBy, IsMovedBy, IsRetimedAsIs, Keeps}
-use Rattle.frames.specs.Underway.{IsUnderway, IsRun}
+use Rattle.frames.specs.Retiming.{IsCleanedBy, IsMovedBy, IsRetimedAsIs, KeepsStreamsAndHeld}
+use Rattle.frames.specs.Underway.{IsUnderway, IsWholeRun}
 use Rattle.frames.proofs.CertificateLaws.{certified}
 
 -- a moved circuit is the circuit after the move, with its streams
@@ -62,7 +62,7 @@ streams-through c d e kept first second =
     subst (λ (places : List ℕ). SameStreams c e places) (composed-all free kept below) (same_streams-transitive c d e (all_free c.aig) kept first second)
 
 -- cleaning keeps the held latches, and leaves nothing to clean
-cleaned-keeps : (held : List ℕ) (c d : Netlist) (left now : List ℕ) → IsCircuit c → All (λ j. j < length c.aig.latches) held → CleansTo held c d left now → SameStreams c d left → Keeps held c d left now
+cleaned-keeps : (held : List ℕ) (c d : Netlist) (left now : List ℕ) → IsCircuit c → All (λ j. j < length c.aig.latches) held → CleansTo held c d left now → SameStreams c d left → KeepsStreamsAndHeld held c d left now
 cleaned-keeps held c d left now valid in_range cleans streams = record {
   streams = streams;
   stays = cleaning-keeps held c d left now valid in_range cleans;
@@ -79,7 +79,7 @@ cleaned-by held c d valid in_range cleans streams = record { cleaned = cleans; k
 pub own-cleaned : (held : List ℕ) (c : Netlist) (d : Cleaned) → d.circuit ≡ c → d.keep ≡ held → d.kept_free ≡ all_free c.aig → IsCircuit c → All (λ j. j < length c.aig.latches) held
     → IsNormalised held c → IsCleanedBy held c d
 own-cleaned held c d circuit keep free valid in_range normalised =
-    let P : Netlist → List ℕ → List ℕ → Type 0 = λ e js now. CleansTo held c e js now × Keeps held c e js now in
+    let P : Netlist → List ℕ → List ℕ → Type 0 = λ e js now. CleansTo held c e js now × KeepsStreamsAndHeld held c e js now in
     let already = normalised-cleaned held c valid in_range normalised in
     let own : P c (all_free c.aig) held = (
       record { cleans = already.cleans; held_after = already.held_after },
@@ -137,7 +137,7 @@ with_certificates r records =
     record { circuit = r.circuit; kept_free = r.kept_free; read_latches = r.read_latches; merged = r.merged; frames = r.frames; certificates = records.certificates.items }
 
 -- a run ends at the limit of frames, or where none counts less; it has the certificates that were collected
-pub ended : (options : Options) (bound : Option ℕ) (c : Netlist) (held : List ℕ) (records : Records) (r : Retimed) (now : List ℕ) → IsRun options bound c held records r now
+pub ended : (options : Options) (bound : Option ℕ) (c : Netlist) (held : List ℕ) (records : Records) (r : Retimed) (now : List ℕ) → IsWholeRun options bound c held records r now
     → (is : IsRetimedAsIs options bound c held (with_certificates r records)) × (now ≡ is.now)
 ended options bound c held records r now run =
     let s : Retimed = with_certificates r records in

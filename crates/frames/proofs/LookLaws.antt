@@ -21,11 +21,11 @@ use Rattle.retimed_circuits.proofs.FoundLaws.{found-closed, none-helps, within-l
 use Rattle.frames.specs.declared.helping.Helping.{Helping}
 use Rattle.frames.specs.declared.options.Options.{Options}
 use Rattle.frames.specs.Certified.{AddsFound}
-use Rattle.frames.specs.Found.{BreaksBound, Finds, Helps, IsFoundOver, IsLook, KeepsBound, Saves}
+use Rattle.frames.specs.Found.{BreaksBound, Finds, Helps, IsFoundOver, IsLook, KeepsBound, IsSavingSet}
 use Rattle.frames.specs.Retiming.{IsHelpingSetBy, NoneHelpsBy}
 
 -- what is found over a set saves latches
-pub over-saves : (c : Netlist) (held s : List ℕ) (found : Option Helping) → IsFoundOver c held s found → IfSome found (λ h. Saves c held h.set)
+pub over-saves : (c : Netlist) (held s : List ℕ) (found : Option Helping) → IsFoundOver c held s found → IfSome found (λ h. IsSavingSet c held h.set)
 over-saves c held s None over = tt
 over-saves c held s (Some h) over = over.saves
 
@@ -59,7 +59,7 @@ module _ (options : Options) (held : List ℕ) (c : Netlist) where
   }
 
   -- a set that helps saves latches
-  pub helps-saves : (bound : Option ℕ) (set : List ℕ) → IsHelpingSetBy options bound held c set → Saves c held set
+  pub helps-saves : (bound : Option ℕ) (set : List ℕ) → IsHelpingSetBy options bound held c set → IsSavingSet c held set
   helps-saves bound set helps = record { closed = found-closed bound options.choice held c set helps.found; fewer = helps.fewer }
 
   whole-passes : (bound : Option ℕ) (cert : Certificate) → IsVerdict c held cert Yes → Passes bound held c cert

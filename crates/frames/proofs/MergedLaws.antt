@@ -12,12 +12,12 @@ use Rattle.retimed_circuits.proofs.StayLaws.{stays-then}
 use Rattle.frames.specs.declared.options.Options.{Options}
 use Rattle.frames.specs.declared.run.ReadCircuit.{ReadCircuit}
 use Rattle.frames.specs.Bounds.{bound_in}
-use Rattle.frames.specs.Merging.{IsStart, reported_of_read}
+use Rattle.frames.specs.Merging.{IsRunStart, reported_of_read}
 use Rattle.frames.specs.Named.{holding_in, kept_by, names_in}
 use Rattle.frames.specs.Retiming.{IsRetimedAsIs, IsRetimedHeld, IsRetimedTo}
 
 -- the places of its free latches that stay are among those that cleaning kept
-pub places-below : (options : Options) (bound : Option ℕ) (c start : Netlist) (held : List ℕ) (read : ReadCircuit) (r : Retimed) → IsStart options c start held read → IsRetimedAsIs options bound start held r
+pub places-below : (options : Options) (bound : Option ℕ) (c start : Netlist) (held : List ℕ) (read : ReadCircuit) (r : Retimed) → IsRunStart options c start held read → IsRetimedAsIs options bound start held r
     → All (λ place. place < length read.kept_free) r.kept_free
 places-below options bound c start held read r is retimed = λ k a h. omega (arith, retimed.streams.places.below k a h, is.streams.places.each)
 
@@ -27,7 +27,7 @@ IsSo options c r now merge most = IsRetimedTo merge most options.choice c (holdi
 
 -- it retimed, reported of the circuit that was read
 pub merged-retimed : (options : Options) (bound : Option ℕ) (c start : Netlist) (held : List ℕ) (read : ReadCircuit) (r s : Retimed) (now : List ℕ) → Covers (names_in options) (kept_by options c) c
-    → options.merge ≡ true → bound ≡ bound_in options c → IsStart options c start held read → (retimed : IsRetimedAsIs options bound start held s) → now ≡ retimed.now → StayHeld held start now s.circuit
+    → options.merge ≡ true → bound ≡ bound_in options c → IsRunStart options c start held read → (retimed : IsRetimedAsIs options bound start held s) → now ≡ retimed.now → StayHeld held start now s.circuit
     → r ≡ reported_of_read read s → IsRetimedHeld options c r now
 merged-retimed options bound c start held read r s now covers asked most is retimed ends stays same =
     let kept = read.kept_free in

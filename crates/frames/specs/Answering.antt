@@ -77,7 +77,7 @@ IsOneAnswer bytes options = (certify : Bool) (input other : Input) (old new befo
     → IsSameRetiming options.certify certify r s × (text_for options p.spelt r ≡ text_for options q.spelt s)
 
 -- the bytes were read to their end, and are those of a circuit in a spelling, but there is no whole answer
-pub record IsStopped (options : Options) (old new : Input) (before after : Output) (e : BytesError) : Type 0 where
+pub record EndsWithoutAnswer (options : Options) (old new : Input) (before after : Output) (e : BytesError) : Type 0 where
   pub read : ReadsToEnd old new
   pub spelt : SpeltCircuit
   pub spells : Spells old spelt
@@ -86,8 +86,8 @@ pub record IsStopped (options : Options) (old new : Input) (before after : Outpu
 -- why there is no answer
 abbrev pub IsBytesError : Options → Input → Input → Output → Output → BytesError → Type 0
 IsBytesError options old new before after (Read e) = IsReadError old new e × (after ≡ before)
-IsBytesError options old new before after (Retime e) = IsStopped options old new before after (Retime e)
-IsBytesError options old new before after (Write e) = IsStopped options old new before after (Write e)
+IsBytesError options old new before after (Retime e) = EndsWithoutAnswer options old new before after (Retime e)
+IsBytesError options old new before after (Write e) = EndsWithoutAnswer options old new before after (Write e)
 
 -- P, where the bytes were read as a circuit's: after an answer, and after an error that came later
 abbrev pub AfterReading : Result Retimed BytesError → Type 0 → Type 0

@@ -9,7 +9,7 @@ use Rattle.frames.specs.declared.options.Options.{Options}
 use Rattle.frames.specs.declared.run.ReadCircuit.{ReadCircuit}
 use Rattle.frames.specs.Bounds.{bound_in}
 use Rattle.frames.specs.Following.{ComesOn, IsFollowed}
-use Rattle.frames.specs.Merging.{IsStart}
+use Rattle.frames.specs.Merging.{IsRunStart}
 use Rattle.frames.specs.Named.{kept_by, names_in}
 use Rattle.frames.specs.Underway.{IsUnderway}
 
@@ -35,7 +35,7 @@ pub record IsMergedReady {F : Type 0} (has_come : F → Netlist → Netlist → 
   pub asked : options.merge ≡ true
   pub start : Netlist
   pub held : List ℕ
-  pub is : IsStart options c start held read
+  pub is : IsRunStart options c start held read
   pub followed : IsFollowed has_come options bound c start held read.kept_free 0 r now f
 
 -- c cleaned, and the follower has come there from c
@@ -49,7 +49,7 @@ StartsFrom has_come options bound c None r now f = IsPlainReady has_come options
 StartsFrom has_come options bound c (Some read) r now f = IsMergedReady has_come options bound c read r now f
 
 -- c, whose held latches are those that the options hold, with all of their names, before its first frame, under the bound that the options have for it
-pub record IsBegun {F : Type 0} (has_come : F → Netlist → Netlist → List ℕ → Type 0) (options : Options) (bound : Option ℕ) (c : Netlist) (read : Option ReadCircuit) (r : Retimed)
+pub record IsRunBegun {F : Type 0} (has_come : F → Netlist → Netlist → List ℕ → Type 0) (options : Options) (bound : Option ℕ) (c : Netlist) (read : Option ReadCircuit) (r : Retimed)
     (now : List ℕ) (f : F) : Type 0 where
   pub names : Covers (names_in options) (kept_by options c) c
   pub bound_is : bound ≡ bound_in options c

@@ -12,7 +12,7 @@ use Rattle.frames.specs.declared.frame.Frame.{Frame}
 use Rattle.frames.specs.declared.options.Options.{Options}
 use Rattle.frames.specs.Found.{Moves}
 use Rattle.frames.specs.Retiming.{IsCleanedBy, IsMovedBy, IsRetimedAsIs, IsRetimedHeld}
-use Rattle.frames.specs.Underway.{IsRun, IsUnderway}
+use Rattle.frames.specs.Underway.{IsWholeRun, IsUnderway}
 
 -- it has come to d, from whatever circuit
 abbrev pub HasComeTo : {F : Type 0} → (F → Netlist → Netlist → List ℕ → Type 0) → F → Netlist → Type 0
@@ -58,7 +58,7 @@ pub record IsReady {F : Type 0} (has_come : F → Netlist → Netlist → List �
 -- a run from d that ended, and the follower has come from c to what it came to
 pub record EndsFollowed {F : Type 0} (has_come : F → Netlist → Netlist → List ℕ → Type 0) (options : Options) (bound : Option ℕ) (c d : Netlist) (held kept : List ℕ) (records : Records)
     (r : Retimed) (now : List ℕ) (f : F) : Type 0 where
-  pub run : IsRun options bound d held records r now
+  pub run : IsWholeRun options bound d held records r now
   pub come : has_come f c r.circuit (composed kept r.kept_free)
 
 -- d retimed, whose held latches stand at now, and the follower has come there from c

@@ -22,10 +22,10 @@ use Rattle.frames.specs.declared.bounding.Judged.TheVariants.{Decided, TooLong}
 use Rattle.frames.specs.declared.frame.Frame.{Frame}
 use Rattle.frames.specs.declared.options.Options.{Options}
 use Rattle.frames.specs.Certified.{AddsFound}
-use Rattle.frames.specs.Retiming.{IsHelpingSetBy, Keeps, NoneHelpsBy}
+use Rattle.frames.specs.Retiming.{IsHelpingSetBy, KeepsStreamsAndHeld, NoneHelpsBy}
 
 -- a closed set that counts less than c has known latches
-pub record Saves (c : Netlist) (held s : List ℕ) : Type 0 where
+pub record IsSavingSet (c : Netlist) (held s : List ℕ) : Type 0 where
   pub closed : IsClosedSet c.aig held s
   pub fewer : border_size (move_of c held s) < known_latches c.aig
 
@@ -42,7 +42,7 @@ pub record IsPrepared (c : Netlist) (held s : List ℕ) (prepared : PreparedMove
 -- it is over this set, which saves latches, with the move over it, and its report
 pub record IsOver (c : Netlist) (held s : List ℕ) (found : Helping) : Type 0 where
   pub same : found.set ≡ s
-  pub saves : Saves c held found.set
+  pub saves : IsSavingSet c held found.set
   pub prepared : IsPrepared c held found.set found.prepared
   pub report : found.report ≡ report_over held c found.set
 
@@ -73,9 +73,9 @@ BreaksBound bound c held None = ⊥
 BreaksBound bound c held (Some found) = bound < levels_over c held found.set
 
 -- what becomes of what is found over the set by the first look
-abbrev pub IsJudged : Option ℕ → Netlist → List ℕ → List ℕ → Option Helping → Judged → Type 0
-IsJudged bound c held s first (Decided found) = IsFoundOver c held s found × KeepsBound bound c held found
-IsJudged bound c held s first (TooLong most) = (bound ≡ Some most) × BreaksBound most c held first
+abbrev pub IsSetJudged : Option ℕ → Netlist → List ℕ → List ℕ → Option Helping → Judged → Type 0
+IsSetJudged bound c held s first (Decided found) = IsFoundOver c held s found × KeepsBound bound c held found
+IsSetJudged bound c held s first (TooLong most) = (bound ≡ Some most) × BreaksBound most c held first
 
 -- the set that is found, which counts less than the known latches, the move over it, and the frame's report
 pub record Helps (options : Options) (bound : Option ℕ) (held : List ℕ) (c : Netlist) (found : Helping) : Type 0 where
@@ -93,4 +93,4 @@ pub record Moves (options : Options) (bound : Option ℕ) (held : List ℕ) (c :
   pub set : IsHelpingSetBy options bound held c frame.set
   pub cleaned : CleansTo (held_over held c frame.set) (moved_over held c frame.set) frame.cleaned.circuit frame.cleaned.kept_free frame.cleaned.keep
   pub moves : IsFrame bound options.choice held c frame.cleaned.circuit frame.cleaned.kept_free frame.cleaned.keep frame.report
-  pub keeps : Keeps held c frame.cleaned.circuit frame.cleaned.kept_free frame.cleaned.keep
+  pub keeps : KeepsStreamsAndHeld held c frame.cleaned.circuit frame.cleaned.kept_free frame.cleaned.keep

@@ -11,7 +11,7 @@ use Rattle.frames.specs.declared.options.Options.{Options}
 use Rattle.frames.specs.Named.{kept_by}
 
 -- c cleaned and merged, where its held latches stand then, and what is reported of c
-pub record IsStart (options : Options) (c start : Netlist) (held : List ℕ) (read : ReadCircuit) : Type 0 where
+pub record IsRunStart (options : Options) (c start : Netlist) (held : List ℕ) (read : ReadCircuit) : Type 0 where
   pub latches : read.latches ≡ length c.aig.latches
   pub merges : MergesIn (kept_by options c) c start read.kept_free held read.counts
   pub streams : SameStreams c start read.kept_free

@@ -50,7 +50,7 @@ abbrev pub IsNextSet : Options → Option ℕ → List ℕ → Netlist → Optio
 IsNextSet options bound held c set = MatchOption set (NoneHelpsBy options bound held c) (IsHelpingSetBy options bound held c)
 
 -- d has c's streams, its held latches stand at now in d, and nothing is left to clean there; kept has the places of the free latches that stay
-pub record Keeps (held : List ℕ) (c d : Netlist) (kept now : List ℕ) : Type 0 where
+pub record KeepsStreamsAndHeld (held : List ℕ) (c d : Netlist) (kept now : List ℕ) : Type 0 where
   pub streams : SameStreams c d kept
   pub stays : StayHeld held c now d
   pub in_range : All (λ j. j < length d.aig.latches) now
@@ -59,9 +59,9 @@ pub record Keeps (held : List ℕ) (c d : Netlist) (kept now : List ℕ) : Type 
 -- d is c cleaned, where the latches at these positions are held
 pub record IsCleanedBy (held : List ℕ) (c : Netlist) (d : Cleaned) : Type 0 where
   pub cleaned : CleansTo held c d.circuit d.kept_free d.keep
-  pub keeps : Keeps held c d.circuit d.kept_free d.keep
+  pub keeps : KeepsStreamsAndHeld held c d.circuit d.kept_free d.keep
 
 -- d is c with its latches moved over the set, and cleaned
 pub record IsMovedBy (held : List ℕ) (c : Netlist) (set : List ℕ) (d : Cleaned) : Type 0 where
   pub cleaned : CleansTo (held_over held c set) (moved_over held c set) d.circuit d.kept_free d.keep
-  pub keeps : Keeps held c d.circuit d.kept_free d.keep
+  pub keeps : KeepsStreamsAndHeld held c d.circuit d.kept_free d.keep

@@ -2,7 +2,7 @@
 //! the circuit that was read, so whoever owns it may drop it.
 ghost use Rattle.std.specs.Prelude.{ℕ, ◌≡◌, ◌<◌, false, All, IfOk, [], List, None, length, true};
 ghost use Rattle.aig_graph.specs.Laws.{all_free};
-ghost use Rattle.frames.specs.Beginning.{IsBegun, IsCleanedRun, IsMergedFrom};
+ghost use Rattle.frames.specs.Beginning.{IsRunBegun, IsCleanedRun, IsMergedFrom};
 ghost use Rattle.frames.specs.Bounds.{bound_in};
 ghost use Rattle.frames.specs.Following.{HasComeTo};
 ghost use Rattle.frames.specs.Named.{kept_by};
@@ -94,7 +94,7 @@ fn begun_as_is<F: RunFollower + Drop>(
     requires keep { keep.now ≡ kept_by options.now circuit.now }
     requires bound { bound ≡ bound_in options.now circuit.now }
     requires merge { options.now.merge ≡ false }
-    ensures { IfOk result (λ begun. IsBegun F.has_come options.now begun.run.bound circuit.now
+    ensures { IfOk result (λ begun. IsRunBegun F.has_come options.now begun.run.bound circuit.now
         begun.read begun.run.retimed begun.run.keep begun.run.follower) }
 {
     circuit.known();
@@ -148,7 +148,7 @@ fn begun_merged<F: RunFollower + Drop>(
     requires keep { keep.now ≡ kept_by options.now circuit.now }
     requires bound { bound ≡ bound_in options.now circuit.now }
     requires merge { options.now.merge ≡ true }
-    ensures { IfOk result (λ begun. IsBegun F.has_come options.now begun.run.bound circuit.now
+    ensures { IfOk result (λ begun. IsRunBegun F.has_come options.now begun.run.bound circuit.now
         begun.read begun.run.retimed begun.run.keep begun.run.follower) }
 {
     circuit.known();
@@ -175,7 +175,7 @@ fn begun_under<F: RunFollower + Drop>(
     requires there { F.has_come follower circuit.now circuit.now (all_free circuit.now.aig) }
     requires keep { keep.now ≡ kept_by options.now circuit.now }
     requires bound { bound ≡ bound_in options.now circuit.now }
-    ensures { IfOk result (λ begun. IsBegun F.has_come options.now begun.run.bound circuit.now
+    ensures { IfOk result (λ begun. IsRunBegun F.has_come options.now begun.run.bound circuit.now
         begun.read begun.run.retimed begun.run.keep begun.run.follower) }
 {
     if options.merge {
@@ -200,7 +200,7 @@ pub fn begin<F: RunFollower + Drop>(
 ) -> Result<Begun<F>, F::Stop>
     requires there { F.has_come follower circuit.now circuit.now (all_free circuit.now.aig) }
     requires keep { keep.now ≡ kept_by options.now circuit.now }
-    ensures { IfOk result (λ begun. IsBegun F.has_come options.now begun.run.bound circuit.now
+    ensures { IfOk result (λ begun. IsRunBegun F.has_come options.now begun.run.bound circuit.now
         begun.read begun.run.retimed begun.run.keep begun.run.follower) }
 {
     match options.bound.for_circuit(alloc, circuit) {

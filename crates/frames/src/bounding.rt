@@ -4,7 +4,7 @@ ghost use Rattle.std.specs.Prelude.{ℕ, ◌≡◌, List, Some, IfOk, IfSome};
 ghost use Rattle.aig_graph.specs.Chosen.{IsChosen};
 ghost use Rattle.aig_graph.specs.Circuits.{Netlist};
 ghost use Rattle.chosen_cuts.specs.Certified.{AddsOne};
-ghost use Rattle.frames.specs.Found.{IsAfterMove, IsFoundOver, IsJudged, IsOver, Saves};
+ghost use Rattle.frames.specs.Found.{IsAfterMove, IsFoundOver, IsSetJudged, IsOver, IsSavingSet};
 
 use crate::helping::{Helping, PreparedMove};
 use aig_graph::{Choice, Circuit, ClosedSet, Keep, NoMemory};
@@ -53,7 +53,7 @@ fn judged_after(
     most: u32,
 ) -> Result<Judged, NoMemory>
     ensures { IfOk result (λ judged. (c : Netlist) (held s : List ℕ) → IsOver c held s found
-        → IsAfterMove c held found.set after → IsJudged (Some most) c held s (Some found) judged) }
+        → IsAfterMove c held found.set after → IsSetJudged (Some most) c held s (Some found) judged) }
 {
     match levels(alloc, &after) {
         Ok(high) if high <= most => Ok(Judged::Decided(Some(with_after(found, after)))),
@@ -77,7 +77,7 @@ fn moved_circuit(
     keep: &Keep,
     set: &ClosedSet,
 ) -> Result<Circuit, NoMemory>
-    requires { Saves circuit.now keep.now set.now }
+    requires { IsSavingSet circuit.now keep.now set.now }
     ensures { IfOk result (IsAfterMove circuit.now keep.now set.now) }
 {
     circuit.known();
@@ -92,9 +92,9 @@ fn fitted(
     found: Helping,
     most: u32,
 ) -> Result<Judged, NoMemory>
-    requires { Saves circuit.now keep.now found.set }
+    requires { IsSavingSet circuit.now keep.now found.set }
     ensures { IfOk result (λ judged. (s : List ℕ) → IsOver circuit.now keep.now s found
-        → IsJudged (Some most) circuit.now keep.now s (Some found) judged) }
+        → IsSetJudged (Some most) circuit.now keep.now s (Some found) judged) }
 {
     match moved_circuit(alloc, circuit, keep, &found.set) {
         Ok(after) => judged_after(alloc, found, after, most),
@@ -113,9 +113,9 @@ pub(crate) fn judge(
     first: Option<Helping>,
     bound: Option<u32>,
 ) -> Result<Judged, NoMemory>
-    requires { IfSome first (λ found. Saves circuit.now keep.now found.set) }
+    requires { IfSome first (λ found. IsSavingSet circuit.now keep.now found.set) }
     ensures { IfOk result (λ judged. (s : List ℕ) → IsFoundOver circuit.now keep.now s first
-        → IsJudged bound circuit.now keep.now s first judged) }
+        → IsSetJudged bound circuit.now keep.now s first judged) }
 {
     let Some(most) = bound else {
         return Ok(Judged::Decided(first));

@@ -1,7 +1,7 @@
 //! A run taken to its end; where latches were merged, what it came to is reported of the circuit that was read.
 ghost use Rattle.std.specs.Prelude.{ℕ, ◌≡◌, ◌<◌, length, All, IfOk};
 ghost use Rattle.aig_graph.specs.Circuits.{Netlist};
-ghost use Rattle.frames.specs.Beginning.{IsBegun};
+ghost use Rattle.frames.specs.Beginning.{IsRunBegun};
 ghost use Rattle.frames.specs.Following.{IsRetimedFollowed};
 ghost use Rattle.frames.specs.Merging.{reported_of_read};
 ghost use Rattle.frames.specs.Stages.{Notifies, looks_of};
@@ -92,10 +92,10 @@ pub fn finish<F: RunFollower + Drop, G: PhaseGate, V: FrameWatcher>(
     crew: &Crew<G>,
     watcher: &mut V,
 ) -> Result<Run<F>, F::Stop>
-    requires { (c : Netlist) × IsBegun F.has_come options.now begun.run.bound c begun.read
+    requires { (c : Netlist) × IsRunBegun F.has_come options.now begun.run.bound c begun.read
         begun.run.retimed begun.run.keep begun.run.follower }
     ensures retimed { IfOk result (λ end. (c : Netlist)
-        → IsBegun F.has_come options.now begun.run.bound c begun.read begun.run.retimed
+        → IsRunBegun F.has_come options.now begun.run.bound c begun.read begun.run.retimed
         begun.run.keep begun.run.follower
         → IsRetimedFollowed F.has_come options.now c end.retimed end.keep end.follower) }
     ensures notified { IfOk result (λ end. Notifies V.was_notified watcher.old watcher.new

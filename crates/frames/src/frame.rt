@@ -2,7 +2,7 @@
 ghost use Rattle.std.specs.Prelude.{ℕ, ◌≡◌, ◌<◌, [], ◌∷◌, All, IfOk, List, OnOk, MatchOption, length};
 ghost use Rattle.frames.specs.Certified.{AddsFound};
 ghost use Rattle.frames.specs.Following.{HasComeTo, IsMovedFollowed, MovesFollowed};
-ghost use Rattle.frames.specs.Found.{IsAfterMove, IsPrepared, Saves};
+ghost use Rattle.frames.specs.Found.{IsAfterMove, IsPrepared, IsSavingSet};
 ghost use Rattle.frames.specs.Retiming.{NoneHelpsBy};
 ghost use Rattle.frames.specs.Stages.{Moving, Notifies};
 ghost use Rattle.normalised_circuits.specs.Normalised.{IsNormalised};
@@ -43,7 +43,7 @@ fn finished_move(
     set: &ClosedSet,
     prepared: PreparedMove,
 ) -> Result<Circuit, NoMemory>
-    requires saves { Saves circuit.now keep.now set.now }
+    requires saves { IsSavingSet circuit.now keep.now set.now }
     requires prepared { IsPrepared circuit.now keep.now set.now prepared }
     ensures { IfOk result (IsAfterMove circuit.now keep.now set.now) }
 {
@@ -70,7 +70,7 @@ fn moved_over<F: RunFollower>(
     requires there { HasComeTo F.has_come follower.old circuit.now }
     requires in_range { All (λ j. j < length circuit.now.aig.latches) keep.now }
     requires normalised { IsNormalised keep.now circuit.now }
-    requires saves { Saves circuit.now keep.now set.now }
+    requires saves { IsSavingSet circuit.now keep.now set.now }
     requires prepared { IsPrepared circuit.now keep.now set.now prepared }
     ensures { IfOk result (IsMovedFollowed F.has_come keep.now circuit.now set.now follower.old
         follower.new) }

@@ -1,7 +1,7 @@
 //! Whole runs that nothing follows.
 ghost use Rattle.std.specs.Prelude.{ℕ, ◌≡◌, ◌<◌, All, IfOk, List, OnOk, IsErrOf, length};
 ghost use Rattle.aig_graph.specs.Circuits.{Netlist};
-ghost use Rattle.frames.specs.Beginning.{IsBegun};
+ghost use Rattle.frames.specs.Beginning.{IsRunBegun};
 ghost use Rattle.frames.specs.Bounds.{bound_in};
 ghost use Rattle.frames.specs.Named.{AreLatchesBy, IsFirstMissingBy, IsFirstNoLatchBy, NoneMissingBy, kept_by};
 ghost use Rattle.frames.specs.Retiming.{IsRetimedBy, IsRetimedHeld};
@@ -49,7 +49,7 @@ fn begin_plain(
     circuit: &Circuit,
     options: &Options,
 ) -> Result<Begun<NoFollower>, RetimeError>
-    ensures begun { IfOk result (λ begun. IsBegun ⟦<NoFollower as RunFollower>⟧.has_come options.now
+    ensures begun { IfOk result (λ begun. IsRunBegun ⟦<NoFollower as RunFollower>⟧.has_come options.now
         begun.run.bound circuit.now begun.read begun.run.retimed begun.run.keep
         begun.run.follower) }
     ensures latches { OnOk result (AreLatchesBy options.now circuit.now) }
@@ -73,10 +73,10 @@ fn finish_plain<G: PhaseGate, V: FrameWatcher>(
     crew: &Crew<G>,
     watcher: &mut V,
 ) -> Result<Run<NoFollower>, NoMemory>
-    requires { (c : Netlist) × IsBegun ⟦<NoFollower as RunFollower>⟧.has_come options.now
+    requires { (c : Netlist) × IsRunBegun ⟦<NoFollower as RunFollower>⟧.has_come options.now
         begun.run.bound c begun.read begun.run.retimed begun.run.keep begun.run.follower }
     ensures retimed { IfOk result (λ run. (c : Netlist)
-        → IsBegun ⟦<NoFollower as RunFollower>⟧.has_come options.now
+        → IsRunBegun ⟦<NoFollower as RunFollower>⟧.has_come options.now
         begun.run.bound c begun.read begun.run.retimed begun.run.keep begun.run.follower
         → IsRetimedHeld options.now c run.retimed run.keep) }
     ensures notified { IfOk result (λ run. Notifies V.was_notified watcher.old watcher.new

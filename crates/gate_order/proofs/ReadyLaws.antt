@@ -19,33 +19,33 @@ use Rattle.std.proofs.Math.ListN.{set, replicate}
 use Rattle.gate_order.specs.declared.reads.Reads.{Reads}
 use Rattle.gate_order.specs.declared.reads.Side.{Side}
 use Rattle.gate_order.specs.declared.reads.Side.TheVariants.{First, Second}
-use Rattle.gate_order.specs.Order.{has, is_met, are_met, may_follow, IsNext, order_from}
+use Rattle.gate_order.specs.Order.{has_gate, is_met, are_met, may_follow, IsNextGate, order_from}
 use Rattle.gate_order.specs.Cycles.{is_gate}
-use Rattle.gate_order.specs.Readers.{fan_in, read_by, IsLast}
-use Rattle.gate_order.specs.Ready.{number, times, IsReadyHeap, Gains, mark_of, is_released, IsState}
+use Rattle.gate_order.specs.Readers.{fan_in, read_by, IsLastReader}
+use Rattle.gate_order.specs.Ready.{number, times_in_heap, IsReadyHeap, Gains, mark_of, is_released, IsState}
 use Rattle.gate_order.proofs.FirstLaws.{first_below_none, first_below_is}
 use Rattle.gate_order.proofs.OrderLaws.{Follows, follows_where_true, order_from-more}
 use Rattle.gate_order.proofs.ReaderLaws.{read_by-at, read_by-past}
 
 -- how often, after a push and a pop
-pub times-push : (g : ℕ) (x : Reverse ℕ) (xs ys : List (Reverse ℕ)) → IsPermutation (x ∷ xs) ys → times g ys ≡ times g xs + number (nat_eq g x.0)
-unfolding times
+pub times-push : (g : ℕ) (x : Reverse ℕ) (xs ys : List (Reverse ℕ)) → IsPermutation (x ∷ xs) ys → times_in_heap g ys ≡ times_in_heap g xs + number (nat_eq g x.0)
+unfolding times_in_heap
 times-push g x xs ys moved =
     let sums = sum_by_pushed (λ (y : Reverse ℕ). cond (nat_eq g y.0) 1 0) x xs ys moved in
     omega (arith, sums)
 
 -- a pop makes the heap have the popped number once less, and any other as often
-pub times-pop : (g : ℕ) (x : Reverse ℕ) (xs ys : List (Reverse ℕ)) → IsPermutation xs (x ∷ ys) → times g ys + number (nat_eq g x.0) ≡ times g xs
-unfolding times
+pub times-pop : (g : ℕ) (x : Reverse ℕ) (xs ys : List (Reverse ℕ)) → IsPermutation xs (x ∷ ys) → times_in_heap g ys + number (nat_eq g x.0) ≡ times_in_heap g xs
+unfolding times_in_heap
 times-pop g x xs ys moved = sum_by_popped (λ (y : Reverse ℕ). cond (nat_eq g y.0) 1 0) x xs ys moved
 
 -- an empty heap has no number
-pub times-nil : (g : ℕ) → times g [] ≡ 0
-unfolding times
+pub times-nil : (g : ℕ) → times_in_heap g [] ≡ 0
+unfolding times_in_heap
 times-nil g = refl
 
-times-cons : (g : ℕ) (x : Reverse ℕ) (xs : List (Reverse ℕ)) → times g (x ∷ xs) ≡ number (nat_eq g x.0) + times g xs
-unfolding times
+times-cons : (g : ℕ) (x : Reverse ℕ) (xs : List (Reverse ℕ)) → times_in_heap g (x ∷ xs) ≡ number (nat_eq g x.0) + times_in_heap g xs
+unfolding times_in_heap
 times-cons g x xs = sum_by-cons (λ (y : Reverse ℕ). cond (nat_eq g y.0) 1 0) x xs
 
 -- a test that passes counts 1
@@ -68,7 +68,7 @@ not_below x y e = elim (cases_lt y x) [
 ]
 
 -- no number of the heap is smaller than the one on its top
-pub top_is_first : (x : Reverse ℕ) (xs : List (Reverse ℕ)) → IsUpperBound (λ a b. nat_cmp b.0 a.0) x xs → (g : ℕ) → 0 < times g xs → x.0 ≤ g
+pub top_is_first : (x : Reverse ℕ) (xs : List (Reverse ℕ)) → IsUpperBound (λ a b. nat_cmp b.0 a.0) x xs → (g : ℕ) → 0 < times_in_heap g xs → x.0 ≤ g
 top_is_first x [] bound g some = absurd (omega (arith, times-nil g))
 top_is_first x (y ∷ ys) bound g some = elim (cases_eq g y.0) [
   | inl same ↦ (let above : x.0 ≤ y.0 = not_below x.0 y.0 bound.0 in omega arith)
@@ -81,7 +81,7 @@ Gains-none test xs fails = record { each = λ g. omega (arith, number-false (tes
 
 -- a heap gains the same by a test that agrees everywhere
 pub Gains-same : (test other : ℕ → Bool) (old new : List (Reverse ℕ)) → ((g : ℕ) → other g ≡ test g) → Gains test old new → Gains other old new
-Gains-same test other old new same gains = record { each = λ g. gains.each g ∙ ap (λ (b : Bool). times g old + number b) (sym (same g)) }
+Gains-same test other old new same gains = record { each = λ g. gains.each g ∙ ap (λ (b : Bool). times_in_heap g old + number b) (sym (same g)) }
 
 -- with a number pushed after them a heap gains the numbers that pass, and this one, which didn't
 pub Gains-push : (test other : ℕ → Bool) (old mid new : List (Reverse ℕ)) (x : Reverse ℕ) → ((g : ℕ) → number (other g) ≡ number (test g) + number (nat_eq g x.0))
@@ -186,7 +186,7 @@ before_all n test past g = elim (cases_lt g n) [
 -- a gate that reads none may follow at the start
 pub may_follow-start : (gates : List Reads) (g : ℕ) (reads : Reads) → slice_get gates g ≡ Some reads → may_follow gates [] g ≡ are_met (λ h. false) (Some reads)
 unfolding may_follow
-may_follow-start gates g reads e = ap (λ (o : Option Reads). are_met (has []) o && not (has [] g)) e ∙ and-true (are_met (λ h. false) (Some reads))
+may_follow-start gates g reads e = ap (λ (o : Option Reads). are_met (has_gate []) o && not (has_gate [] g)) e ∙ and-true (are_met (λ h. false) (Some reads))
 
 -- past the file's last gate no gate may follow
 pub may_follow-past : (gates : List Reads) (placed : List ℕ) (g : ℕ) → length gates ≤ g → may_follow gates placed g ≡ false
@@ -213,12 +213,12 @@ released-unread gates side marks p g other =
     (false_from_ne_true (is_gate (read_by side gates g) p) (λ e. other (is_gate-some (read_by side gates g) p e)))
 
 -- between the link to a reader and that reader no gate is released
-pub released-gap : (gates : List Reads) (side : Side) (marks : List Bool) (p r c : ℕ) → IsLast (read_by side gates) p r c
+pub released-gap : (gates : List Reads) (side : Side) (marks : List Bool) (p r c : ℕ) → IsLastReader (read_by side gates) p r c
     → (g : ℕ) → c ≤ g → g < r → is_released gates side marks p g ≡ false
 released-gap gates side marks p r c last g above below = released-unread gates side marks p g (last.none g above below)
 
 -- from the last link on no gate is released
-pub released-none : (gates : List Reads) (side : Side) (marks : List Bool) (p c : ℕ) → IsLast (read_by side gates) p (length gates) c
+pub released-none : (gates : List Reads) (side : Side) (marks : List Bool) (p c : ℕ) → IsLastReader (read_by side gates) p (length gates) c
     → (g : ℕ) → from c (is_released gates side marks p) g ≡ false
 released-none gates side marks p c last g = elim (cases_lt g c) [
   | inl lower ↦ from-below c g (is_released gates side marks p) lower
@@ -240,17 +240,17 @@ pub from-all : (test : ℕ → Bool) (g : ℕ) → test g ≡ from 0 test g
 from-all test g = sym (from-at 0 g test (omega arith))
 
 -- one more gate is placed
-has-push : (placed : List ℕ) (g h : ℕ) → has (placed ++ g ∷ []) h ≡ (has placed h || nat_eq h g)
-has-push placed g h = list_any-append (nat_eq h) placed (g ∷ []) ∙ ap (λ (b : Bool). has placed h || b) (or-false (nat_eq h g))
+has-push : (placed : List ℕ) (g h : ℕ) → has_gate (placed ++ g ∷ []) h ≡ (has_gate placed h || nat_eq h g)
+has-push placed g h = list_any-append (nat_eq h) placed (g ∷ []) ∙ ap (λ (b : Bool). has_gate placed h || b) (or-false (nat_eq h g))
 
-mark_of-push : (marks : List Bool) (placed : List ℕ) (g : ℕ) → g < length marks → ((h : ℕ) → mark_of marks h ≡ has placed h)
-    → (h : ℕ) → mark_of (set marks g true) h ≡ has (placed ++ g ∷ []) h
+mark_of-push : (marks : List Bool) (placed : List ℕ) (g : ℕ) → g < length marks → ((h : ℕ) → mark_of marks h ≡ has_gate placed h)
+    → (h : ℕ) → mark_of (set marks g true) h ≡ has_gate (placed ++ g ∷ []) h
 mark_of-push marks placed g within same h = elim (cases_eq h g) [
   | inl here ↦
       ap (λ (i : ℕ). mark_of (set marks g true) i) here ∙ get_or-set_same marks g true false within
-      ∙ sym (or_right (has placed h) (nat_eq h g) (eq-eqb h g here)) ∙ sym (has-push placed g h)
+      ∙ sym (or_right (has_gate placed h) (nat_eq h g) (eq-eqb h g here)) ∙ sym (has-push placed g h)
   | inr other ↦
-      get_or-set_other marks g h true false other ∙ same h ∙ sym (or_nothing (has placed h) (nat_eq h g) (ne_eqb h g other)) ∙ sym (has-push placed g h)
+      get_or-set_other marks g h true false other ∙ same h ∙ sym (or_nothing (has_gate placed h) (nat_eq h g) (ne_eqb h g other)) ∙ sym (has-push placed g h)
 ]
   where
     or_nothing : (a b : Bool) → b ≡ false → (a || b) ≡ a
@@ -282,23 +282,23 @@ balance false false false false false false hu hv hp he = refl
 funext_of : {A : Type 0} (f g : ℕ → A) → ((h : ℕ) → f h ≡ g h) → f ≡ g
 funext_of f g same = λ i. λ h. same h i
 
-is_met-push : (placed : List ℕ) (g : ℕ) (o : Option ℕ) → is_met (has (placed ++ g ∷ [])) o ≡ (is_met (has placed) o || is_gate o g)
+is_met-push : (placed : List ℕ) (g : ℕ) (o : Option ℕ) → is_met (has_gate (placed ++ g ∷ [])) o ≡ (is_met (has_gate placed) o || is_gate o g)
 is_met-push placed g None = refl
 is_met-push placed g (Some h) = has-push placed g h
 
 -- what is met stays so
-are_met-push : (placed : List ℕ) (g : ℕ) (o : Option Reads) → are_met (has placed) o ≡ true → are_met (has (placed ++ g ∷ [])) o ≡ true
+are_met-push : (placed : List ℕ) (g : ℕ) (o : Option Reads) → are_met (has_gate placed) o ≡ true → are_met (has_gate (placed ++ g ∷ [])) o ≡ true
 are_met-push placed g None e = e
 are_met-push placed g (Some reads) e =
-    let parts = and_parts (is_met (has placed) reads.first) (is_met (has placed) reads.second) e in
-    and_from (is_met (has (placed ++ g ∷ [])) reads.first) (is_met (has (placed ++ g ∷ [])) reads.second)
-    (is_met-push placed g reads.first ∙ or_left (is_met (has placed) reads.first) (is_gate reads.first g) parts.0)
-    (is_met-push placed g reads.second ∙ or_left (is_met (has placed) reads.second) (is_gate reads.second g) parts.1)
+    let parts = and_parts (is_met (has_gate placed) reads.first) (is_met (has_gate placed) reads.second) e in
+    and_from (is_met (has_gate (placed ++ g ∷ [])) reads.first) (is_met (has_gate (placed ++ g ∷ [])) reads.second)
+    (is_met-push placed g reads.first ∙ or_left (is_met (has_gate placed) reads.first) (is_gate reads.first g) parts.0)
+    (is_met-push placed g reads.second ∙ or_left (is_met (has_gate placed) reads.second) (is_gate reads.second g) parts.1)
 
 -- a gate that isn't placed meets no fan-in
-met_other : (placed : List ℕ) (g : ℕ) (o : Option ℕ) → has placed g ≡ false → is_met (has placed) o ≡ true → is_gate o g ≡ false
+met_other : (placed : List ℕ) (g : ℕ) (o : Option ℕ) → has_gate placed g ≡ false → is_met (has_gate placed) o ≡ true → is_gate o g ≡ false
 met_other placed g o fresh met = false_from_ne_true (is_gate o g) (λ e.
-    both_ways (has placed g) fresh (sym (ap (is_met (has placed)) (is_gate-some o g e)) ∙ met))
+    both_ways (has_gate placed g) fresh (sym (ap (is_met (has_gate placed)) (is_gate-some o g e)) ∙ met))
 
 -- the second fan-in, where it is another one
 second-is : (a b : Option ℕ) (g : ℕ) → is_gate (cond (option_eq nat_eq b a) None b) g ≡ (is_gate b g && not (is_gate a g))
@@ -318,41 +318,41 @@ second-is (Some j) (Some i) g = elim (cases_eq i j) [
 ]
 
 may_follow-at : (gates : List Reads) (placed : List ℕ) (h : ℕ) (reads : Reads) → slice_get gates h ≡ Some reads
-    → may_follow gates placed h ≡ ((is_met (has placed) reads.first && is_met (has placed) reads.second) && not (has placed h))
+    → may_follow gates placed h ≡ ((is_met (has_gate placed) reads.first && is_met (has_gate placed) reads.second) && not (has_gate placed h))
 unfolding may_follow
-may_follow-at gates placed h reads there = ap (λ (o : Option Reads). are_met (has placed) o && not (has placed h)) there
+may_follow-at gates placed h reads there = ap (λ (o : Option Reads). are_met (has_gate placed) o && not (has_gate placed h)) there
 
-module _ (gates : List Reads) (placed : List ℕ) (marks : List Bool) (g : ℕ) (same : (h : ℕ) → mark_of marks h ≡ has (placed ++ g ∷ []) h) where
+module _ (gates : List Reads) (placed : List ℕ) (marks : List Bool) (g : ℕ) (same : (h : ℕ) → mark_of marks h ≡ has_gate (placed ++ g ∷ []) h) where
   released-is : (side : Side) (h : ℕ) (reads : Reads) → slice_get gates h ≡ Some reads
-      → is_released gates side marks g h ≡ (is_gate (fan_in side reads) g && (is_met (has (placed ++ g ∷ [])) reads.first && is_met (has (placed ++ g ∷ [])) reads.second))
+      → is_released gates side marks g h ≡ (is_gate (fan_in side reads) g && (is_met (has_gate (placed ++ g ∷ [])) reads.first && is_met (has_gate (placed ++ g ∷ [])) reads.second))
   unfolding is_released
   released-is side h reads there =
       ap (λ (o : Option ℕ). is_gate o g && are_met (mark_of marks) (slice_get gates h)) (read_by-at side gates h reads there)
       ∙ ap (λ (o : Option Reads). is_gate (fan_in side reads) g && are_met (mark_of marks) o) there
-      ∙ ap (λ (f : ℕ → Bool). is_gate (fan_in side reads) g && are_met f (Some reads)) (funext_of (mark_of marks) (has (placed ++ g ∷ [])) same)
+      ∙ ap (λ (f : ℕ → Bool). is_gate (fan_in side reads) g && are_met f (Some reads)) (funext_of (mark_of marks) (has_gate (placed ++ g ∷ [])) same)
 
-  balance-in : (fresh : has placed g ≡ false) (closed : (h : ℕ) → has placed h ≡ true → are_met (has placed) (slice_get gates h) ≡ true) (follows : may_follow gates placed g ≡ true)
+  balance-in : (fresh : has_gate placed g ≡ false) (closed : (h : ℕ) → has_gate placed h ≡ true → are_met (has_gate placed) (slice_get gates h) ≡ true) (follows : may_follow gates placed g ≡ true)
       → (h : ℕ) (reads : Reads) → slice_get gates h ≡ Some reads
       → number (may_follow gates (placed ++ g ∷ []) h) + number (nat_eq h g)
       ≡ number (may_follow gates placed h) + number (is_released gates First marks g h) + number (is_released gates Second marks g h)
   balance-in fresh closed follows h reads there =
-      let a : Bool = is_met (has placed) reads.first in
-      let b : Bool = is_met (has placed) reads.second in
+      let a : Bool = is_met (has_gate placed) reads.first in
+      let b : Bool = is_met (has_gate placed) reads.second in
       let u : Bool = is_gate reads.first g in
       let v : Bool = is_gate reads.second g in
-      let p : Bool = has placed h in
+      let p : Bool = has_gate placed h in
       let e : Bool = nat_eq h g in
-      let met : (is_met (has (placed ++ g ∷ [])) reads.first && is_met (has (placed ++ g ∷ [])) reads.second) ≡ ((a || u) && (b || v)) =
-      ap (λ (x : Bool). x && is_met (has (placed ++ g ∷ [])) reads.second) (is_met-push placed g reads.first) ∙ ap (λ (x : Bool). (a || u) && x) (is_met-push placed g reads.second) in
+      let met : (is_met (has_gate (placed ++ g ∷ [])) reads.first && is_met (has_gate (placed ++ g ∷ [])) reads.second) ≡ ((a || u) && (b || v)) =
+      ap (λ (x : Bool). x && is_met (has_gate (placed ++ g ∷ [])) reads.second) (is_met-push placed g reads.first) ∙ ap (λ (x : Bool). (a || u) && x) (is_met-push placed g reads.second) in
       let later : may_follow gates (placed ++ g ∷ []) h ≡ (((a || u) && (b || v)) && not (p || e)) =
-      may_follow-at gates (placed ++ g ∷ []) h reads there ∙ ap (λ (x : Bool). x && not (has (placed ++ g ∷ []) h)) met ∙ ap (λ (x : Bool). ((a || u) && (b || v)) && not x) (has-push placed g h) in
+      may_follow-at gates (placed ++ g ∷ []) h reads there ∙ ap (λ (x : Bool). x && not (has_gate (placed ++ g ∷ []) h)) met ∙ ap (λ (x : Bool). ((a || u) && (b || v)) && not x) (has-push placed g h) in
       let now : may_follow gates placed h ≡ ((a && b) && not p) = may_follow-at gates placed h reads there in
       let one : is_released gates First marks g h ≡ (u && ((a || u) && (b || v))) = released-is First h reads there ∙ ap (λ (x : Bool). u && x) met in
       let two : is_released gates Second marks g h ≡ ((v && not u) && ((a || u) && (b || v))) =
       released-is Second h reads there ∙ ap (λ (x : Bool). is_gate (fan_in Second reads) g && x) met ∙ ap (λ (x : Bool). x && ((a || u) && (b || v))) (second-is reads.first reads.second g) in
       let equal : number (((a || u) && (b || v)) && not (p || e)) + number e ≡ number ((a && b) && not p) + number (u && ((a || u) && (b || v))) + number ((v && not u) && ((a || u) && (b || v))) =
       balance a b u v p e (met_other placed g reads.first fresh) (met_other placed g reads.second fresh)
-      (λ placed_h. sym (ap (are_met (has placed)) there) ∙ closed h placed_h)
+      (λ placed_h. sym (ap (are_met (has_gate placed)) there) ∙ closed h placed_h)
       (λ here. sym now ∙ ap (may_follow gates placed) (eqb-true h g here) ∙ follows) in
       ap (λ (x : Bool). number x + number e) later ∙ equal ∙ sym (
       ap (λ (x : Bool). number x + number (is_released gates First marks g h) + number (is_released gates Second marks g h)) now
@@ -391,7 +391,7 @@ popped_follows gates placed marks ready rest x state moved =
 
 -- what comes off the heap's top is the next gate of the order
 pub popped_next : (gates : List Reads) (placed : List ℕ) (marks : List Bool) (ready rest : List (Reverse ℕ)) (x : Reverse ℕ) → IsState gates placed marks ready
-    → IsPermutation ready (x ∷ rest) → IsUpperBound (λ a b. nat_cmp b.0 a.0) x ready → IsNext gates placed x.0
+    → IsPermutation ready (x ∷ rest) → IsUpperBound (λ a b. nat_cmp b.0 a.0) x ready → IsNextGate gates placed x.0
 popped_next gates placed marks ready rest x state moved bound = record {
   follows = popped_follows gates placed marks ready rest x state moved;
   first = λ h may. top_is_first x ready bound h (omega (arith, state.each h, number-true (may_follow gates placed h) may));
@@ -409,11 +409,11 @@ state_then gates placed marks ready rest mid new x state moved first second heap
     record {
       as_many = length-set marks g true ∙ state.as_many;
       marked = same;
-      closed = λ h e. elim (or_cases (has placed h) (nat_eq h g) (sym (has-push placed g h) ∙ e)) [
+      closed = λ h e. elim (or_cases (has_gate placed h) (nat_eq h g) (sym (has-push placed g h) ∙ e)) [
         | inl before ↦ are_met-push placed g (slice_get gates h) (state.closed h before)
         | inr here ↦ are_met-push placed g (slice_get gates h) (
-            ap (λ (i : ℕ). are_met (has placed) (slice_get gates i)) (eqb-true h g here)
-            ∙ ap (are_met (has placed)) f.there ∙ and_from (is_met (has placed) f.reads.first) (is_met (has placed) f.reads.second) f.first f.second)
+            ap (λ (i : ℕ). are_met (has_gate placed) (slice_get gates i)) (eqb-true h g here)
+            ∙ ap (are_met (has_gate placed)) f.there ∙ and_from (is_met (has_gate placed) f.reads.first) (is_met (has_gate placed) f.reads.second) f.first f.second)
       ];
       heap = heap;
       each = λ h.
@@ -429,7 +429,7 @@ state_then gates placed marks ready rest mid new x state moved first second heap
     }
 
 -- going on with the next gate, and where there is none
-pub rest_then : (gates : List Reads) (placed : List ℕ) (more g : ℕ) → IsNext gates placed g → order_from gates placed (suc more) ≡ order_from gates (placed ++ g ∷ []) more
+pub rest_then : (gates : List Reads) (placed : List ℕ) (more g : ℕ) → IsNextGate gates placed g → order_from gates placed (suc more) ≡ order_from gates (placed ++ g ∷ []) more
 rest_then gates placed more g next =
     let f = follows_where_true gates placed g next.follows in
     order_from-more gates placed more (Some g) (first_below_is (may_follow gates placed) (length gates) g (record { below = f.below; passes = next.follows; least = next.first }))

@@ -5,8 +5,8 @@ use Rattle.std.specs.Option.{option_or, option_and_then}
 use Rattle.gate_order.specs.declared.reads.Reads.{Reads}
 
 -- whether the gate at file place g is one of these
-abbrev pub has : List ℕ → ℕ → Bool
-has placed g = list_any (nat_eq g) placed
+abbrev pub has_gate : List ℕ → ℕ → Bool
+has_gate placed g = list_any (nat_eq g) placed
 
 -- whether a fan-in is no gate, or one that passes
 abbrev pub is_met : (ℕ → Bool) → Option ℕ → Bool
@@ -20,17 +20,17 @@ are_met passes (Some reads) = is_met passes reads.first && is_met passes reads.s
 
 -- whether the gate at file place g isn't placed, and the gates that it reads all are
 unfoldable pub may_follow : List Reads → List ℕ → ℕ → Bool
-may_follow gates placed g = are_met (has placed) (slice_get gates g) && not (has placed g)
+may_follow gates placed g = are_met (has_gate placed) (slice_get gates g) && not (has_gate placed g)
 
 -- the first in the file of the gates that may follow
-pub record IsNext (gates : List Reads) (placed : List ℕ) (g : ℕ) : Type 0 where
+pub record IsNextGate (gates : List Reads) (placed : List ℕ) (g : ℕ) : Type 0 where
   pub follows : may_follow gates placed g ≡ true
   pub first : (h : ℕ) → may_follow gates placed h ≡ true → g ≤ h
 
 -- as many gates as in the file, of which each is the next one after those at the places below
 pub record IsOrder (gates : List Reads) (order : List ℕ) : Type 0 where
   pub as_many : length order ≡ length gates
-  pub each : (k g : ℕ) → slice_get order k ≡ Some g → IsNext gates (take k order) g
+  pub each : (k g : ℕ) → slice_get order k ≡ Some g → IsNextGate gates (take k order) g
 
 -- the first number below n that passes
 unfoldable pub first_below : (ℕ → Bool) → ℕ → Option ℕ

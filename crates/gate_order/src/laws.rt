@@ -1,13 +1,13 @@
 ghost use Rattle.std.specs.Prelude.{ℕ, List};
 ghost use Rattle.gate_order.specs.declared.reads.Reads.{Reads};
-ghost use Rattle.gate_order.specs.Laws.{OrderedLaw, AtMostOne, EachOnce, ReadsBefore, CycleLaw, ExistsLaw, KeepsOrder};
+ghost use Rattle.gate_order.specs.Laws.{OrderedLaw, HasAtMostOneOrder, HasEachGateOnce, ReadsBefore, CycleLaw, ExistsLaw, KeepsOrder};
 
 /// What is computed is the order, there is at most one, each gate of the file stands at one place of it, and
 /// after the gates that it reads.
 pub fn order_laws()
     ensures computed { (gates : List Reads) (order : List ℕ) → OrderedLaw gates order }
-    ensures one { (gates : List Reads) (first second : List ℕ) → AtMostOne gates first second }
-    ensures each { (gates : List Reads) (order : List ℕ) → EachOnce gates order }
+    ensures one { (gates : List Reads) (first second : List ℕ) → HasAtMostOneOrder gates first second }
+    ensures each { (gates : List Reads) (order : List ℕ) → HasEachGateOnce gates order }
     ensures before { (gates : List Reads) (order : List ℕ) → ReadsBefore gates order }
 {}
 

@@ -6,7 +6,7 @@ ghost use Rattle.std.specs.List.{range_with_len};
 ghost use Rattle.std.specs.Option.{option_map};
 ghost use Rattle.gate_order.specs.Cycles.{HasCycle};
 ghost use Rattle.gate_order.specs.Order.{AreReadsInFile, IsInOrder, IsOrder, may_follow, ordered};
-ghost use Rattle.gate_order.specs.Readers.{AreReaders, read_by};
+ghost use Rattle.gate_order.specs.Readers.{AreReaderTables, read_by};
 ghost use Rattle.gate_order.specs.Ready.{Gains, IsReadyHeap, is_released};
 
 use crate::readers::Readers;
@@ -65,7 +65,7 @@ fn release(
     ready: &mut BinaryHeap<Reverse<u32>>,
 ) -> Result<(), NoMemory>
     requires in_file { AreReadsInFile gates.now }
-    requires tables { AreReaders (read_by side gates.now) (length gates.now)
+    requires tables { AreReaderTables (read_by side gates.now) (length gates.now)
         (length gates.now) readers.now.last.items readers.now.before.items }
     requires marks { length marks.now ≡ length gates.now }
     requires place { place < length gates.now }

@@ -3,7 +3,7 @@
 //! fan-ins.
 ghost use Rattle.std.specs.Prelude.{◌≡◌, ◌<◌, ◌≤◌, ◌^◌, length, IfOk};
 ghost use Rattle.gate_order.specs.Order.{AreReadsInFile};
-ghost use Rattle.gate_order.specs.Readers.{AreReaders, read_by};
+ghost use Rattle.gate_order.specs.Readers.{AreReaderTables, read_by};
 
 use crate::reads::{Reads, Side};
 use aig_graph::NoMemory;
@@ -32,8 +32,8 @@ impl Drop for Readers {
 fn link(gates: &[Reads], side: Side, last: &mut [u32], before: &mut [u32])
     requires few { length gates.now < 2 ^ 32 }
     requires in_file { AreReadsInFile gates.now }
-    requires none { AreReaders (read_by side gates.now) (length gates.now) 0 last.old before.old }
-    ensures { AreReaders (read_by side gates.now) (length gates.now)
+    requires none { AreReaderTables (read_by side gates.now) (length gates.now) 0 last.old before.old }
+    ensures { AreReaderTables (read_by side gates.now) (length gates.now)
         (length gates.now) last.new before.new }
 {
     for (place, reads) in gates.iter().enumerate() {
@@ -49,7 +49,7 @@ impl Readers {
     pub(crate) fn new(alloc: Global, gates: &[Reads], side: Side) -> Result<Readers, NoMemory>
         requires few { length gates.now < 2 ^ 32 }
         requires in_file { AreReadsInFile gates.now }
-        ensures { IfOk result (λ readers. AreReaders (read_by side gates.now) (length gates.now)
+        ensures { IfOk result (λ readers. AreReaderTables (read_by side gates.now) (length gates.now)
             (length gates.now) readers.last.items readers.before.items) }
     {
         let mut last = vec![in alloc; 0u32; gates.len()]?;

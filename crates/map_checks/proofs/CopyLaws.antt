@@ -6,8 +6,8 @@ use Rattle.aig_graph.specs.declared.graph.Gate.{Gate}
 use Rattle.aig_graph.specs.Graph.{Graph, IsGraph, IsGateAt, first_gate, variable}
 use Rattle.aig_graph.specs.Value.{signed, signed_as}
 use Rattle.aig_graph.proofs.SignLaws.{value_signed, value_signed_as, variable-signed_as}
-use Rattle.map_checks.specs.Shared.{Grows, IsBoth, IsNegated, IsShared, Respects, Shared, gates_of}
-use Rattle.map_checks.specs.Copies.{AreShared, Copy, Follows, copied_end, copy_of, with_literal}
+use Rattle.map_checks.specs.Shared.{Grows, IsBoth, IsNegated, IsSharedLiteral, Respects, Shared, gates_of}
+use Rattle.map_checks.specs.Copies.{AreShared, Copy, CopiesValues, copied_end, copy_of, with_literal}
 use Rattle.map_checks.proofs.SharedLaws.{shared-more}
 
 -- a literal before the first variable is its own
@@ -43,20 +43,20 @@ module _ (c : Copy) (new : ℕ) where
   end-more = omega (arith, length_push c.literals new)
 
   -- a copy's literals and a new one that is shared are shared after the gates have grown
-  pub shared-push : (k l : Shared) → Grows k l → AreShared k c → IsShared l new → AreShared l (with_literal c new)
+  pub shared-push : (k l : Shared) → Grows k l → AreShared k c → IsSharedLiteral l new → AreShared l (with_literal c new)
   shared-push k l grows within here lit less = elim (cases_lt (variable lit) (copied_end c)) [
-    | inl before ↦ (let P : ℕ → Type 0 = λ n. IsShared l n in subst P (sym (copy-before lit before)) (shared-more k l grows (copy_of c lit) (within lit before)))
+    | inl before ↦ (let P : ℕ → Type 0 = λ n. IsSharedLiteral l n in subst P (sym (copy-before lit before)) (shared-more k l grows (copy_of c lit) (within lit before)))
     | inr rest ↦ (
         let last : variable lit ≡ copied_end c = omega (arith, less, rest, end-more) in
-        let P : ℕ → Type 0 = λ n. IsShared l n in
+        let P : ℕ → Type 0 = λ n. IsSharedLiteral l n in
         let same : variable (signed_as lit new) ≡ variable new = variable-signed_as lit new in
-        let inside : IsShared l (signed_as lit new) = omega (arith, same, here) in
+        let inside : IsSharedLiteral l (signed_as lit new) = omega (arith, same, here) in
         subst P (sym (copy-last lit last)) inside)
   ]
 
   -- a copy follows one variable more where the new literal has the value of that variable
-  pub follows-push : (values own : ℕ → Bool) → IsNegated values → IsNegated own → Follows c (copied_end c) values own → values new ≡ own (2 * copied_end c)
-      → Follows (with_literal c new) (copied_end c + 1) values own
+  pub follows-push : (values own : ℕ → Bool) → IsNegated values → IsNegated own → CopiesValues c (copied_end c) values own → values new ≡ own (2 * copied_end c)
+      → CopiesValues (with_literal c new) (copied_end c + 1) values own
   follows-push values own negated own_negated follows here lit less = elim (cases_lt (variable lit) (copied_end c)) [
     | inl before ↦ ap values (copy-before lit before) ∙ follows lit before
     | inr rest ↦ (
@@ -77,8 +77,8 @@ module _ (g : Graph) (k l : Shared) (grows : Grows k l) (gate : Gate) (i : ℕ) 
 
   -- with a literal of the value of its fan-ins' conjunction the next gate is followed too
   pub gate-copied : (a b lit new : ℕ) (values own : ℕ → Bool) → Respects l values → Respects (gates_of g) own → IsBoth l a b lit
-      → values a ≡ values (copy_of c gate.rhs0) → values b ≡ values (copy_of c gate.rhs1) → values new ≡ values lit → Follows c (copied_end c) values own
-      → Follows (with_literal c new) (copied_end c + 1) values own
+      → values a ≡ values (copy_of c gate.rhs0) → values b ≡ values (copy_of c gate.rhs1) → values new ≡ values lit → CopiesValues c (copied_end c) values own
+      → CopiesValues (with_literal c new) (copied_end c + 1) values own
   gate-copied a b lit new values own respects of_own both first second last follows =
       let here : values new ≡ own (2 * copied_end c) =
       last ∙ both.is values respects

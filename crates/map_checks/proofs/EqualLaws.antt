@@ -7,19 +7,19 @@ use Rattle.aig_graph.specs.Value.{signed, signed_as}
 use Rattle.aig_graph.proofs.SignLaws.{value_signed, value_signed_as}
 use Rattle.variable_tables.proofs.PlacesLaws.{slice_get_push}
 use Rattle.map_checks.specs.Shared.{IsNegated}
-use Rattle.map_checks.specs.Equal.{Equal, IsRight, substitute_or_own, standing}
+use Rattle.map_checks.specs.Equal.{Equal, IsRight, signed_substitute_or_own, standing_for}
 
 -- what stands for a literal has the literal's value, where what stands for each variable has that variable's
-pub standing-value : (e : Equal) (values : ℕ → Bool) → IsNegated values → IsRight e values → (lit : ℕ) → values (standing e lit) ≡ values lit
-unfolding standing
+pub standing-value : (e : Equal) (values : ℕ → Bool) → IsNegated values → IsRight e values → (lit : ℕ) → values (standing_for e lit) ≡ values lit
+unfolding standing_for
 standing-value e values negated right lit = elim (cases_lt (variable lit) e.first) [
-  | inl less ↦ ap values (cond-true (nat_lt (variable lit) e.first) lit (substitute_or_own lit (slice_get e.substitutes (variable lit - e.first))) (lt-ltb (variable lit) e.first less))
+  | inl less ↦ ap values (cond-true (nat_lt (variable lit) e.first) lit (signed_substitute_or_own lit (slice_get e.substitutes (variable lit - e.first))) (lt-ltb (variable lit) e.first less))
   | inr more ↦
-      ap values (cond-false (nat_lt (variable lit) e.first) lit (substitute_or_own lit (slice_get e.substitutes (variable lit - e.first))) (le-ltb (variable lit) e.first more))
+      ap values (cond-false (nat_lt (variable lit) e.first) lit (signed_substitute_or_own lit (slice_get e.substitutes (variable lit - e.first))) (le-ltb (variable lit) e.first more))
       ∙ go more (slice_get e.substitutes (variable lit - e.first)) refl
 ]
   where
-    go : e.first ≤ variable lit → (o : Option ℕ) → slice_get e.substitutes (variable lit - e.first) ≡ o → values (substitute_or_own lit o) ≡ values lit
+    go : e.first ≤ variable lit → (o : Option ℕ) → slice_get e.substitutes (variable lit - e.first) ≡ o → values (signed_substitute_or_own lit o) ≡ values lit
     go more None found = refl
     go more (Some substitute) found =
         let place : 2 * (e.first + (variable lit - e.first)) ≡ 2 * variable lit = omega (arith, more) in

@@ -14,10 +14,10 @@ use Rattle.state_maps.specs.MapCircuits.{mapped}
 use Rattle.state_maps.proofs.WithinLaws.{within_laws}
 use Rattle.std.proofs.lemmas.List.Elements.{All-map}
 use Rattle.variable_tables.proofs.ListLaws.{map-map, map-same}
-use Rattle.map_checks.specs.Shared.{Grows, IsNegated, IsShared, Respects, Shared, end_of, gates_of}
+use Rattle.map_checks.specs.Shared.{Grows, IsNegated, IsSharedLiteral, Respects, Shared, shared_end, gates_of}
 use Rattle.map_checks.specs.Equal.{Equal, IsRight, StaysRight}
-use Rattle.map_checks.specs.Copies.{AreShared, Copy, Follows, IsCopy, copied_end, copy_of}
-use Rattle.map_checks.specs.Images.{AreLatches, Assumes, IsView, Learns, Views, in_first, in_map, in_map_later, in_second, nexts_of, picked}
+use Rattle.map_checks.specs.Copies.{AreShared, Copy, CopiesValues, IsCopy, copied_end, copy_of}
+use Rattle.map_checks.specs.Images.{StandForLatches, Assumes, IsFaithfulCopy, Learns, Views, in_first, in_map, in_map_later, in_second_mapped, nexts_of, copy_of_literals}
 use Rattle.map_checks.proofs.SharedLaws.{respects-fewer, shared-more}
 use Rattle.map_checks.proofs.CopyLaws.{copy-from, copy-low}
 
@@ -36,7 +36,7 @@ latch-value g valid x s j less = let there = element g.latches j less in (within
 
 -- leaves have their values where the literals of each do
 pub leaves-follow : (leaves : Copy) (n : ℕ) (values own : ℕ → Bool) → IsNegated values → IsNegated own → copied_end leaves ≡ n → ((v : ℕ) → v < leaves.first → values (2 * v) ≡ own (2 * v))
-    → ((j : ℕ) → j < length leaves.literals → values (get_or leaves.literals j 0) ≡ own (2 * (leaves.first + j))) → Follows leaves n values own
+    → ((j : ℕ) → j < length leaves.literals → values (get_or leaves.literals j 0) ≡ own (2 * (leaves.first + j))) → CopiesValues leaves n values own
 leaves-follow leaves n values own negated own_negated end low each lit less = elim (cases_lt (variable lit) leaves.first) [
   | inl before ↦ ap values (copy-low leaves lit before) ∙ value_signed values negated lit ∙ ap (signed lit) (low (variable lit) before) ∙ sym (value_signed own own_negated lit)
   | inr from ↦ (
@@ -48,18 +48,18 @@ leaves-follow leaves n values own negated own_negated end low each lit less = el
 ]
 
 -- literals of leaves are shared where each listed one is, and all variables before the first are
-pub leaves-shared : (k : Shared) (leaves : Copy) → leaves.first ≤ end_of k → ((j : ℕ) → j < length leaves.literals → IsShared k (get_or leaves.literals j 0)) → AreShared k leaves
+pub leaves-shared : (k : Shared) (leaves : Copy) → leaves.first ≤ shared_end k → ((j : ℕ) → j < length leaves.literals → IsSharedLiteral k (get_or leaves.literals j 0)) → AreShared k leaves
 leaves-shared k leaves few each lit less = elim (cases_lt (variable lit) leaves.first) [
-  | inl before ↦ (let P : ℕ → Type 0 = λ n. IsShared k n in subst P (sym (copy-low leaves lit before)) (omega (arith, before, few)))
+  | inl before ↦ (let P : ℕ → Type 0 = λ n. IsSharedLiteral k n in subst P (sym (copy-low leaves lit before)) (omega (arith, before, few)))
   | inr from ↦ (
-      let here : IsShared k (get_or leaves.literals (variable lit - leaves.first) 0) = each (variable lit - leaves.first) (omega (arith, less, from)) in
-      let P : ℕ → Type 0 = λ n. IsShared k n in
-      let inside : IsShared k (signed_as lit (get_or leaves.literals (variable lit - leaves.first) 0)) = omega (arith, here) in
+      let here : IsSharedLiteral k (get_or leaves.literals (variable lit - leaves.first) 0) = each (variable lit - leaves.first) (omega (arith, less, from)) in
+      let P : ℕ → Type 0 = λ n. IsSharedLiteral k n in
+      let inside : IsSharedLiteral k (signed_as lit (get_or leaves.literals (variable lit - leaves.first) 0)) = omega (arith, here) in
       subst P (sym (copy-from leaves lit from)) inside)
 ]
 
 -- what stands for each latch is shared
-pub latches-shared : (k : Shared) (e : Equal) (c : Graph) (first : ℕ) (leaves : Copy) → k.first ≡ first_gate c → first ≤ first_latch c → AreLatches e c first leaves → AreShared k leaves
+pub latches-shared : (k : Shared) (e : Equal) (c : Graph) (first : ℕ) (leaves : Copy) → k.first ≡ first_gate c → first ≤ first_latch c → StandForLatches e c first leaves → AreShared k leaves
 latches-shared k e c first leaves after few are =
     leaves-shared k leaves (omega (arith, are.from, few, after)) (λ j less. omega (arith, are.below j (omega (arith, less, are.long)), are.long, less, after))
 
@@ -73,7 +73,7 @@ views-fewer k l e f c x s values grows stays views = record {
 }
 
 -- a view stays one as gates and equalities come
-pub view-later : (k l : Shared) (e f : Equal) (c g : Graph) (own : Digits → State → ℕ → Bool) (copy : Copy) → Grows k l → StaysRight e f → IsView k f c g own copy → AreShared l copy → IsView l e c g own copy
+pub view-later : (k l : Shared) (e f : Equal) (c g : Graph) (own : Digits → State → ℕ → Bool) (copy : Copy) → Grows k l → StaysRight e f → IsFaithfulCopy k f c g own copy → AreShared l copy → IsFaithfulCopy l e c g own copy
 view-later k l e f c g own copy grows stays view within = record {
   long = view.long;
   within = within;
@@ -87,7 +87,7 @@ module _ (k : Shared) (e f : Equal) (c g : Graph) (own : Digits → State → �
   pub view-of : IsCopy k f g leaves copy
       → ((values : ℕ → Bool) (x : Digits) (s : State) → Views k e c x s values → (v : ℕ) → v < leaves.first → values (2 * v) ≡ own x s (2 * v))
       → ((values : ℕ → Bool) (x : Digits) (s : State) → Views k e c x s values → (j : ℕ) → j < length leaves.literals → values (get_or leaves.literals j 0) ≡ own x s (2 * (leaves.first + j)))
-      → IsView k e c g own copy
+      → IsFaithfulCopy k e c g own copy
   view-of is low each = record {
     long = is.long;
     within = is.within;
@@ -111,8 +111,8 @@ constant-same k e c m valid x y s t values views zero less = views.respects.cons
 constant-same k e c m valid x y s t values views (suc i) less = absurd (omega arith)
 
 -- the gates of c
-pub view-first : (k : Shared) (e f : Equal) (c : Netlist) (leaves copy : Copy) → IsGraph c.aig → AreLatches e c.aig (first_latch c.aig) leaves → StaysRight e f → IsCopy k f c.aig leaves copy
-    → IsView k e c.aig c.aig (in_first c) copy
+pub view-first : (k : Shared) (e f : Equal) (c : Netlist) (leaves copy : Copy) → IsGraph c.aig → StandForLatches e c.aig (first_latch c.aig) leaves → StaysRight e f → IsCopy k f c.aig leaves copy
+    → IsFaithfulCopy k e c.aig c.aig (in_first c) copy
 view-first k e f c leaves copy valid are stays is =
     let g : Graph = c.aig in
     view-of k e f g g (in_first c) leaves copy (graph-respects g valid) stays (omega (arith, are.from, are.long)) is
@@ -124,8 +124,8 @@ view-first k e f c leaves copy valid are stays is =
     ∙ sym (ap (value_within g x s) place ∙ latch-value g valid x s j (omega (arith, less, are.long))))
 
 -- the map over the latches of c
-pub view-map : (k : Shared) (e f : Equal) (c : Graph) (m : Netlist) (leaves copy : Copy) → IsGraph m.aig → m.aig.inputs ≡ length c.latches → m.aig.latches ≡ [] → AreLatches e c 1 leaves → StaysRight e f
-    → IsCopy k f m.aig leaves copy → IsView k e c m.aig (in_map m) copy
+pub view-map : (k : Shared) (e f : Equal) (c : Graph) (m : Netlist) (leaves copy : Copy) → IsGraph m.aig → m.aig.inputs ≡ length c.latches → m.aig.latches ≡ [] → StandForLatches e c 1 leaves → StaysRight e f
+    → IsCopy k f m.aig leaves copy → IsFaithfulCopy k e c m.aig (in_map m) copy
 view-map k e f c m leaves copy valid wide combinational are stays is =
     let g : Graph = m.aig in
     let empty : length g.latches ≡ 0 = ap (λ (xs : List Latch). length xs) combinational in
@@ -145,14 +145,14 @@ next-at (latch ∷ latches) own (suc j) less = next-at latches own j (omega arit
 
 -- the map a step later
 pub view-later_map : (k l : Shared) (e f : Equal) (c m : Netlist) (before copy : Copy) → IsGraph m.aig → IsGraph c.aig → m.aig.inputs ≡ length c.aig.latches → m.aig.latches ≡ [] → Grows k l
-    → IsView k e c.aig c.aig (in_first c) before → StaysRight e f → IsCopy l f m.aig (picked 1 before (nexts_of c.aig.latches)) copy → IsView l e c.aig m.aig (in_map_later c m) copy
+    → IsFaithfulCopy k e c.aig c.aig (in_first c) before → StaysRight e f → IsCopy l f m.aig (copy_of_literals 1 before (nexts_of c.aig.latches)) copy → IsFaithfulCopy l e c.aig m.aig (in_map_later c m) copy
 view-later_map k l e f c m before copy valid own_valid wide combinational grows view stays is =
     let g : Graph = m.aig in
     let nexts : List ℕ = nexts_of c.aig.latches in
     let empty : length g.latches ≡ 0 = ap (λ (xs : List Latch). length xs) combinational in
     let many : length nexts ≡ length c.aig.latches = length-map c.aig.latches (λ latch. latch.next) in
     let all : length (map (copy_of before) nexts) ≡ length nexts = length-map nexts (copy_of before) in
-    view-of l e f c.aig g (in_map_later c m) (picked 1 before nexts) copy (λ x s. graph-respects g valid (after_step c.aig x s) (λ j. false)) stays (omega (arith, many, all, wide, empty)) is
+    view-of l e f c.aig g (in_map_later c m) (copy_of_literals 1 before nexts) copy (λ x s. graph-respects g valid (after_step c.aig x s) (λ j. false)) stays (omega (arith, many, all, wide, empty)) is
     (λ values x s views v less. constant-same l e c.aig g valid x (after_step c.aig x s) s (λ j. false) values views v less)
     (λ values x s views j less.
     let within : j < length nexts = omega (arith, less, all) in
@@ -175,12 +175,12 @@ view-later_map k l e f c m before copy valid own_valid wide combinational grows 
 
 -- the gates of d over the outputs of the map
 pub view-second : (k l : Shared) (e f : Equal) (c : Graph) (d m : Netlist) (before copy : Copy) → IsGraph d.aig → IsNetlist m → d.aig.inputs ≡ c.inputs → length m.props.outputs ≡ length d.aig.latches → Grows k l
-    → IsView k e c m.aig (in_map m) before → StaysRight e f → IsCopy l f d.aig (picked (first_latch d.aig) before m.props.outputs) copy → IsView l e c d.aig (in_second d m) copy
+    → IsFaithfulCopy k e c m.aig (in_map m) before → StaysRight e f → IsCopy l f d.aig (copy_of_literals (first_latch d.aig) before m.props.outputs) copy → IsFaithfulCopy l e c d.aig (in_second_mapped d m) copy
 view-second k l e f c d m before copy valid netlist same many grows view stays is =
     let g : Graph = d.aig in
     let lits : List ℕ = m.props.outputs in
     let all : length (map (copy_of before) lits) ≡ length lits = length-map lits (copy_of before) in
-    view-of l e f c g (in_second d m) (picked (first_latch g) before lits) copy (λ x s. graph-respects g valid x (mapped m s)) stays (omega (arith, all, many)) is
+    view-of l e f c g (in_second_mapped d m) (copy_of_literals (first_latch g) before lits) copy (λ x s. graph-respects g valid x (mapped m s)) stays (omega (arith, all, many)) is
     (λ values x s views v less. inputs-same l e c g valid same x s (mapped m s) values views v less)
     (λ values x s views j less.
     let within : j < length lits = omega (arith, less, all) in
@@ -190,7 +190,7 @@ view-second k l e f c d m before copy valid netlist same many grows view stays i
     ∙ sym (latch-value g valid x (mapped m s) j (omega (arith, within, many))))
 
 -- copied lists have their values
-module _ (copy : Copy) (n : ℕ) (values own : ℕ → Bool) (follows : Follows copy n values own) where
+module _ (copy : Copy) (n : ℕ) (values own : ℕ → Bool) (follows : CopiesValues copy n values own) where
   -- the literals that stand in a copy for those of a list have the values of the list
   pub copied-list : (lits : List ℕ) → All (λ lit. variable lit < n) lits → map values (map (copy_of copy) lits) ≡ map own lits
   copied-list lits all = map-map values (copy_of copy) lits ∙ map-same (λ lit. variable lit < n) (λ lit. values (copy_of copy lit)) own follows lits all
@@ -230,12 +230,12 @@ nexts-within g valid = go g.latches (λ j latch e. valid.latches j latch e)
     go (latch ∷ latches) each (suc j) d less = go latches (λ i other e. each (suc i) other e) j d (omega arith)
 
 -- the literals of a list that a copy has are shared
-pub picked-shared : (k : Shared) (first : ℕ) (c : Copy) (lits : List ℕ) → first ≤ end_of k → AreShared k c → All (λ lit. variable lit < copied_end c) lits → AreShared k (picked first c lits)
+pub picked-shared : (k : Shared) (first : ℕ) (c : Copy) (lits : List ℕ) → first ≤ shared_end k → AreShared k c → All (λ lit. variable lit < copied_end c) lits → AreShared k (copy_of_literals first c lits)
 picked-shared k first c lits few within all =
-    leaves-shared k (picked first c lits) few (λ j less.
+    leaves-shared k (copy_of_literals first c lits) few (λ j less.
     let inside : j < length lits = omega (arith, less, length-map lits (copy_of c)) in
     let read : get_or (map (copy_of c) lits) j 0 ≡ copy_of c (get_or lits j 0) = get_or-map (copy_of c) lits j 0 0 inside in
-    subst (λ (n : ℕ). IsShared k n) (sym read) (within (get_or lits j 0) (all j 0 inside)))
+    subst (λ (n : ℕ). IsSharedLiteral k n) (sym read) (within (get_or lits j 0) (all j 0 inside)))
 
 -- literals whose values are 1
 pub ones-of : (own : ℕ → Bool) (lits : List ℕ) → All (λ b. b ≡ true) (map own lits) → All (λ lit. own lit ≡ true) lits
@@ -248,7 +248,7 @@ learns-then k l c m e f h grows one two values x s views kept =
     two values x s (record { respects = views.respects; right = right; inputs = views.inputs; latches = views.latches }) kept
 
 -- what the constraints of a copy of the map say
-pub learns-of : (l : Shared) (c : Graph) (m : Netlist) (e f h : Equal) (copy : Copy) → IsGraph m.aig → IsView l e c m.aig (in_map m) copy → StaysRight e f → Assumes m copy f h → Learns l c m e h
+pub learns-of : (l : Shared) (c : Graph) (m : Netlist) (e f h : Equal) (copy : Copy) → IsGraph m.aig → IsFaithfulCopy l e c m.aig (in_map m) copy → StaysRight e f → Assumes m copy f h → Learns l c m e h
 learns-of l c m e f h copy valid view stays assumes values x s views kept =
     assumes values (in_map m x s) views.respects.negation (graph-respects m.aig valid s (λ j. false)) (view.follows values x s views) (ones-of (in_map m x s) m.props.constraints kept)
     (stays values views.respects.negation views.right)

@@ -9,7 +9,7 @@ use Rattle.aig_graph.specs.Graph.{IsGateAt}
 use Rattle.aig_graph.proofs.SignLaws.{gate_of-below, gate_of-ordered, value-gate_of}
 use Rattle.variable_tables.proofs.PlacesLaws.{slice_get_push, slice_get-append_left, slice_get-append_right}
 use Rattle.map_checks.specs.declared.shared.SharedGate.{SharedGate}
-use Rattle.map_checks.specs.Shared.{Shared, AreGates, Grows, IsBoth, IsFolded, IsShared, Respects, end_of, gates_in}
+use Rattle.map_checks.specs.Shared.{Shared, AreGates, Grows, IsBoth, IsFolded, IsSharedLiteral, Respects, shared_end, shared_gates}
 
 -- shared gates that stay as they are count as grown
 pub grows-itself : (k : Shared) → Grows k k
@@ -32,7 +32,7 @@ respects-fewer k l grows values p = record {
 }
 
 -- a literal that is shared stays shared as gates grow
-pub shared-more : (k l : Shared) → Grows k l → (lit : ℕ) → IsShared k lit → IsShared l lit
+pub shared-more : (k l : Shared) → Grows k l → (lit : ℕ) → IsSharedLiteral k lit → IsSharedLiteral l lit
 shared-more k l grows lit within = omega (arith, grows.first, grows.long, within)
 
 -- what becomes of the gates: all as they were, or one more
@@ -47,7 +47,7 @@ module _ (first : ℕ) (gates new : List Gate) (gate : Gate) (takes : Takes gate
   after = record { first = first; gates = new }
 
   -- each gate reads what is before, also after one that does so was put at the end where there is room
-  pub gates-after : AreGates before → end_of before < MAX_VARIABLES → IsGateAt (end_of before) gate → AreGates after
+  pub gates-after : AreGates before → shared_end before < MAX_VARIABLES → IsGateAt (shared_end before) gate → AreGates after
   gates-after are room at = elim takes [
     | inl same ↦ (let P : List Gate → Type 0 = λ gs. AreGates (record { first = first; gates = gs }) in subst P (sym same) are)
     | inr more ↦ (
@@ -99,9 +99,9 @@ folded-equal gate same = record {
 }
 
 -- what stands for a gate of two literals stands for these in either order
-pub both-folded : (k : Shared) (a b lit : ℕ) → IsShared k a → IsShared k b → IsFolded (gate_of a b) lit → IsBoth k a b lit
+pub both-folded : (k : Shared) (a b lit : ℕ) → IsSharedLiteral k a → IsSharedLiteral k b → IsFolded (gate_of a b) lit → IsBoth k a b lit
 both-folded k a b lit first second folded = record {
-  within = omega (arith, folded.below, gate_of-below (end_of k) a b first second);
+  within = omega (arith, folded.below, gate_of-below (shared_end k) a b first second);
   is = λ values respects. folded.is values respects.constant respects.negation ∙ value-gate_of values a b;
 }
 
@@ -113,18 +113,18 @@ both-either k a b lit both = record {
 }
 
 -- the gate of two shared literals may stand at the end of the shared gates
-pub gate-at : (k : Shared) (a b : ℕ) → IsShared k a → IsShared k b → IsGateAt (end_of k) (gate_of a b)
-gate-at k a b first second = record { ordered = gate_of-ordered a b; below = gate_of-below (end_of k) a b first second }
+pub gate-at : (k : Shared) (a b : ℕ) → IsSharedLiteral k a → IsSharedLiteral k b → IsGateAt (shared_end k) (gate_of a b)
+gate-at k a b first second = record { ordered = gate_of-ordered a b; below = gate_of-below (shared_end k) a b first second }
 
 -- one more gate stands after the others
-pub takes-one : (old new : List SharedGate) (shared : SharedGate) → new ≡ old ++ shared ∷ [] → Takes (gates_in old) (gates_in new) shared.gate
-takes-one old new shared e = inr (ap gates_in e ∙ map_push (λ (s : SharedGate). s.gate) old shared)
+pub takes-one : (old new : List SharedGate) (shared : SharedGate) → new ≡ old ++ shared ∷ [] → Takes (shared_gates old) (shared_gates new) shared.gate
+takes-one old new shared e = inr (ap shared_gates e ∙ map_push (λ (s : SharedGate). s.gate) old shared)
 
 -- its place is the number of the others
-pub last-there : (old new : List SharedGate) (shared : SharedGate) (place : ℕ) → new ≡ old ++ shared ∷ [] → place ≡ length old → slice_get (gates_in new) place ≡ Some shared.gate
+pub last-there : (old new : List SharedGate) (shared : SharedGate) (place : ℕ) → new ≡ old ++ shared ∷ [] → place ≡ length old → slice_get (shared_gates new) place ≡ Some shared.gate
 last-there old new shared place e at =
     let gate : Gate = shared.gate in
-    ap (λ (shareds : List SharedGate). slice_get (gates_in shareds) place) e
+    ap (λ (shareds : List SharedGate). slice_get (shared_gates shareds) place) e
     ∙ ap (λ (gates : List Gate). slice_get gates place) (map_push (λ (s : SharedGate). s.gate) old shared)
-    ∙ ap (λ (n : ℕ). slice_get (gates_in old ++ gate ∷ []) n) (omega (arith, at, length-map old (λ (s : SharedGate). s.gate)))
-    ∙ slice_get-append_right (gates_in old) (gate ∷ []) 0
+    ∙ ap (λ (n : ℕ). slice_get (shared_gates old ++ gate ∷ []) n) (omega (arith, at, length-map old (λ (s : SharedGate). s.gate)))
+    ∙ slice_get-append_right (shared_gates old) (gate ∷ []) 0

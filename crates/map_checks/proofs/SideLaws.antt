@@ -3,7 +3,7 @@ use Rattle.aig_graph.specs.Circuits.{Netlist}
 use Rattle.map_checks.specs.Shared.{Grows, Shared}
 use Rattle.map_checks.specs.Equal.{Equal, StaysRight}
 use Rattle.map_checks.specs.Copies.{AreShared, Copy}
-use Rattle.map_checks.specs.Images.{AreSides, IsView, Learns, Views, in_first, in_map, in_map_later, in_second}
+use Rattle.map_checks.specs.Images.{AreComparedCopies, IsFaithfulCopy, Learns, Views, in_first, in_map, in_map_later, in_second_mapped}
 use Rattle.map_checks.proofs.SharedLaws.{grows-transitive}
 use Rattle.map_checks.proofs.ImageLaws.{shared-later, view-later, views-fewer}
 
@@ -18,25 +18,25 @@ stays-then e f h one two = λ values negated right. two values negated (one valu
 -- k1 and e1 after the constraints were learnt, then the map's image, the first circuit, the map a step later and the second circuit
 module _ (c d m : Netlist) (k1 k2 k3 k4 k5 : Shared) (e0 e1 e2 e3 e4 : Equal) (image before later after : Copy)
     (learns : Learns k1 c.aig m e0 e1)
-    (one : Grows k1 k2) (first : StaysRight e1 e2) (image_view : IsView k2 e1 c.aig m.aig (in_map m) image)
-    (two : Grows k2 k3) (second : StaysRight e2 e3) (before_view : IsView k3 e2 c.aig c.aig (in_first c) before)
+    (one : Grows k1 k2) (first : StaysRight e1 e2) (image_view : IsFaithfulCopy k2 e1 c.aig m.aig (in_map m) image)
+    (two : Grows k2 k3) (second : StaysRight e2 e3) (before_view : IsFaithfulCopy k3 e2 c.aig c.aig (in_first c) before)
     (three : Grows k3 k4) (third : StaysRight e3 e4)
-    (later_view : (e : Equal) → StaysRight e e3 → IsView k3 e c.aig c.aig (in_first c) before → IsView k4 e c.aig m.aig (in_map_later c m) later)
-    (four : Grows k4 k5) (after_view : (e : Equal) → StaysRight e e4 → IsView k4 e c.aig m.aig (in_map m) image → IsView k5 e c.aig d.aig (in_second d m) after) where
+    (later_view : (e : Equal) → StaysRight e e3 → IsFaithfulCopy k3 e c.aig c.aig (in_first c) before → IsFaithfulCopy k4 e c.aig m.aig (in_map_later c m) later)
+    (four : Grows k4 k5) (after_view : (e : Equal) → StaysRight e e4 → IsFaithfulCopy k4 e c.aig m.aig (in_map m) image → IsFaithfulCopy k5 e c.aig d.aig (in_second_mapped d m) after) where
   -- the literals of the map's image are shared once the map a step later was copied
   pub image-later : AreShared k4 image
   image-later = shared-later k2 k4 image (grows-transitive k2 k3 k4 two three) image_view.within
 
-  abbrev later-is : IsView k4 e2 c.aig m.aig (in_map_later c m) later
+  abbrev later-is : IsFaithfulCopy k4 e2 c.aig m.aig (in_map_later c m) later
   later-is = later_view e2 second before_view
 
-  abbrev after-is : IsView k5 e1 c.aig d.aig (in_second d m) after
+  abbrev after-is : IsFaithfulCopy k5 e1 c.aig d.aig (in_second_mapped d m) after
   after-is =
       after_view e1 (stays-then e1 e2 e4 first (stays-then e2 e3 e4 second third))
       (view-later k2 k4 e1 e1 c.aig m.aig (in_map m) image (grows-transitive k2 k3 k4 two three) (stays-same e1) image_view image-later)
 
   -- once all are copied, the first circuit, the map a step later and the second circuit have their values in their copies
-  pub are-sides : AreSides k5 e0 c d m before later after
+  pub are-sides : AreComparedCopies k5 e0 c d m before later after
   are-sides = record {
     long = record { of_first = before_view.long; of_map = later-is.long; of_second = after-is.long };
     follows = λ values x s views kept.

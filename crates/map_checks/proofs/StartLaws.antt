@@ -23,7 +23,7 @@ use Rattle.state_maps.specs.States.{opening_state}
 use Rattle.state_maps.specs.MapCircuits.{mapped}
 use Rattle.map_checks.specs.Copies.{Copy, copy_of}
 use Rattle.map_checks.specs.Starts.{AreRising, AreStarts, IsFreeLatch, IsOpening, IsResetImage, StartsAs, Takes}
-use Rattle.map_checks.specs.Answers.{Begins}
+use Rattle.map_checks.specs.Answers.{MapsFirstStates}
 use Rattle.map_checks.proofs.ImageLaws.{copied-ones}
 use Rattle.aig_graph.proofs.StreamLaws.{funext}
 
@@ -196,7 +196,7 @@ module _ (c d m : Netlist) (image : Copy) (kept : List ℕ) (is : IsResetImage c
             ∙ sym (ap (opening_at d.aig (chosen kept f) j) e)
 
   -- where the map's constraints are 1 at step 0 and the places say as what each latch starts, first states go to first states
-  pub begins : Begins c d m kept
+  pub begins : MapsFirstStates c d m kept
   begins = record {
     places = record {
       rising = rising;

@@ -14,8 +14,8 @@ use Rattle.state_maps.proofs.WithinLaws.{within_laws}
 use Rattle.variable_tables.proofs.ListLaws.{from_map}
 use Rattle.map_checks.specs.Shared.{AreGates, Shared}
 use Rattle.map_checks.specs.Equal.{Equal}
-use Rattle.map_checks.specs.Copies.{Copy, Follows}
-use Rattle.map_checks.specs.Images.{AreSettled, AreSides, Views, in_first, in_map_later, in_second, nexts_of}
+use Rattle.map_checks.specs.Copies.{Copy, CopiesValues}
+use Rattle.map_checks.specs.Images.{AreSettled, AreComparedCopies, Views, in_first, in_map_later, in_second_mapped, nexts_of}
 use Rattle.map_checks.specs.Answers.{KeepsStates}
 use Rattle.map_checks.proofs.ImageLaws.{copied-list, copied-lists, copied-ones, latch-value, nexts-within}
 use Rattle.aig_graph.proofs.StreamLaws.{funext}
@@ -70,7 +70,7 @@ nexts-read (latch ∷ latches) own zero = refl
 nexts-read (latch ∷ latches) own (suc j) = nexts-read latches own j
 
 module _ (k : Shared) (e : Equal) (c d m : Netlist) (before later after : Copy) (are : AreGates k) (place : k.first ≡ first_gate c.aig) (none : e.substitutes ≡ []) (first : IsNetlist c) (second : IsNetlist d) (second_graph : IsGraph d.aig)
-    (map_is : IsNetlist m) (sides : AreSides k e c d m before later after) (settled : AreSettled c d m before later after) where
+    (map_is : IsNetlist m) (sides : AreComparedCopies k e c d m before later after) (settled : AreSettled c d m before later after) where
   module _ (x : Digits) (s : State) (holds : is_kept m s) where
     abbrev values : ℕ → Bool
     values = value_within (graph_of c.aig k) x s
@@ -78,7 +78,7 @@ module _ (k : Shared) (e : Equal) (c d m : Netlist) (before later after : Copy) 
     abbrev views : Views k e c.aig x s values
     views = views-there c.aig k are place e none x s
 
-    all : Follows before (variables_end c.aig) values (in_first c x s) × Follows later (variables_end m.aig) values (in_map_later c m x s) × Follows after (variables_end d.aig) values (in_second d m x s)
+    all : CopiesValues before (variables_end c.aig) values (in_first c x s) × CopiesValues later (variables_end m.aig) values (in_map_later c m x s) × CopiesValues after (variables_end d.aig) values (in_second_mapped d m x s)
     all = sides.follows values x s views holds
 
     keeps-at : is_kept m (after_step c.aig x s)
@@ -88,18 +88,18 @@ module _ (k : Shared) (e : Equal) (c d m : Netlist) (before later after : Copy) 
     steps-at : (j : ℕ) → mapped m (after_step c.aig x s) j ≡ after_step d.aig x (mapped m s) j
     steps-at j =
         let nexts : List ℕ = nexts_of d.aig.latches in
-        let lists : map (in_map_later c m x s) m.props.outputs ≡ map (in_second d m x s) nexts =
+        let lists : map (in_map_later c m x s) m.props.outputs ≡ map (in_second_mapped d m x s) nexts =
         sym (copied-list later (variables_end m.aig) values (in_map_later c m x s) all.1 m.props.outputs map_is.props.outputs)
         ∙ ap (map values) settled.latches
-        ∙ copied-list after (variables_end d.aig) values (in_second d m x s) all.2 nexts (nexts-within d.aig second_graph) in
-        ap (λ (bs : List Bool). get_or bs j false) lists ∙ nexts-read d.aig.latches (in_second d m x s) j
+        ∙ copied-list after (variables_end d.aig) values (in_second_mapped d m x s) all.2 nexts (nexts-within d.aig second_graph) in
+        ap (λ (bs : List Bool). get_or bs j false) lists ∙ nexts-read d.aig.latches (in_second_mapped d m x s) j
 
     reads-at : SameReads c d x s (mapped m s)
     unfolding mapped_props
     reads-at =
-        let one = copied-list after (variables_end d.aig) values (in_second d m x s) all.2 in
+        let one = copied-list after (variables_end d.aig) values (in_second_mapped d m x s) all.2 in
         let two = copied-list before (variables_end c.aig) values (in_first c x s) all.0 in
-        let some = copied-lists after (variables_end d.aig) values (in_second d m x s) all.2 in
+        let some = copied-lists after (variables_end d.aig) values (in_second_mapped d m x s) all.2 in
         let others = copied-lists before (variables_end c.aig) values (in_first c x s) all.0 in
         record {
           outputs = sym (one d.props.outputs second.props.outputs) ∙ ap (λ (p : Props). map values p.outputs) settled.props ∙ two c.props.outputs first.props.outputs;

@@ -32,14 +32,14 @@ pub record AreFitting (c d m : Netlist) : Type 0 where
   pub outputs : length m.props.outputs ≡ length d.aig.latches
 
 -- from each first state of c the map gives one of d, by places among the free latches of c
-pub record Begins (c d m : Netlist) (kept : List ℕ) : Type 0 where
+pub record MapsFirstStates (c d m : Netlist) (kept : List ℕ) : Type 0 where
   pub places : AreKept c d kept
   pub holds : (f : Choice) → is_kept m (opening_state c.aig f)
   pub states : (f : Choice) → mapped m (opening_state c.aig f) ≡ opening_state d.aig (chosen kept f)
 
-abbrev pub IsBegun : Netlist → Netlist → Netlist → Opening → Type 0
-IsBegun c d m (Kept kept) = Begins c d m kept
-IsBegun c d m (LeftOpen obligation) = Unit {0}
+abbrev pub IsOpeningOf : Netlist → Netlist → Netlist → Opening → Type 0
+IsOpeningOf c d m (Kept kept) = MapsFirstStates c d m kept
+IsOpeningOf c d m (LeftOpen obligation) = Unit {0}
 
 -- a step of c is one of d, where the constraints hold, which they go on to do
 pub record KeepsStates (c d m : Netlist) : Type 0 where

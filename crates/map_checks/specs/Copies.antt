@@ -3,7 +3,7 @@ use Rattle.std.specs.Prelude.{ℕ, ◌+◌, ◌-◌, ◌<◌, ◌≡◌, ◌++�
 use Rattle.std.specs.List.{slice_index_or}
 use Rattle.aig_graph.specs.Graph.{Graph, variable, first_gate, variables_end}
 use Rattle.aig_graph.specs.Value.{signed_as}
-use Rattle.map_checks.specs.Shared.{Shared, IsShared, Respects, gates_of}
+use Rattle.map_checks.specs.Shared.{Shared, IsSharedLiteral, Respects, gates_of}
 use Rattle.map_checks.specs.Equal.{Equal, IsRight}
 
 -- by variable of a circuit, from a first one on, a shared literal; those before it are the same in both
@@ -23,11 +23,11 @@ unfoldable pub copy_of : Copy → ℕ → ℕ
 copy_of c lit = if nat_lt (variable lit) c.first then lit else signed_as lit (slice_index_or c.literals (variable lit - c.first) 0)
 
 abbrev pub AreShared : Shared → Copy → Type 0
-AreShared k c = (lit : ℕ) → variable lit < copied_end c → IsShared k (copy_of c lit)
+AreShared k c = (lit : ℕ) → variable lit < copied_end c → IsSharedLiteral k (copy_of c lit)
 
 -- the literals of the variables below n have among the shared ones the values that they have in the circuit
-abbrev pub Follows : Copy → ℕ → (ℕ → Bool) → (ℕ → Bool) → Type 0
-Follows c n values own = (lit : ℕ) → variable lit < n → values (copy_of c lit) ≡ own lit
+abbrev pub CopiesValues : Copy → ℕ → (ℕ → Bool) → (ℕ → Bool) → Type 0
+CopiesValues c n values own = (lit : ℕ) → variable lit < n → values (copy_of c lit) ≡ own lit
 
 -- a copy of all gates, where the variables before them had these literals
 pub record IsCopy (k : Shared) (e : Equal) (g : Graph) (leaves c : Copy) : Type 0 where
@@ -35,4 +35,4 @@ pub record IsCopy (k : Shared) (e : Equal) (g : Graph) (leaves c : Copy) : Type 
   pub long : copied_end c ≡ variables_end g
   pub within : AreShared k c
   pub follows : (values own : ℕ → Bool) → Respects k values → Respects (gates_of g) own → IsRight e values
-      → Follows leaves (first_gate g) values own → Follows c (variables_end g) values own
+      → CopiesValues leaves (first_gate g) values own → CopiesValues c (variables_end g) values own

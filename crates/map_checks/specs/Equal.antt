@@ -9,13 +9,13 @@ pub record Equal : Type 0 where
   pub first : ℕ
   pub substitutes : List ℕ
 
-abbrev pub substitute_or_own : ℕ → Option ℕ → ℕ
-substitute_or_own lit None = lit
-substitute_or_own lit (Some substitute) = signed_as lit substitute
+abbrev pub signed_substitute_or_own : ℕ → Option ℕ → ℕ
+signed_substitute_or_own lit None = lit
+signed_substitute_or_own lit (Some substitute) = signed_as lit substitute
 
 -- what stands for a literal
-unfoldable pub standing : Equal → ℕ → ℕ
-standing e lit = if nat_lt (variable lit) e.first then lit else substitute_or_own lit (slice_get e.substitutes (variable lit - e.first))
+unfoldable pub standing_for : Equal → ℕ → ℕ
+standing_for e lit = if nat_lt (variable lit) e.first then lit else signed_substitute_or_own lit (slice_get e.substitutes (variable lit - e.first))
 
 -- what stands for a variable has its value
 abbrev pub IsRight : Equal → (ℕ → Bool) → Type 0

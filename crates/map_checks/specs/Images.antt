@@ -11,14 +11,14 @@ use Rattle.state_maps.specs.States.{Digits, State, after_step}
 use Rattle.state_maps.specs.MapCircuits.{is_kept, mapped}
 use Rattle.map_checks.specs.Shared.{IsNegated, Respects, Shared, gates_of}
 use Rattle.map_checks.specs.Equal.{Equal, IsRight}
-use Rattle.map_checks.specs.Copies.{AreShared, Copy, Follows, copied_end, copy_of}
+use Rattle.map_checks.specs.Copies.{AreShared, Copy, CopiesValues, copied_end, copy_of}
 
 abbrev pub nexts_of : List Latch → List ℕ
 nexts_of latches = map (λ latch. latch.next) latches
 
 -- the literals that another copy has for these, from a variable on
-abbrev pub picked : ℕ → Copy → List ℕ → Copy
-picked first c lits = record { first = first; literals = map (copy_of c) lits }
+abbrev pub copy_of_literals : ℕ → Copy → List ℕ → Copy
+copy_of_literals first c lits = record { first = first; literals = map (copy_of c) lits }
 
 -- values of the shared literals, where the inputs and latches of c have these, and what stands for a variable has its value
 pub record Views (k : Shared) (e : Equal) (c : Graph) (x : Digits) (s : State) (values : ℕ → Bool) : Type 0 where
@@ -28,7 +28,7 @@ pub record Views (k : Shared) (e : Equal) (c : Graph) (x : Digits) (s : State) (
   pub latches : (j : ℕ) → j < length c.latches → values (2 * (first_latch c + j)) ≡ s j
 
 -- what stands for each latch of c, from a variable on
-pub record AreLatches (e : Equal) (c : Graph) (first : ℕ) (leaves : Copy) : Type 0 where
+pub record StandForLatches (e : Equal) (c : Graph) (first : ℕ) (leaves : Copy) : Type 0 where
   pub from : leaves.first ≡ first
   pub long : length leaves.literals ≡ length c.latches
   pub below : (j : ℕ) → j < length c.latches → variable (slice_index_or leaves.literals j 0) ≤ first_latch c + j
@@ -36,10 +36,10 @@ pub record AreLatches (e : Equal) (c : Graph) (first : ℕ) (leaves : Copy) : Ty
       → values (slice_index_or leaves.literals j 0) ≡ values (2 * (first_latch c + j))
 
 -- a copy of a graph whose literals have the values that `own` gives, for each state of c
-pub record IsView (k : Shared) (e : Equal) (c g : Graph) (own : Digits → State → ℕ → Bool) (copy : Copy) : Type 0 where
+pub record IsFaithfulCopy (k : Shared) (e : Equal) (c g : Graph) (own : Digits → State → ℕ → Bool) (copy : Copy) : Type 0 where
   pub long : copied_end copy ≡ variables_end g
   pub within : AreShared k copy
-  pub follows : (values : ℕ → Bool) (x : Digits) (s : State) → Views k e c x s values → Follows copy (variables_end g) values (own x s)
+  pub follows : (values : ℕ → Bool) (x : Digits) (s : State) → Views k e c x s values → CopiesValues copy (variables_end g) values (own x s)
 
 -- the values of a map's literals in a state, of a circuit's literals, of the map's a step later, and of the mapped circuit's
 abbrev pub in_map : Netlist → Digits → State → ℕ → Bool
@@ -51,12 +51,12 @@ in_first c x s = value_within c.aig x s
 abbrev pub in_map_later : Netlist → Netlist → Digits → State → ℕ → Bool
 in_map_later c m x s = value_within m.aig (after_step c.aig x s) (λ j. false)
 
-abbrev pub in_second : Netlist → Netlist → Digits → State → ℕ → Bool
-in_second d m x s = value_within d.aig x (mapped m s)
+abbrev pub in_second_mapped : Netlist → Netlist → Digits → State → ℕ → Bool
+in_second_mapped d m x s = value_within d.aig x (mapped m s)
 
 -- where the constraints are 1, what stands for a variable has its value
 abbrev pub Assumes : Netlist → Copy → Equal → Equal → Type 0
-Assumes m image e f = (values own : ℕ → Bool) → IsNegated values → Respects (gates_of m.aig) own → Follows image (variables_end m.aig) values own
+Assumes m image e f = (values own : ℕ → Bool) → IsNegated values → Respects (gates_of m.aig) own → CopiesValues image (variables_end m.aig) values own
     → All (λ lit. own lit ≡ true) m.props.constraints → IsRight e values → IsRight f values
 
 -- the same, of the map over the latches of c
@@ -64,18 +64,18 @@ abbrev pub Learns : Shared → Graph → Netlist → Equal → Equal → Type 0
 Learns k c m e f = (values : ℕ → Bool) (x : Digits) (s : State) → Views k e c x s values → is_kept m s → IsRight f values
 
 -- each copy is of all variables
-pub record AreLong (c d m : Netlist) (before later after : Copy) : Type 0 where
+pub record AreWholeCopies (c d m : Netlist) (before later after : Copy) : Type 0 where
   pub of_first : copied_end before ≡ variables_end c.aig
   pub of_map : copied_end later ≡ variables_end m.aig
   pub of_second : copied_end after ≡ variables_end d.aig
 
 -- the copies that are compared: where the constraints hold, each has the values of what it is a copy of
-pub record AreSides (k : Shared) (e : Equal) (c d m : Netlist) (before later after : Copy) : Type 0 where
-  pub long : AreLong c d m before later after
+pub record AreComparedCopies (k : Shared) (e : Equal) (c d m : Netlist) (before later after : Copy) : Type 0 where
+  pub long : AreWholeCopies c d m before later after
   pub follows : (values : ℕ → Bool) (x : Digits) (s : State) → Views k e c.aig x s values → is_kept m s
-      → Follows before (variables_end c.aig) values (in_first c x s)
-      × Follows later (variables_end m.aig) values (in_map_later c m x s)
-      × Follows after (variables_end d.aig) values (in_second d m x s)
+      → CopiesValues before (variables_end c.aig) values (in_first c x s)
+      × CopiesValues later (variables_end m.aig) values (in_map_later c m x s)
+      × CopiesValues after (variables_end d.aig) values (in_second_mapped d m x s)
 
 -- as many properties of each kind, and justice properties of the same sizes
 pub record AreAsMany (p q : Props) : Type 0 where
@@ -86,11 +86,11 @@ pub record AreAsMany (p q : Props) : Type 0 where
   pub fairness : length q.fairness ≡ length p.fairness
 
 -- each property is one literal in both copies
-abbrev pub AreSame : Copy → Props → Copy → Props → Type 0
-AreSame before p after q = mapped_props (copy_of after) q ≡ mapped_props (copy_of before) p
+abbrev pub AreSameProperties : Copy → Props → Copy → Props → Type 0
+AreSameProperties before p after q = mapped_props (copy_of after) q ≡ mapped_props (copy_of before) p
 
 -- the literals that must be one are
 pub record AreSettled (c d m : Netlist) (before later after : Copy) : Type 0 where
   pub kept : All (λ lit. copy_of later lit ≡ 1) m.props.constraints
   pub latches : map (copy_of later) m.props.outputs ≡ map (copy_of after) (nexts_of d.aig.latches)
-  pub props : AreSame before c.props after d.props
+  pub props : AreSameProperties before c.props after d.props

@@ -10,16 +10,16 @@ pub record Shared : Type 0 where
   pub first : ℕ
   pub gates : List Gate
 
-abbrev pub gates_in : List SharedGate → List Gate
-gates_in shared = map (λ s. s.gate) shared
+abbrev pub shared_gates : List SharedGate → List Gate
+shared_gates shared = map (λ s. s.gate) shared
 
 -- one more than the greatest variable
-abbrev pub end_of : Shared → ℕ
-end_of k = k.first + length k.gates
+abbrev pub shared_end : Shared → ℕ
+shared_end k = k.first + length k.gates
 
 -- each gate reads what is before it
 pub record AreGates (k : Shared) : Type 0 where
-  pub small : end_of k ≤ MAX_VARIABLES
+  pub small : shared_end k ≤ MAX_VARIABLES
   pub gates : (j : ℕ) (gate : Gate) → slice_get k.gates j ≡ Some gate → IsGateAt (k.first + j) gate
 
 -- those of a graph
@@ -42,12 +42,12 @@ pub record Grows (k l : Shared) : Type 0 where
   pub long : length k.gates ≤ length l.gates
   pub gates : (j : ℕ) (gate : Gate) → slice_get k.gates j ≡ Some gate → slice_get l.gates j ≡ Some gate
 
-abbrev pub IsShared : Shared → ℕ → Type 0
-IsShared k lit = variable lit < end_of k
+abbrev pub IsSharedLiteral : Shared → ℕ → Type 0
+IsSharedLiteral k lit = variable lit < shared_end k
 
 -- the literal is 1 where both are
 pub record IsBoth (k : Shared) (a b lit : ℕ) : Type 0 where
-  pub within : IsShared k lit
+  pub within : IsSharedLiteral k lit
   pub is : (values : ℕ → Bool) → Respects k values → values lit ≡ (values a && values b)
 
 -- the same of a gate, whatever gates there are

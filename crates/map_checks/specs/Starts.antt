@@ -9,9 +9,9 @@ use Rattle.aig_graph.specs.Graph.{Graph, first_latch, free_before, free_latches,
 use Rattle.aig_graph.specs.Value.{Choice, opening_literal, value_within}
 use Rattle.state_maps.specs.States.{opening_state}
 use Rattle.map_checks.specs.Shared.{IsNegated}
-use Rattle.map_checks.specs.Copies.{Copy, Follows, copied_end}
+use Rattle.map_checks.specs.Copies.{Copy, CopiesValues, copied_end}
 
-pub record AreResets (g : Graph) (leaves : Copy) : Type 0 where
+pub record AreOpeningLiterals (g : Graph) (leaves : Copy) : Type 0 where
   pub first : leaves.first ≡ 1
   pub long : length leaves.literals ≡ length g.latches
   pub each : (j : ℕ) (latch : Latch) → slice_get g.latches j ≡ Some latch → slice_index_or leaves.literals j 0 ≡ opening_literal latch.reset (2 * (first_latch g + j))
@@ -22,7 +22,7 @@ pub record IsOpening (c m : Graph) (image : Copy) (f : Choice) : Type 0 where
   pub constant : values 0 ≡ false
   pub negation : IsNegated values
   pub latches : (j : ℕ) → j < length c.latches → values (2 * (first_latch c + j)) ≡ opening_state c f j
-  pub follows : Follows image (variables_end m) values (value_within m (opening_state c f) (λ j. false))
+  pub follows : CopiesValues image (variables_end m) values (value_within m (opening_state c f) (λ j. false))
 
 pub record IsResetImage (c m : Graph) (image : Copy) : Type 0 where
   pub long : copied_end image ≡ variables_end m

@@ -4,8 +4,8 @@
 ghost use Rattle.std.specs.Prelude.{◌≡◌, ◌↔◌, [], length, IfOk, IfNone, IsErrOf, OnOk};
 ghost use Rattle.aig_graph.specs.Graph.{first_gate};
 ghost use Rattle.map_checks.specs.Shared.{Grows};
-ghost use Rattle.map_checks.specs.Images.{AreLong, AreSettled, AreSides};
-ghost use Rattle.map_checks.specs.Answers.{AreFitting, IsAnswer, IsBegun, IsMap, KeepsStates};
+ghost use Rattle.map_checks.specs.Images.{AreWholeCopies, AreSettled, AreComparedCopies};
+ghost use Rattle.map_checks.specs.Answers.{AreFitting, IsAnswer, IsOpeningOf, IsMap, KeepsStates};
 
 use crate::answer::{Answer, Obligation};
 use crate::comparing::{first_open, first_unlike, property_obligation};
@@ -54,7 +54,7 @@ fn sides_of(
     requires latches { map.now.aig.latches ≡ [] }
     requires after { shared.old.first ≡ first_gate first.now.aig }
     ensures grows { OnOk result (Grows shared.old shared.new) }
-    ensures sides { IfOk result (λ sides. AreSides shared.new equal.old first.now second.now map.now
+    ensures sides { IfOk result (λ sides. AreComparedCopies shared.new equal.old first.now second.now map.now
         sides.before sides.later sides.after) }
 {
     learn_all(alloc, shared, equal, first.aig(), map)?;
@@ -78,7 +78,7 @@ fn obligation_of_sides(
     sides: &Sides,
 ) -> Result<Option<Obligation>, NoMemory>
     requires fitting { AreFitting first.now second.now map.now }
-    requires long { AreLong first.now second.now map.now sides.now.before sides.now.later
+    requires long { AreWholeCopies first.now second.now map.now sides.now.before sides.now.later
         sides.now.after }
     ensures { IfOk result (λ obligation. IfNone obligation (AreSettled first.now second.now map.now
         sides.now.before sides.now.later sides.now.after)) }
@@ -132,7 +132,7 @@ fn opening_of(
 ) -> Result<Opening, SharingError>
     requires fitting { AreFitting first.now second.now map.now }
     requires latches { map.now.aig.latches ≡ [] }
-    ensures { IfOk result (IsBegun first.now second.now map.now) }
+    ensures { IfOk result (IsOpeningOf first.now second.now map.now) }
 {
     map.known();
     let image = reset_image(alloc, first.aig(), map)?;

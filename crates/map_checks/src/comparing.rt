@@ -3,7 +3,7 @@ ghost use Rattle.std.specs.Prelude.{◌≡◌, ◌<◌, All, IfNone, length, map
 ghost use Rattle.aig_graph.specs.Graph.{variable};
 ghost use Rattle.map_checks.specs.Copies.{copied_end, copy_of};
 ghost use Rattle.aig_graph.specs.Mapped.{OfProps};
-ghost use Rattle.map_checks.specs.Images.{AreAsMany, AreSame};
+ghost use Rattle.map_checks.specs.Images.{AreAsMany, AreSameProperties};
 
 use crate::answer::Obligation;
 use crate::copied::Copied;
@@ -68,7 +68,7 @@ pub(crate) fn property_obligation(
     requires first { OfProps (λ lit. variable lit < copied_end before.now) first.now }
     requires second { OfProps (λ lit. variable lit < copied_end after.now) second.now }
     requires shape { AreAsMany first.now second.now }
-    ensures { IfNone result (AreSame before.now first.now after.now second.now) }
+    ensures { IfNone result (AreSameProperties before.now first.now after.now second.now) }
 {
     let (a, b) = (second, first);
     if let Some(place) = first_unlike(after, a.outputs.as_slice(), before, b.outputs.as_slice()) {

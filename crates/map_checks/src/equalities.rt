@@ -3,7 +3,7 @@
 ghost use Rattle.std.specs.Prelude.{ℕ, ◌≡◌, ◌≤◌, Bool, [], OnOk};
 ghost use Rattle.aig_graph.specs.Graph.{variable};
 ghost use Rattle.map_checks.specs.Shared.{IsNegated};
-ghost use Rattle.map_checks.specs.Equal.{IsRight, StaysRight, standing};
+ghost use Rattle.map_checks.specs.Equal.{IsRight, StaysRight, standing_for};
 
 use aig_graph::{Lit, NoMemory};
 use std::alloc::Global;
@@ -45,9 +45,9 @@ impl Equalities {
     }
 
     /// What stands for a literal.
-    #[tactic(auto, unfolding(crate::specs::Equal::standing))]
+    #[tactic(auto, unfolding(crate::specs::Equal::standing_for))]
     fn standing(&self, lit: Lit) -> Lit
-        ensures { result ≡ standing self.now lit }
+        ensures { result ≡ standing_for self.now lit }
     {
         let var = lit.var();
         if var < self.first {

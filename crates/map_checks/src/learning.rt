@@ -5,7 +5,7 @@ ghost use Rattle.aig_graph.specs.Graph.{first_gate, variables_end};
 ghost use Rattle.map_checks.specs.Shared.{Grows};
 ghost use Rattle.map_checks.specs.Equal.{StaysRight};
 ghost use Rattle.map_checks.specs.Copies.{copied_end};
-ghost use Rattle.map_checks.specs.Images.{Assumes, IsView, Learns, in_map};
+ghost use Rattle.map_checks.specs.Images.{Assumes, IsFaithfulCopy, Learns, in_map};
 
 use crate::copied::{Copied, copy};
 use crate::equalities::Equalities;
@@ -32,7 +32,7 @@ pub(crate) fn image(
     requires after { shared.old.first ≡ first_gate first.now }
     ensures grows { OnOk result (Grows shared.old shared.new) }
     ensures right { OnOk result (StaysRight equal.old equal.new) }
-    ensures view { IfOk result (IsView shared.new equal.old first.now map.now.aig
+    ensures view { IfOk result (IsFaithfulCopy shared.new equal.old first.now map.now.aig
         (in_map map.now)) }
 {
     let leaves = latch_leaves(alloc, equal, first, 1)?;

@@ -4,7 +4,7 @@ ghost use Rattle.aig_graph.specs.declared.literal.TheConstants.{MAX_VARIABLES};
 ghost use Rattle.aig_graph.specs.Graph.{variable};
 ghost use Rattle.map_checks.specs.Equal.{StaysRight};
 ghost use Rattle.map_checks.specs.Copies.{copied_end};
-ghost use Rattle.map_checks.specs.Images.{AreLatches, nexts_of, picked};
+ghost use Rattle.map_checks.specs.Images.{StandForLatches, nexts_of, copy_of_literals};
 
 use crate::copied::Copied;
 use crate::equalities::Equalities;
@@ -19,7 +19,7 @@ pub(crate) fn latch_leaves(
     first: u32,
 ) -> Result<Copied, NoMemory>
     ensures right { OnOk result (StaysRight equal.old equal.new) }
-    ensures leaves { IfOk result (AreLatches equal.old aig.now first) }
+    ensures leaves { IfOk result (StandForLatches equal.old aig.now first) }
 {
     let first_latch = aig.first_latch();
     let mut literals = Vec::with_capacity(alloc, aig.latches().len())?;
@@ -48,7 +48,7 @@ pub(crate) fn picked(
     lits: &[Lit],
 ) -> Result<Copied, NoMemory>
     requires { All (λ lit. variable lit < copied_end copied.now) lits.now }
-    ensures { IfOk result (λ leaves. leaves ≡ picked first copied.now lits.now) }
+    ensures { IfOk result (λ leaves. leaves ≡ copy_of_literals first copied.now lits.now) }
 {
     let mut literals = Vec::with_capacity(alloc, lits.len())?;
     for lit in lits {

@@ -3,7 +3,7 @@ ghost use Rattle.std.specs.Prelude.{◌≡◌, ◌<◌, All, IfOk, length};
 ghost use Rattle.std.specs.List.{slice_index_or};
 ghost use Rattle.aig_graph.specs.Graph.{variable};
 ghost use Rattle.map_checks.specs.Copies.{copied_end, copy_of};
-ghost use Rattle.map_checks.specs.Openings.{IsStart};
+ghost use Rattle.map_checks.specs.Openings.{IsLookAtStart};
 
 use crate::copied::Copied;
 use crate::kept::KeptPlaces;
@@ -30,7 +30,7 @@ pub(crate) fn start_of(
 ) -> Result<Start, NoMemory>
     requires long { length outputs.now ≡ length second.now.latches }
     requires within { All (λ lit. variable lit < copied_end image.now) outputs.now }
-    ensures { IfOk result (IsStart first.now second.now
+    ensures { IfOk result (IsLookAtStart first.now second.now
         (λ j. copy_of image.now (slice_index_or outputs.now j 0))) }
 {
     let free = free_places(alloc, first)?;

@@ -5,7 +5,7 @@
 ghost use Rattle.std.specs.Prelude.{◌≡◌, ◌+◌, ◌≤◌, ◌<◌, [], IfOk, IfSome, OnOk, Some, length, slice_get};
 ghost use Rattle.aig_graph.specs.declared.literal.TheConstants.{MAX_VARIABLES};
 ghost use Rattle.aig_graph.specs.Graph.{IsGateAt, variable};
-ghost use Rattle.map_checks.specs.Shared.{Grows, IsBoth, IsFolded, IsShared, end_of};
+ghost use Rattle.map_checks.specs.Shared.{Grows, IsBoth, IsFolded, IsSharedLiteral, shared_end};
 
 use crate::errors::SharingError;
 use aig_graph::{Gate, Lit, MAX_VARIABLES};
@@ -56,13 +56,13 @@ impl Drop for SharedGates {
 }
 
 impl Model for SharedGates {
-    ghost use Rattle.map_checks.specs.Shared.{Shared, AreGates, gates_in};
+    ghost use Rattle.map_checks.specs.Shared.{Shared, AreGates, shared_gates};
 
     ghost Value = { Shared };
 
-    ghost view = { λ s. record { first = s.first; gates = gates_in s.gates.items } };
+    ghost view = { λ s. record { first = s.first; gates = shared_gates s.gates.items } };
 
-    ghost invariant = { λ s. AreGates (record { first = s.first; gates = gates_in s.gates.items }) };
+    ghost invariant = { λ s. AreGates (record { first = s.first; gates = shared_gates s.gates.items }) };
 }
 
 /// The literal that a gate comes down to, whatever its fan-ins are.
@@ -146,7 +146,7 @@ impl SharedGates {
 
     /// Has the gate that is put next found from then on; the link that leads on from it is the answer.
     fn linked(&mut self, gate: &Gate) -> Result<u32, SharingError>
-        requires { end_of self.old < MAX_VARIABLES }
+        requires { shared_end self.old < MAX_VARIABLES }
         ensures { OnOk result (self.new ≡ self.old) }
     {
         let place = self.gates.len();
@@ -168,8 +168,8 @@ impl SharedGates {
 
     /// Puts a gate after the others: its place.
     fn add(&mut self, gate: Gate) -> Result<usize, SharingError>
-        requires room { end_of self.old < MAX_VARIABLES }
-        requires at { IsGateAt (end_of self.old) gate }
+        requires room { shared_end self.old < MAX_VARIABLES }
+        requires at { IsGateAt (shared_end self.old) gate }
         ensures grows { OnOk result (Grows self.old self.new) }
         ensures is { IfOk result (λ place. slice_get self.new.gates place ≡ Some gate) }
     {
@@ -181,8 +181,8 @@ impl SharedGates {
 
     /// The place of a gate, which is put after the others where it isn't found.
     fn place_of(&mut self, gate: Gate) -> Result<usize, SharingError>
-        requires room { end_of self.old < MAX_VARIABLES }
-        requires at { IsGateAt (end_of self.old) gate }
+        requires room { shared_end self.old < MAX_VARIABLES }
+        requires at { IsGateAt (shared_end self.old) gate }
         ensures grows { OnOk result (Grows self.old self.new) }
         ensures is { IfOk result (λ place. slice_get self.new.gates place ≡ Some gate) }
     {
@@ -194,7 +194,7 @@ impl SharedGates {
 
     /// The literal of a gate that comes down to none of the others', unless one has its fan-ins.
     fn numbered(&mut self, gate: Gate) -> Result<Lit, SharingError>
-        requires at { IsGateAt (end_of self.old) gate }
+        requires at { IsGateAt (shared_end self.old) gate }
         ensures grows { OnOk result (Grows self.old self.new) }
         ensures is { IfOk result (IsBoth self.new gate.rhs0 gate.rhs1) }
     {
@@ -207,8 +207,8 @@ impl SharedGates {
 
     /// The literal of the conjunction of two literals.
     pub(crate) fn gate(&mut self, a: Lit, b: Lit) -> Result<Lit, SharingError>
-        requires a { IsShared self.old a }
-        requires b { IsShared self.old b }
+        requires a { IsSharedLiteral self.old a }
+        requires b { IsSharedLiteral self.old b }
         ensures grows { OnOk result (Grows self.old self.new) }
         ensures is { IfOk result (IsBoth self.new a b) }
     {

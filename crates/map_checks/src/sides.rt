@@ -5,7 +5,7 @@ ghost use Rattle.aig_graph.specs.Graph.{first_gate, variables_end};
 ghost use Rattle.map_checks.specs.Shared.{Grows};
 ghost use Rattle.map_checks.specs.Equal.{Equal, StaysRight};
 ghost use Rattle.map_checks.specs.Copies.{AreShared, copied_end};
-ghost use Rattle.map_checks.specs.Images.{IsView, in_first, in_map, in_map_later, in_second};
+ghost use Rattle.map_checks.specs.Images.{IsFaithfulCopy, in_first, in_map, in_map_later, in_second_mapped};
 
 use crate::copied::{Copied, copy};
 use crate::equalities::Equalities;
@@ -25,7 +25,7 @@ pub(crate) fn first_side(
     requires after { shared.old.first ≡ first_gate first.now.aig }
     ensures grows { OnOk result (Grows shared.old shared.new) }
     ensures right { OnOk result (StaysRight equal.old equal.new) }
-    ensures view { IfOk result (IsView shared.new equal.old first.now.aig first.now.aig
+    ensures view { IfOk result (IsFaithfulCopy shared.new equal.old first.now.aig first.now.aig
         (in_first first.now)) }
 {
     let leaves = latch_leaves(alloc, equal, first.aig(), first.aig().first_latch())?;
@@ -49,8 +49,8 @@ pub(crate) fn later_side(
     ensures grows { OnOk result (Grows shared.old shared.new) }
     ensures right { OnOk result (StaysRight equal.old equal.new) }
     ensures view { IfOk result (λ copied. (e : Equal) → StaysRight e equal.old
-        → IsView shared.old e first.now.aig first.now.aig (in_first first.now) before.now
-        → IsView shared.new e first.now.aig map.now.aig (in_map_later first.now map.now) copied) }
+        → IsFaithfulCopy shared.old e first.now.aig first.now.aig (in_first first.now) before.now
+        → IsFaithfulCopy shared.new e first.now.aig map.now.aig (in_map_later first.now map.now) copied) }
 {
     let nexts = nexts(alloc, first.aig())?;
     let leaves = picked(alloc, 1, before, nexts.as_slice())?;
@@ -76,8 +76,8 @@ pub(crate) fn second_side(
     ensures grows { OnOk result (Grows shared.old shared.new) }
     ensures right { OnOk result (StaysRight equal.old equal.new) }
     ensures view { IfOk result (λ copied. (e : Equal) → StaysRight e equal.old
-        → IsView shared.old e first.now map.now.aig (in_map map.now) image.now
-        → IsView shared.new e first.now second.now.aig (in_second second.now map.now) copied) }
+        → IsFaithfulCopy shared.old e first.now map.now.aig (in_map map.now) image.now
+        → IsFaithfulCopy shared.new e first.now second.now.aig (in_second_mapped second.now map.now) copied) }
 {
     let _first = first;
     map.known();

@@ -3,7 +3,7 @@
 ghost use Rattle.std.specs.Prelude.{◌≡◌, ◌≤◌, [], IfOk, IfSome, length, if◌then◌else◌};
 ghost use Rattle.aig_graph.specs.Graph.{free_before, is_free};
 ghost use Rattle.variable_tables.specs.Tables.{table};
-ghost use Rattle.map_checks.specs.Starts.{AreResets, IsFreeLatch, IsResetImage};
+ghost use Rattle.map_checks.specs.Starts.{AreOpeningLiterals, IsFreeLatch, IsResetImage};
 
 use crate::copied::{Copied, copy};
 use crate::equalities::Equalities;
@@ -14,7 +14,7 @@ use std::alloc::Global;
 
 /// What each latch holds at step 0.
 fn reset_leaves(alloc: Global, aig: &Aig) -> Result<Copied, NoMemory>
-    ensures { IfOk result (AreResets aig.now) }
+    ensures { IfOk result (AreOpeningLiterals aig.now) }
 {
     let first = aig.first_latch();
     let mut literals = Vec::with_capacity(alloc, aig.latches().len())?;

@@ -16,7 +16,7 @@ use Rattle.reader_parts.specs.Rows.{clamped, up_to_nine, row_of}
 use Rattle.reader_parts.specs.declared.numbers.NumberLine.{NumberLine}
 use Rattle.reader_parts.specs.Open.{numbers_with}
 use Rattle.reader_parts.specs.Header.{header_row}
-use Rattle.reader_parts.specs.Limits.{limits, limited, is_past}
+use Rattle.reader_parts.specs.Limits.{limits, limited, counts_past_greatest}
 
 -- ---- checks of cut numbers
 
@@ -164,7 +164,7 @@ formed-limited is_off (Some h) = by_list (limits h)
 
 -- ---- ASCII
 
-past-cuttable : IsCuttable is_past
+past-cuttable : IsCuttable counts_past_greatest
 past-cuttable = record {
   bounds = λ h e. ltb-false h.greatest (h.inputs + h.latches + h.gates) e;
   cuts = λ h greatest. elim (cases_lt h.greatest (h.inputs + h.latches + h.gates)) [
@@ -175,13 +175,13 @@ past-cuttable = record {
 
 -- the header of an ASCII line by its numbers cut to 32 bits is the header that reading gives
 pub read-header : (row : Option (List ℕ)) (line : List ℕ) → row ≡ header_row (codes "aag ") line
-    → (limited (option_and_then header_in row) >>= λ h. unless ((is_past h, MaxIndex 0) ∷ []) (Ok h)) ≡ read_header line
+    → (limited (option_and_then header_in row) >>= λ h. unless ((counts_past_greatest h, MaxIndex 0) ∷ []) (Ok h)) ≡ read_header line
 unfolding read_header header_of
 read-header row line e =
-    formed-limited is_past (option_and_then header_in row) ∙ ap (λ (r : Option (List ℕ)). formed is_past (option_and_then header_in r)) e ∙ header-of-row is_past past-cuttable (codes "aag ") line
+    formed-limited counts_past_greatest (option_and_then header_in row) ∙ ap (λ (r : Option (List ℕ)). formed counts_past_greatest (option_and_then header_in r)) e ∙ header-of-row counts_past_greatest past-cuttable (codes "aag ") line
     ∙ by_option (spelt (codes "aag ") line)
   where
-    by_option : (o : Option Header) → formed is_past o ≡ checked_header o
+    by_option : (o : Option Header) → formed counts_past_greatest o ≡ checked_header o
     by_option None = refl
     by_option (Some h) = refl
 

@@ -16,7 +16,7 @@ use Rattle.ascii_file.specs.declared.raw.SymbolKind.TheVariants.{Input, Latch, O
 use Rattle.ascii_file.specs.Raw.{RawSymbol, kind_number}
 use Rattle.ascii_file.specs.Meaning.{with_name, with_symbol, names_of, symbols_of}
 use Rattle.ascii_file.specs.Reading.{is_of_same}
-use Rattle.reader_parts.specs.Names.{symbol_at, with_new, symbols_in, has_position, names_in, with_symbol_in, AreNamesOf}
+use Rattle.reader_parts.specs.Names.{symbol_at, with_new, symbols_in, has_position, names_of_kind, with_symbol_in, AreNamesOf}
 
 -- ---- a map by position
 
@@ -129,7 +129,7 @@ unfolding symbols_of
 appended symbols s = ap of_kinds (λ i. λ kind. fold-append (with_symbol kind) [] symbols (s ∷ []) i)
 
 -- the names of a kind among all are the names of the symbols of that kind
-pub names_in_kind : (kind : SymbolKind) (symbols : List RawSymbol) → names_in (symbols_of symbols) kind ≡ names_of kind symbols
+pub names_in_kind : (kind : SymbolKind) (symbols : List RawSymbol) → names_of_kind (symbols_of symbols) kind ≡ names_of kind symbols
 unfolding symbols_of
 names_in_kind Input symbols = refl
 names_in_kind Latch symbols = refl
@@ -146,10 +146,10 @@ nothing_named = refl
 
 -- what an insert answers
 pub insert_new : {E : Type 0} (names : Symbols) (kind : SymbolKind) (p : ℕ) (name : List ℕ) (result : Result Bool E) (symbols : List RawSymbol) → AreNamesOf names symbols
-    → IfOk result (λ is_new. is_new ≡ not (has_position (names_in names kind) p)) → IfOk result (λ is_new. is_new ≡ not (list_any (is_of_same (symbol_at kind p name)) symbols))
+    → IfOk result (λ is_new. is_new ≡ not (has_position (names_of_kind names kind) p)) → IfOk result (λ is_new. is_new ≡ not (list_any (is_of_same (symbol_at kind p name)) symbols))
 insert_new names kind p name result symbols are =
-    let same : has_position (names_in names kind) p ≡ list_any (is_of_same (symbol_at kind p name)) symbols
-    = ap (λ (ns : Symbols). has_position (names_in ns kind) p) are ∙ ap (λ (ns : List Symbol). has_position ns p) (names_in_kind kind symbols) ∙ same_position kind p name symbols in
+    let same : has_position (names_of_kind names kind) p ≡ list_any (is_of_same (symbol_at kind p name)) symbols
+    = ap (λ (ns : Symbols). has_position (names_of_kind ns kind) p) are ∙ ap (λ (ns : List Symbol). has_position ns p) (names_in_kind kind symbols) ∙ same_position kind p name symbols in
     λ new. subst (λ (b : Bool). IfOk result (λ is_new. is_new ≡ not b)) same new
 
 -- what an insert leaves

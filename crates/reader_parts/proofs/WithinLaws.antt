@@ -7,9 +7,9 @@ use Rattle.ascii_file.specs.declared.header.Header.{Header}
 use Rattle.ascii_file.specs.Headers.{IsHeaderWithin}
 use Rattle.ascii_file.specs.Reading.{unless}
 use Rattle.ascii_file.proofs.CheckLaws.{unless_ok, same_ok}
-use Rattle.reader_parts.specs.Limits.{limits, limited, is_past}
+use Rattle.reader_parts.specs.Limits.{limits, limited, counts_past_greatest}
 
-passes_within : (h : Header) → unless (limits h) (Ok h) ≡ Ok h → is_past h ≡ false → IsHeaderWithin h
+passes_within : (h : Header) → unless (limits h) (Ok h) ≡ Ok h → counts_past_greatest h ≡ false → IsHeaderWithin h
 passes_within h e enough =
     let p = (unless_ok (limits h) (Ok h) h e).0 in
     let greatest : h.greatest ≤ 2 ^ 28 - 1 = ltb-false (2 ^ 28 - 1) h.greatest p.0 in
@@ -30,9 +30,9 @@ limited_itself (Some g) h e =
     subst (λ (x : Header). unless (limits x) (Ok x) ≡ Ok x) is (subst (λ (x : Header). unless (limits g) (Ok g) ≡ Ok x) (sym is) e)
 
 -- a header whose single numbers and their relation pass the checks is within the limits
-pub within : (o : Option Header) (h : Header) → limited o ≡ Ok h → (r : Result Header ReadError) → r ≡ unless ((is_past h, MaxIndex 0) ∷ []) (Ok h) → IfOk r (λ header. IsHeaderWithin header)
-within o h e r is = by_test (is_past h) refl is
+pub within : (o : Option Header) (h : Header) → limited o ≡ Ok h → (r : Result Header ReadError) → r ≡ unless ((counts_past_greatest h, MaxIndex 0) ∷ []) (Ok h) → IfOk r (λ header. IsHeaderWithin header)
+within o h e r is = by_test (counts_past_greatest h) refl is
   where
-    by_test : (b : Bool) → is_past h ≡ b → r ≡ unless ((b, MaxIndex 0) ∷ []) (Ok h) → IfOk r (λ header. IsHeaderWithin header)
+    by_test : (b : Bool) → counts_past_greatest h ≡ b → r ≡ unless ((b, MaxIndex 0) ∷ []) (Ok h) → IfOk r (λ header. IsHeaderWithin header)
     by_test true past is = subst (λ (x : Result Header ReadError). IfOk x (λ header. IsHeaderWithin header)) (sym is) tt
     by_test false enough is = subst (λ (x : Result Header ReadError). IfOk x (λ header. IsHeaderWithin header)) (sym is) (passes_within h (limited_itself o h e) enough)

@@ -17,5 +17,5 @@ limited None = Err (BadHeader 0)
 limited (Some h) = unless (limits h) (Ok h)
 
 -- more variables are counted than the greatest
-abbrev pub is_past : Header → Bool
-is_past h = nat_lt h.greatest (h.inputs + h.latches + h.gates)
+abbrev pub counts_past_greatest : Header → Bool
+counts_past_greatest h = nat_lt h.greatest (h.inputs + h.latches + h.gates)

@@ -29,14 +29,14 @@ abbrev pub has_position : List Symbol → ℕ → Bool
 has_position names position = list_any (λ symbol. position == symbol.position) names
 
 -- the names of one kind
-abbrev pub names_in : Symbols → SymbolKind → List Symbol
-names_in names Input = names.inputs
-names_in names Latch = names.latches
-names_in names Output = names.outputs
-names_in names Bad = names.bad
-names_in names Constraint = names.constraints
-names_in names Justice = names.justice
-names_in names Fairness = names.fairness
+abbrev pub names_of_kind : Symbols → SymbolKind → List Symbol
+names_of_kind names Input = names.inputs
+names_of_kind names Latch = names.latches
+names_of_kind names Output = names.outputs
+names_of_kind names Bad = names.bad
+names_of_kind names Constraint = names.constraints
+names_of_kind names Justice = names.justice
+names_of_kind names Fairness = names.fairness
 
 -- the names with one more
 abbrev pub with_symbol_in : Symbols → RawSymbol → Symbols

@@ -11,7 +11,7 @@ use Rattle.ascii_file.specs.Meaning.{props_of, symbols_of}
 use Rattle.reader_parts.specs.Lists.{Lists}
 
 -- as many of each kind as the header says, literals of the graph, and symbols that name a thing of their own
-pub record AreParts (h : Header) (g : Graph) (symbols : List RawSymbol) (l : Lists) : Type 0 where
+pub record PartsFitHeader (h : Header) (g : Graph) (symbols : List RawSymbol) (l : Lists) : Type 0 where
   pub inputs : g.inputs ≡ h.inputs
   pub latches : length g.latches ≡ h.latches
   pub safety : length l.safety ≡ safety_count h
@@ -23,12 +23,12 @@ pub record AreParts (h : Header) (g : Graph) (symbols : List RawSymbol) (l : Lis
   pub apart : AllPairs (λ symbol other. is_of_same other symbol ≡ false) symbols
 
 -- the circuit of a graph, the properties' literals and the symbols
-abbrev pub netlist_of : Header → Graph → List RawSymbol → Lists → Netlist
-netlist_of h g symbols l = record { aig = g; props = props_of h l.safety l.sizes l.liveness; symbols = symbols_of symbols }
+abbrev pub netlist_of_parts : Header → Graph → List RawSymbol → Lists → Netlist
+netlist_of_parts h g symbols l = record { aig = g; props = props_of h l.safety l.sizes l.liveness; symbols = symbols_of symbols }
 
 -- these parts make a circuit
 abbrev pub NetlistLaw : Header → Graph → List RawSymbol → Lists → Type 0
-NetlistLaw h g symbols l = AreParts h g symbols l → IsNetlist (netlist_of h g symbols l)
+NetlistLaw h g symbols l = PartsFitHeader h g symbols l → IsNetlist (netlist_of_parts h g symbols l)
 
 -- names by rising position, as many as the header counts at most
 pub record AreNamesWithin (h : Header) (names : Symbols) : Type 0 where

@@ -4,7 +4,7 @@ ghost use Rattle.std.specs.Prelude.{◌≡◌, ◌≤◌, ◌^◌, ◌||◌, ◌
 ghost use Rattle.ascii_file.specs.Headers as headers;
 ghost use Rattle.ascii_file.specs.Reading.{unless};
 ghost use Rattle.file_words.specs.declared.fault.ReadError.TheVariants.{MaxIndex};
-ghost use Rattle.reader_parts.specs.Limits.{limited, is_past};
+ghost use Rattle.reader_parts.specs.Limits.{limited, counts_past_greatest};
 
 use crate::numbers::NumberLine;
 use ascii_file::Header;
@@ -163,7 +163,7 @@ fn within_limits(header: Option<Header>) -> Result<Header, ReadError>
 
 /// The header, where it counts no more variables than its greatest.
 fn with_variables(header: Header) -> Result<Header, ReadError>
-    ensures { result ≡ unless ((is_past header, MaxIndex 0) ∷ []) (Ok header) }
+    ensures { result ≡ unless ((counts_past_greatest header, MaxIndex 0) ∷ []) (Ok header) }
 {
     let variables = u64::from(header.inputs) + u64::from(header.latches) + u64::from(header.gates);
     if variables > u64::from(header.greatest) {

@@ -45,7 +45,7 @@ impl Names {
     ghost use Rattle.ascii_file.specs.Raw.{RawSymbol};
     ghost use Rattle.ascii_file.specs.Reading.{is_of_same};
     ghost use Rattle.reader_parts.specs.Parts.{AreNamesWithin};
-    ghost use Rattle.reader_parts.specs.Names.{AreNamesOf, symbol_at, with_new, has_position, names_in, with_symbol_in};
+    ghost use Rattle.reader_parts.specs.Names.{AreNamesOf, symbol_at, with_new, has_position, names_of_kind, with_symbol_in};
 
     /// No name. Takes no memory.
     pub fn new(alloc: Global) -> Names
@@ -90,7 +90,7 @@ impl Names {
     /// The same, by the names alone.
     fn put(&mut self, kind: SymbolKind, position: u32, name: Sequence<u8>) -> Result<bool, NoMemory>
         ensures new { IfOk result (λ is_new. is_new
-            ≡ not (has_position (names_in self.old kind) position)) }
+            ≡ not (has_position (names_of_kind self.old kind) position)) }
         ensures names { IfOk result (λ is_new. self.new
             ≡ (if is_new then with_symbol_in self.old
             (symbol_at kind position name) else self.old)) }

@@ -5,21 +5,21 @@ use Rattle.std.proofs.lemmas.Bool.{le-ltb, lt-ltb}
 use Rattle.std.proofs.lemmas.List.{get_or_default, length-set}
 use Rattle.variable_tables.proofs.TableLaws.{table-more, table-none}
 use Rattle.aig_graph.specs.declared.properties.Symbol.{Symbol}
-use Rattle.waves.specs.Names.{apart, apart_where, is_again, legal_name, literal_word, property_words, with_symbol, with_symbols, words_before}
+use Rattle.waves.specs.Names.{apart, apart_where, is_again, legal_name, literal_word, property_words, with_legal_name, with_symbols, words_before}
 
 -- ---- names in their places
 
 -- a name that was put in its place
 pub name-set : (names : List (List ℕ)) (s : Symbol) (name : List ℕ) (empty : Bool) → s.position < length names → empty ≡ (length s.name == 0) → empty ≡ false
-    → name ≡ legal_name s.name → slice_set names s.position name ≡ with_symbol names s
-unfolding with_symbol
+    → name ≡ legal_name s.name → slice_set names s.position name ≡ with_legal_name names s
+unfolding with_legal_name
 name-set names s name empty inside test isnt is =
     ap (slice_set names s.position) is
     ∙ sym (ap₂ (λ (a b : Bool). cond (a && not b) (slice_set names s.position (legal_name s.name)) names) (lt-ltb s.position (length names) inside) (sym test ∙ isnt))
 
 -- there is no such place
-pub none-past : (names : List (List ℕ)) (s : Symbol) → length names ≤ s.position → names ≡ with_symbol names s
-unfolding with_symbol
+pub none-past : (names : List (List ℕ)) (s : Symbol) → length names ≤ s.position → names ≡ with_legal_name names s
+unfolding with_legal_name
 none-past names s past =
     sym (ap (λ (a : Bool). cond (a && not (length s.name == 0)) (slice_set names s.position (legal_name s.name)) names) (le-ltb s.position (length names) past))
 
@@ -28,8 +28,8 @@ neither true x y = refl
 neither false x y = refl
 
 -- a name without bytes is none
-pub none-without_bytes : (names : List (List ℕ)) (s : Symbol) (empty : Bool) → empty ≡ (length s.name == 0) → empty ≡ true → names ≡ with_symbol names s
-unfolding with_symbol
+pub none-without_bytes : (names : List (List ℕ)) (s : Symbol) (empty : Bool) → empty ≡ (length s.name == 0) → empty ≡ true → names ≡ with_legal_name names s
+unfolding with_legal_name
 none-without_bytes names s empty test is =
     let there : Bool = nat_lt s.position (length names) in
     let set : List (List ℕ) = slice_set names s.position (legal_name s.name) in
@@ -39,8 +39,8 @@ either-long : (b : Bool) (xs ys : List (List ℕ)) → length xs ≡ length ys �
 either-long true xs ys same = same
 either-long false xs ys same = refl
 
-length-with_symbol : (names : List (List ℕ)) (s : Symbol) → length (with_symbol names s) ≡ length names
-unfolding with_symbol
+length-with_symbol : (names : List (List ℕ)) (s : Symbol) → length (with_legal_name names s) ≡ length names
+unfolding with_legal_name
 length-with_symbol names s =
     either-long (nat_lt s.position (length names) && not (length s.name == 0)) (slice_set names s.position (legal_name s.name)) names
     (length-set names s.position (legal_name s.name))
@@ -48,7 +48,7 @@ length-with_symbol names s =
 -- there are as many names as before
 pub length-with_symbols : (names : List (List ℕ)) (symbols : List Symbol) → length (with_symbols names symbols) ≡ length names
 length-with_symbols names [] = refl
-length-with_symbols names (s ∷ symbols) = length-with_symbols (with_symbol names s) symbols ∙ length-with_symbol names s
+length-with_symbols names (s ∷ symbols) = length-with_symbols (with_legal_name names s) symbols ∙ length-with_symbol names s
 
 -- ---- words of literals
 

@@ -6,14 +6,14 @@ use Rattle.counted_io.specs.Line.{numbered_lines}
 use Rattle.lane_sim.specs.Traces.{at_place}
 
 -- what a value is written as: a digit, or an x after the last step of a sequence, where it has none
-abbrev pub mark : Option Bool → ℕ
-mark None = byte "x"
-mark (Some false) = byte "0"
-mark (Some true) = byte "1"
+abbrev pub value_character : Option Bool → ℕ
+value_character None = byte "x"
+value_character (Some false) = byte "0"
+value_character (Some true) = byte "1"
 
 -- of a wave at a time, which is the number of a step
-abbrev pub mark_at : List (List (List Bool)) → ℕ → ℕ → ℕ → ℕ
-mark_at trace sequence time place = mark (at_place trace sequence time place)
+abbrev pub value_character_at : List (List (List Bool)) → ℕ → ℕ → ℕ → ℕ
+value_character_at trace sequence time place = value_character (at_place trace sequence time place)
 
 -- the code of a wave: the numbers of its sequence and of its place
 unfoldable pub code : ℕ → ℕ → List ℕ
@@ -29,8 +29,8 @@ unfoldable pub scope_text : List (List ℕ) → ℕ → List ℕ
 scope_text names sequence =
     codes "$scope module sequence" ++ (decimal sequence ++ (codes " $end\n" ++ (numbered_lines (wave_line sequence) 0 names ++ codes "$upscope $end\n")))
 
-unfoldable pub head : List (List ℕ) → ℕ → List ℕ
-head names sequences = codes "$timescale 1 ns $end\n" ++ (flat_map (scope_text names) (range_with_len 0 sequences) ++ codes "$enddefinitions $end\n")
+unfoldable pub dump_header : List (List ℕ) → ℕ → List ℕ
+dump_header names sequences = codes "$timescale 1 ns $end\n" ++ (flat_map (scope_text names) (range_with_len 0 sequences) ++ codes "$enddefinitions $end\n")
 
 -- ---- values
 
@@ -38,11 +38,11 @@ unfoldable pub value_line : ℕ → ℕ → ℕ → List ℕ
 value_line sequence place value = value ∷ (code sequence place ++ 10 ∷ [])
 
 -- a value is written at the start, and where it changes
-abbrev pub is_written : List (List (List Bool)) → ℕ → ℕ → ℕ → Bool
-is_written trace sequence time place = time == 0 || not (mark_at trace sequence (time - 1) place == mark_at trace sequence time place)
+abbrev pub is_dumped : List (List (List Bool)) → ℕ → ℕ → ℕ → Bool
+is_dumped trace sequence time place = time == 0 || not (value_character_at trace sequence (time - 1) place == value_character_at trace sequence time place)
 
 unfoldable pub value_at : List (List (List Bool)) → ℕ → ℕ → ℕ → List ℕ
-value_at trace time sequence place = if is_written trace sequence time place then value_line sequence place (mark_at trace sequence time place) else []
+value_at trace time sequence place = if is_dumped trace sequence time place then value_line sequence place (value_character_at trace sequence time place) else []
 
 -- those of a sequence with so many waves, and of all sequences
 unfoldable pub values_of : List (List (List Bool)) → ℕ → ℕ → ℕ → List ℕ
@@ -51,8 +51,8 @@ values_of trace places time sequence = flat_map (value_at trace time sequence) (
 unfoldable pub values : List (List (List Bool)) → ℕ → ℕ → List ℕ
 values trace places time = flat_map (values_of trace places time) (range_with_len 0 (length trace))
 
-unfoldable pub start : List (List (List Bool)) → ℕ → List ℕ
-start trace places = codes "#0\n$dumpvars\n" ++ (values trace places 0 ++ codes "$end\n")
+unfoldable pub dump_start : List (List (List Bool)) → ℕ → List ℕ
+dump_start trace places = codes "#0\n$dumpvars\n" ++ (values trace places 0 ++ codes "$end\n")
 
 -- a time, and what changes at it
 unfoldable pub time_text : List (List (List Bool)) → ℕ → ℕ → List ℕ
@@ -67,9 +67,9 @@ abbrev pub longest : List (List (List Bool)) → ℕ
 longest trace = longest_of trace (length trace)
 
 -- the times of all steps but the first, and the one at which the longest sequence ends
-unfoldable pub times : List (List (List Bool)) → ℕ → List ℕ
-times trace places = flat_map (time_text trace places) (range_with_len 1 (longest trace))
+unfoldable pub later_times : List (List (List Bool)) → ℕ → List ℕ
+later_times trace places = flat_map (time_text trace places) (range_with_len 1 (longest trace))
 
 -- the dump of waves with these names and values
 unfoldable pub waves_text : List (List ℕ) → List (List (List Bool)) → List ℕ
-waves_text names trace = head names (length trace) ++ (start trace (length names) ++ times trace (length names))
+waves_text names trace = dump_header names (length trace) ++ (dump_start trace (length names) ++ later_times trace (length names))

@@ -20,24 +20,24 @@ abbrev pub legal_name : List ℕ → List ℕ
 legal_name name = map legal_byte name
 
 -- what has no name is called by the letter of its kind and its position
-abbrev pub word : ℕ → ℕ → List ℕ
-word letter position = letter ∷ decimal position
+abbrev pub default_name : ℕ → ℕ → List ℕ
+default_name letter position = letter ∷ decimal position
 
 -- the names with that of a symbol in its place; one without bytes is none
-unfoldable pub with_symbol : List (List ℕ) → Symbol → List (List ℕ)
-with_symbol names s = if nat_lt s.position (length names) && not (length s.name == 0) then slice_set names s.position (legal_name s.name) else names
+unfoldable pub with_legal_name : List (List ℕ) → Symbol → List (List ℕ)
+with_legal_name names s = if nat_lt s.position (length names) && not (length s.name == 0) then slice_set names s.position (legal_name s.name) else names
 
 abbrev pub with_symbols : List (List ℕ) → List Symbol → List (List ℕ)
 with_symbols names [] = names
-with_symbols names (s ∷ symbols) = with_symbols (with_symbol names s) symbols
+with_symbols names (s ∷ symbols) = with_symbols (with_legal_name names s) symbols
 
 -- the names of a kind, of which there are so many
 unfoldable pub kind_names : ℕ → ℕ → List Symbol → List (List ℕ)
-kind_names letter count symbols = with_symbols (table 0 count (word letter)) symbols
+kind_names letter count symbols = with_symbols (table 0 count (default_name letter)) symbols
 
 -- a literal of a justice property is called by both its numbers
 abbrev pub literal_word : ℕ → ℕ → List ℕ
-literal_word property position = word (byte "j") property ++ byte "." ∷ decimal position
+literal_word property position = default_name (byte "j") property ++ byte "." ∷ decimal position
 
 abbrev pub property_words : ℕ → ℕ → List (List ℕ)
 property_words property count = table 0 count (literal_word property)

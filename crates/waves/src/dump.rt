@@ -5,7 +5,7 @@ ghost use Rattle.counted_io.specs.Buffered.{Puts};
 ghost use Rattle.counted_io.specs.Line.{numbered_lines};
 ghost use Rattle.counted_io.specs.Output.{Writes};
 ghost use Rattle.lane_sim.specs.Traces.{trace};
-ghost use Rattle.waves.specs.Dumps.{head, scope_text, wave_line, waves_text};
+ghost use Rattle.waves.specs.Dumps.{dump_header, scope_text, wave_line, waves_text};
 ghost use Rattle.waves.specs.Moments.{IsRoomFor};
 
 use crate::room::Room;
@@ -57,7 +57,7 @@ fn put_scopes<W: CountedWrite>(out: &mut Buffered<'_, W>, names: &[Sequence<u8>]
 }
 
 fn put_head<W: CountedWrite>(out: &mut Buffered<'_, W>, names: &[Sequence<u8>], sequences: usize)
-    ensures { Puts W.output out.old out.new (head names.now sequences) }
+    ensures { Puts W.output out.old out.new (dump_header names.now sequences) }
 {
     out.put(b"$timescale 1 ns $end\n");
     put_scopes(out, names, sequences);

@@ -4,7 +4,7 @@ ghost use Rattle.aig_graph.specs.Graph.{Graph, variable};
 ghost use Rattle.lane_sim.specs.declared.stimulus.InputSequence.{InputSequence as Sequenced};
 ghost use Rattle.lane_sim.specs.Blocks.{in_lane};
 ghost use Rattle.lane_sim.specs.Steps.{AreAt};
-ghost use Rattle.waves.specs.Dumps.{is_written, mark, mark_at};
+ghost use Rattle.waves.specs.Dumps.{is_dumped, value_character, value_character_at};
 ghost use Rattle.waves.specs.Moments.{shown_of, trace_of, IsMoment};
 
 use aig_graph::{Circuit, Lit};
@@ -28,7 +28,7 @@ pub(crate) struct Moment<'a> {
 
 /// What a value is written as.
 fn mark(value: Option<bool>) -> u8
-    ensures { result ≡ mark value }
+    ensures { result ≡ value_character value }
 {
     match value {
         Some(true) => b'1',
@@ -64,7 +64,7 @@ impl Moment<'_> {
     pub(crate) fn mark(&self, sequence: usize, place: usize) -> u8
         requires moment { IsMoment (sequence / 256) self.now }
         requires sequence { sequence < length self.now.sequences.now }
-        ensures { result ≡ mark_at (trace_of self.now) sequence self.now.time place }
+        ensures { result ≡ value_character_at (trace_of self.now) sequence self.now.time place }
     {
         let run = &self.sequences[sequence];
         let lane = sequence % LANES;
@@ -76,7 +76,7 @@ impl Moment<'_> {
         requires moment { IsMoment (sequence / 256) self.now }
         requires sequence { sequence < length self.now.sequences.now }
         requires later { 0 < self.now.time }
-        ensures { result ≡ mark_at (trace_of self.now) sequence (self.now.time - 1) place }
+        ensures { result ≡ value_character_at (trace_of self.now) sequence (self.now.time - 1) place }
     {
         let run = &self.sequences[sequence];
         let lane = sequence % LANES;
@@ -88,7 +88,7 @@ impl Moment<'_> {
     pub(crate) fn is_written(&self, sequence: usize, place: usize) -> bool
         requires moment { IsMoment (sequence / 256) self.now }
         requires sequence { sequence < length self.now.sequences.now }
-        ensures { result ≡ is_written (trace_of self.now) sequence self.now.time place }
+        ensures { result ≡ is_dumped (trace_of self.now) sequence self.now.time place }
     {
         self.time == 0 || self.mark_before(sequence, place) != self.mark(sequence, place)
     }

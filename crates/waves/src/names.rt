@@ -4,7 +4,7 @@
 ghost use Rattle.std.specs.Prelude.{ℕ, List, ◌≡◌, ◌++◌, ◌∷◌, ◌<◌, ◌==◌, not, decimal, map, length, get_or, take, bytes_eq, IfOk, OnOk};
 ghost use Rattle.std.specs.List.{list_any};
 ghost use Rattle.variable_tables.specs.Tables.{table};
-ghost use Rattle.waves.specs.Names.{apart_where, is_legal, justice_words, kind_names, legal_byte, legal_name, literal_word, own_names, property_words, told_apart, wave_names, with_properties, with_symbol, with_symbols, word};
+ghost use Rattle.waves.specs.Names.{apart_where, is_legal, justice_words, kind_names, legal_byte, legal_name, literal_word, own_names, property_words, told_apart, wave_names, with_properties, with_legal_name, with_symbols, default_name};
 
 use aig_graph::{Circuit, Lit, NoMemory, Props, Sequence, Symbol, Symbols};
 use itoa::Buffer;
@@ -46,7 +46,7 @@ fn append_number(bytes: &mut Vec<u8>, number: usize) -> Result<(), NoMemory>
 
 /// A letter and a number.
 fn word_bytes(alloc: Global, letter: u8, position: usize) -> Result<Vec<u8>, NoMemory>
-    ensures { IfOk result (λ bytes. bytes.items ≡ word letter position) }
+    ensures { IfOk result (λ bytes. bytes.items ≡ default_name letter position) }
 {
     let mut bytes = Vec::new(alloc);
     bytes.push(letter)?;
@@ -56,7 +56,7 @@ fn word_bytes(alloc: Global, letter: u8, position: usize) -> Result<Vec<u8>, NoM
 
 /// The words of a kind, of which there are so many.
 fn words(alloc: Global, letter: u8, count: usize) -> Result<Vec<Sequence<u8>>, NoMemory>
-    ensures { IfOk result (λ words. words.items ≡ table 0 count (word letter)) }
+    ensures { IfOk result (λ words. words.items ≡ table 0 count (default_name letter)) }
 {
     let mut words = Vec::with_capacity(alloc, count)?;
     for position in 0..count {
@@ -67,7 +67,7 @@ fn words(alloc: Global, letter: u8, count: usize) -> Result<Vec<Sequence<u8>>, N
 
 /// Puts the name of a symbol in its place.
 fn set_name(alloc: Global, names: &mut [Sequence<u8>], symbol: &Symbol) -> Result<(), NoMemory>
-    ensures { OnOk result (names.new ≡ with_symbol names.old symbol.now) }
+    ensures { OnOk result (names.new ≡ with_legal_name names.old symbol.now) }
 {
     let place = symbol.position as usize;
     if place < names.len() && !symbol.name.is_empty() {

@@ -4,7 +4,7 @@ ghost use Rattle.std.specs.List.{flat_map, range_with_len};
 ghost use Rattle.counted_io.specs.Buffered.{Puts};
 ghost use Rattle.lane_sim.specs.Blocks.{block_of};
 ghost use Rattle.lane_sim.specs.Traces.{trace};
-ghost use Rattle.waves.specs.Dumps.{longest, longest_of, start, time_text, times, values, values_of};
+ghost use Rattle.waves.specs.Dumps.{longest, longest_of, dump_start, time_text, later_times, values, values_of};
 ghost use Rattle.waves.specs.Moments.{HasRoom, HasStates, IsAt, IsRoomAt, IsRoomFor};
 
 use crate::moment::{LANES, Moment};
@@ -150,7 +150,7 @@ pub(crate) fn put_start<W: CountedWrite>(
     requires { IsRoomFor shown.now.circuit.now shown.now.sequences.now room.old }
     ensures room { IsRoomAt shown.now.circuit.now shown.now.sequences.now 0 room.new }
     ensures puts { Puts W.output out.old out.new
-        (start (trace shown.now.circuit.now shown.now.sequences.now) shown.now.places) }
+        (dump_start (trace shown.now.circuit.now shown.now.sequences.now) shown.now.places) }
 {
     out.put(b"#0\n$dumpvars\n");
     put_opening(out, shown, room);
@@ -202,7 +202,7 @@ pub(crate) fn put_times<W: CountedWrite>(
 )
     requires { IsRoomAt shown.now.circuit.now shown.now.sequences.now 0 room.old }
     ensures { Puts W.output out.old out.new
-        (times (trace shown.now.circuit.now shown.now.sequences.now) shown.now.places) }
+        (later_times (trace shown.now.circuit.now shown.now.sequences.now) shown.now.places) }
 {
     for step in 0..longest(shown) {
         if out.has_failed() {

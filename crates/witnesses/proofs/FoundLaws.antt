@@ -10,7 +10,7 @@ use Rattle.witnesses.specs.declared.witness.Property.{Property}
 use Rattle.witnesses.specs.declared.witness.Property.TheVariants.{Bad, Justice}
 use Rattle.witnesses.specs.Reaching.{bad_row, constraint_row, ReachesIn}
 use Rattle.witnesses.specs.Circuits.{bad_literals}
-use Rattle.witnesses.specs.Found.{AreTrue, IsFound, IsFoundBelow, noted}
+use Rattle.witnesses.specs.Found.{AreTrue, IsReachingStep, IsFoundBelow, noted}
 
 -- a value that is 1 stands at its place
 stands : (row : List Bool) (n : ℕ) → get_or row n false ≡ true → slice_get row n ≡ Some true
@@ -71,7 +71,7 @@ module _ (c : Netlist) (run : InputSequence) where
 
   -- where no later step reaches it, what was found so far is what is found
   pub finished : (t : ℕ) (p : Property) (found : Option ℕ) → t ≤ length run.steps → ((n u : ℕ) → t ≤ u → u < length run.steps → ReachesIn c run n u → ⊥)
-      → IsFoundBelow c run t p found → IsFound c run p found
+      → IsFoundBelow c run t p found → IsReachingStep c run p found
   finished t (Bad n) None within later none = λ u less r. elim (cases_lt u t) [
     | inl before ↦ none u before r
     | inr after ↦ later n u (omega (arith, after)) less r

@@ -11,7 +11,7 @@ use Rattle.aig_graph.specs.declared.graph.Reset.TheVariants as reset
 use Rattle.aig_graph.specs.Graph.{is_free}
 use Rattle.witnesses.specs.declared.witness.Digit.{Digit}
 use Rattle.witnesses.specs.declared.witness.Digit.TheVariants.{Either}
-use Rattle.witnesses.specs.Carrying.{free_digits, first_of, is_first, spread, opened, opening}
+use Rattle.witnesses.specs.Carrying.{free_digits, first_of, is_first, spread, opened, opening_digits}
 
 -- how many latches are free
 abbrev frees : List Latch → ℕ
@@ -36,20 +36,20 @@ module _ (latch : Latch) (latches : List Latch) where
   taken_is (digit ∷ digits) = refl
 
   taken_put : (r : Reset) (n : ℕ) (free : List Digit) → length free ≡ cond {A = ℕ} (free_reset r) 1 0 + n
-      → ((fs : List Digit) → length fs ≡ n → free_digits latches (opening latches fs) ≡ fs)
-      → taken r (opened r free ∷ opening latches (cond (free_reset r) (drop 1 free) free)) ≡ free
+      → ((fs : List Digit) → length fs ≡ n → free_digits latches (opening_digits latches fs) ≡ fs)
+      → taken r (opened r free ∷ opening_digits latches (cond (free_reset r) (drop 1 free) free)) ≡ free
   taken_put reset.Zero n free long back = back free (omega (arith, long))
   taken_put reset.One n free long back = back free (omega (arith, long))
   taken_put reset.Free n [] long back = absurd (omega (arith, long))
   taken_put reset.Free n (digit ∷ free) long back = ap (λ ds. digit ∷ ds) (back free (omega (arith, long)))
 
 -- values for the free latches that are put among the resets, and taken out again, are the same
-pub taken_back : (latches : List Latch) (free : List Digit) → length free ≡ frees latches → free_digits latches (opening latches free) ≡ free
-unfolding free_digits opening
+pub taken_back : (latches : List Latch) (free : List Digit) → length free ≡ frees latches → free_digits latches (opening_digits latches free) ≡ free
+unfolding free_digits opening_digits
 taken_back [] [] long = refl
 taken_back [] (digit ∷ free) long = absurd (omega (arith, long))
 taken_back (latch ∷ latches) free long =
-    taken_is latch latches (opening (latch ∷ latches) free)
+    taken_is latch latches (opening_digits (latch ∷ latches) free)
     ∙ taken_put latch latches latch.reset (frees latches) free (long ∙ frees-more latch latches) (taken_back latches)
 
 -- no more are taken out than are free
@@ -277,31 +277,31 @@ spread_all count place kept digits whole done h same =
 
 -- ---- latch after latch
 
-module _ (latches : List Latch) (free whole done : List Digit) (k next : ℕ) (same : whole ≡ done ++ opening (drop k latches) (drop next free)) where
+module _ (latches : List Latch) (free whole done : List Digit) (k next : ℕ) (same : whole ≡ done ++ opening_digits (drop k latches) (drop next free)) where
   opening_here : (latch : Latch) → k < length latches → latch ≡ get_or latches k latch
-      → whole ≡ (done ++ opened latch.reset (drop next free) ∷ []) ++ opening (drop (k + 1) latches) (cond (is_free latch) (drop 1 (drop next free)) (drop next free))
-  unfolding opening
+      → whole ≡ (done ++ opened latch.reset (drop next free) ∷ []) ++ opening_digits (drop (k + 1) latches) (cond (is_free latch) (drop 1 (drop next free)) (drop next free))
+  unfolding opening_digits
   opening_here latch h is =
-      same ∙ ap (λ ls. done ++ opening ls (drop next free)) (from latches k latch h is)
+      same ∙ ap (λ ls. done ++ opening_digits ls (drop next free)) (from latches k latch h is)
       ∙ sym (append_assoc done (opened latch.reset (drop next free) ∷ []) _)
 
   -- a free latch holds at step 0 the next of the values
   pub free_opened : (latch : Latch) → k < length latches → latch ≡ get_or latches k latch → is_free latch ≡ true
-      → whole ≡ (done ++ opened latch.reset (drop next free) ∷ []) ++ opening (drop (k + 1) latches) (drop (next + 1) free)
+      → whole ≡ (done ++ opened latch.reset (drop next free) ∷ []) ++ opening_digits (drop (k + 1) latches) (drop (next + 1) free)
   free_opened latch h is free_is =
       opening_here latch h is
-      ∙ ap (λ (fs : List Digit). (done ++ opened latch.reset (drop next free) ∷ []) ++ opening (drop (k + 1) latches) fs)
+      ∙ ap (λ (fs : List Digit). (done ++ opened latch.reset (drop next free) ∷ []) ++ opening_digits (drop (k + 1) latches) fs)
       (cond-true (is_free latch) (drop 1 (drop next free)) (drop next free) free_is ∙ drop-more next free)
 
   -- a known latch holds its reset at step 0, and takes none of the values
   pub known_opened : (latch : Latch) → k < length latches → latch ≡ get_or latches k latch → is_free latch ≡ false
-      → whole ≡ (done ++ opened latch.reset (drop next free) ∷ []) ++ opening (drop (k + 1) latches) (drop next free)
+      → whole ≡ (done ++ opened latch.reset (drop next free) ∷ []) ++ opening_digits (drop (k + 1) latches) (drop next free)
   known_opened latch h is known =
       opening_here latch h is
-      ∙ ap (λ (fs : List Digit). (done ++ opened latch.reset (drop next free) ∷ []) ++ opening (drop (k + 1) latches) fs)
+      ∙ ap (λ (fs : List Digit). (done ++ opened latch.reset (drop next free) ∷ []) ++ opening_digits (drop (k + 1) latches) fs)
       (cond-false (is_free latch) (drop 1 (drop next free)) (drop next free) known)
 
   -- past the last latch all have what they hold at step 0
   pub opening_all : length latches ≤ k → done ≡ whole
-  unfolding opening
-  opening_all h = sym (same ∙ ap (λ ls. done ++ opening ls (drop next free)) (past latches k h) ∙ append-nil done)
+  unfolding opening_digits
+  opening_all h = sym (same ∙ ap (λ ls. done ++ opening_digits ls (drop next free)) (past latches k h) ∙ append-nil done)

@@ -4,7 +4,7 @@ use Rattle.std.proofs.lemmas.Bool.{cond-true, cond-false}
 use Rattle.file_words.specs.Cuts.{IsFirst}
 use Rattle.file_words.specs.Lines.{lines}
 use Rattle.file_words.proofs.FirstLaws.{apart}
-use Rattle.witnesses.specs.Statements.{Statement, is_comment, with_line, statements, lines_left}
+use Rattle.witnesses.specs.Statements.{Statement, is_comment_line, with_line, statements, lines_left}
 
 -- after the last line
 pub none_left : (end : ℕ) (rest : List ℕ) → rest ≡ [] → lines_left end rest ≡ []
@@ -26,9 +26,9 @@ first_left at end now text line more within (here, first) same =
     ∙ ap (with_line at line) (any_offset (at + length line + 1) (now - length more) more (λ some. omega (arith, within, here, same, apart text line more first some)))
 
 -- a line that is a comment, and one that isn't
-pub comment_left : (at : ℕ) (text : List ℕ) (rest : List Statement) → is_comment text ≡ true → with_line at text rest ≡ rest
-comment_left at text rest is = cond-true (is_comment text) rest (record { at = at; text = text } ∷ rest) is
+pub comment_left : (at : ℕ) (text : List ℕ) (rest : List Statement) → is_comment_line text ≡ true → with_line at text rest ≡ rest
+comment_left at text rest is = cond-true (is_comment_line text) rest (record { at = at; text = text } ∷ rest) is
 
 -- a line that is no comment is the first statement of those that are left
-pub statement_left : (at : ℕ) (text : List ℕ) (rest : List Statement) → is_comment text ≡ false → with_line at text rest ≡ record { at = at; text = text } ∷ rest
-statement_left at text rest isnt = cond-false (is_comment text) rest (record { at = at; text = text } ∷ rest) isnt
+pub statement_left : (at : ℕ) (text : List ℕ) (rest : List Statement) → is_comment_line text ≡ false → with_line at text rest ≡ record { at = at; text = text } ∷ rest
+statement_left at text rest isnt = cond-false (is_comment_line text) rest (record { at = at; text = text } ∷ rest) isnt

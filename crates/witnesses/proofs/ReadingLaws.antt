@@ -12,7 +12,7 @@ use Rattle.witnesses.specs.declared.fault.WitnessError.TheVariants.{BadHeader, T
 use Rattle.witnesses.specs.Statements.{Statement}
 use Rattle.witnesses.specs.Rows.{row_of}
 use Rattle.witnesses.specs.Properties.{properties_of}
-use Rattle.witnesses.specs.Reading.{followed, status_from, properties_from, latches_from, with_step, steps_from, closed}
+use Rattle.witnesses.specs.Reading.{followed, status_from, properties_from, latches_from, with_step, steps_from, closed_witness}
 use Rattle.file_words.proofs.AnsweringLaws.{Fails-where, Gives-where}
 
 abbrev line_of : ℕ → List ℕ → Statement
@@ -100,9 +100,9 @@ module _ (width end : ℕ) (whole : Steps) (steps : List (List Digit)) (ls : Lis
 -- ---- the end
 
 -- a witness that no line follows is the witness that was read
-pub closed_last : (w : Witness) (ls : List Statement) → ls ≡ [] → closed w ls ≡ Ok w
-closed_last w ls none = ap (closed w) none
+pub closed_last : (w : Witness) (ls : List Statement) → ls ≡ [] → closed_witness w ls ≡ Ok w
+closed_last w ls none = ap (closed_witness w) none
 
 -- a line after the end of the steps is a fault
-pub closed_trailing : (w : Witness) (at : ℕ) (text : List ℕ) (ls rest : List Statement) → ls ≡ line_of at text ∷ rest → closed w ls ≡ Err (Trailing at)
-closed_trailing w at text ls rest next = ap (closed w) next
+pub closed_trailing : (w : Witness) (at : ℕ) (text : List ℕ) (ls rest : List Statement) → ls ≡ line_of at text ∷ rest → closed_witness w ls ≡ Err (Trailing at)
+closed_trailing w at text ls rest next = ap (closed_witness w) next

@@ -12,7 +12,7 @@ use Rattle.witnesses.specs.declared.witness.Digit.{Digit}
 use Rattle.witnesses.specs.declared.witness.Witness.{Witness}
 use Rattle.witnesses.specs.Circuits.{bad_literals}
 use Rattle.witnesses.specs.Carrying.{free_digits, spread}
-use Rattle.witnesses.specs.Reaching.{bad_row, Reaches}
+use Rattle.witnesses.specs.Reaching.{bad_row, ReachesBadState}
 use Rattle.witnesses.specs.Laws.{ReachesAlike, IsCarriedBack}
 use Rattle.witnesses.proofs.FreeLaws.{Rises, taken_back, taken-few, spread-length, spread-kept}
 
@@ -91,13 +91,13 @@ module _ (c d : Netlist) (kept : List ℕ) (s : SameStreams c d kept) (x : Input
   bad_at : (t : ℕ) → bad_row d x (chosen kept f) t ≡ bad_row c x f t
   bad_at t = bad_same (value d.aig x (chosen kept f) t) (value c.aig x f t) d.props c.props s.shape.bad (rows_at t)
 
-  there : (n t : ℕ) → Reaches d x (chosen kept f) n t → Reaches c x f n t
+  there : (n t : ℕ) → ReachesBadState d x (chosen kept f) n t → ReachesBadState c x f n t
   there n t r = record {
     bad = ap (λ (row : List Bool). slice_get row n) (sym (bad_at t)) ∙ r.bad;
     constrained = λ u h. ap (list_all (λ b. b)) (sym (rows_at u).constraints) ∙ r.constrained u h;
   }
 
-  back : (n t : ℕ) → Reaches c x f n t → Reaches d x (chosen kept f) n t
+  back : (n t : ℕ) → ReachesBadState c x f n t → ReachesBadState d x (chosen kept f) n t
   back n t r = record {
     bad = ap (λ (row : List Bool). slice_get row n) (bad_at t) ∙ r.bad;
     constrained = λ u h. ap (list_all (λ b. b)) (rows_at u).constraints ∙ r.constrained u h;

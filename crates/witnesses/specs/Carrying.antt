@@ -36,13 +36,13 @@ opened reset.One free = One
 opened reset.Free free = first_of free
 
 -- what latches hold at step 0: the known ones their resets, the free ones these values, in order
-unfoldable pub opening : List Latch → List Digit → List Digit
-opening [] free = []
-opening (latch ∷ latches) free = opened latch.reset free ∷ opening latches (if is_free latch then drop 1 free else free)
+unfoldable pub opening_digits : List Latch → List Digit → List Digit
+opening_digits [] free = []
+opening_digits (latch ∷ latches) free = opened latch.reset free ∷ opening_digits latches (if is_free latch then drop 1 free else free)
 
 -- what c's latches hold at step 0, where those of its free latches at the kept places hold these values
 abbrev pub carried_digits : Graph → List ℕ → List Digit → List Digit
-carried_digits c kept free = opening c.latches (spread (free_latches c) 0 kept free)
+carried_digits c kept free = opening_digits c.latches (spread (free_latches c) 0 kept free)
 
 -- a witness of d as one of c, where d's free latches are those at the kept places among c's
 abbrev pub carried : Graph → Graph → List ℕ → Witness → Witness

@@ -53,9 +53,9 @@ pub record IsObjected (c d : Netlist) (run other : InputSequence) (properties : 
   pub here : slice_get properties place ≡ Some property
   pub objected : IsAgreed c d run other property (Err objection)
 
-abbrev pub IsConfirmed : Netlist → Netlist → InputSequence → InputSequence → List Property → Result (List Reached) Objection → Type 0
-IsConfirmed c d run other properties (Ok reached) = AreAgreed c d run other properties reached
-IsConfirmed c d run other properties (Err objection) = IsObjected c d run other properties objection
+abbrev pub IsConfirmation : Netlist → Netlist → InputSequence → InputSequence → List Property → Result (List Reached) Objection → Type 0
+IsConfirmation c d run other properties (Ok reached) = AreAgreed c d run other properties reached
+IsConfirmation c d run other properties (Err objection) = IsObjected c d run other properties objection
 
 abbrev pub with_reached : Witness → Result (List Reached) Objection → Result Confirmed Objection
 with_reached w (Ok reached) = Ok (record { witness = w; reached = reached })
@@ -69,4 +69,4 @@ settled_back c d kept w = settled_witness (carried c.aig d.aig kept w)
 pub record IsConfirmedBack (c d : Netlist) (kept : List ℕ) (w : Witness) (found : Result Confirmed Objection) : Type 0 where
   pub said : Result (List Reached) Objection
   pub is : found ≡ with_reached (settled_back c d kept w) said
-  pub agreed : IsConfirmed c d (run_of c.aig (settled_back c d kept w)) (run_of d.aig w) w.properties said
+  pub agreed : IsConfirmation c d (run_of c.aig (settled_back c d kept w)) (run_of d.aig w) w.properties said

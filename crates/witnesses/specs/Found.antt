@@ -34,10 +34,10 @@ IsFoundBelow c run t (Bad n) found = MatchOption found ((u : ℕ) → u < t → 
 IsFoundBelow c run t (Justice n) found = Unit {0}
 
 -- the first step of the sequence that reaches it, or that none does
-abbrev pub IsFound : Netlist → InputSequence → Property → Option ℕ → Type 0
-IsFound c run (Bad n) found = MatchOption found (NeverReached c run n) (IsFirstReached c run n)
-IsFound c run (Justice n) found = Unit {0}
+abbrev pub IsReachingStep : Netlist → InputSequence → Property → Option ℕ → Type 0
+IsReachingStep c run (Bad n) found = MatchOption found (NeverReached c run n) (IsFirstReached c run n)
+IsReachingStep c run (Justice n) found = Unit {0}
 
 -- that of each property
 abbrev pub AreFound : Netlist → InputSequence → List Property → List (Option ℕ) → Type 0
-AreFound c run properties found = (i : ℕ) (p : Property) → slice_get properties i ≡ Some p → IsFound c run p (slice_index_or found i None)
+AreFound c run properties found = (i : ℕ) (p : Property) → slice_get properties i ≡ Some p → IsReachingStep c run p (slice_index_or found i None)

@@ -8,7 +8,7 @@ use Rattle.witnesses.specs.declared.witness.Digit.{Digit}
 use Rattle.witnesses.specs.declared.witness.Digit.TheVariants.{Zero, One, Either}
 use Rattle.witnesses.specs.declared.witness.Witness.{Witness}
 use Rattle.witnesses.specs.Carrying.{free_digits, carried}
-use Rattle.witnesses.specs.Reaching.{Reaches}
+use Rattle.witnesses.specs.Reaching.{ReachesBadState}
 
 -- a value that a digit stands for
 abbrev pub Allows : Digit → Bool → Type 0
@@ -26,13 +26,13 @@ pub record Agrees (g : Graph) (w : Witness) (x : Inputs) (f : Choice) : Type 0 w
   pub choice : AllowsRow (free_digits g.latches w.latches) f
 
 -- whatever it stands for, bad state n is reached at step t
-abbrev pub IsWitness : Netlist → Witness → ℕ → ℕ → Type 0
-IsWitness c w n t = (x : Inputs) (f : Choice) → Agrees c.aig w x f → Reaches c x f n t
+abbrev pub ShowsBadState : Netlist → Witness → ℕ → ℕ → Type 0
+ShowsBadState c w n t = (x : Inputs) (f : Choice) → Agrees c.aig w x f → ReachesBadState c x f n t
 
 -- each bad state is reached at the same steps
 abbrev pub ReachesAlike : Netlist → Netlist → List ℕ → Type 0
-ReachesAlike c d kept = SameStreams c d kept → (x : Inputs) (f : Choice) (n t : ℕ) → Reaches d x (chosen kept f) n t ↔ Reaches c x f n t
+ReachesAlike c d kept = SameStreams c d kept → (x : Inputs) (f : Choice) (n t : ℕ) → ReachesBadState d x (chosen kept f) n t ↔ ReachesBadState c x f n t
 
 -- a witness of d, carried back, is one of c
 abbrev pub IsCarriedBack : Netlist → Netlist → List ℕ → Witness → Type 0
-IsCarriedBack c d kept w = SameStreams c d kept → (n t : ℕ) → IsWitness d w n t → IsWitness c (carried c.aig d.aig kept w) n t
+IsCarriedBack c d kept w = SameStreams c d kept → (n t : ℕ) → ShowsBadState d w n t → ShowsBadState c (carried c.aig d.aig kept w) n t

@@ -18,14 +18,14 @@ abbrev pub property_of : List ℕ → Option Property
 property_of [] = None
 property_of (letter ∷ digits) = option_and_then (lettered letter) (number_of digits)
 
-abbrev pub has : Widths → Property → Bool
-has w (Bad n) = nat_lt n w.bad
-has w (Justice n) = nat_lt n w.justice
+abbrev pub has_property : Widths → Property → Bool
+has_property w (Bad n) = nat_lt n w.bad
+has_property w (Justice n) = nat_lt n w.justice
 
 -- the property, where there is one
 abbrev pub checked : Widths → ℕ → Option Property → Result Property WitnessError
 checked w at None = Err (BadLine at)
-checked w at (Some property) = if has w property then Ok property else Err (NoSuchProperty at)
+checked w at (Some property) = if has_property w property then Ok property else Err (NoSuchProperty at)
 
 -- the properties after one more word
 abbrev pub with_property : Widths → ℕ → List Property → List ℕ → Result (List Property) WitnessError

@@ -15,13 +15,13 @@ abbrev pub constraint_row : Netlist → Inputs → Choice → ℕ → List Bool
 constraint_row c x f t = map (value c.aig x f t) c.props.constraints
 
 -- bad state n is reached at step t: it is 1, and each constraint has been 1 up to then
-pub record Reaches (c : Netlist) (x : Inputs) (f : Choice) (n t : ℕ) : Type 0 where
+pub record ReachesBadState (c : Netlist) (x : Inputs) (f : Choice) (n t : ℕ) : Type 0 where
   pub bad : slice_get (bad_row c x f t) n ≡ Some true
   pub constrained : (u : ℕ) → u ≤ t → list_all (λ b. b) (constraint_row c x f u) ≡ true
 
 -- the same under an input sequence
 abbrev pub ReachesIn : Netlist → InputSequence → ℕ → ℕ → Type 0
-ReachesIn c run n t = Reaches c (inputs_of run) (choice_of run) n t
+ReachesIn c run n t = ReachesBadState c (inputs_of run) (choice_of run) n t
 
 -- no step of the sequence reaches it
 abbrev pub NeverReached : Netlist → InputSequence → ℕ → Type 0

@@ -43,14 +43,14 @@ steps_from width end steps (line ∷ rest) =
     if is_word line.text (codes ".") then Ok (steps, rest) else (with_step width line.at line.text steps >>= λ more. steps_from width end more rest)
 
 -- and nothing more
-abbrev pub closed : Witness → List Statement → Result Witness WitnessError
-closed w [] = Ok w
-closed w (line ∷ rest) = Err (Trailing line.at)
+abbrev pub closed_witness : Witness → List Statement → Result Witness WitnessError
+closed_witness w [] = Ok w
+closed_witness w (line ∷ rest) = Err (Trailing line.at)
 
 -- the parts of a witness, one after another
 abbrev pub inputs_then : Widths → ℕ → List Property → List Digit → List Statement → Result Witness WitnessError
 inputs_then w end properties latches rest =
-    steps_from w.inputs end [] rest >>= λ inputs. closed (record { properties = properties; latches = latches; inputs = inputs.0 }) inputs.1
+    steps_from w.inputs end [] rest >>= λ inputs. closed_witness (record { properties = properties; latches = latches; inputs = inputs.0 }) inputs.1
 
 abbrev pub latches_then : Widths → ℕ → List Property → List Statement → Result Witness WitnessError
 latches_then w end properties rest = latches_from w.latches end rest >>= λ latches. inputs_then w end properties latches.0 latches.1

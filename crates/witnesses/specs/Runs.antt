@@ -14,12 +14,12 @@ is_one One = true
 is_one Either = false
 
 -- the value that is taken, as a digit
-abbrev pub settled : Digit → Digit
-settled d = if is_one d then One else Zero
+abbrev pub taken_digit : Digit → Digit
+taken_digit d = if is_one d then One else Zero
 
 -- a witness with the values that are taken: it has no x
 abbrev pub settled_witness : Witness → Witness
-settled_witness w = record { properties = w.properties; latches = map settled w.latches; inputs = map (map settled) w.inputs }
+settled_witness w = record { properties = w.properties; latches = map taken_digit w.latches; inputs = map (map taken_digit) w.inputs }
 
 -- the input sequence with them
 abbrev pub run_of : Graph → Witness → InputSequence

@@ -8,13 +8,13 @@ pub record Statement : Type 0 where
   pub text : List ℕ
 
 -- whether a line begins with c
-abbrev pub is_comment : List ℕ → Bool
-is_comment [] = false
-is_comment (first ∷ rest) = first == 99
+abbrev pub is_comment_line : List ℕ → Bool
+is_comment_line [] = false
+is_comment_line (first ∷ rest) = first == 99
 
 -- a line more in front, unless it is a comment
 abbrev pub with_line : ℕ → List ℕ → List Statement → List Statement
-with_line at text rest = if is_comment text then rest else record { at = at; text = text } ∷ rest
+with_line at text rest = if is_comment_line text then rest else record { at = at; text = text } ∷ rest
 
 -- the lines from an offset on
 unfoldable pub statements : ℕ → List (List ℕ) → List Statement

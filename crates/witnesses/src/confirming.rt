@@ -4,8 +4,8 @@ ghost use Rattle.std.specs.Prelude.{◌≡◌, IfOk, length};
 ghost use Rattle.aig_graph.specs.Circuits.{Netlist};
 ghost use Rattle.lane_sim.specs.declared.stimulus.InputSequence.{InputSequence};
 ghost use Rattle.witnesses.specs.declared.witness.Property.TheVariants.{Bad};
-ghost use Rattle.witnesses.specs.Found.{AreFound, IsFound};
-ghost use Rattle.witnesses.specs.Confirming.{is_step, with_reached, IsAgreed, IsConfirmed, IsConfirmedBack};
+ghost use Rattle.witnesses.specs.Found.{AreFound, IsReachingStep};
+ghost use Rattle.witnesses.specs.Confirming.{is_step, with_reached, IsAgreed, IsConfirmation, IsConfirmedBack};
 
 use crate::carrying::carried_back;
 use crate::runs::steps_found;
@@ -64,8 +64,8 @@ fn agreed_step(
     found: Option<usize>,
     retimed_found: Option<usize>,
 ) -> Result<Reached, Objection>
-    ensures { (c d : Netlist) (run other : InputSequence) → IsFound c run (Bad number) found
-        → IsFound d other (Bad number) retimed_found
+    ensures { (c d : Netlist) (run other : InputSequence) → IsReachingStep c run (Bad number) found
+        → IsReachingStep d other (Bad number) retimed_found
         → IsAgreed c d run other (Bad number) result }
 {
     let property = Property::Bad(number);
@@ -84,8 +84,8 @@ fn agreed(
     found: Option<usize>,
     retimed_found: Option<usize>,
 ) -> Result<Reached, Objection>
-    ensures { (c d : Netlist) (run other : InputSequence) → IsFound c run property found
-        → IsFound d other property retimed_found → IsAgreed c d run other property result }
+    ensures { (c d : Netlist) (run other : InputSequence) → IsReachingStep c run property found
+        → IsReachingStep d other property retimed_found → IsAgreed c d run other property result }
 {
     match property {
         Property::Bad(number) => agreed_step(number, found, retimed_found),
@@ -105,7 +105,7 @@ fn all_agreed(
     ensures { IfOk result (λ said. (c d : Netlist) (run other : InputSequence)
         → AreFound c run properties.now found.now
         → AreFound d other properties.now retimed_found.now
-        → IsConfirmed c d run other properties.now said) }
+        → IsConfirmation c d run other properties.now said) }
 {
     let mut reached = Vec::new(alloc);
     for k in 0..properties.len() {

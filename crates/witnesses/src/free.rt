@@ -3,7 +3,7 @@
 ghost use Rattle.std.specs.Prelude.{◌≡◌, IfOk, drop};
 ghost use Rattle.std.specs.List.{slice_index_or};
 ghost use Rattle.aig_graph.specs.Graph.{is_free};
-ghost use Rattle.witnesses.specs.Carrying.{free_digits, is_first, opened, opening, spread};
+ghost use Rattle.witnesses.specs.Carrying.{free_digits, is_first, opened, opening_digits, spread};
 ghost use Rattle.witnesses.specs.declared.witness.Digit.TheVariants.{Either};
 
 use crate::witness::Digit;
@@ -90,7 +90,7 @@ pub(crate) fn opening(
     latches: &[Latch],
     free: &[Digit],
 ) -> Result<Vec<Digit>, NoMemory>
-    ensures { IfOk result (λ digits. digits.items ≡ opening latches.now free.now) }
+    ensures { IfOk result (λ digits. digits.items ≡ opening_digits latches.now free.now) }
 {
     let mut digits = Vec::new(alloc);
     let mut next = 0;

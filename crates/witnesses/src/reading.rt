@@ -3,7 +3,7 @@
 ghost use Rattle.std.specs.Prelude.{ℕ, ◌≡◌, ◌⊎◌, [], IfOk, IfErr, Ok, Err};
 ghost use Rattle.witnesses.specs.declared.fault.WitnessError.TheVariants.{NoMemory};
 ghost use Rattle.file_words.specs.Answering.{Gives};
-ghost use Rattle.witnesses.specs.Reading.{closed, latches_from, properties_from, read_text, status_from, steps_from, with_step};
+ghost use Rattle.witnesses.specs.Reading.{closed_witness, latches_from, properties_from, read_text, status_from, steps_from, with_step};
 ghost use Rattle.witnesses.specs.Statements.{left};
 
 use crate::fault::WitnessError;
@@ -94,7 +94,7 @@ fn step_lines(
 
 /// The witness, where nothing but comments follows.
 fn closed(lines: &mut Lines<'_>, witness: Witness) -> Result<Witness, WitnessError>
-    ensures { result ≡ closed witness (left lines.old) }
+    ensures { result ≡ closed_witness witness (left lines.old) }
 {
     match following(lines) {
         Some(line) => Err(WitnessError::Trailing(line.at)),

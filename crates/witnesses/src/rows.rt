@@ -2,7 +2,7 @@ ghost use Rattle.std.specs.Prelude.{◌≡◌, IfOk, map};
 ghost use Rattle.std.specs.List.{list_all};
 ghost use Rattle.witnesses.specs.declared.fault.WitnessError.TheVariants.{NoMemory};
 ghost use Rattle.file_words.specs.Answering.{Gives};
-ghost use Rattle.witnesses.specs.Rows.{digit_of, is_digit, row_of};
+ghost use Rattle.witnesses.specs.Rows.{digit_of, is_ternary_digit, row_of};
 
 use crate::fault::WitnessError;
 use crate::witness::Digit;
@@ -22,7 +22,7 @@ fn digit(byte: u8) -> Digit
 
 /// Whether each byte is 0, 1 or x.
 fn are_digits(bytes: &[u8]) -> bool
-    ensures { result ≡ list_all is_digit bytes.now }
+    ensures { result ≡ list_all is_ternary_digit bytes.now }
 {
     bytes
         .iter()

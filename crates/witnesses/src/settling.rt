@@ -1,6 +1,6 @@
 //! A witness with the values that are simulated, so that what is confirmed has no x.
 ghost use Rattle.std.specs.Prelude.{◌≡◌, IfOk, map};
-ghost use Rattle.witnesses.specs.Runs.{settled, settled_witness};
+ghost use Rattle.witnesses.specs.Runs.{taken_digit, settled_witness};
 
 use crate::runs::is_one;
 use crate::witness::{Digit, Witness};
@@ -8,7 +8,7 @@ use aig_graph::{NoMemory, Sequence};
 use std::alloc::Global;
 
 fn settled(digit: Digit) -> Digit
-    ensures { result ≡ settled digit }
+    ensures { result ≡ taken_digit digit }
 {
     if is_one(digit) {
         Digit::One
@@ -18,7 +18,7 @@ fn settled(digit: Digit) -> Digit
 }
 
 fn settled_row(alloc: Global, digits: &[Digit]) -> Result<Sequence<Digit>, NoMemory>
-    ensures { IfOk result (λ row. row ≡ map settled digits.now) }
+    ensures { IfOk result (λ row. row ≡ map taken_digit digits.now) }
 {
     let mut row = Vec::with_capacity(alloc, digits.len())?;
     for digit in digits {
@@ -31,7 +31,7 @@ fn settled_rows(
     alloc: Global,
     rows: &[Sequence<Digit>],
 ) -> Result<Sequence<Sequence<Digit>>, NoMemory>
-    ensures { IfOk result (λ settled_rows. settled_rows ≡ map (map settled) rows.now) }
+    ensures { IfOk result (λ settled_rows. settled_rows ≡ map (map taken_digit) rows.now) }
 {
     let mut all = Vec::with_capacity(alloc, rows.len())?;
     for row in rows {

@@ -3,7 +3,7 @@ ghost use Rattle.std.specs.Prelude.{◌≡◌, []};
 ghost use Rattle.file_words.specs.Lines.{pieces};
 ghost use Rattle.witnesses.specs.declared.fault.WitnessError.TheVariants.{NoMemory};
 ghost use Rattle.file_words.specs.Answering.{Gives};
-ghost use Rattle.witnesses.specs.Properties.{has, properties_of, property_of, with_property};
+ghost use Rattle.witnesses.specs.Properties.{has_property, properties_of, property_of, with_property};
 
 use crate::fault::WitnessError;
 use crate::widths::Widths;
@@ -27,7 +27,7 @@ fn property(word: &[u8]) -> Option<Property>
 
 /// Whether there is the property.
 fn has(widths: &Widths, property: Property) -> bool
-    ensures { result ≡ has widths.now property }
+    ensures { result ≡ has_property widths.now property }
 {
     match property {
         Property::Bad(number) => number < widths.bad,

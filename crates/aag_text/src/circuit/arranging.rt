@@ -1,6 +1,6 @@
 //! Literals by the ranks of their gates.
 ghost use Rattle.std.specs.Prelude.{◌≡◌, ◌+◌, ◌<◌, length, map, All, IfOk};
-ghost use Rattle.aag_text.specs.Arranging.{AreMovable, IsBelow, IsGateBelow, gates_in_order, moved, moved_latch};
+ghost use Rattle.aag_text.specs.Arranging.{AreMovable, IsBelow, HasFanInsBelow, gates_in_order, moved, moved_latch};
 
 use aig_graph::{Gate, Latch, Lit, NoMemory};
 use std::alloc::Global;
@@ -68,7 +68,7 @@ pub(crate) fn gates(
 ) -> Result<Vec<Gate>, NoMemory>
     requires movable { AreMovable first ranks.now }
     requires order { All (λ g. g < length gates.now) order.now }
-    requires below { All (IsGateBelow (first + length ranks.now)) gates.now }
+    requires below { All (HasFanInsBelow (first + length ranks.now)) gates.now }
     ensures { IfOk result (λ found. found.items ≡ gates_in_order first ranks.now order.now
         gates.now) }
 {

@@ -4,7 +4,7 @@ ghost use Rattle.gate_order.specs.Order.{ordered, IsOrder, AreReadsInFile};
 ghost use Rattle.file_words.specs.declared.fault.ReadError.TheVariants as faults;
 ghost use Rattle.file_words.specs.Answering.{Gives};
 ghost use Rattle.aag_text.specs.Arranging as arranging;
-ghost use Rattle.aag_text.specs.Arranging.{gate_read, order_or_cycle, AreRanks, AreDistinct, IsGateBelow};
+ghost use Rattle.aag_text.specs.Arranging.{gate_read, order_or_cycle, AreRanks, AreDistinct, HasFanInsBelow};
 
 use aig_graph::{Gate, Lit, NoMemory};
 use file_words::ReadError;
@@ -24,7 +24,7 @@ fn gate_place(first: u32, lit: Lit) -> Option<u32>
 
 /// What each gate reads of the others, where their variables begin with `first`.
 fn reads_of(alloc: Global, first: u32, gates: &[Gate]) -> Result<Vec<Reads>, NoMemory>
-    ensures { IfOk result (λ reads. reads.items ≡ map (arranging.reads_of first) gates.now) }
+    ensures { IfOk result (λ reads. reads.items ≡ map (arranging.reads_of_gate first) gates.now) }
 {
     let mut reads = Vec::with_capacity(alloc, gates.len())?;
     for gate in gates {
@@ -39,9 +39,9 @@ fn reads_of(alloc: Global, first: u32, gates: &[Gate]) -> Result<Vec<Reads>, NoM
 /// The file places of the gates in the order that they take in the circuit, or `Cycle`.
 pub(crate) fn order(alloc: Global, first: u32, gates: &[Gate]) -> Result<Vec<u32>, ReadError>
     requires few { length gates.now < 2 ^ 28 }
-    requires in_file { AreReadsInFile (map (arranging.reads_of first) gates.now) }
+    requires in_file { AreReadsInFile (map (arranging.reads_of_gate first) gates.now) }
     ensures { Gives faults.NoMemory (λ order. order.items) result (order_or_cycle
-        (ordered (map (arranging.reads_of first) gates.now))) }
+        (ordered (map (arranging.reads_of_gate first) gates.now))) }
 {
     let Ok(reads) = reads_of(alloc, first, gates) else {
         return Err(ReadError::NoMemory);

@@ -13,7 +13,7 @@ ghost use Rattle.file_words.specs.declared.fault.ReadError.TheVariants as faults
 ghost use Rattle.file_words.specs.Answering.{Fails, Gives};
 ghost use Rattle.reader_parts.specs.Parts.{AreNamesWithin};
 ghost use Rattle.aag_text.specs.Arranging.{AreRanks, graph_in_order, moved, order_or_cycle};
-ghost use Rattle.aag_text.specs.Resolving.{AreRead, ArePlaced, IsArranged, IsConsistent, IsOrdered, placed_reads, raw_of};
+ghost use Rattle.aag_text.specs.Resolving.{AreListsRead, PlacedListsFit, IsArranged, IsConsistent, IsOrdered, placed_reads, raw_of};
 
 use crate::circuit::arranging;
 use crate::circuit::lists::RawLists;
@@ -34,7 +34,7 @@ fn graph(
     order: &[u32],
     ranks: &[u32],
 ) -> Result<Aig, NoMemory>
-    requires placed { ArePlaced header.now sizes.now placed.now }
+    requires placed { PlacedListsFit header.now sizes.now placed.now }
     requires order { IsOrder (placed_reads header.now placed.now) order.now }
     requires ranks { AreRanks order.now ranks.now }
     ensures { IfOk result (λ aig. aig ≡ graph_in_order header.now.inputs placed.now.latches
@@ -55,7 +55,7 @@ fn properties(
     order: &[u32],
     ranks: &[u32],
 ) -> Result<Props, NoMemory>
-    requires placed { ArePlaced header.now sizes.now placed.now }
+    requires placed { PlacedListsFit header.now sizes.now placed.now }
     requires order { IsOrder (placed_reads header.now placed.now) order.now }
     requires ranks { AreRanks order.now ranks.now }
     ensures { IfOk result (λ props. props ≡ props_of header.now
@@ -85,7 +85,7 @@ fn without_names(
     placed: &Placed,
     order: &[u32],
 ) -> Result<Unnamed, NoMemory>
-    requires placed { ArePlaced header.now sizes.now placed.now }
+    requires placed { PlacedListsFit header.now sizes.now placed.now }
     requires order { IsOrder (placed_reads header.now placed.now) order.now }
     ensures { IfOk result (λ circuit. (names : Symbols)
         → IsArranged header.now sizes.now placed.now names order.now
@@ -117,7 +117,7 @@ fn circuit(
     order: &[u32],
     names: Names,
 ) -> Result<Circuit, NoMemory>
-    requires placed { ArePlaced header.now sizes.now placed.now }
+    requires placed { PlacedListsFit header.now sizes.now placed.now }
     requires order { IsOrder (placed_reads header.now placed.now) order.now }
     requires names { AreNamesWithin header.now names }
     ensures { IfOk result (λ circuit. IsArranged header.now sizes.now placed.now names
@@ -137,7 +137,7 @@ fn in_order(
     placed: Placed,
     names: Names,
 ) -> Result<Circuit, ReadError>
-    requires placed { ArePlaced header.now sizes.now placed }
+    requires placed { PlacedListsFit header.now sizes.now placed }
     requires names { AreNamesWithin header.now names }
     ensures ok { IfOk result (λ circuit. IsOrdered header.now sizes.now placed names circuit) }
     ensures err { IfErr result (λ e. Fails faults.NoMemory e (order_or_cycle
@@ -165,7 +165,7 @@ pub fn resolve(alloc: Global, lists: RawLists) -> Result<Circuit, ReadError>
     requires within { IsHeaderWithin lists.header }
     requires small { 1 + length lists.inputs.items + length lists.latches.items + length
         lists.gates.items ≤ 2 ^ 28 }
-    ensures { (symbols : List RawSymbol) → AreRead lists symbols
+    ensures { (symbols : List RawSymbol) → AreListsRead lists symbols
         → Gives faults.NoMemory (λ circuit. circuit) result
         (reading.resolve lists.header (raw_of lists symbols)) }
 {

@@ -17,7 +17,7 @@ pub(crate) fn only(numbers: &[u32]) -> Option<u32>
 
 /// The latch of two or three numbers.
 pub(crate) fn latch_of(numbers: &[u32]) -> Option<RawLatch>
-    ensures { result ≡ items.latch_of numbers.now }
+    ensures { result ≡ items.latch_of_numbers numbers.now }
 {
     match numbers {
         [current, next] => Some(RawLatch {
@@ -36,7 +36,7 @@ pub(crate) fn latch_of(numbers: &[u32]) -> Option<RawLatch>
 
 /// The gate of three numbers.
 pub(crate) fn gate_of(numbers: &[u32]) -> Option<RawGate>
-    ensures { result ≡ items.gate_of numbers.now }
+    ensures { result ≡ items.gate_of_numbers numbers.now }
 {
     match numbers {
         [lhs, rhs0, rhs1] => Some(RawGate {

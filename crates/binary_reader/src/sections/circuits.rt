@@ -11,7 +11,7 @@ impl Sections {
     ghost use Rattle.ascii_file.specs.Raw.{Raw};
     ghost use Rattle.file_words.specs.declared.fault.ReadError.TheVariants.{NoMemory};
     ghost use Rattle.file_words.specs.Answering.{Gives};
-    ghost use Rattle.binary_reader.specs.Contents.{IsAt, section_of, netlist_of};
+    ghost use Rattle.binary_reader.specs.Contents.{IsAt, section_to_fill, netlist_of_contents};
     ghost use Rattle.binary_reader.specs.Taking.{circuit_at_end};
 
     /// The circuit of all that was read of an input of this length.
@@ -30,8 +30,8 @@ impl Sections {
     }
 
     fn into_circuit(self, alloc: Global) -> Result<Circuit, ReadError>
-        requires { section_of self ≡ Symbols }
-        ensures { Gives NoMemory (λ c. c) result (Ok (netlist_of self)) }
+        requires { section_to_fill self ≡ Symbols }
+        ensures { Gives NoMemory (λ c. c) result (Ok (netlist_of_contents self)) }
     {
         let Sections {
             header,

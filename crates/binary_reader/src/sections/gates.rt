@@ -13,9 +13,9 @@ impl Sections {
     ghost use Rattle.file_words.specs.declared.fault.ReadError.TheVariants.{NoMemory};
     ghost use Rattle.file_words.specs.Answering.{Gives};
     ghost use Rattle.binary_file.specs.Items.{next_section, next_gate};
-    ghost use Rattle.binary_reader.specs.Contents.{IsAt, section_of, gate_literal};
-    ghost use Rattle.binary_reader.specs.Items.{with_gate};
-    ghost use Rattle.binary_reader.specs.Taking.{Takes, TakesGates, read_first, read_second};
+    ghost use Rattle.binary_reader.specs.Contents.{IsAt, section_to_fill, gate_literal};
+    ghost use Rattle.binary_reader.specs.Items.{contents_with_gate};
+    ghost use Rattle.binary_reader.specs.Taking.{Takes, TakesGates, read_first_delta, read_second_delta};
 
     /// The first fan-in of the next gate, by its delta, which begins at the offset.
     ///
@@ -24,7 +24,7 @@ impl Sections {
     /// `BadDelta` where the delta is 0 or above the gate's literal.
     pub fn first_fan_in(&self, at: u64, delta: u64) -> Result<u32, ReadError>
         ensures { (h : Header) (raw : Raw) → IsAt self.now h raw
-            → result ≡ read_first h raw at delta }
+            → result ≡ read_first_delta h raw at delta }
     {
         let gate = self.gate_literal();
         if delta == 0 || delta > u64::from(gate) {
@@ -41,7 +41,7 @@ impl Sections {
     pub fn take_gate(&mut self, at: u64, rhs0: u32, delta: u64) -> Result<(), ReadError>
         ensures { (h : Header) (raw : Raw) → IsAt self.old h raw → next_section h raw ≡ Gates
             → rhs0 < next_gate h raw
-            → Takes h self.new result (read_second h raw at rhs0 delta) }
+            → Takes h self.new result (read_second_delta h raw at rhs0 delta) }
     {
         if delta > u64::from(rhs0) {
             return Err(ReadError::BadDelta(at));
@@ -74,9 +74,9 @@ impl Sections {
     /// Adds a gate, where one is missing and these are fan-ins below its own literal.
     fn push_gate(&mut self, at: u64, rhs0: u32, rhs1: u32) -> Result<(), ReadError>
         requires { rhs1 ≤ rhs0 }
-        ensures { section_of self.old ≡ Gates → rhs0 < gate_literal self.old
+        ensures { section_to_fill self.old ≡ Gates → rhs0 < gate_literal self.old
             → Gives NoMemory (λ _. self.new) result
-            (Ok (with_gate self.old (record { rhs0 = rhs0; rhs1 = rhs1 }))) }
+            (Ok (contents_with_gate self.old (record { rhs0 = rhs0; rhs1 = rhs1 }))) }
     {
         let is_missing = self.gates.len() < self.header.gates as usize;
         if !is_missing || rhs0 >= self.gate_literal() {
@@ -91,7 +91,7 @@ impl Sections {
         requires ordered { rhs1 ≤ rhs0 }
         requires below { rhs0 < gate_literal self.old }
         ensures gate { Gives NoMemory (λ _. self.new) result
-            (Ok (with_gate self.old (record { rhs0 = rhs0; rhs1 = rhs1 }))) }
+            (Ok (contents_with_gate self.old (record { rhs0 = rhs0; rhs1 = rhs1 }))) }
         ensures error { IfErr result (λ error. error ≡ NoMemory) }
     {
         self.gates.push(Gate {

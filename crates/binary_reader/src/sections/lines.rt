@@ -20,7 +20,7 @@ impl Sections {
     ghost use Rattle.reader_parts.specs.Rows.{row_of};
     ghost use Rattle.binary_file.specs.Items.{next_section};
     ghost use Rattle.binary_file.specs.Reading.{read_line};
-    ghost use Rattle.binary_reader.specs.Contents.{IsAt, section_of, latch_literal};
+    ghost use Rattle.binary_reader.specs.Contents.{IsAt, section_to_fill, latch_literal};
     ghost use Rattle.binary_reader.specs.Items.{latch_taken, safety_taken, size_taken, liveness_taken};
     ghost use Rattle.binary_reader.specs.Taking.{Takes};
 
@@ -53,7 +53,7 @@ impl Sections {
     }
 
     fn take_latch(&mut self, at: u64, numbers: &[u32]) -> Result<(), ReadError>
-        requires { section_of self.old ≡ section.Latches }
+        requires { section_to_fill self.old ≡ section.Latches }
         ensures { Gives NoMemory (λ _. self.new) result (latch_taken self.old at numbers.now) }
     {
         let (next, reset) = latch_numbers(at, numbers)?;
@@ -75,7 +75,7 @@ impl Sections {
     }
 
     fn take_safety(&mut self, at: u64, numbers: &[u32]) -> Result<(), ReadError>
-        requires { section_of self.old ≡ section.Safety }
+        requires { section_to_fill self.old ≡ section.Safety }
         ensures { Gives NoMemory (λ _. self.new) result (safety_taken self.old at numbers.now) }
     {
         let number = only_number(at, numbers)?;
@@ -85,7 +85,7 @@ impl Sections {
     }
 
     fn take_size(&mut self, at: u64, numbers: &[u32]) -> Result<(), ReadError>
-        requires { section_of self.old ≡ section.Sizes }
+        requires { section_to_fill self.old ≡ section.Sizes }
         ensures { Gives NoMemory (λ _. self.new) result (size_taken self.old at numbers.now) }
     {
         let size = only_number(at, numbers)?;
@@ -97,7 +97,7 @@ impl Sections {
     }
 
     fn take_liveness(&mut self, at: u64, numbers: &[u32]) -> Result<(), ReadError>
-        requires { section_of self.old ≡ section.Liveness }
+        requires { section_to_fill self.old ≡ section.Liveness }
         ensures { Gives NoMemory (λ _. self.new) result (liveness_taken self.old at numbers.now) }
     {
         let number = only_number(at, numbers)?;

@@ -4,12 +4,12 @@ use Rattle.file_words.specs.declared.fault.ReadError.TheVariants.{MaxIndex}
 use Rattle.file_words.specs.Answering.{◌>>=◌}
 use Rattle.ascii_file.specs.declared.header.Header.{Header}
 use Rattle.ascii_file.specs.Reading.{unless}
-use Rattle.binary_reader.specs.Header.{is_off}
+use Rattle.binary_reader.specs.Header.{is_miscounted}
 use Rattle.binary_reader.proofs.HeaderLaws.{read-header}
 use Rattle.binary_reader.proofs.header.binary_header.Goals as goal
 
 abbrev total : Result Header ReadError → Result Header ReadError
-total r = r >>= λ h. unless ((is_off h, MaxIndex 0) ∷ []) (Ok h)
+total r = r >>= λ h. unless ((is_miscounted h, MaxIndex 0) ∷ []) (Ok h)
 
 pub returns-in-Ok-clause-header : goal.returns-in-Ok-clause-header
 returns-in-Ok-clause-header c line e = c.with_all_variables.ensures ∙ ap total (sym c.in-Ok.is ∙ c.limited.ensures) ∙ read-header _ line e

@@ -2,7 +2,7 @@ use Rattle.std.proofs.Common.{◌≡◌, ◌∙◌, ◌∷◌, ◌++◌, [], ap,
 use Rattle.frame_net.specs.declared.net.Point.{Point}
 use Rattle.frame_net.specs.FlowNet.{FlowNet, node_count, row_len}
 use Rattle.pulse.specs.Values.{RunEnd}
-use Rattle.cut_cert.specs.Walks.{AreOn, AreSearched, NoneComes, WalkedBack, total}
+use Rattle.cut_cert.specs.Walks.{AreOn, AreSearched, NoneComes, WalkedBack, total_outflow}
 use Rattle.cut_cert.proofs.TrailLaws.{none-on, on-lent}
 use Rattle.cut_cert.proofs.RouteLaws.{Gathering, no-routes, more-routes, all-routes, written-back, searched-first}
 use Rattle.cut_cert.proofs.gathering.routes.Goals as goal
@@ -60,7 +60,7 @@ loop-end-preserved c =
     }
 
 pub loop-end-smaller : goal.loop-end-smaller
-loop-end-smaller c = omega (arith, ap (total c.args.net.now) (left c), (walked c).less)
+loop-end-smaller c = omega (arith, ap (total_outflow c.args.net.now) (left c), (walked c).less)
 
 pub returns : goal.returns
 returns c =

@@ -1,6 +1,6 @@
 use Rattle.std.proofs.Common.{[]}
 use Rattle.frame_net.specs.FlowNet.{node_count}
-use Rattle.cut_cert.specs.Walks.{AreOn, AreSearched, total}
+use Rattle.cut_cert.specs.Walks.{AreOn, AreSearched, total_outflow}
 use Rattle.cut_cert.proofs.RouteLaws.{Gathering}
 use Rattle.cut_cert.proofs.gathering.routes.Given as goal
 
@@ -12,4 +12,4 @@ invariant-loop-end l = record {
 }
 
 abbrev pub decreases-loop-end : goal.decreases-loop-end
-decreases-loop-end l = total l.net l.carried.items
+decreases-loop-end l = total_outflow l.net l.carried.items

@@ -1,7 +1,7 @@
 use Rattle.std.proofs.Common.{◌≡◌, ◌<◌, ◌∙◌, ap, sym, arith, ℕ, List, length, slice_index, nat_lt, true}
 use Rattle.frame_net.specs.FlowNet.{FlowNet, node_count, row_len, head, mate}
-use Rattle.cut_cert.specs.Fronts.{Front, is_marked}
-use Rattle.cut_cert.specs.SinkWalk.{reach_in_sweep}
+use Rattle.cut_cert.specs.Fronts.{SearchFront, is_marked}
+use Rattle.cut_cert.specs.SinkWalk.{reach_node_in_sweep}
 use Rattle.cut_cert.proofs.SinkWalkLaws.{arcs-none, arcs-long, arcs-step-on, arcs-step-off, arcs-step-marked}
 use Rattle.cut_cert.proofs.sink_side.read.Goals as goal
 use Rattle.cut_cert.proofs.sink_side.read.Goals.{then-not-has+then-has_residual+in_ok-reach_in_sweep, then-not-has+else-has_residual, else-not-has}
@@ -15,7 +15,7 @@ has-requires c =
     let k : ℕ = c.loop-k.k in
     let less : k < row_len net c.args.w = omega (arith, c.loop-k-test.true, c.heads-heads.ensures.len) in
     let at : slice_index c.heads-heads.result.now k ≡ head net c.args.w k = c.heads-heads.ensures.value k less in
-    let long : length c.loop-k.side.marks ≡ node_count net = ap (λ (s : Front). length s.marks) c.loop-k.invariant ∙ arcs-long net c.args.preflow.now.flow.cells.residuals c.args.swept c.args.w k c.args.side.now ∙ c.requires.long in
+    let long : length c.loop-k.side.marks ≡ node_count net = ap (λ (s : SearchFront). length s.marks) c.loop-k.invariant ∙ arcs-long net c.args.preflow.now.flow.cells.residuals c.args.swept c.args.w k c.args.side.now ∙ c.requires.long in
     let within : head net c.args.w k < node_count net = c.known.ensures.network.heads_in c.args.w k c.requires.node less in
     omega (arith, at, long, within)
 
@@ -25,7 +25,7 @@ reach_in_sweep-requires c =
     let k : ℕ = c.loop-k.k in
     let less : k < row_len net c.args.w = omega (arith, c.loop-k-test.true, c.heads-heads.ensures.len) in
     let at : slice_index c.heads-heads.result.now k ≡ head net c.args.w k = c.heads-heads.ensures.value k less in
-    let long : length c.loop-k.side.marks ≡ node_count net = ap (λ (s : Front). length s.marks) c.loop-k.invariant ∙ arcs-long net c.args.preflow.now.flow.cells.residuals c.args.swept c.args.w k c.args.side.now ∙ c.requires.long in
+    let long : length c.loop-k.side.marks ≡ node_count net = ap (λ (s : SearchFront). length s.marks) c.loop-k.invariant ∙ arcs-long net c.args.preflow.now.flow.cells.residuals c.args.swept c.args.w k c.args.side.now ∙ c.requires.long in
     let within : head net c.args.w k < node_count net = c.known.ensures.network.heads_in c.args.w k c.requires.node less in
     omega (arith, at, long, within)
 
@@ -41,7 +41,7 @@ loop-k-preserved c =
       | then-not-has+then-has_residual+in_ok-reach_in_sweep w ↦
           (let test : nat_lt 0 (slice_index xs (mate net c.args.w k)) ≡ w.has_residual.result = sym (w.has_residual.ensures ∙ ap (λ (m : ℕ). nat_lt 0 (slice_index xs m)) over) in
           arcs-step-on net xs c.args.swept c.args.w k c.args.side.now c.loop-k.side c.if-not-has.side (test ∙ w.if-has_residual.true) c.loop-k.invariant
-          (w.side-is ∙ w.in_ok-reach_in_sweep.ensures ∙ ap (reach_in_sweep c.args.swept c.loop-k.side) to))
+          (w.side-is ∙ w.in_ok-reach_in_sweep.ensures ∙ ap (reach_node_in_sweep c.args.swept c.loop-k.side) to))
       | then-not-has+else-has_residual w ↦
           (let test : nat_lt 0 (slice_index xs (mate net c.args.w k)) ≡ w.has_residual.result = sym (w.has_residual.ensures ∙ ap (λ (m : ℕ). nat_lt 0 (slice_index xs m)) over) in
           arcs-step-off net xs c.args.swept c.args.w k c.args.side.now c.loop-k.side c.if-not-has.side (test ∙ w.if-has_residual.false) c.loop-k.invariant w.side-is)

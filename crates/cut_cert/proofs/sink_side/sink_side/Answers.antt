@@ -2,7 +2,7 @@ use Rattle.std.proofs.Common.{◌≡◌, ◌<◌, ◌-◌, ◌∙◌, inl, ap, s
 use Rattle.std.proofs.lemmas.Option.{slice_get_within}
 use Rattle.frame_net.specs.FlowNet.{FlowNet, node_count}
 use Rattle.pulse.specs.Conditions.{state_of}
-use Rattle.cut_cert.specs.Fronts.{Front, reach}
+use Rattle.cut_cert.specs.Fronts.{SearchFront, reach_node}
 use Rattle.cut_cert.proofs.FrontLaws.{marked-within, no_front}
 use Rattle.cut_cert.proofs.SinkWalkLaws.{sweeping-start, sink-first, sweeping-more, sweeping-down, sweeping-skip, sweeping-to, sweeping-end, sweeping-few}
 use Rattle.cut_cert.proofs.sink_side.sink_side.Goals as goal
@@ -10,18 +10,18 @@ use Rattle.cut_cert.proofs.sink_side.sink_side.Goals as goal
 pub read-requires-clause-long : goal.read-requires-clause-long
 read-requires-clause-long c =
     let net : FlowNet = c.args.net.now in
-    let front : ℕ → Front = λ n. record { marks = replicate n false; queue = [] } in
+    let front : ℕ → SearchFront = λ n. record { marks = replicate n false; queue = [] } in
     let none : c.in_ok-side.side ≡ no_front (node_count net) = c.in_ok-side.ensures ∙ ap front c.nodes-nodes.ensures in
     let two : 1 < node_count net = omega (arith, c.known.ensures.network.two) in
-    (sweeping-start (node_count net) (state_of net c.args.preflow.now.flow) 2 c.reach.new.self two (c.in_ok-reach.ensures ∙ ap (λ (r : Front). reach r 1) none)).sweeps.as_long
+    (sweeping-start (node_count net) (state_of net c.args.preflow.now.flow) 2 c.reach.new.self two (c.in_ok-reach.ensures ∙ ap (λ (r : SearchFront). reach_node r 1) none)).sweeps.as_long
 
 pub loop-v-init : goal.loop-v-init
 loop-v-init c =
     let net : FlowNet = c.args.net.now in
-    let front : ℕ → Front = λ n. record { marks = replicate n false; queue = [] } in
+    let front : ℕ → SearchFront = λ n. record { marks = replicate n false; queue = [] } in
     let none : c.in_ok-side.side ≡ no_front (node_count net) = c.in_ok-side.ensures ∙ ap front c.nodes-nodes.ensures in
     let two : 1 < node_count net = omega (arith, c.known.ensures.network.two) in
-    let sink : c.reach.new.self ≡ reach (no_front (node_count net)) 1 = c.in_ok-reach.ensures ∙ ap (λ (r : Front). reach r 1) none in
+    let sink : c.reach.new.self ≡ reach_node (no_front (node_count net)) 1 = c.in_ok-reach.ensures ∙ ap (λ (r : SearchFront). reach_node r 1) none in
     sweeping-more net c.known.ensures.network c.args.preflow.now.flow.cells.residuals c.args.preflow.now.flow.cells.excess c.args.preflow.now.flow.labels
     c.nodes-nodes.result c.reach.new.self c.read.new.side 0 1
     (sweeping-start (node_count net) (state_of net c.args.preflow.now.flow) c.nodes-nodes.result c.reach.new.self two sink)

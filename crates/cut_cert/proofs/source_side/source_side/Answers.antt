@@ -1,7 +1,7 @@
 use Rattle.std.proofs.Common.{◌≡◌, ◌∙◌, ap, sym, subst, arith, ℕ, Bool, List, [], false, replicate, Some, slice_get}
 use Rattle.std.proofs.lemmas.Option.{slice_get_within}
 use Rattle.frame_net.specs.FlowNet.{FlowNet, node_count}
-use Rattle.cut_cert.specs.Fronts.{Front, reach}
+use Rattle.cut_cert.specs.Fronts.{SearchFront, reach_node}
 use Rattle.cut_cert.specs.Steps.{AreOfSource}
 use Rattle.cut_cert.proofs.FrontLaws.{marked-within, no_front}
 use Rattle.cut_cert.proofs.OpenWalkLaws.{sweeps-start, swept-few, sweeps-more, sweeps-end}
@@ -10,9 +10,9 @@ use Rattle.cut_cert.proofs.source_side.source_side.Goals as goal
 pub loop-node-init : goal.loop-node-init
 loop-node-init c =
     let net : FlowNet = c.args.net.now in
-    let front : ℕ → Front = λ n. record { marks = replicate n false; queue = [] } in
+    let front : ℕ → SearchFront = λ n. record { marks = replicate n false; queue = [] } in
     let none : c.in_ok-side.side ≡ no_front (node_count net) = c.in_ok-side.ensures ∙ ap front c.nodes.ensures in
-    sweeps-start net c.args.used.now c.reach.new.self (omega (arith, c.known.ensures.network.two)) (c.in_ok-reach.ensures ∙ ap (λ (r : Front). reach r 0) none)
+    sweeps-start net c.args.used.now c.reach.new.self (omega (arith, c.known.ensures.network.two)) (c.in_ok-reach.ensures ∙ ap (λ (r : SearchFront). reach_node r 0) none)
 
 pub read-requires-clause-node : goal.read-requires-clause-node
 read-requires-clause-node c =

@@ -1,5 +1,5 @@
 use Rattle.std.proofs.Common.{length, reverse}
-use Rattle.cut_cert.specs.Walks.{AreSearched, total}
+use Rattle.cut_cert.specs.Walks.{AreSearched, total_outflow}
 use Rattle.cut_cert.proofs.RouteLaws.{SoFar}
 use Rattle.cut_cert.proofs.walk.walk.Given as goal
 
@@ -10,4 +10,4 @@ invariant-loop-tail l = record {
 }
 
 abbrev pub decreases-loop-tail : goal.decreases-loop-tail
-decreases-loop-tail l = total l.net l.carried
+decreases-loop-tail l = total_outflow l.net l.carried

@@ -7,7 +7,7 @@ use Rattle.chosen_cuts.specs.Certified.{AddsOne}
 use Rattle.path_levels.specs.Bounded.{BoundedLaw}
 use Rattle.path_levels.proofs.BoundedLaws.{bounded-law}
 use Rattle.frames.specs.declared.bounding.Judged.{Judged}
-use Rattle.frames.specs.Found.{Finds, IsFoundOver, IsJudged, IsLook}
+use Rattle.frames.specs.Found.{Finds, IsFoundOver, IsSetJudged, IsLook}
 use Rattle.frames.proofs.LookLaws.{bounded-closed, finds-first, finds-within, over-saves}
 use Rattle.frames.proofs.helping.helping_set.Goals as goal
 
@@ -36,7 +36,7 @@ returns-in-Decided g c =
     let found = c.in-Decided.found in
     let old = c.args.records.now in
     let new = c.least_helping.new.records in
-    let J : Judged → Type 0 = λ it. IsJudged bound before held look.set first it in
+    let J : Judged → Type 0 = λ it. IsSetJudged bound before held look.set first it in
     let stays = subst J c.in-Decided.is (c.in_ok-found.ensures look.set look.over) in
     let again : IsLook options.choice before before held old new found = record { set = look.set; chosen = look.chosen; adds = look.adds; over = stays.0 } in
     finds-first options held before bound old new found again stays.1
@@ -55,7 +55,7 @@ returns-in_ok-set-in-TooLong g c =
     let less = c.forget_last.new.self in
     let new = c.chosen_over.new.records in
     let look = c.in_ok-first.ensures in
-    let J : Judged → Type 0 = λ it. IsJudged bound before held look.set first it in
+    let J : Judged → Type 0 = λ it. IsSetJudged bound before held look.set first it in
     let breaks = subst J c.in-TooLong.is (c.in_ok-found.ensures look.set look.over) in
     let law : BoundedLaw most held before = bounded-law most held before c.known.ensures.graph c.known.ensures.netlist in
     let D : Netlist → Type 0 = λ d. IsChosen options.choice d held set × AddsOne d held less new set in

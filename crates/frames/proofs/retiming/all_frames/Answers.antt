@@ -12,7 +12,7 @@ use Rattle.frames.specs.Certified.{AddsFound, AreCollected}
 use Rattle.frames.specs.Found.{Moves}
 use Rattle.frames.specs.Retiming.{NoneHelpsBy}
 use Rattle.frames.specs.Stages.{Moving, Notifies, looks_of}
-use Rattle.frames.specs.Underway.{IsRun, IsUnderway}
+use Rattle.frames.specs.Underway.{IsWholeRun, IsUnderway}
 use Rattle.frames.specs.Following.{IsFollowed, MovesFollowed}
 use Rattle.frames.proofs.CertificateLaws.{none-collected, one-collected}
 use Rattle.frames.proofs.FollowingLaws.{many-kept}
@@ -88,7 +88,7 @@ returns-in-Ok-None-clause-run g c = λ read d held kept start.
     let bound : before.bound ≡ c.args.start.bound = c.loop.invariant.2 in
     let adds : AddsFound options c.args.start.bound before.keep before.retimed.circuit c.loop.records records =
     subst (λ (b : Option ℕ). AddsFound options b before.keep before.retimed.circuit c.loop.records records) bound ensures.certificate in
-    let run : IsRun options c.args.start.bound d held records before.retimed before.keep = record {
+    let run : IsWholeRun options c.args.start.bound d held records before.retimed before.keep = record {
       taken = c.loop.counter;
       underway = so_far.0.underway;
       within = c.loop.auto.counter-end;
@@ -99,7 +99,7 @@ returns-in-Ok-None-clause-run g c = λ read d held kept start.
       limited = λ at. absurd (omega (arith, at, c.loop-test.true));
       ended = λ less. refl;
     } in
-    let Q : Retimed → List ℕ → Type 0 = λ r now. IsRun options c.args.start.bound d held records r now in
+    let Q : Retimed → List ℕ → Type 0 = λ r now. IsWholeRun options c.args.start.bound d held records r now in
     record {
       run = subst (λ (r : Retimed). Q r after.keep) (sym ensures.same) (subst (Q before.retimed) (sym ensures.keep) run);
       come = subst (λ (r : Retimed). has_come after.follower read r.circuit (composed kept r.kept_free)) (sym ensures.same)

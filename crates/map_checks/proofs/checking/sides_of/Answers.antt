@@ -1,7 +1,7 @@
 use Rattle.std.proofs.Common.{subst}
 use Rattle.aig_graph.specs.Graph.{Graph}
 use Rattle.map_checks.specs.Equal.{Equal, StaysRight}
-use Rattle.map_checks.specs.Images.{IsView, Learns, in_map, in_second}
+use Rattle.map_checks.specs.Images.{IsFaithfulCopy, Learns, in_map, in_second_mapped}
 use Rattle.map_checks.proofs.SharedLaws.{grows-transitive}
 use Rattle.map_checks.proofs.ImageLaws.{shared-later}
 use Rattle.map_checks.proofs.SideLaws.{are-sides}
@@ -20,9 +20,9 @@ returns-clause-sides c =
     c.in_ok-image.image c.in_ok-before.before c.in_ok-later.later c.in_ok-after.after
     (subst (λ (h : Graph). Learns c.learn_all.new.shared h c.args.map.now c.args.equal.now c.learn_all.new.equal) c.aig.ensures.value c.in_ok-learn_all.ensures.learns)
     c.in_ok-image.ensures.grows c.in_ok-image.ensures.right
-    (subst (λ (h : Graph). IsView c.image.new.shared c.learn_all.new.equal h c.args.map.now.aig (in_map c.args.map.now) c.in_ok-image.image) c.aig-2.ensures.value c.in_ok-image.ensures.view)
+    (subst (λ (h : Graph). IsFaithfulCopy c.image.new.shared c.learn_all.new.equal h c.args.map.now.aig (in_map c.args.map.now) c.in_ok-image.image) c.aig-2.ensures.value c.in_ok-image.ensures.view)
     c.in_ok-before.ensures.grows c.in_ok-before.ensures.right c.in_ok-before.ensures.view
     c.in_ok-later.ensures.grows c.in_ok-later.ensures.right c.in_ok-later.ensures.view
     c.in_ok-after.ensures.grows
-    (subst (λ (h : Graph). (e : Equal) → StaysRight e c.later_side.new.equal → IsView c.later_side.new.shared e h c.args.map.now.aig (in_map c.args.map.now) c.in_ok-image.image
-    → IsView c.second_side.new.shared e h c.args.second.now.aig (in_second c.args.second.now c.args.map.now) c.in_ok-after.after) c.aig-3.ensures.value c.in_ok-after.ensures.view)
+    (subst (λ (h : Graph). (e : Equal) → StaysRight e c.later_side.new.equal → IsFaithfulCopy c.later_side.new.shared e h c.args.map.now.aig (in_map c.args.map.now) c.in_ok-image.image
+    → IsFaithfulCopy c.second_side.new.shared e h c.args.second.now.aig (in_second_mapped c.args.second.now c.args.map.now) c.in_ok-after.after) c.aig-3.ensures.value c.in_ok-after.ensures.view)

@@ -2,8 +2,8 @@ use Rattle.std.proofs.Common.{◌≡◌, ◌∙◌, ◌+◌, List, Some, ℕ, ar
 use Rattle.std.proofs.lemmas.Option.{slice_get_read}
 use Rattle.aig_graph.specs.declared.graph.Gate.{Gate}
 use Rattle.aig_graph.specs.Graph.{Graph, variable, variables_end}
-use Rattle.map_checks.specs.Shared.{Grows, IsShared, Shared}
-use Rattle.map_checks.specs.Copies.{AreShared, Copy, Follows, copied_end, copy_of, with_literal}
+use Rattle.map_checks.specs.Shared.{Grows, IsSharedLiteral, Shared}
+use Rattle.map_checks.specs.Copies.{AreShared, Copy, CopiesValues, copied_end, copy_of, with_literal}
 use Rattle.map_checks.proofs.SharedLaws.{grows-itself, grows-transitive, respects-fewer}
 use Rattle.map_checks.proofs.CopyLaws.{end-more, fan-ins-there, gate-copied, shared-push}
 use Rattle.map_checks.proofs.copied.copy.Goals as goal
@@ -15,7 +15,7 @@ loop-gate-init c = record {
   first = refl;
   long = omega (arith, c.requires.long);
   within = c.requires.within;
-  follows = λ values own respects of_own right follows. subst (λ (n : ℕ). Follows c.args.leaves n values own) (sym c.requires.long) follows;
+  follows = λ values own respects of_own right follows. subst (λ (n : ℕ). CopiesValues c.args.leaves n values own) (sym c.requires.long) follows;
 }
 
 pub gate-requires-clause-a : goal.gate-requires-clause-a
@@ -27,7 +27,7 @@ gate-requires-clause-a c =
     let there : slice_get g.gates k ≡ Some gate =
     ap (λ (xs : List Gate). slice_get xs k) (sym c.gates-gate-items.ensures.value) ∙ slice_get_read items (length items) k gate refl c.loop-gate-test.true c.gate-item.is in
     let fan_ins = fan-ins-there g c.loop-gate.shared c.loop-gate.shared (grows-itself c.loop-gate.shared) gate k there c.gates-gate-items.ensures.graph c.loop-gate.copied c.loop-gate.invariant.long in
-    let here : IsShared c.loop-gate.shared (copy_of c.loop-gate.copied gate.rhs0) = c.loop-gate.invariant.within gate.rhs0 fan_ins.0 in
+    let here : IsSharedLiteral c.loop-gate.shared (copy_of c.loop-gate.copied gate.rhs0) = c.loop-gate.invariant.within gate.rhs0 fan_ins.0 in
     let same : variable c.literal.result ≡ variable (copy_of c.loop-gate.copied gate.rhs0) = ap variable c.literal.ensures in
     omega (arith, here, same, c.find-a.ensures.below)
 
@@ -40,7 +40,7 @@ gate-requires-clause-b c =
     let there : slice_get g.gates k ≡ Some gate =
     ap (λ (xs : List Gate). slice_get xs k) (sym c.gates-gate-items.ensures.value) ∙ slice_get_read items (length items) k gate refl c.loop-gate-test.true c.gate-item.is in
     let fan_ins = fan-ins-there g c.loop-gate.shared c.loop-gate.shared (grows-itself c.loop-gate.shared) gate k there c.gates-gate-items.ensures.graph c.loop-gate.copied c.loop-gate.invariant.long in
-    let here : IsShared c.loop-gate.shared (copy_of c.loop-gate.copied gate.rhs1) = c.loop-gate.invariant.within gate.rhs1 fan_ins.1 in
+    let here : IsSharedLiteral c.loop-gate.shared (copy_of c.loop-gate.copied gate.rhs1) = c.loop-gate.invariant.within gate.rhs1 fan_ins.1 in
     let same : variable c.literal-in-loop-gate.result ≡ variable (copy_of c.loop-gate.copied gate.rhs1) = ap variable c.literal-in-loop-gate.ensures in
     omega (arith, here, same, c.find-b.ensures.below)
 
@@ -58,7 +58,7 @@ loop-gate-preserved c =
     let there : slice_get g.gates i ≡ Some gate =
     ap (λ (xs : List Gate). slice_get xs i) (sym c.gates-gate-items.ensures.value) ∙ slice_get_read items (length items) i gate refl c.loop-gate-test.true c.gate-item.is in
     let pushed : c.push.new.self ≡ with_literal copied new = c.in_ok-push.ensures in
-    let here : IsShared l new = omega (arith, c.find.ensures.below, c.in_ok-lit.ensures.is.within) in
+    let here : IsSharedLiteral l new = omega (arith, c.find.ensures.below, c.in_ok-lit.ensures.is.within) in
     let end : copied_end c.push.new.self ≡ copied_end copied + 1 = ap (λ (p : Copy). copied_end p) pushed ∙ end-more copied new in
     record {
       grows = grows-transitive c.args.shared.now k l c.loop-gate.invariant.grows grows;
@@ -71,11 +71,11 @@ loop-gate-preserved c =
           let one = c.loop-gate.invariant.right values negated right in
           let two = c.find-a.ensures.right values negated one in
           let three = c.find-b.ensures.right values negated two in
-          let step : Follows (with_literal copied new) (copied_end copied + 1) values own =
+          let step : CopiesValues (with_literal copied new) (copied_end copied + 1) values own =
           gate-copied g k l grows gate i there c.gates-gate-items.ensures.graph copied c.loop-gate.invariant.long c.find-a.result c.find-b.result c.in_ok-lit.lit new values own respects of_own c.in_ok-lit.ensures.is
           (c.find-a.ensures.value values negated one ∙ ap values c.literal.ensures) (c.find-b.ensures.value values negated two ∙ ap values c.literal-in-loop-gate.ensures) (c.find.ensures.value values negated three)
           (c.loop-gate.invariant.follows values own (respects-fewer k l grows values respects) of_own right follows) in
-          subst (λ (n : ℕ). Follows c.push.new.self n values own) (sym end) (subst (λ (p : Copy). Follows p (copied_end copied + 1) values own) (sym pushed) step);
+          subst (λ (n : ℕ). CopiesValues c.push.new.self n values own) (sym end) (subst (λ (p : Copy). CopiesValues p (copied_end copied + 1) values own) (sym pushed) step);
     }
 
 pub returns-clause-copies : goal.returns-clause-copies
@@ -87,5 +87,5 @@ returns-clause-copies c =
       first = c.loop-gate.invariant.first;
       long = end;
       within = c.loop-gate.invariant.within;
-      follows = λ values own respects of_own right follows. subst (λ (n : ℕ). Follows c.loop-gate.copied n values own) end (c.loop-gate.invariant.follows values own respects of_own right follows);
+      follows = λ values own respects of_own right follows. subst (λ (n : ℕ). CopiesValues c.loop-gate.copied n values own) end (c.loop-gate.invariant.follows values own respects of_own right follows);
     }

@@ -2,7 +2,7 @@ use Rattle.std.proofs.Common.{ℕ, ◌≡◌, ◌+◌, Bool}
 use Rattle.aig_graph.specs.Graph.{first_gate}
 use Rattle.map_checks.specs.Shared.{Grows, Respects, gates_of}
 use Rattle.map_checks.specs.Equal.{IsRight, StaysRight}
-use Rattle.map_checks.specs.Copies.{AreShared, Follows, copied_end}
+use Rattle.map_checks.specs.Copies.{AreShared, CopiesValues, copied_end}
 use Rattle.map_checks.proofs.copied.copy.Given as goal
 
 abbrev pub invariant-loop-gate : goal.invariant-loop-gate
@@ -12,6 +12,6 @@ invariant-loop-gate l = record {
   first : l.copied.first ≡ l.fn.leaves.first;
   long : copied_end l.copied ≡ first_gate l.aig + l.gate-index;
   within : AreShared l.shared l.copied;
-  follows : (values own : ℕ → Bool) → Respects l.shared values → Respects (gates_of l.aig) own → IsRight l.fn.equal values → Follows l.fn.leaves (first_gate l.aig) values own
-      → Follows l.copied (copied_end l.copied) values own;
+  follows : (values own : ℕ → Bool) → Respects l.shared values → Respects (gates_of l.aig) own → IsRight l.fn.equal values → CopiesValues l.fn.leaves (first_gate l.aig) values own
+      → CopiesValues l.copied (copied_end l.copied) values own;
 }

@@ -2,7 +2,7 @@ use Rattle.std.proofs.Common.{◌≡◌, ◌∙◌, ◌+◌, ◌*◌, ◌≤◌,
 use Rattle.aig_graph.specs.declared.graph.Latch.{Latch}
 use Rattle.aig_graph.specs.Graph.{Graph, first_latch, variable}
 use Rattle.map_checks.specs.Copies.{Copy}
-use Rattle.map_checks.specs.Images.{AreLatches}
+use Rattle.map_checks.specs.Images.{StandForLatches}
 use Rattle.map_checks.proofs.ImageLaws.{each-push}
 use Rattle.map_checks.proofs.leaves.latch_leaves.Goals as goal
 
@@ -31,7 +31,7 @@ returns-clause-leaves c =
     let g : Graph = c.args.aig.now in
     let end : c.loop-place.place ≡ length g.latches =
     grind (arith, c.loop-place-test.false, c.loop-place.auto.place-end, ap (λ (xs : List Latch). length xs) c.latches-2.ensures.value) in
-    subst (λ (p : Copy). AreLatches c.args.equal.now g c.args.first p) (sym c.of.ensures) (record {
+    subst (λ (p : Copy). StandForLatches c.args.equal.now g c.args.first p) (sym c.of.ensures) (record {
       from = refl;
       long = c.loop-place.invariant.long ∙ end;
       below = λ j less. c.loop-place.invariant.below j (omega (arith, less, end));

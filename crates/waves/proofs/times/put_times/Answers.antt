@@ -3,7 +3,7 @@ use Rattle.std.specs.List.{flat_map, range_with_len}
 use Rattle.counted_io.specs.Buffered.{Puts}
 use Rattle.counted_io.proofs.BufferedLaws.{puts-range_ended, puts-range_next}
 use Rattle.lane_sim.specs.Traces.{trace}
-use Rattle.waves.specs.Dumps.{longest, time_text, times}
+use Rattle.waves.specs.Dumps.{longest, time_text, later_times}
 use Rattle.waves.proofs.times.put_times.Goals as goal
 
 pub loop-step-init : goal.loop-step-init
@@ -22,7 +22,7 @@ loop-step-preserved g c =
     }
 
 pub returns-then-has_failed : goal.returns-then-has_failed
-unfolding times
+unfolding later_times
 returns-then-has_failed g c =
     let shown = c.args.shown.now in
     let step = c.loop-step.step in
@@ -34,7 +34,7 @@ returns-then-has_failed g c =
     (puts-range_ended lines 1 step (all - step) bad c.loop-step.invariant.text)
 
 pub returns : goal.returns
-unfolding times
+unfolding later_times
 returns g c =
     let shown = c.args.shown.now in
     let end : c.loop-step.step ≡ longest (trace shown.circuit.now shown.sequences.now) =

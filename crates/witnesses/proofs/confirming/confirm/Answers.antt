@@ -3,7 +3,7 @@ use Rattle.aig_graph.specs.Graph.{Graph}
 use Rattle.witnesses.specs.declared.witness.Property.{Property}
 use Rattle.witnesses.specs.declared.witness.Witness.{Witness}
 use Rattle.witnesses.specs.Carrying.{carried}
-use Rattle.witnesses.specs.Confirming.{settled_back, with_reached, IsConfirmed}
+use Rattle.witnesses.specs.Confirming.{settled_back, with_reached, IsConfirmation}
 use Rattle.witnesses.specs.Found.{AreFound}
 use Rattle.witnesses.specs.Runs.{run_of, settled_witness}
 use Rattle.witnesses.proofs.confirming.confirm.Goals as goal
@@ -28,6 +28,6 @@ returns c =
     record {
       said = c.in_ok-said.said;
       is = c.with_reached.ensures ∙ ap (λ (x : Witness). with_reached x c.in_ok-said.said) back;
-      agreed = subst (λ (ps : List Property). IsConfirmed a b (run_of a.aig wanted) (run_of b.aig w) ps c.in_ok-said.said) properties
+      agreed = subst (λ (ps : List Property). IsConfirmation a b (run_of a.aig wanted) (run_of b.aig w) ps c.in_ok-said.said) properties
           (c.in_ok-said.ensures a b (run_of a.aig wanted) (run_of b.aig w) found there);
     }

@@ -1,6 +1,6 @@
 use Rattle.std.proofs.Common.{ℕ, ap, sym, ◌∙◌, arith, ◌++◌, ◌∷◌, [], ◌+◌, List, drop}
 use Rattle.witnesses.specs.declared.witness.Digit.{Digit}
-use Rattle.witnesses.specs.Carrying.{opening}
+use Rattle.witnesses.specs.Carrying.{opening_digits}
 use Rattle.witnesses.proofs.FreeLaws.{free_opened, known_opened, opening_all}
 use Rattle.witnesses.proofs.free.opening.Goals as goal
 use Rattle.witnesses.proofs.free.opening.Goals.{then-is_free, else-is_free}
@@ -11,7 +11,7 @@ loop-latch-preserved c =
     let free = c.args.free.now in
     let k = c.loop-latch.latch-index in
     let next = c.loop-latch.next in
-    let rest : ℕ → List Digit = λ n. opening (drop (k + 1) latches) (drop n free) in
+    let rest : ℕ → List Digit = λ n. opening_digits (drop (k + 1) latches) (drop n free) in
     let pushed = sym (c.in_ok-push.ensures.items ∙ ap (λ (d : Digit). c.loop-latch.digits.items ++ d ∷ []) c.opened.ensures) in
     elim c.if-is_free.branch [
       | then-is_free w ↦ record {

@@ -2,7 +2,7 @@ use Rattle.std.proofs.Common.{ℕ, ◌+◌, List, length, All, Some, sym, ap, su
 use Rattle.aig_graph.specs.declared.graph.Gate.{Gate}
 use Rattle.gate_order.specs.Order.{IsOrder}
 use Rattle.aag_text.specs.Numbering.{PlacedLists}
-use Rattle.aag_text.specs.Arranging.{IsGateBelow}
+use Rattle.aag_text.specs.Arranging.{HasFanInsBelow}
 use Rattle.aag_text.specs.Resolving.{placed_reads}
 use Rattle.aag_text.proofs.ArrangeLaws.{computed_by, order_is, reads_in_file}
 use Rattle.aag_text.proofs.circuit.resolving.in_order.Goals as goal
@@ -10,7 +10,7 @@ use Rattle.aag_text.proofs.circuit.resolving.in_order.Goals as goal
 pub order-requires-clause-in_file : goal.order-requires-clause-in_file
 order-requires-clause-in_file c =
     reads_in_file (1 + c.args.header.now.inputs + c.args.header.now.latches) c.as_slice.result.now
-    (subst (λ (gs : List Gate). All (IsGateBelow (1 + c.args.header.now.inputs + c.args.header.now.latches + length gs)) gs) (sym (c.as_slice.ensures.value ∙ ap (λ (p : PlacedLists). p.gates) c.placed.view_is)) c.requires.placed.gates_below)
+    (subst (λ (gs : List Gate). All (HasFanInsBelow (1 + c.args.header.now.inputs + c.args.header.now.latches + length gs)) gs) (sym (c.as_slice.ensures.value ∙ ap (λ (p : PlacedLists). p.gates) c.placed.view_is)) c.requires.placed.gates_below)
 
 pub circuit-requires-clause-order : goal.circuit-requires-clause-order
 circuit-requires-clause-order c =

@@ -7,7 +7,7 @@ use Rattle.ascii_file.specs.Raw.{RawSymbol}
 use Rattle.ascii_file.specs.Reading.{take_item, next_section, read_line, is_complete}
 use Rattle.reader_parts.specs.Rows.{row_of}
 use Rattle.aag_text.specs.declared.sections.Sections.{Sections}
-use Rattle.aag_text.specs.Items.{item_in}
+use Rattle.aag_text.specs.Items.{item_of_numbers}
 use Rattle.aag_text.specs.Taking.{raw_of, IsAt, Takes}
 use Rattle.aag_text.proofs.LineLaws.{unspelt, spelt}
 use Rattle.aag_text.proofs.TakeLaws.{Takes-same}
@@ -20,7 +20,7 @@ AreOf line numbers = MatchOption numbers (row_of line ≡ None) (λ ns. row_of l
 -- taking the section's item by the numbers is taking the line
 by_numbers : (old new : Sections) (result : Result (Unit {0}) ReadError) (symbols : List RawSymbol) (at : ℕ) (line : List ℕ) → IsAt old symbols → is_complete old.header (raw_of old symbols) ≡ false
     → (numbers : Option (Bor (List ℕ))) (ns : Bor (List ℕ)) → numbers ≡ Some ns → AreOf line numbers → (section : Section) → next_section old.header (raw_of old symbols) ≡ section
-    → Takes old new result (take_item old.header (raw_of old symbols) at (BadLine at) (item_in section ns.now)) → Takes old new result (read_line old.header (raw_of old symbols) at line)
+    → Takes old new result (take_item old.header (raw_of old symbols) at (BadLine at) (item_of_numbers section ns.now)) → Takes old new result (read_line old.header (raw_of old symbols) at line)
 by_numbers old new result symbols at line stands left numbers ns is row section next takes =
     Takes-same old new result _ _ (spelt old.header (raw_of old symbols) at line stands.read left ns.now section (subst (AreOf line) is row) next) takes
 

@@ -7,13 +7,13 @@ use Rattle.std.specs.Option.{option_and_then}
 use Rattle.ascii_file.specs.Headers.{header_in}
 use Rattle.ascii_file.specs.Reading.{unless}
 use Rattle.reader_parts.specs.Header.{header_with}
-use Rattle.reader_parts.specs.Limits.{is_past}
+use Rattle.reader_parts.specs.Limits.{counts_past_greatest}
 use Rattle.reader_parts.proofs.HeaderLaws.{read-header}
 use Rattle.reader_parts.proofs.WithinLaws.{within}
 use Rattle.reader_parts.proofs.header.HeaderLine.header.Goals as goal
 
 abbrev total : Result Header ReadError → Result Header ReadError
-total r = r >>= λ h. unless ((is_past h, MaxIndex 0) ∷ []) (Ok h)
+total r = r >>= λ h. unless ((counts_past_greatest h, MaxIndex 0) ∷ []) (Ok h)
 
 pub returns-in-Ok-clause-value : goal.returns-in-Ok-clause-value
 returns-in-Ok-clause-value c line e = c.with_variables.ensures ∙ ap total (sym c.in-Ok.is ∙ c.limited.ensures) ∙ read-header _ line e

@@ -1,7 +1,7 @@
 use Rattle.std.proofs.Common.{◌∙◌, ap, arith, get_or}
 use Rattle.std.proofs.lemmas.List.{get_or_default}
 use Rattle.lane_sim.specs.declared.stimulus.InputSequence.{InputSequence}
-use Rattle.waves.specs.Dumps.{mark}
+use Rattle.waves.specs.Dumps.{value_character}
 use Rattle.waves.proofs.MomentLaws.{shown-is}
 use Rattle.waves.proofs.moment.Moment.mark.Goals as goal
 
@@ -15,5 +15,5 @@ returns c =
     let item = c.index-self-sequence.result in
     let run : InputSequence = get_or m.sequences.now s item in
     c.mark.ensures
-    ∙ ap mark (shown-is m m.values.now s m.time c.args.place run c.value_at.result c.requires.moment.literals c.requires.sequence
+    ∙ ap value_character (shown-is m m.values.now s m.time c.args.place run c.value_at.result c.requires.moment.literals c.requires.sequence
     (get_or_default m.sequences.now s item run c.requires.sequence) c.value_at.ensures c.requires.moment.values)
