@@ -16,13 +16,14 @@ impl<'a> Search<'a> {
     fn least_near(&self, node: &Before) -> u32 {
         let labels = self.labels.as_slice();
         let (flow, below) = (node.flow, node.below);
-        let mut least = if flow.through {
+        let through = if flow.through {
             FAR
         } else {
             near(label_after(labels, node.place), below)
         };
-        least = least.min(self.least_of_fan_in(node, false));
-        least.min(self.least_of_fan_in(node, true))
+        through
+            .min(self.least_of_fan_in(node, false))
+            .min(self.least_of_fan_in(node, true))
     }
 
     /// The same of the nodes of one fan-in.
@@ -43,11 +44,12 @@ impl<'a> Search<'a> {
         let labels = self.labels.as_slice();
         part.count(4);
         let mut least = self.least_near(node);
-        for reader in self.readers.at(node.place) {
+        let readers = self.readers.at(node.place);
+        for k in 0..readers.len() {
             part.count(1);
-            let (_, came) = self.came_from(*reader, node.place);
-            if came > 0 {
-                least = least.min(near(label_before(labels, *reader), node.below));
+            let reader = readers[k];
+            if self.came_from(reader, node.place).1 > 0 {
+                least = least.min(near(label_before(labels, reader), node.below));
             }
         }
         least.saturating_add(1)
