@@ -3,8 +3,9 @@
 
 use crate::left_units::LeftUnits;
 use crate::region::{Region, narrow};
-use aig_graph::{Gate, Lit, NoMemory};
+use aig_graph::{Gate, NoMemory};
 use std::alloc::Global;
+use std::mem;
 use unit_flows::{GateFlow, UnitFlow, filled};
 
 /// Stands for no gate.
@@ -12,10 +13,9 @@ const NOBODY: u32 = u32::MAX;
 
 /// Notes that a gate takes the unit after a place, where no gate before it does.
 fn note_taker(takers: &mut [u32], place: u32, gate: u32) {
-    if let Some(taker) = takers.get_mut(place as usize) {
-        if *taker == NOBODY {
-            *taker = gate;
-        }
+    let place = place as usize;
+    if place < takers.len() && takers[place] == NOBODY {
+        takers[place] = gate;
     }
 }
 
@@ -31,50 +31,44 @@ fn note_takes(takers: &mut [u32], region: &Region, literals: &Gate, flow: &GateF
 
 /// Notes where all gates took units.
 fn note_takers(takers: &mut [u32], region: &Region, known: &[GateFlow]) {
-    let mut gate = 0u32;
-    for literals in region.gates {
-        if let Some(flow) = known.get(gate as usize) {
-            note_takes(takers, region, literals, flow, gate);
+    for k in 0..region.gates.len() {
+        if k < known.len() {
+            note_takes(takers, region, &region.gates[k], &known[k], narrow(k));
         }
-        gate = gate.wrapping_add(1);
     }
 }
 
 /// By place, from the first latch on, the number of the gate that took the unit after it, in the memory of a table.
 fn takers_in(memory: Vec<u32>, region: &Region, known: &[GateFlow]) -> Result<Vec<u32>, NoMemory> {
-    let mut takers = filled(memory, NOBODY, region.places())?;
+    let Ok(mut takers) = filled(memory, NOBODY, region.places()) else {
+        return Err(NoMemory);
+    };
     note_takers(takers.as_mut_slice(), region, known);
     Ok(takers)
 }
 
-/// The number of a gate, where the variable of a literal is one.
-fn number_of(region: &Region, lit: Lit) -> Option<usize> {
-    let number = region.gate_number(region.place(lit) as usize);
-    if number < region.gates.len() {
-        Some(number)
+/// What was known of a gate, nothing past the end.
+fn known_at(known: &[GateFlow], gate: usize) -> GateFlow {
+    if gate < known.len() {
+        known[gate]
     } else {
-        None
+        GateFlow::none()
     }
 }
 
-/// A unit goes on from before a gate to before a fan-in, where fewer do than it is known of. The number of that gate.
-fn goes_down(
-    region: &Region,
-    literals: &Gate,
-    known: &GateFlow,
-    flow: &mut GateFlow,
-) -> Option<usize> {
-    if flow.first_down < known.first_down {
-        let next = number_of(region, literals.rhs1)?;
-        flow.first_down = flow.first_down.saturating_add(1);
-        return Some(next);
+/// A unit goes on from before a gate to before a fan-in, where fewer do than it is known of. The number of that gate, past all gates where it
+/// doesn't.
+fn goes_down(region: &Region, literals: &Gate, known: &GateFlow, flow: &mut GateFlow) -> usize {
+    let second = flow.first_down >= known.first_down;
+    let fan_in = if second { literals.rhs0 } else { literals.rhs1 };
+    let next = region.gate_number(region.place(fan_in) as usize);
+    let goes = flow.down(second) < known.down(second);
+    if goes & (next < region.gates.len()) {
+        flow.note_down(second, flow.down(second).saturating_add(1));
+        next
+    } else {
+        usize::MAX
     }
-    if flow.second_down < known.second_down {
-        let next = number_of(region, literals.rhs0)?;
-        flow.second_down = flow.second_down.saturating_add(1);
-        return Some(next);
-    }
-    None
 }
 
 /// How far a unit goes on.
@@ -89,23 +83,22 @@ enum Way {
 
 /// From before a gate a unit goes through it, or through one that it goes down to.
 fn goes_through(region: &Region, known: &[GateFlow], flows: &mut [GateFlow], from: usize) -> Way {
+    let gates = region.gates;
     let mut gate = from;
     for _ in 0..u32::MAX {
-        let (Some(literals), Some(told), Some(flow)) = (
-            region.gates.get(gate),
-            known.get(gate),
-            flows.get_mut(gate),
-        ) else {
+        if gate >= gates.len() || gate >= flows.len() {
             return Way::Before(gate);
-        };
-        if told.through && !flow.through {
-            flow.through = true;
+        }
+        let told = known_at(known, gate);
+        if told.through & !flows[gate].through {
+            flows[gate].through = true;
             return Way::Through(gate);
         }
-        match goes_down(region, literals, told, flow) {
-            Some(next) => gate = next,
-            None => return Way::Before(gate),
+        let next = goes_down(region, &gates[gate], &told, &mut flows[gate]);
+        if next >= gates.len() {
+            return Way::Before(gate);
         }
+        gate = next;
     }
     Way::Before(gate)
 }
@@ -118,15 +111,11 @@ fn comes_to(
     place: usize,
     taker: usize,
 ) -> bool {
-    let (Some(literals), Some(told), Some(flow)) = (
-        region.gates.get(taker),
-        known.get(taker),
-        flows.get_mut(taker),
-    ) else {
+    if taker >= region.gates.len() || taker >= flows.len() {
         return false;
-    };
-    let is_first = region.place(literals.rhs1) as usize == place;
-    flow.note_up(!(is_first & told.first_up));
+    }
+    let is_first = region.place(region.gates[taker].rhs1) as usize == place;
+    flows[taker].note_up(!(is_first & known_at(known, taker).first_up));
     true
 }
 
@@ -138,10 +127,10 @@ fn goes_on(
     flows: &mut [GateFlow],
     place: usize,
 ) -> Way {
-    let Some(taker) = takers.get(place) else {
+    if place >= takers.len() {
         return Way::Stays;
-    };
-    let taker = *taker as usize;
+    }
+    let taker = takers[place] as usize;
     if comes_to(region, known, flows, place, taker) {
         goes_through(region, known, flows, taker)
     } else {
@@ -157,12 +146,12 @@ fn send(
     flows: &mut [GateFlow],
     left: &mut LeftUnits,
     latch: usize,
-) -> Result<(), NoMemory> {
+) {
     let latches = region.latches.len();
     let mut place = latch;
     for _ in 0..region.places() {
-        if region.leaving.get(place).copied() != Some(false) {
-            return Ok(());
+        if !region.is_inside(place) {
+            return;
         }
         match goes_on(region, known, takers, flows, place) {
             Way::Through(gate) => place = latches.saturating_add(gate),
@@ -170,24 +159,58 @@ fn send(
             Way::Stays => return left.push_after(place),
         }
     }
-    Ok(())
 }
 
-/// Sends the units after all known latches as far as they are known to go. Where they are left.
+/// Sends the units after all known latches as far as they are known to go, and notes where they are left.
 fn send_all(
-    alloc: Global,
     region: &Region,
     known: &[GateFlow],
     takers: &[u32],
     flows: &mut [GateFlow],
-) -> Result<LeftUnits, NoMemory> {
-    let mut left = LeftUnits::none(alloc);
+    left: &mut LeftUnits,
+) {
     for place in 0..region.latches.len() {
         if region.is_known_latch(place) {
-            send(region, known, takers, flows, &mut left, place)?;
+            send(region, known, takers, flows, left, place);
         }
     }
-    Ok(left)
+}
+
+/// What the flow along a known one does at each gate, and notes where it leaves units.
+fn flow_along(
+    alloc: Global,
+    region: &Region,
+    known: &[GateFlow],
+    takers: &[u32],
+    left: &mut LeftUnits,
+) -> Result<Vec<GateFlow>, NoMemory> {
+    let Ok(mut flows) = vec![in alloc; GateFlow::none(); region.gates.len()] else {
+        return Err(NoMemory);
+    };
+    send_all(region, known, takers, flows.as_mut_slice(), left);
+    Ok(flows)
+}
+
+/// Puts a flow along a known one in its place, and notes where it leaves units. The spare table serves.
+fn put_flow_along(
+    alloc: Global,
+    region: &Region,
+    known: &mut UnitFlow,
+    left: &mut LeftUnits,
+) -> Result<(), NoMemory> {
+    let UnitFlow { gates, spare } = known;
+    let Ok(takers) = takers_in(spare.take_numbers(alloc), region, gates.as_slice()) else {
+        return Err(NoMemory);
+    };
+    let flows = flow_along(alloc, region, gates.as_slice(), takers.as_slice(), left);
+    spare.keep_numbers(takers);
+    match flows {
+        Ok(flows) => {
+            drop(mem::replace(gates, flows));
+            Ok(())
+        }
+        Err(error) => Err(error),
+    }
 }
 
 /// A flow along what is known of an earlier one at each gate, in its place: 4 bytes a latch and gate, for which a spare table serves, and what the
@@ -201,20 +224,10 @@ pub(crate) fn put_along(
     region: &Region,
     known: &mut UnitFlow,
 ) -> Result<LeftUnits, NoMemory> {
-    let UnitFlow {
-        gates: known,
-        spare,
-    } = known;
-    let takers = takers_in(spare.take_numbers(alloc), region, known.as_slice())?;
-    let mut flows = vec![in alloc; GateFlow::none(); region.gates.len()]?;
-    let left = send_all(
-        alloc,
-        region,
-        known.as_slice(),
-        takers.as_slice(),
-        flows.as_mut_slice(),
-    );
-    *known = flows;
-    spare.keep_numbers(takers);
-    left
+    let mut left = LeftUnits::none(alloc);
+    let put = put_flow_along(alloc, region, known, &mut left);
+    if put.is_err() | left.is_refused() {
+        return Err(NoMemory);
+    }
+    Ok(left)
 }

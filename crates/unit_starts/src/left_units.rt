@@ -1,6 +1,5 @@
 //! Where a start left units.
 
-use aig_graph::NoMemory;
 use std::alloc::Global;
 use unit_flows::NodeMarks;
 
@@ -9,12 +8,15 @@ use unit_flows::NodeMarks;
 pub(crate) struct LeftUnits {
     before: Vec<usize>,
     after: Vec<usize>,
+    /// Whether memory was refused for one, so that some are missing.
+    refused: bool,
 }
 
 /// Whether a place is marked.
 fn has_mark(places: &[usize], marks: &[bool]) -> bool {
-    for place in places {
-        if let Some(true) = marks.get(*place) {
+    for k in 0..places.len() {
+        let place = places[k];
+        if place < marks.len() && marks[place] {
             return true;
         }
     }
@@ -27,24 +29,32 @@ impl LeftUnits {
         LeftUnits {
             before: Vec::new(alloc),
             after: Vec::new(alloc),
+            refused: false,
         }
     }
 
     /// Whether none are left.
     pub fn is_empty(&self) -> bool {
-        self.before.is_empty() && self.after.is_empty()
+        self.before.is_empty() & self.after.is_empty()
     }
 
     /// A unit is left before the gate at a place.
-    pub fn push_before(&mut self, place: usize) -> Result<(), NoMemory> {
-        self.before.push(place)?;
-        Ok(())
+    pub fn push_before(&mut self, place: usize) {
+        if self.before.push(place).is_err() {
+            self.refused = true;
+        }
     }
 
     /// A unit is left after a place.
-    pub fn push_after(&mut self, place: usize) -> Result<(), NoMemory> {
-        self.after.push(place)?;
-        Ok(())
+    pub fn push_after(&mut self, place: usize) {
+        if self.after.push(place).is_err() {
+            self.refused = true;
+        }
+    }
+
+    /// Whether memory was refused for one.
+    pub fn is_refused(&self) -> bool {
+        self.refused
     }
 
     /// Whether one is left at a marked node.
