@@ -63,7 +63,15 @@ fn next_pulse<R: Threads + Sync, G: PhaseGate>(
     }
 }
 
-/// Pulses until no node is active, memory was refused, or labels are to be made anew. Whether it isn't the last.
+/// Whether these nodes are none, or memory was refused for one or before.
+fn is_last(memory: &mut Memory, actives: &Nodes) -> bool {
+    if actives.refused {
+        memory.refuse();
+    }
+    actives.is_empty() | memory.is_refused()
+}
+
+/// Pulses until no node is active, memory was refused, or labels are to be made anew. Whether it wasn't for labels.
 fn pulses_of_round<R: Threads + Sync, G: PhaseGate>(
     rt: &R,
     memory: &mut Memory,
@@ -74,14 +82,9 @@ fn pulses_of_round<R: Threads + Sync, G: PhaseGate>(
     let most = search.spots.len().saturating_mul(WORK_A_PLACE);
     let mut work = 0usize;
     for _ in 0..u32::MAX {
-        if actives.refused {
-            memory.refuse();
-        }
-        if actives.is_empty() | memory.is_refused() {
-            return true;
-        }
-        if work >= most {
-            return false;
+        let is_last = is_last(memory, actives);
+        if is_last | (work >= most) {
+            return is_last;
         }
         work = work.wrapping_add(next_pulse(rt, memory, search, actives, pulses));
     }
@@ -98,9 +101,7 @@ fn round<R: Threads + Sync, G: PhaseGate>(
 ) -> bool {
     search.label();
     let mut actives = search.actives(memory);
-    if !actives.is_empty() {
-        search.list_readers(memory);
-    }
+    search.list_readers(memory, &actives);
     let ended = pulses_of_round(rt, memory, search, &mut actives, pulses);
     drop(actives);
     ended

@@ -7,6 +7,7 @@ use crate::search::Search;
 use crate::spots::{FAR, Labels, Spot, label_before, labels_at};
 use aig_graph::Gate;
 use unit_flows::GateFlow;
+use unit_starts::{Region, narrow};
 
 /// More sweeps than these are never made. Nodes without a label are left to the network.
 const MOST_ROUNDS: u32 = 65_536;
@@ -113,51 +114,77 @@ fn begin(labels: &mut [Labels], spots: &mut [Spot]) {
     }
 }
 
+/// Sees the gates from the last to the first. Whether a node is newly labelled.
+fn sweep_down(
+    labels: &mut [Labels],
+    spots: &mut [Spot],
+    region: &Region,
+    flows: &[GateFlow],
+    sees_all: bool,
+) -> bool {
+    let (gates, first) = (region.gates, region.first);
+    let mut is_new = false;
+    let mut place = narrow(region.places());
+    for k in (0..gates.len()).rev() {
+        place = place.wrapping_sub(1);
+        if k < flows.len() {
+            is_new |= look(labels, spots, place, &gates[k], first, &flows[k], sees_all);
+        }
+    }
+    is_new
+}
+
+/// Sees the gates from the first to the last. Whether a node is newly labelled.
+fn sweep_up(
+    labels: &mut [Labels],
+    spots: &mut [Spot],
+    region: &Region,
+    flows: &[GateFlow],
+    sees_all: bool,
+) -> bool {
+    let (gates, first) = (region.gates, region.first);
+    let mut is_new = false;
+    let mut place = narrow(region.latches.len());
+    for k in 0..gates.len() {
+        if k < flows.len() {
+            is_new |= look(labels, spots, place, &gates[k], first, &flows[k], sees_all);
+        }
+        place = place.wrapping_add(1);
+    }
+    is_new
+}
+
+/// Sees the gates whose nodes have no label yet, down and then up, if that labels some. Whether both ways a node is newly labelled.
+fn sweep_open(
+    labels: &mut [Labels],
+    spots: &mut [Spot],
+    region: &Region,
+    flows: &[GateFlow],
+) -> bool {
+    sweep_down(labels, spots, region, flows, false) && sweep_up(labels, spots, region, flows, false)
+}
+
+/// Labels all nodes by sweeps.
+fn label_all(labels: &mut [Labels], spots: &mut [Spot], region: &Region, flows: &[GateFlow]) {
+    begin(labels, spots);
+    sweep_down(labels, spots, region, flows, true);
+    sweep_up(labels, spots, region, flows, true);
+    for _ in 0..MOST_ROUNDS {
+        if !sweep_open(labels, spots, region, flows) {
+            return;
+        }
+    }
+}
+
 impl<'a> Search<'a> {
-    /// Sees the gates from the last to the first. Whether a node is newly labelled.
-    fn sweep_down(&mut self, sees_all: bool) -> bool {
-        let (gates, first) = (self.region.gates, self.region.first);
-        let flows = self.flows.as_slice();
-        let labels = self.labels.as_mut_slice();
-        let spots = self.spots.as_mut_slice();
-        let mut is_new = false;
-        let mut place = self.end;
-        for k in (0..gates.len()).rev() {
-            place = place.wrapping_sub(1);
-            if k < flows.len() {
-                is_new |= look(labels, spots, place, &gates[k], first, &flows[k], sees_all);
-            }
-        }
-        is_new
-    }
-
-    /// Sees the gates from the first to the last. Whether a node is newly labelled.
-    fn sweep_up(&mut self, sees_all: bool) -> bool {
-        let (gates, first) = (self.region.gates, self.region.first);
-        let flows = self.flows.as_slice();
-        let labels = self.labels.as_mut_slice();
-        let spots = self.spots.as_mut_slice();
-        let mut is_new = false;
-        let mut place = self.latches;
-        for k in 0..gates.len() {
-            if k < flows.len() {
-                is_new |= look(labels, spots, place, &gates[k], first, &flows[k], sees_all);
-            }
-            place = place.wrapping_add(1);
-        }
-        is_new
-    }
-
     /// Labels each node from which units could come to the sink with the length of a way there, nearly always of a shortest one; all others
     /// lose their labels.
     pub fn label(&mut self) {
-        begin(self.labels.as_mut_slice(), self.spots.as_mut_slice());
-        self.sweep_down(true);
-        self.sweep_up(true);
-        for _ in 0..MOST_ROUNDS {
-            if !self.sweep_down(false) || !self.sweep_up(false) {
-                return;
-            }
-        }
+        label_all(
+            self.labels.as_mut_slice(),
+            self.spots.as_mut_slice(),
+            &self.region,
+            self.flows.as_slice(),
+        );
     }
 }

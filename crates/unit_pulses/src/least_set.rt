@@ -9,6 +9,7 @@ use crate::sharing::Sharing;
 use aig_graph::{Choice, ClosedSet, NoMemory};
 use pulse::{Crew, PhaseGate};
 use std::alloc::Global;
+use std::mem;
 use std::thread::Threads;
 use unit_flows::{Frame, GateFlow, NodeMarks, SpareTables, UnitFlow, shown_chosen};
 use unit_starts::{Region, Started, start_along, start_in};
@@ -27,11 +28,33 @@ fn shown_by_more(
         frame.now.keep.now)) }
 {
     let UnitFlow { gates, spare } = flow;
-    let brought = extend(alloc, &Region::of(frame), gates.as_mut_slice())?;
+    let Ok(brought) = extend(alloc, &Region::of(frame), gates.as_mut_slice()) else {
+        return Err(NoMemory);
+    };
     if brought < MANY_BROUGHT {
         return Ok(None);
     }
     shown_chosen(alloc, frame, choice, gates.as_slice(), spare)
+}
+
+/// By more of a start along the last flow, which showed nothing and came to these marks.
+fn started_further(
+    alloc: Global,
+    frame: &Frame,
+    choice: Choice,
+    flow: &mut UnitFlow,
+    marks: Option<NodeMarks>,
+) -> Result<Started, NoMemory>
+    ensures { IfOk result (λ started. IfSome started.set (IsChosen choice frame.now.circuit.now
+        frame.now.keep.now)) }
+{
+    match shown_by_more(alloc, frame, choice, flow) {
+        Ok(set) => Ok(Started { set, marks }),
+        Err(error) => {
+            drop(marks);
+            Err(error)
+        }
+    }
 }
 
 /// By a start, or by more of it, where it was one along the last flow.
@@ -45,15 +68,16 @@ fn started(
         frame.now.keep.now)) }
 {
     let is_first = flow.gates.is_empty();
-    let started = start_along(alloc, frame, choice, &mut *flow)?;
-    if is_first || started.set.is_some() {
-        return Ok(started);
+    match start_along(alloc, frame, choice, &mut *flow) {
+        Ok(started) => {
+            if is_first | started.set.is_some() {
+                return Ok(started);
+            }
+            let Started { marks, .. } = started;
+            started_further(alloc, frame, choice, flow, marks)
+        }
+        Err(error) => Err(error),
     }
-    let set = shown_by_more(alloc, frame, choice, flow)?;
-    Ok(Started {
-        set,
-        marks: started.marks,
-    })
 }
 
 /// By pulses of a crew from what a flow leaves, where the marks, if there are any, have each node from which units can come to the sink. The spare
@@ -71,9 +95,61 @@ fn shown_by_pulses<R: Threads + Sync, G: PhaseGate>(
         frame.now.keep.now)) }
 {
     let UnitFlow { gates, spare } = flow;
-    *spare = SpareTables::none(alloc);
-    bring(rt, alloc, &Region::of(frame), marks, sharing, gates)?;
+    drop(mem::replace(spare, SpareTables::none(alloc)));
+    if bring(rt, alloc, &Region::of(frame), marks, sharing, gates).is_err() {
+        return Err(NoMemory);
+    }
     shown_chosen(alloc, frame, choice, gates.as_slice(), spare)
+}
+
+/// Marks that show nothing more are tables for the next look at a frame.
+fn keep_marks(spare: &mut SpareTables, marks: Option<NodeMarks>) {
+    if let Some(marks) = marks {
+        spare.keep_marks(marks);
+    }
+}
+
+/// The set that a start shows, or else by pulses from what it leaves.
+fn shown_from_start<R: Threads + Sync, G: PhaseGate>(
+    rt: &R,
+    alloc: Global,
+    frame: &Frame,
+    choice: Choice,
+    started: Started,
+    sharing: Sharing<G>,
+    flow: &mut UnitFlow,
+) -> Result<Option<ClosedSet>, NoMemory>
+    requires { IfSome started.set (IsChosen choice frame.now.circuit.now frame.now.keep.now) }
+    ensures { IfOk result (λ shown. IfSome shown (IsChosen choice frame.now.circuit.now
+        frame.now.keep.now)) }
+{
+    let Started { set, marks } = started;
+    match set {
+        Some(set) => {
+            keep_marks(&mut flow.spare, marks);
+            Ok(Some(set))
+        }
+        None => shown_by_pulses(rt, alloc, frame, choice, marks, sharing, flow),
+    }
+}
+
+/// By pulses of a crew from the sources.
+fn shown_from_sources<R: Threads + Sync, G: PhaseGate>(
+    rt: &R,
+    alloc: Global,
+    frame: &Frame,
+    choice: Choice,
+    sharing: Sharing<G>,
+    flow: &mut UnitFlow,
+) -> Result<Option<ClosedSet>, NoMemory>
+    ensures { IfOk result (λ shown. IfSome shown (IsChosen choice frame.now.circuit.now
+        frame.now.keep.now)) }
+{
+    let Ok(none) = vec![in alloc; GateFlow::none(); frame.circuit.aig().gates().len()] else {
+        return Err(NoMemory);
+    };
+    drop(mem::replace(&mut flow.gates, none));
+    shown_by_pulses(rt, alloc, frame, choice, None, sharing, flow)
 }
 
 /// The chosen least set of a frame, where a flow of units shows it: that of a start along `flow`, what the last flow did at the circuit's gates, or
@@ -98,21 +174,29 @@ pub fn chosen_least_brought<R: Threads + Sync, G: PhaseGate>(
     ensures { IfOk result (λ shown. IfSome shown (IsChosen choice frame.now.circuit.now
         frame.now.keep.now)) }
 {
-    let aig = frame.circuit.aig();
-    let sharing = Sharing::of(crew, aig.latches_and_gates(), flow.gates.is_empty());
+    let places = frame.circuit.aig().latches_and_gates();
+    let sharing = Sharing::of(crew, places, flow.gates.is_empty());
     if sharing.from_sources {
-        flow.gates = vec![in alloc; GateFlow::none(); aig.gates().len()]?;
-        return shown_by_pulses(rt, alloc, frame, choice, None, sharing, flow);
+        return shown_from_sources(rt, alloc, frame, choice, sharing, flow);
     }
-    let Started { set, marks } = started(alloc, frame, choice, &mut *flow)?;
-    match set {
-        Some(set) => {
-            if let Some(marks) = marks {
-                flow.spare.keep_marks(marks);
-            }
-            Ok(Some(set))
-        }
-        None => shown_by_pulses(rt, alloc, frame, choice, marks, sharing, flow),
+    match started(alloc, frame, choice, &mut *flow) {
+        Ok(started) => shown_from_start(rt, alloc, frame, choice, started, sharing, flow),
+        Err(error) => Err(error),
+    }
+}
+
+/// Puts a flow over a region in place of none: that of a start, or what a crew's pulses make of it.
+fn put_first_flow<R: Threads + Sync, G: PhaseGate>(
+    rt: &R,
+    alloc: Global,
+    region: &Region,
+    crew: &Crew<G>,
+    flows: &mut Vec<GateFlow>,
+) -> Result<(), NoMemory> {
+    match start_in(alloc, region, flows) {
+        Ok(true) => bring(rt, alloc, region, None, Sharing::of_started(crew), flows),
+        Ok(false) => Ok(()),
+        Err(error) => Err(error),
     }
 }
 
@@ -129,9 +213,11 @@ pub fn first_flow<R: Threads + Sync, G: PhaseGate>(
     crew: &Crew<G>,
 ) -> Result<Vec<GateFlow>, NoMemory> {
     let mut flows = Vec::new(alloc);
-    if start_in(alloc, region, &mut flows)? {
-        let sharing = Sharing::of_started(crew);
-        bring(rt, alloc, region, None, sharing, &mut flows)?;
+    match put_first_flow(rt, alloc, region, crew, &mut flows) {
+        Ok(()) => Ok(flows),
+        Err(error) => {
+            drop(flows);
+            Err(error)
+        }
     }
-    Ok(flows)
 }

@@ -60,20 +60,33 @@ fn read_by_crew<R: Threads + Sync, G: PhaseGate>(
     }
 }
 
-/// Delivery at all places, by the calling thread.
-fn deliver_alone<G: PhaseGate>(search: &mut Search, shared: &mut Parts, passage: &Passage<G>) {
-    let phase = passage.pulse.wrapping_mul(2).wrapping_add(1);
-    let (labels, parts) = (search.labels.as_slice(), shared.parts.as_slice());
-    let deliveries = shared.deliveries.as_mut_slice();
-    let mut all = Ground::all(
+/// All places and gates of a search, and its labels.
+fn ground_of<'a>(search: &'a mut Search) -> (Ground<'a>, &'a [Labels]) {
+    let all = Ground::all(
         search.latches,
         search.spots.as_mut_slice(),
         search.flows.as_mut_slice(),
     );
-    passage.gate.pass(phase, 0);
+    (all, search.labels.as_slice())
+}
+
+/// Delivers at all places, which are those of the first worker.
+fn deliver_all(search: &mut Search, parts: &[Part], deliveries: &mut [Delivery]) {
+    let (mut all, labels) = ground_of(search);
     if !deliveries.is_empty() {
         all.deliver(0, labels, parts, &mut deliveries[0]);
     }
+}
+
+/// Delivery at all places, by the calling thread.
+fn deliver_alone<G: PhaseGate>(search: &mut Search, shared: &mut Parts, passage: &Passage<G>) {
+    let phase = passage.pulse.wrapping_mul(2).wrapping_add(1);
+    passage.gate.pass(phase, 0);
+    deliver_all(
+        search,
+        shared.parts.as_slice(),
+        shared.deliveries.as_mut_slice(),
+    );
     passage.gate.leave(phase, 0);
 }
 
@@ -87,7 +100,9 @@ fn deliver_by_crew<R: Threads + Sync, G: PhaseGate>(
 ) {
     let gate = passage.gate;
     let phase = passage.pulse.wrapping_mul(2).wrapping_add(1);
-    let (labels, parts) = (search.labels.as_slice(), shared.parts.as_slice());
+    let parts = shared.parts.as_slice();
+    let latches = search.latches;
+    let (all, labels) = ground_of(search);
     let work = |owned: Owned| -> Delivery {
         let worker = owned.worker;
         gate.pass(phase, worker);
@@ -95,13 +110,8 @@ fn deliver_by_crew<R: Threads + Sync, G: PhaseGate>(
         gate.leave(phase, worker);
         delivery
     };
-    let all = Ground::all(
-        search.latches,
-        search.spots.as_mut_slice(),
-        search.flows.as_mut_slice(),
-    );
     let taken = shared.deliveries.as_mut_slice();
-    let owned = owned_by_ranges(memory, search.latches, all, parts, taken);
+    let owned = owned_by_ranges(memory, latches, all, parts, taken);
     match thread::map_vec(rt, owned, &work) {
         Ok(made) => drop(mem::replace(&mut shared.deliveries, made)),
         Err(_) => memory.refuse(),

@@ -151,22 +151,32 @@ impl<'a> Search<'a> {
         }
     }
 
+    /// Reads what the nodes after these places do that are a worker's own.
+    fn read_all_after(&self, places: &[u32], part: &mut Part) {
+        let range = part.range;
+        for k in 0..places.len() {
+            if range.has(places[k]) {
+                part.count(4);
+                self.read_after(places[k], part);
+            }
+        }
+    }
+
+    /// Reads what the nodes before these places do that are a worker's own.
+    fn read_all_before(&self, places: &[u32], part: &mut Part) {
+        let range = part.range;
+        for k in 0..places.len() {
+            if range.has(places[k]) {
+                part.count(4);
+                self.read_before(places[k], part);
+            }
+        }
+    }
+
     /// Reads what those of these nodes do that are a worker's own.
     pub fn read(&self, actives: &Nodes, part: &mut Part) {
         part.clear();
-        let range = part.range;
-        let (before, after) = (actives.before.as_slice(), actives.after.as_slice());
-        for k in 0..after.len() {
-            if range.has(after[k]) {
-                part.count(4);
-                self.read_after(after[k], part);
-            }
-        }
-        for k in 0..before.len() {
-            if range.has(before[k]) {
-                part.count(4);
-                self.read_before(before[k], part);
-            }
-        }
+        self.read_all_after(actives.after.as_slice(), part);
+        self.read_all_before(actives.before.as_slice(), part);
     }
 }

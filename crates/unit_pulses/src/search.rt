@@ -2,6 +2,7 @@
 
 use crate::fan_ins::FanIns;
 use crate::memory::Memory;
+use crate::nodes::Nodes;
 use crate::readers::Readers;
 use crate::spots::{Labels, Spot, label_before};
 use unit_flows::GateFlow;
@@ -21,8 +22,6 @@ pub(crate) struct Search<'a> {
     pub region: Region<'a>,
     /// How many latches there are, the place of the first gate.
     pub latches: u32,
-    /// How many places there are.
-    pub end: u32,
     /// As many units as an arc without a bound carries at most.
     pub most: u32,
     pub readers: Readers,
@@ -37,7 +36,6 @@ impl<'a> Drop for Search<'a> {
         let Search {
             region: _region,
             latches: _latches,
-            end: _end,
             most: _most,
             readers: _readers,
             labels: _labels,
@@ -56,7 +54,6 @@ impl<'a> Search<'a> {
         Search {
             region: *region,
             latches: narrow(region.latches.len()),
-            end: narrow(region.places()),
             most: narrow(region.known_latches()).saturating_add(1),
             readers: Readers::none(memory),
             labels: memory.table(Labels::NONE, region.places()),
@@ -67,17 +64,12 @@ impl<'a> Search<'a> {
 
     /// From before the gates that have no mark no unit can come to the sink.
     pub fn leave_out(&mut self, marks: &[bool]) {
-        let spots = self.spots.as_mut_slice();
-        for k in 0..spots.len() {
-            if k < marks.len() {
-                spots[k].reaches = spots[k].reaches & marks[k];
-            }
-        }
+        leave_out(self.spots.as_mut_slice(), marks);
     }
 
-    /// Makes lists of readers, where there are none.
-    pub fn list_readers(&mut self, memory: &mut Memory) {
-        if self.readers.are_none() {
+    /// Makes lists of readers for active nodes, where there are some and no lists yet.
+    pub fn list_readers(&mut self, memory: &mut Memory, actives: &Nodes) {
+        if self.readers.are_none() & !actives.is_empty() {
             self.readers = Readers::of(memory, &self.region);
         }
     }
@@ -87,7 +79,6 @@ impl<'a> Search<'a> {
         let Search {
             region: _region,
             latches: _latches,
-            end: _end,
             most: _most,
             readers: _readers,
             labels: _labels,
@@ -137,6 +128,15 @@ impl<'a> Search<'a> {
     pub fn came_from(&self, reader: u32, place: u32) -> (bool, u32) {
         let second = self.fan_ins(reader).is_second(place);
         (second, self.flow(reader).down(second))
+    }
+}
+
+/// From before the gates that have no mark no unit can come to the sink.
+fn leave_out(spots: &mut [Spot], marks: &[bool]) {
+    for place in 0..spots.len() {
+        if place < marks.len() {
+            spots[place].reaches = spots[place].reaches & marks[place];
+        }
     }
 }
 
