@@ -11,29 +11,32 @@ use unit_flows::{GateFlow, UnitFlow, filled};
 /// Stands for no gate.
 const NOBODY: u32 = u32::MAX;
 
-/// Notes that a gate takes the unit after a place, where no gate before it does.
-fn note_taker(takers: &mut [u32], place: u32, gate: u32) {
+/// Notes that a gate takes the unit after what a literal reads, if it took one, where no gate before it does.
+fn note_taker(takers: &mut [u32], place: u32, took: bool, gate: u32) {
     let place = place as usize;
-    if place < takers.len() && takers[place] == NOBODY {
+    if place < takers.len() && took & (takers[place] == NOBODY) {
         takers[place] = gate;
-    }
-}
-
-/// Notes where a gate took units.
-fn note_takes(takers: &mut [u32], region: &Region, literals: &Gate, flow: &GateFlow, gate: u32) {
-    if flow.first_up {
-        note_taker(takers, region.place(literals.rhs1), gate);
-    }
-    if flow.second_up {
-        note_taker(takers, region.place(literals.rhs0), gate);
     }
 }
 
 /// Notes where all gates took units.
 fn note_takers(takers: &mut [u32], region: &Region, known: &[GateFlow]) {
-    for k in 0..region.gates.len() {
+    let gates = region.gates;
+    for k in 0..gates.len() {
         if k < known.len() {
-            note_takes(takers, region, &region.gates[k], &known[k], narrow(k));
+            let (literals, flow) = (&gates[k], known[k]);
+            note_taker(
+                takers,
+                region.place(literals.rhs1),
+                flow.first_up,
+                narrow(k),
+            );
+            note_taker(
+                takers,
+                region.place(literals.rhs0),
+                flow.second_up,
+                narrow(k),
+            );
         }
     }
 }
@@ -71,36 +74,42 @@ fn goes_down(region: &Region, literals: &Gate, known: &GateFlow, flow: &mut Gate
     }
 }
 
-/// How far a unit goes on.
-enum Way {
-    /// Through the gate with this number.
-    Through(usize),
-    /// To before that gate, where nothing more is known.
-    Before(usize),
-    /// Nowhere.
-    Stays,
-}
-
-/// From before a gate a unit goes through it, or through one that it goes down to.
-fn goes_through(region: &Region, known: &[GateFlow], flows: &mut [GateFlow], from: usize) -> Way {
+/// From before a gate a unit goes through it, or through one that it goes down to. The number of the last gate that it comes to, and whether it
+/// goes through.
+fn goes_through(
+    region: &Region,
+    known: &[GateFlow],
+    flows: &mut [GateFlow],
+    from: usize,
+) -> (usize, bool) {
     let gates = region.gates;
     let mut gate = from;
     for _ in 0..u32::MAX {
         if gate >= gates.len() || gate >= flows.len() {
-            return Way::Before(gate);
+            return (gate, false);
         }
         let told = known_at(known, gate);
         if told.through & !flows[gate].through {
             flows[gate].through = true;
-            return Way::Through(gate);
+            return (gate, true);
         }
         let next = goes_down(region, &gates[gate], &told, &mut flows[gate]);
         if next >= gates.len() {
-            return Way::Before(gate);
+            return (gate, false);
         }
         gate = next;
     }
-    Way::Before(gate)
+    (gate, false)
+}
+
+/// The number of the gate that takes the unit after a place.
+fn taker_of(takers: &[u32], place: usize) -> usize {
+    let taker = if place < takers.len() {
+        takers[place]
+    } else {
+        NOBODY
+    };
+    taker as usize
 }
 
 /// A gate, if there is one with this number, takes the unit after a place. Whether it does.
@@ -119,25 +128,6 @@ fn comes_to(
     true
 }
 
-/// The gate that takes the unit after a place takes it, and it goes through that gate or through one that it goes down to.
-fn goes_on(
-    region: &Region,
-    known: &[GateFlow],
-    takers: &[u32],
-    flows: &mut [GateFlow],
-    place: usize,
-) -> Way {
-    if place >= takers.len() {
-        return Way::Stays;
-    }
-    let taker = takers[place] as usize;
-    if comes_to(region, known, flows, place, taker) {
-        goes_through(region, known, flows, taker)
-    } else {
-        Way::Stays
-    }
-}
-
 /// Sends the unit after a latch as far as it is known to go, and notes where it is left.
 fn send(
     region: &Region,
@@ -147,70 +137,55 @@ fn send(
     left: &mut LeftUnits,
     latch: usize,
 ) {
-    let latches = region.latches.len();
     let mut place = latch;
     for _ in 0..region.places() {
         if !region.is_inside(place) {
             return;
         }
-        match goes_on(region, known, takers, flows, place) {
-            Way::Through(gate) => place = latches.saturating_add(gate),
-            Way::Before(gate) => return left.push_before(latches.saturating_add(gate)),
-            Way::Stays => return left.push_after(place),
+        let taker = taker_of(takers, place);
+        if !comes_to(region, known, flows, place, taker) {
+            return left.push(place, false);
+        }
+        let (gate, goes_on) = goes_through(region, known, flows, taker);
+        place = region.latches.len().saturating_add(gate);
+        if !goes_on {
+            return left.push(place, true);
         }
     }
 }
 
-/// Sends the units after all known latches as far as they are known to go, and notes where they are left.
+/// Sends the units after all known latches as far as they are known to go. Where they are left.
 fn send_all(
+    alloc: Global,
     region: &Region,
     known: &[GateFlow],
     takers: &[u32],
     flows: &mut [GateFlow],
-    left: &mut LeftUnits,
-) {
+) -> LeftUnits {
+    let mut left = LeftUnits::none(alloc);
     for place in 0..region.latches.len() {
         if region.is_known_latch(place) {
-            send(region, known, takers, flows, left, place);
+            send(region, known, takers, flows, &mut left, place);
         }
     }
+    left
 }
 
-/// What the flow along a known one does at each gate, and notes where it leaves units.
-fn flow_along(
-    alloc: Global,
-    region: &Region,
-    known: &[GateFlow],
-    takers: &[u32],
-    left: &mut LeftUnits,
-) -> Result<Vec<GateFlow>, NoMemory> {
-    let Ok(mut flows) = vec![in alloc; GateFlow::none(); region.gates.len()] else {
-        return Err(NoMemory);
-    };
-    send_all(region, known, takers, flows.as_mut_slice(), left);
-    Ok(flows)
-}
-
-/// Puts a flow along a known one in its place, and notes where it leaves units. The spare table serves.
-fn put_flow_along(
+/// Sends the units by what is known, for which a spare table serves. Where they are left.
+fn send_along(
     alloc: Global,
     region: &Region,
     known: &mut UnitFlow,
-    left: &mut LeftUnits,
-) -> Result<(), NoMemory> {
+    flows: &mut [GateFlow],
+) -> Result<LeftUnits, NoMemory> {
     let UnitFlow { gates, spare } = known;
-    let Ok(takers) = takers_in(spare.take_numbers(alloc), region, gates.as_slice()) else {
+    let known = gates.as_slice();
+    let Ok(takers) = takers_in(spare.take_numbers(alloc), region, known) else {
         return Err(NoMemory);
     };
-    let flows = flow_along(alloc, region, gates.as_slice(), takers.as_slice(), left);
+    let left = send_all(alloc, region, known, takers.as_slice(), flows);
     spare.keep_numbers(takers);
-    match flows {
-        Ok(flows) => {
-            drop(mem::replace(gates, flows));
-            Ok(())
-        }
-        Err(error) => Err(error),
-    }
+    left.complete()
 }
 
 /// A flow along what is known of an earlier one at each gate, in its place: 4 bytes a latch and gate, for which a spare table serves, and what the
@@ -224,10 +199,15 @@ pub(crate) fn put_along(
     region: &Region,
     known: &mut UnitFlow,
 ) -> Result<LeftUnits, NoMemory> {
-    let mut left = LeftUnits::none(alloc);
-    let put = put_flow_along(alloc, region, known, &mut left);
-    if put.is_err() | left.is_refused() {
+    let Ok(mut flows) = vec![in alloc; GateFlow::none(); region.gates.len()] else {
         return Err(NoMemory);
-    }
-    Ok(left)
+    };
+    let left = send_along(alloc, region, known, flows.as_mut_slice());
+    let put = if left.is_ok() {
+        mem::replace(&mut known.gates, flows)
+    } else {
+        flows
+    };
+    drop(put);
+    left
 }

@@ -43,18 +43,15 @@ impl GatePlaces {
             larger: region.place(gates[gate].rhs0) as usize,
         }
     }
-
-    fn fan_in(&self, fan_in: FanIn) -> usize {
-        match fan_in {
-            FanIn::Smaller => self.smaller,
-            FanIn::Larger => self.larger,
-        }
-    }
 }
 
 /// Whether a unit waited after a gate's fan-in, which the gate takes then.
 fn takes(start: &mut Start, gate: usize, places: &GatePlaces, fan_in: FanIn) -> bool {
-    start.takes_from(gate, places.own, fan_in, places.fan_in(fan_in))
+    let place = match fan_in {
+        FanIn::Smaller => places.smaller,
+        FanIn::Larger => places.larger,
+    };
+    start.takes_from(gate, places.own, fan_in, place)
 }
 
 /// A gate that has taken nothing takes a unit that waits after one of its fan-ins: this one before the other.
@@ -105,25 +102,6 @@ fn ask_and_take(region: &Region, start: &mut Start) {
     for gate in 0..gates {
         take_asked(region, start, gate);
     }
-}
-
-/// The start up the gates.
-fn start_up(alloc: Global, region: &Region) -> Result<Start, NoMemory> {
-    let Ok(mut start) = Start::new(alloc, region) else {
-        return Err(NoMemory);
-    };
-    take_all_waiting(region, &mut start, FanIn::Larger, FanIn::Smaller);
-    Ok(start)
-}
-
-/// The start from the sink down.
-fn start_down(alloc: Global, region: &Region) -> Result<Start, NoMemory> {
-    let Ok(mut start) = Start::new(alloc, region) else {
-        return Err(NoMemory);
-    };
-    ask_and_take(region, &mut start);
-    take_all_waiting(region, &mut start, FanIn::Smaller, FanIn::Larger);
-    Ok(start)
 }
 
 /// What a gate does that takes its unit there, if any: it goes through.
@@ -194,9 +172,10 @@ pub(crate) fn put_start_up(
     region: &Region,
     flows: &mut Vec<GateFlow>,
 ) -> Result<FirstStart, NoMemory> {
-    let Ok(start) = start_up(alloc, region) else {
+    let Ok(mut start) = Start::new(alloc, region) else {
         return Err(NoMemory);
     };
+    take_all_waiting(region, &mut start, FanIn::Larger, FanIn::Smaller);
     let first = put_first(alloc, flows, &start);
     drop(start);
     first
@@ -213,9 +192,11 @@ pub(crate) fn put_start_down(
     flows: &mut Vec<GateFlow>,
     arrived: usize,
 ) -> Result<bool, NoMemory> {
-    let Ok(start) = start_down(alloc, region) else {
+    let Ok(mut start) = Start::new(alloc, region) else {
         return Err(NoMemory);
     };
+    ask_and_take(region, &mut start);
+    take_all_waiting(region, &mut start, FanIn::Smaller, FanIn::Larger);
     let is_put = put_better(flows, &start, arrived);
     drop(start);
     is_put

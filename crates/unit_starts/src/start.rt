@@ -56,7 +56,7 @@ fn put_after(spots: &mut [Spot], place: usize, arrived: usize) -> usize {
 fn list_waiting(spots: &[Spot], left: &mut LeftUnits) {
     for place in 0..spots.len() {
         if spots[place].waits {
-            left.push_after(place);
+            left.push(place, false);
         }
     }
 }
@@ -107,10 +107,7 @@ impl Start {
     pub(crate) fn left(&self, alloc: Global) -> Result<LeftUnits, NoMemory> {
         let mut left = LeftUnits::none(alloc);
         list_waiting(self.spots.as_slice(), &mut left);
-        if left.is_refused() {
-            return Err(NoMemory);
-        }
-        Ok(left)
+        left.complete()
     }
 
     /// Whether a unit waited after a fan-in; then the gate has taken it, and it comes after the gate's own place.
