@@ -75,21 +75,6 @@ fn find_labels(
     }
 }
 
-/// All units come, and what the flow does then is noted.
-fn come_all(
-    spots: &mut [Spot],
-    first: u32,
-    flows: &mut [GateFlow],
-    first_gate: u32,
-    pushes: &[Push],
-    next: &mut Nodes,
-) {
-    for k in 0..pushes.len() {
-        note(flows, first_gate, &pushes[k]);
-        come(spots, first, &pushes[k], next);
-    }
-}
-
 /// The places of a worker and its gates, from the first of each on.
 #[derive(Drop)]
 pub(crate) struct Ground<'a> {
@@ -139,6 +124,15 @@ impl<'a> Ground<'a> {
         (own, others)
     }
 
+    /// All units of these pushes come, and what the flow does then is noted.
+    fn come_all(&mut self, pushes: &[Push], next: &mut Nodes) {
+        let (first, first_gate) = (self.first, self.first_gate);
+        for k in 0..pushes.len() {
+            note(self.flows, first_gate, &pushes[k]);
+            come(self.spots, first, &pushes[k], next);
+        }
+    }
+
     /// Delivers what was read by all workers, of which the part with this number is its own.
     pub fn deliver(
         &mut self,
@@ -147,7 +141,7 @@ impl<'a> Ground<'a> {
         parts: &[Part],
         delivery: &mut Delivery,
     ) {
-        let (first, first_gate) = (self.first, self.first_gate);
+        let first = self.first;
         let worker = worker as usize;
         delivery.clear();
         if worker >= parts.len() {
@@ -155,9 +149,7 @@ impl<'a> Ground<'a> {
         }
         leave_all(self.spots, first, parts[worker].pushes.as_slice());
         for k in 0..parts.len() {
-            let pushes = parts[k].pushes.as_slice();
-            let next = &mut delivery.next;
-            come_all(self.spots, first, self.flows, first_gate, pushes, next);
+            self.come_all(parts[k].pushes.as_slice(), &mut delivery.next);
         }
         let kept = parts[worker].kept_before.as_slice();
         find_labels(self.spots, first, labels, kept, delivery);

@@ -1,6 +1,6 @@
 //! The chosen least set of a circuit by a flow of units, where a start shows it, or pulses from that start do; and such a flow over some components of a
 //! frame's network, which nothing judges.
-ghost use Rattle.std.specs.Prelude.{IfOk, IfSome};
+ghost use Rattle.std.specs.Prelude.{◌≡◌, IfOk, IfSome, None};
 ghost use Rattle.aig_graph.specs.Chosen.{IsChosen};
 
 use crate::bringing::bring;
@@ -133,23 +133,18 @@ fn shown_from_start<R: Threads + Sync, G: PhaseGate>(
     }
 }
 
-/// By pulses of a crew from the sources.
-fn shown_from_sources<R: Threads + Sync, G: PhaseGate>(
-    rt: &R,
-    alloc: Global,
-    frame: &Frame,
-    choice: Choice,
-    sharing: Sharing<G>,
-    flow: &mut UnitFlow,
-) -> Result<Option<ClosedSet>, NoMemory>
-    ensures { IfOk result (λ shown. IfSome shown (IsChosen choice frame.now.circuit.now
-        frame.now.keep.now)) }
+/// By no start: the flow begins at the sources, where it does nothing yet.
+fn begun(alloc: Global, frame: &Frame, flow: &mut UnitFlow) -> Result<Started, NoMemory>
+    ensures { IfOk result (λ started. started.set ≡ None) }
 {
     let Ok(none) = vec![in alloc; GateFlow::none(); frame.circuit.aig().gates().len()] else {
         return Err(NoMemory);
     };
     drop(mem::replace(&mut flow.gates, none));
-    shown_by_pulses(rt, alloc, frame, choice, None, sharing, flow)
+    Ok(Started {
+        set: None,
+        marks: None,
+    })
 }
 
 /// The chosen least set of a frame, where a flow of units shows it: that of a start along `flow`, what the last flow did at the circuit's gates, or
@@ -176,10 +171,12 @@ pub fn chosen_least_brought<R: Threads + Sync, G: PhaseGate>(
 {
     let places = frame.circuit.aig().latches_and_gates();
     let sharing = Sharing::of(crew, places, flow.gates.is_empty());
-    if sharing.from_sources {
-        return shown_from_sources(rt, alloc, frame, choice, sharing, flow);
-    }
-    match started(alloc, frame, choice, &mut *flow) {
+    let started = if sharing.from_sources {
+        begun(alloc, frame, &mut *flow)
+    } else {
+        started(alloc, frame, choice, &mut *flow)
+    };
+    match started {
         Ok(started) => shown_from_start(rt, alloc, frame, choice, started, sharing, flow),
         Err(error) => Err(error),
     }

@@ -173,28 +173,17 @@ fn add_before(spots: &mut [Spot], place: u32, units: u32) {
     }
 }
 
-/// What waited after a place and came to before a gate waits no more.
-fn note_up(spots: &mut [Spot], place: u32, fan_in: u32) {
-    add_before(spots, place, 1);
-    let fan_in = fan_in as usize;
-    if fan_in < spots.len() {
-        spots[fan_in].waits = false;
+/// Notes what came to before a gate from after a fan-in, and what it sent on to before that.
+fn note_fan_in(spots: &mut [Spot], place: u32, fan_in: u32, came: bool, went: u32) {
+    if came {
+        add_before(spots, place, 1);
+        let fan_in = fan_in as usize;
+        if fan_in < spots.len() {
+            spots[fan_in].waits = false;
+        }
     }
-}
-
-/// Notes what came to before a gate from after its fan-ins, and what it sent on to before these.
-fn note_fan_ins(spots: &mut [Spot], place: u32, fan_ins: &FanIns, flow: &GateFlow) {
-    if flow.first_up {
-        note_up(spots, place, fan_ins.smaller);
-    }
-    if flow.second_up {
-        note_up(spots, place, fan_ins.larger);
-    }
-    if flow.first_down > 0 {
-        add_before(spots, fan_ins.smaller, flow.first_down);
-    }
-    if flow.second_down > 0 {
-        add_before(spots, fan_ins.larger, flow.second_down);
+    if went > 0 {
+        add_before(spots, fan_in, went);
     }
 }
 
@@ -216,16 +205,13 @@ fn note_going(spots: &mut [Spot], place: u32, flow: &GateFlow) {
 
 /// Notes what a flow does at all gates, from the last to the first: so all gates that read one are noted before it.
 fn note_all(spots: &mut [Spot], region: &Region, flows: &[GateFlow]) {
-    let latches = region.latches.len();
-    for k in (0..region.gates.len()).rev() {
+    let (gates, latches) = (region.gates, region.latches.len());
+    for k in (0..gates.len()).rev() {
         let place = narrow(latches.wrapping_add(k));
         let flow = flow_at(flows, k);
-        note_fan_ins(
-            spots,
-            place,
-            &FanIns::of(&region.gates[k], region.first),
-            &flow,
-        );
+        let FanIns { smaller, larger } = FanIns::of(&gates[k], region.first);
+        note_fan_in(spots, place, smaller, flow.first_up, flow.first_down);
+        note_fan_in(spots, place, larger, flow.second_up, flow.second_down);
         note_going(spots, place, &flow);
     }
 }
