@@ -63,14 +63,6 @@ fn next_pulse<R: Threads + Sync, G: PhaseGate>(
     }
 }
 
-/// Whether these nodes are none, or memory was refused for one or before.
-fn is_last(memory: &mut Memory, actives: &Nodes) -> bool {
-    if actives.refused {
-        memory.refuse();
-    }
-    actives.is_empty() | memory.is_refused()
-}
-
 /// Pulses until no node is active, memory was refused, or labels are to be made anew. Whether it wasn't for labels.
 fn pulses_of_round<R: Threads + Sync, G: PhaseGate>(
     rt: &R,
@@ -82,7 +74,8 @@ fn pulses_of_round<R: Threads + Sync, G: PhaseGate>(
     let most = search.spots.len().saturating_mul(WORK_A_PLACE);
     let mut work = 0usize;
     for _ in 0..u32::MAX {
-        let is_last = is_last(memory, actives);
+        memory.refuse_if(actives.refused);
+        let is_last = actives.is_empty() | memory.is_refused();
         if is_last | (work >= most) {
             return is_last;
         }
@@ -107,21 +100,7 @@ fn round<R: Threads + Sync, G: PhaseGate>(
     ended
 }
 
-/// Rounds until none of the units that are left can come to the sink, or memory was refused.
-fn rounds<R: Threads + Sync, G: PhaseGate>(
-    rt: &R,
-    memory: &mut Memory,
-    search: &mut Search,
-    pulses: &mut Pulses<G>,
-) {
-    for _ in 0..MOST_ROUNDS {
-        if round(rt, memory, search, pulses) {
-            return;
-        }
-    }
-}
-
-/// Brings units by rounds of pulses, whose parts are made first.
+/// Brings units by rounds of pulses, whose parts are made first, until none that is left can come to the sink, or memory was refused.
 fn bring_in<R: Threads + Sync, G: PhaseGate>(
     rt: &R,
     memory: &mut Memory,
@@ -129,21 +108,15 @@ fn bring_in<R: Threads + Sync, G: PhaseGate>(
     search: &mut Search,
 ) {
     let mut pulses = Pulses::none(memory, sharing, search.spots.len());
-    rounds(rt, memory, search, &mut pulses);
+    for _ in 0..MOST_ROUNDS {
+        if round(rt, memory, search, &mut pulses) {
+            break;
+        }
+    }
     drop(pulses);
 }
 
-/// A search in which no unit can come to the sink from before the gates that have no mark, if there are marks.
-fn left_out(search: Search, marks: Option<NodeMarks>) -> Search {
-    let mut search = search;
-    if let Some(marks) = &marks {
-        search.leave_out(marks.before.as_slice());
-    }
-    drop(marks);
-    search
-}
-
-/// The flow that pulses make of one.
+/// The flow that pulses make of one. No unit can come to the sink from before the gates that have no mark, if there are marks.
 fn brought<R: Threads + Sync, G: PhaseGate>(
     rt: &R,
     memory: &mut Memory,
@@ -152,7 +125,11 @@ fn brought<R: Threads + Sync, G: PhaseGate>(
     sharing: Sharing<G>,
     known: Vec<GateFlow>,
 ) -> Vec<GateFlow> {
-    let mut search = left_out(Search::new(memory, region, known), marks);
+    let mut search = Search::new(memory, region, known);
+    if let Some(marks) = &marks {
+        search.leave_out(marks.before.as_slice());
+    }
+    drop(marks);
     bring_in(rt, memory, sharing, &mut search);
     search.into_flows()
 }

@@ -8,22 +8,23 @@ use crate::spots::{Labels, Spot, label_before, spot_at};
 use std::mem;
 use unit_flows::GateFlow;
 
-/// The units of a worker's own push leave the tail. Its places are these from the first on.
-fn leave(spots: &mut [Spot], first: u32, push: &Push) {
-    let at = push.tail.wrapping_sub(first) as usize;
-    if at < spots.len() {
-        if push.arc.is_from_after() {
-            spots[at].waits = false;
-        } else {
-            spots[at].excess = spots[at].excess.saturating_sub(push.units);
-        }
-    }
-}
-
-/// The units of all of a worker's own pushes leave.
+/// The units of a worker's own pushes leave the tails. Its places are these from the first on.
 fn leave_all(spots: &mut [Spot], first: u32, pushes: &[Push]) {
     for k in 0..pushes.len() {
-        leave(spots, first, &pushes[k]);
+        let Push {
+            arc,
+            tail,
+            units,
+            ..
+        } = pushes[k];
+        let at = tail.wrapping_sub(first) as usize;
+        if at < spots.len() {
+            if arc.is_from_after() {
+                spots[at].waits = false;
+            } else {
+                spots[at].excess = spots[at].excess.saturating_sub(units);
+            }
+        }
     }
 }
 

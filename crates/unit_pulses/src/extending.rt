@@ -34,21 +34,17 @@ fn takes(waits: &mut [bool], place: u32) -> bool {
     waited
 }
 
-/// Nothing waits at a place, if a unit went on from there.
-fn clear_if(waits: &mut [bool], place: u32, went: bool) {
-    let place = place as usize;
-    if place < waits.len() && went {
-        waits[place] = false;
-    }
-}
-
 /// Nothing waits from where units went on to gates.
 fn clear_gone(region: &Region, flows: &[GateFlow], waits: &mut [bool]) {
     let gates = region.gates;
     for k in 0..gates.len() {
         if k < flows.len() {
-            clear_if(waits, region.place(gates[k].rhs1), flows[k].first_up);
-            clear_if(waits, region.place(gates[k].rhs0), flows[k].second_up);
+            if flows[k].first_up {
+                takes(waits, region.place(gates[k].rhs1));
+            }
+            if flows[k].second_up {
+                takes(waits, region.place(gates[k].rhs0));
+            }
         }
     }
 }

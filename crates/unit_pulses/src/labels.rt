@@ -154,37 +154,22 @@ fn sweep_up(
     is_new
 }
 
-/// Sees the gates whose nodes have no label yet, down and then up, if that labels some. Whether both ways a node is newly labelled.
-fn sweep_open(
-    labels: &mut [Labels],
-    spots: &mut [Spot],
-    region: &Region,
-    flows: &[GateFlow],
-) -> bool {
-    sweep_down(labels, spots, region, flows, false) && sweep_up(labels, spots, region, flows, false)
-}
-
-/// Labels all nodes by sweeps.
-fn label_all(labels: &mut [Labels], spots: &mut [Spot], region: &Region, flows: &[GateFlow]) {
-    begin(labels, spots);
-    sweep_down(labels, spots, region, flows, true);
-    sweep_up(labels, spots, region, flows, true);
-    for _ in 0..MOST_ROUNDS {
-        if !sweep_open(labels, spots, region, flows) {
-            return;
-        }
-    }
-}
-
 impl<'a> Search<'a> {
     /// Labels each node from which units could come to the sink with the length of a way there, nearly always of a shortest one; all others
     /// lose their labels.
     pub fn label(&mut self) {
-        label_all(
-            self.labels.as_mut_slice(),
-            self.spots.as_mut_slice(),
-            &self.region,
-            self.flows.as_slice(),
-        );
+        let (region, flows) = (&self.region, self.flows.as_slice());
+        let labels = self.labels.as_mut_slice();
+        let spots = self.spots.as_mut_slice();
+        begin(labels, spots);
+        sweep_down(labels, spots, region, flows, true);
+        sweep_up(labels, spots, region, flows, true);
+        for _ in 0..MOST_ROUNDS {
+            if !sweep_down(labels, spots, region, flows, false)
+                || !sweep_up(labels, spots, region, flows, false)
+            {
+                return;
+            }
+        }
     }
 }

@@ -1,6 +1,6 @@
 //! The chosen least set of a circuit by a flow of units, where a start shows it, or pulses from that start do; and such a flow over some components of a
 //! frame's network, which nothing judges.
-ghost use Rattle.std.specs.Prelude.{◌≡◌, IfOk, IfSome, None};
+ghost use Rattle.std.specs.Prelude.{IfOk, IfSome};
 ghost use Rattle.aig_graph.specs.Chosen.{IsChosen};
 
 use crate::bringing::bring;
@@ -37,26 +37,6 @@ fn shown_by_more(
     shown_chosen(alloc, frame, choice, gates.as_slice(), spare)
 }
 
-/// By more of a start along the last flow, which showed nothing and came to these marks.
-fn started_further(
-    alloc: Global,
-    frame: &Frame,
-    choice: Choice,
-    flow: &mut UnitFlow,
-    marks: Option<NodeMarks>,
-) -> Result<Started, NoMemory>
-    ensures { IfOk result (λ started. IfSome started.set (IsChosen choice frame.now.circuit.now
-        frame.now.keep.now)) }
-{
-    match shown_by_more(alloc, frame, choice, flow) {
-        Ok(set) => Ok(Started { set, marks }),
-        Err(error) => {
-            drop(marks);
-            Err(error)
-        }
-    }
-}
-
 /// By a start, or by more of it, where it was one along the last flow.
 fn started(
     alloc: Global,
@@ -68,15 +48,19 @@ fn started(
         frame.now.keep.now)) }
 {
     let is_first = flow.gates.is_empty();
-    match start_along(alloc, frame, choice, &mut *flow) {
-        Ok(started) => {
-            if is_first | started.set.is_some() {
-                return Ok(started);
-            }
-            let Started { marks, .. } = started;
-            started_further(alloc, frame, choice, flow, marks)
+    let Ok(started) = start_along(alloc, frame, choice, &mut *flow) else {
+        return Err(NoMemory);
+    };
+    if is_first | started.set.is_some() {
+        return Ok(started);
+    }
+    let Started { marks, .. } = started;
+    match shown_by_more(alloc, frame, choice, flow) {
+        Ok(set) => Ok(Started { set, marks }),
+        Err(error) => {
+            drop(marks);
+            Err(error)
         }
-        Err(error) => Err(error),
     }
 }
 
@@ -102,51 +86,6 @@ fn shown_by_pulses<R: Threads + Sync, G: PhaseGate>(
     shown_chosen(alloc, frame, choice, gates.as_slice(), spare)
 }
 
-/// Marks that show nothing more are tables for the next look at a frame.
-fn keep_marks(spare: &mut SpareTables, marks: Option<NodeMarks>) {
-    if let Some(marks) = marks {
-        spare.keep_marks(marks);
-    }
-}
-
-/// The set that a start shows, or else by pulses from what it leaves.
-fn shown_from_start<R: Threads + Sync, G: PhaseGate>(
-    rt: &R,
-    alloc: Global,
-    frame: &Frame,
-    choice: Choice,
-    started: Started,
-    sharing: Sharing<G>,
-    flow: &mut UnitFlow,
-) -> Result<Option<ClosedSet>, NoMemory>
-    requires { IfSome started.set (IsChosen choice frame.now.circuit.now frame.now.keep.now) }
-    ensures { IfOk result (λ shown. IfSome shown (IsChosen choice frame.now.circuit.now
-        frame.now.keep.now)) }
-{
-    let Started { set, marks } = started;
-    match set {
-        Some(set) => {
-            keep_marks(&mut flow.spare, marks);
-            Ok(Some(set))
-        }
-        None => shown_by_pulses(rt, alloc, frame, choice, marks, sharing, flow),
-    }
-}
-
-/// By no start: the flow begins at the sources, where it does nothing yet.
-fn begun(alloc: Global, frame: &Frame, flow: &mut UnitFlow) -> Result<Started, NoMemory>
-    ensures { IfOk result (λ started. started.set ≡ None) }
-{
-    let Ok(none) = vec![in alloc; GateFlow::none(); frame.circuit.aig().gates().len()] else {
-        return Err(NoMemory);
-    };
-    drop(mem::replace(&mut flow.gates, none));
-    Ok(Started {
-        set: None,
-        marks: None,
-    })
-}
-
 /// The chosen least set of a frame, where a flow of units shows it: that of a start along `flow`, what the last flow did at the circuit's gates, or
 /// along nothing where there is none; or the flow that pulses make of it. Then `flow` is what it does there. They are hints: the set is the same
 /// whatever they say, or there is none.
@@ -169,31 +108,26 @@ pub fn chosen_least_brought<R: Threads + Sync, G: PhaseGate>(
     ensures { IfOk result (λ shown. IfSome shown (IsChosen choice frame.now.circuit.now
         frame.now.keep.now)) }
 {
-    let places = frame.circuit.aig().latches_and_gates();
-    let sharing = Sharing::of(crew, places, flow.gates.is_empty());
-    let started = if sharing.from_sources {
-        begun(alloc, frame, &mut *flow)
-    } else {
-        started(alloc, frame, choice, &mut *flow)
-    };
-    match started {
-        Ok(started) => shown_from_start(rt, alloc, frame, choice, started, sharing, flow),
-        Err(error) => Err(error),
+    let aig = frame.circuit.aig();
+    let sharing = Sharing::of(crew, aig.latches_and_gates(), flow.gates.is_empty());
+    if sharing.from_sources {
+        let Ok(none) = vec![in alloc; GateFlow::none(); aig.gates().len()] else {
+            return Err(NoMemory);
+        };
+        drop(mem::replace(&mut flow.gates, none));
+        return shown_by_pulses(rt, alloc, frame, choice, None, sharing, flow);
     }
-}
-
-/// Puts a flow over a region in place of none: that of a start, or what a crew's pulses make of it.
-fn put_first_flow<R: Threads + Sync, G: PhaseGate>(
-    rt: &R,
-    alloc: Global,
-    region: &Region,
-    crew: &Crew<G>,
-    flows: &mut Vec<GateFlow>,
-) -> Result<(), NoMemory> {
-    match start_in(alloc, region, flows) {
-        Ok(true) => bring(rt, alloc, region, None, Sharing::of_started(crew), flows),
-        Ok(false) => Ok(()),
-        Err(error) => Err(error),
+    let Ok(Started { set, marks }) = started(alloc, frame, choice, &mut *flow) else {
+        return Err(NoMemory);
+    };
+    match set {
+        Some(set) => {
+            if let Some(marks) = marks {
+                flow.spare.keep_marks(marks);
+            }
+            Ok(Some(set))
+        }
+        None => shown_by_pulses(rt, alloc, frame, choice, marks, sharing, flow),
     }
 }
 
@@ -210,11 +144,12 @@ pub fn first_flow<R: Threads + Sync, G: PhaseGate>(
     crew: &Crew<G>,
 ) -> Result<Vec<GateFlow>, NoMemory> {
     let mut flows = Vec::new(alloc);
-    match put_first_flow(rt, alloc, region, crew, &mut flows) {
-        Ok(()) => Ok(flows),
-        Err(error) => {
-            drop(flows);
-            Err(error)
-        }
+    let Ok(leaves) = start_in(alloc, region, &mut flows) else {
+        return Err(NoMemory);
+    };
+    let sharing = Sharing::of_started(crew);
+    if leaves && bring(rt, alloc, region, None, sharing, &mut flows).is_err() {
+        return Err(NoMemory);
     }
+    Ok(flows)
 }

@@ -24,7 +24,7 @@ impl Memory {
         match vec![in self.alloc; entry; many] {
             Ok(table) => table,
             Err(_) => {
-                self.refuse();
+                self.refuse_if(true);
                 self.nothing()
             }
         }
@@ -37,14 +37,13 @@ impl Memory {
 
     /// Puts an item at the end of a list, unless memory for it is refused.
     pub fn push<T: Drop>(&mut self, list: &mut Vec<T>, item: T) {
-        if list.push(item).is_err() {
-            self.refuse();
-        }
+        let refused = list.push(item).is_err();
+        self.refuse_if(refused);
     }
 
-    /// Notes that some was refused.
-    pub fn refuse(&mut self) {
-        self.refused = true;
+    /// Notes whether some was refused.
+    pub fn refuse_if(&mut self, refused: bool) {
+        self.refused = self.refused | refused;
     }
 
     /// Whether some was refused.

@@ -38,16 +38,14 @@ impl Nodes {
 
     /// Appends the node before a place.
     pub fn push_before(&mut self, place: u32) {
-        if self.before.push(place).is_err() {
-            self.refused = true;
-        }
+        let refused = self.before.push(place).is_err();
+        self.refused = self.refused | refused;
     }
 
     /// Appends the node after a place.
     pub fn push_after(&mut self, place: u32) {
-        if self.after.push(place).is_err() {
-            self.refused = true;
-        }
+        let refused = self.after.push(place).is_err();
+        self.refused = self.refused | refused;
     }
 
     /// Appends copies of other nodes.

@@ -181,9 +181,8 @@ impl Part {
 
     /// Lists a push.
     pub fn list(&mut self, push: Push) {
-        if self.pushes.push(push).is_err() {
-            self.refused = true;
-        }
+        let refused = self.pushes.push(push).is_err();
+        self.refused = self.refused | refused;
     }
 
     /// Lists a push of as many of these units as the arc takes, which are those of this push, unless it is of none. How many stay.
@@ -200,16 +199,14 @@ impl Part {
 
     /// Lists a node before a gate that keeps units.
     pub fn keep_before(&mut self, kept: Kept) {
-        if self.kept_before.push(kept).is_err() {
-            self.refused = true;
-        }
+        let refused = self.kept_before.push(kept).is_err();
+        self.refused = self.refused | refused;
     }
 
     /// Lists a node after a place that keeps its unit.
     pub fn keep_after(&mut self, kept: Kept) {
-        if self.kept_after.push(kept).is_err() {
-            self.refused = true;
-        }
+        let refused = self.kept_after.push(kept).is_err();
+        self.refused = self.refused | refused;
     }
 }
 
@@ -236,8 +233,7 @@ impl Delivery {
 
     /// Lists the label of the next node that kept units.
     pub fn push_label(&mut self, label: u32) {
-        if self.labels.push(label).is_err() {
-            self.next.refused = true;
-        }
+        let refused = self.labels.push(label).is_err();
+        self.next.refused = self.next.refused | refused;
     }
 }

@@ -21,19 +21,11 @@ pub(crate) struct Passage<'a, G> {
     pub pulse: u64,
 }
 
-/// Read of all places, by the calling thread.
-fn read_alone<G: PhaseGate>(
-    search: &Search,
-    actives: &Nodes,
-    parts: &mut [Part],
-    passage: &Passage<G>,
-) {
-    let phase = passage.pulse.wrapping_mul(2);
-    passage.gate.pass(phase, 0);
+/// Reads for all parts, one after another.
+fn read_all(search: &Search, actives: &Nodes, parts: &mut [Part]) {
     for k in 0..parts.len() {
         search.read(actives, &mut parts[k]);
     }
-    passage.gate.leave(phase, 0);
 }
 
 /// Read of each worker's places by that worker.
@@ -56,7 +48,7 @@ fn read_by_crew<R: Threads + Sync, G: PhaseGate>(
     let taken = mem::replace(parts, memory.nothing());
     match thread::map_vec(rt, taken, &work) {
         Ok(made) => drop(mem::replace(parts, made)),
-        Err(_) => memory.refuse(),
+        Err(_) => memory.refuse_if(true),
     }
 }
 
@@ -76,18 +68,6 @@ fn deliver_all(search: &mut Search, parts: &[Part], deliveries: &mut [Delivery])
     if !deliveries.is_empty() {
         all.deliver(0, labels, parts, &mut deliveries[0]);
     }
-}
-
-/// Delivery at all places, by the calling thread.
-fn deliver_alone<G: PhaseGate>(search: &mut Search, shared: &mut Parts, passage: &Passage<G>) {
-    let phase = passage.pulse.wrapping_mul(2).wrapping_add(1);
-    passage.gate.pass(phase, 0);
-    deliver_all(
-        search,
-        shared.parts.as_slice(),
-        shared.deliveries.as_mut_slice(),
-    );
-    passage.gate.leave(phase, 0);
 }
 
 /// Delivery at each worker's places by that worker.
@@ -114,7 +94,7 @@ fn deliver_by_crew<R: Threads + Sync, G: PhaseGate>(
     let owned = owned_by_ranges(memory, latches, all, parts, taken);
     match thread::map_vec(rt, owned, &work) {
         Ok(made) => drop(mem::replace(&mut shared.deliveries, made)),
-        Err(_) => memory.refuse(),
+        Err(_) => memory.refuse_if(true),
     }
 }
 
@@ -183,8 +163,18 @@ pub(crate) fn pulse_alone<G: PhaseGate>(
     shared: &mut Parts,
     passage: &Passage<G>,
 ) -> usize {
-    read_alone(search, actives, shared.parts.as_mut_slice(), passage);
-    deliver_alone(search, shared, passage);
+    let (gate, reading) = (passage.gate, passage.pulse.wrapping_mul(2));
+    let delivery = reading.wrapping_add(1);
+    gate.pass(reading, 0);
+    read_all(search, actives, shared.parts.as_mut_slice());
+    gate.leave(reading, 0);
+    gate.pass(delivery, 0);
+    deliver_all(
+        search,
+        shared.parts.as_slice(),
+        shared.deliveries.as_mut_slice(),
+    );
+    gate.leave(delivery, 0);
     end(search, actives, shared)
 }
 

@@ -151,24 +151,18 @@ impl<'a> Search<'a> {
         }
     }
 
-    /// Reads what the nodes after these places do that are a worker's own.
-    fn read_all_after(&self, places: &[u32], part: &mut Part) {
+    /// Reads what the nodes before or after these places do that are a worker's own.
+    fn read_all(&self, places: &[u32], are_before: bool, part: &mut Part) {
         let range = part.range;
         for k in 0..places.len() {
-            if range.has(places[k]) {
+            let place = places[k];
+            if range.has(place) {
                 part.count(4);
-                self.read_after(places[k], part);
-            }
-        }
-    }
-
-    /// Reads what the nodes before these places do that are a worker's own.
-    fn read_all_before(&self, places: &[u32], part: &mut Part) {
-        let range = part.range;
-        for k in 0..places.len() {
-            if range.has(places[k]) {
-                part.count(4);
-                self.read_before(places[k], part);
+                if are_before {
+                    self.read_before(place, part);
+                } else {
+                    self.read_after(place, part);
+                }
             }
         }
     }
@@ -176,7 +170,7 @@ impl<'a> Search<'a> {
     /// Reads what those of these nodes do that are a worker's own.
     pub fn read(&self, actives: &Nodes, part: &mut Part) {
         part.clear();
-        self.read_all_after(actives.after.as_slice(), part);
-        self.read_all_before(actives.before.as_slice(), part);
+        self.read_all(actives.after.as_slice(), false, part);
+        self.read_all(actives.before.as_slice(), true, part);
     }
 }
