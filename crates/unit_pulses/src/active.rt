@@ -1,13 +1,11 @@
 //! Which nodes have units that could still come to the sink.
 
-use crate::memory::Memory;
 use crate::nodes::Nodes;
-use crate::search::Search;
 use crate::spots::{FAR, Labels, Spot, labels_at, spot_at};
 use unit_starts::narrow;
 
 /// Lists the labelled nodes at which units are left.
-fn list_actives(spots: &[Spot], labels: &[Labels], actives: &mut Nodes) {
+pub(crate) fn list_actives(spots: &[Spot], labels: &[Labels], actives: &mut Nodes) {
     for place in 0..narrow(spots.len()) {
         let (spot, at) = (spot_at(spots, place), labels_at(labels, place));
         if (spot.excess > 0) & (at.before < FAR) {
@@ -16,14 +14,5 @@ fn list_actives(spots: &[Spot], labels: &[Labels], actives: &mut Nodes) {
         if spot.waits & (at.after < FAR) {
             actives.push_after(place);
         }
-    }
-}
-
-impl<'a> Search<'a> {
-    /// The labelled nodes at which units are left.
-    pub fn actives(&self, memory: &Memory) -> Nodes {
-        let mut actives = Nodes::none(memory);
-        list_actives(self.spots.as_slice(), self.labels.as_slice(), &mut actives);
-        actives
     }
 }

@@ -1,9 +1,10 @@
 //! Rounds of new labels and pulses, until no unit that is left can come to the sink.
 
+use crate::active::list_actives;
 use crate::memory::Memory;
 use crate::nodes::Nodes;
 use crate::phases::{Passage, pulse_alone, pulse_by_crew};
-use crate::search::Search;
+use crate::search::{Search, leave_out};
 use crate::sharing::{Parts, Sharing};
 use aig_graph::NoMemory;
 use pulse::PhaseGate;
@@ -93,7 +94,12 @@ fn round<R: Threads + Sync, G: PhaseGate>(
     pulses: &mut Pulses<G>,
 ) -> bool {
     search.label();
-    let mut actives = search.actives(memory);
+    let mut actives = Nodes::none(memory);
+    list_actives(
+        search.spots.as_slice(),
+        search.labels.as_slice(),
+        &mut actives,
+    );
     search.list_readers(memory, &actives);
     let ended = pulses_of_round(rt, memory, search, &mut actives, pulses);
     drop(actives);
@@ -127,7 +133,7 @@ fn brought<R: Threads + Sync, G: PhaseGate>(
 ) -> Vec<GateFlow> {
     let mut search = Search::new(memory, region, known);
     if let Some(marks) = &marks {
-        search.leave_out(marks.before.as_slice());
+        leave_out(search.spots.as_mut_slice(), marks.before.as_slice());
     }
     drop(marks);
     bring_in(rt, memory, sharing, &mut search);

@@ -53,15 +53,6 @@ fn come(spots: &mut [Spot], first: u32, push: &Push, next: &mut Nodes) {
     }
 }
 
-/// The label of a node before a gate that kept units, where so many are there now.
-fn label_of(kept: &Kept, excess: u32, labels: &[Labels]) -> u32 {
-    if excess > kept.units {
-        raised_with_arrivals(label_before(labels, kept.place), kept.label)
-    } else {
-        kept.label
-    }
-}
-
 /// Lists the labels of a worker's own nodes before gates that kept units. Its places are these from the first on.
 fn find_labels(
     spots: &[Spot],
@@ -71,8 +62,17 @@ fn find_labels(
     delivery: &mut Delivery,
 ) {
     for k in 0..kept.len() {
-        let excess = spot_at(spots, kept[k].place.wrapping_sub(first)).excess;
-        delivery.push_label(label_of(&kept[k], excess, labels));
+        let Kept {
+            place,
+            units,
+            label,
+        } = kept[k];
+        let excess = spot_at(spots, place.wrapping_sub(first)).excess;
+        delivery.push_label(if excess > units {
+            raised_with_arrivals(label_before(labels, place), label)
+        } else {
+            label
+        });
     }
 }
 

@@ -62,11 +62,6 @@ impl<'a> Search<'a> {
         }
     }
 
-    /// From before the gates that have no mark no unit can come to the sink.
-    pub fn leave_out(&mut self, marks: &[bool]) {
-        leave_out(self.spots.as_mut_slice(), marks);
-    }
-
     /// Makes lists of readers for active nodes, where there are some and no lists yet.
     pub fn list_readers(&mut self, memory: &mut Memory, actives: &Nodes) {
         if self.readers.are_none() & !actives.is_empty() {
@@ -132,7 +127,7 @@ impl<'a> Search<'a> {
 }
 
 /// From before the gates that have no mark no unit can come to the sink.
-fn leave_out(spots: &mut [Spot], marks: &[bool]) {
+pub(crate) fn leave_out(spots: &mut [Spot], marks: &[bool]) {
     for place in 0..spots.len() {
         if place < marks.len() {
             spots[place].reaches = spots[place].reaches & marks[place];
