@@ -1,8 +1,10 @@
 //! Rounds of new labels and pulses, until no unit that is left can come to the sink.
 
+use crate::active::list_actives;
+use crate::memory::Memory;
 use crate::nodes::Nodes;
 use crate::phases::{Passage, pulse_alone, pulse_by_crew};
-use crate::search::Search;
+use crate::search::{Search, leave_out};
 use crate::sharing::{Parts, Sharing};
 use aig_graph::NoMemory;
 use pulse::PhaseGate;
@@ -29,30 +31,26 @@ struct Pulses<'a, G> {
 
 impl<'a, G: PhaseGate> Pulses<'a, G> {
     /// The pulses of a flow over so many places, of which none is made.
-    fn none(
-        alloc: Global,
-        sharing: Sharing<'a, G>,
-        places: usize,
-    ) -> Result<Pulses<'a, G>, NoMemory> {
-        let alone = Parts::among(alloc, 1, places)?;
-        let crew = Parts::among(alloc, sharing.workers, places)?;
-        Ok(Pulses {
+    fn none(memory: &mut Memory, sharing: Sharing<'a, G>, places: usize) -> Pulses<'a, G> {
+        let alone = Parts::among(memory, 1, places);
+        let crew = Parts::among(memory, sharing.workers, places);
+        Pulses {
             sharing,
             alone,
             crew,
             made: 0,
-        })
+        }
     }
 }
 
 /// Makes the next pulse, by the crew or by the calling thread. How many arcs it looked at.
 fn next_pulse<R: Threads + Sync, G: PhaseGate>(
     rt: &R,
-    alloc: Global,
+    memory: &mut Memory,
     search: &mut Search,
     actives: &mut Nodes,
     pulses: &mut Pulses<G>,
-) -> Result<usize, NoMemory> {
+) -> usize {
     let passage = Passage {
         gate: pulses.sharing.gate,
         pulse: pulses.made,
@@ -60,76 +58,86 @@ fn next_pulse<R: Threads + Sync, G: PhaseGate>(
     let is_handed = pulses.sharing.is_handed(pulses.made, actives);
     pulses.made = pulses.made.saturating_add(1);
     if is_handed {
-        pulse_by_crew(rt, alloc, search, actives, &mut pulses.crew, &passage)
+        pulse_by_crew(rt, memory, search, actives, &mut pulses.crew, &passage)
     } else {
-        pulse_alone(alloc, search, actives, &mut pulses.alone, &passage)
+        pulse_alone(search, actives, &mut pulses.alone, &passage)
     }
 }
 
-/// Pulses until no node is active, or labels are to be made anew. Whether none is active.
+/// Pulses until no node is active, memory was refused, or labels are to be made anew. Whether it wasn't for labels.
 fn pulses_of_round<R: Threads + Sync, G: PhaseGate>(
     rt: &R,
-    alloc: Global,
+    memory: &mut Memory,
     search: &mut Search,
     actives: &mut Nodes,
     pulses: &mut Pulses<G>,
-) -> Result<bool, NoMemory> {
+) -> bool {
     let most = search.spots.len().saturating_mul(WORK_A_PLACE);
     let mut work = 0usize;
     for _ in 0..u32::MAX {
-        if actives.is_empty() {
-            return Ok(true);
+        memory.refuse_if(actives.refused);
+        let is_last = actives.is_empty() | memory.is_refused();
+        if is_last | (work >= most) {
+            return is_last;
         }
-        if work >= most {
-            return Ok(false);
-        }
-        work = work.wrapping_add(next_pulse(rt, alloc, search, actives, pulses)?);
+        work = work.wrapping_add(next_pulse(rt, memory, search, actives, pulses));
     }
-    Ok(false)
+    false
 }
 
-/// New labels, and pulses as long as these are good. Whether no unit that is left can come to the sink.
+/// New labels, and pulses from active nodes, if there are any, as long as labels are good. Whether no unit that is left can come to the sink, or
+/// memory was refused.
 fn round<R: Threads + Sync, G: PhaseGate>(
     rt: &R,
-    alloc: Global,
+    memory: &mut Memory,
     search: &mut Search,
     pulses: &mut Pulses<G>,
-) -> Result<bool, NoMemory> {
+) -> bool {
     search.label();
-    let mut actives = search.actives(alloc)?;
-    let ended = round_from(rt, alloc, search, &mut actives, pulses);
+    let mut actives = Nodes::none(memory);
+    list_actives(
+        search.spots.as_slice(),
+        search.labels.as_slice(),
+        &mut actives,
+    );
+    search.list_readers(memory, &actives);
+    let ended = pulses_of_round(rt, memory, search, &mut actives, pulses);
     drop(actives);
     ended
 }
 
-/// Pulses from active nodes, if there are any, as long as labels are good. Whether no unit that is left can come to the sink.
-fn round_from<R: Threads + Sync, G: PhaseGate>(
+/// Brings units by rounds of pulses, whose parts are made first, until none that is left can come to the sink, or memory was refused.
+fn bring_in<R: Threads + Sync, G: PhaseGate>(
     rt: &R,
-    alloc: Global,
+    memory: &mut Memory,
+    sharing: Sharing<G>,
     search: &mut Search,
-    actives: &mut Nodes,
-    pulses: &mut Pulses<G>,
-) -> Result<bool, NoMemory> {
-    if actives.is_empty() {
-        return Ok(true);
-    }
-    search.list_readers(alloc)?;
-    pulses_of_round(rt, alloc, search, actives, pulses)
-}
-
-/// Rounds until none of the units that are left can come to the sink.
-fn rounds<R: Threads + Sync, G: PhaseGate>(
-    rt: &R,
-    alloc: Global,
-    search: &mut Search,
-    pulses: &mut Pulses<G>,
-) -> Result<(), NoMemory> {
+) {
+    let mut pulses = Pulses::none(memory, sharing, search.spots.len());
     for _ in 0..MOST_ROUNDS {
-        if round(rt, alloc, search, pulses)? {
-            return Ok(());
+        if round(rt, memory, search, &mut pulses) {
+            break;
         }
     }
-    Ok(())
+    drop(pulses);
+}
+
+/// The flow that pulses make of one. No unit can come to the sink from before the gates that have no mark, if there are marks.
+fn brought<R: Threads + Sync, G: PhaseGate>(
+    rt: &R,
+    memory: &mut Memory,
+    region: &Region,
+    marks: Option<NodeMarks>,
+    sharing: Sharing<G>,
+    known: Vec<GateFlow>,
+) -> Vec<GateFlow> {
+    let mut search = Search::new(memory, region, known);
+    if let Some(marks) = &marks {
+        leave_out(search.spots.as_mut_slice(), marks.before.as_slice());
+    }
+    drop(marks);
+    bring_in(rt, memory, sharing, &mut search);
+    search.into_flows()
 }
 
 /// Brings the units that a flow leaves to the sink, as far as they can come there, where the marks, if there are any, have each node from which
@@ -146,53 +154,12 @@ pub(crate) fn bring<R: Threads + Sync, G: PhaseGate>(
     sharing: Sharing<G>,
     flows: &mut Vec<GateFlow>,
 ) -> Result<(), NoMemory> {
-    let known = mem::replace(flows, Vec::new(alloc));
-    *flows = brought(rt, alloc, region, marks, sharing, known)?;
+    let mut memory = Memory::of(alloc);
+    let known = mem::replace(flows, memory.nothing());
+    *flows = brought(rt, &mut memory, region, marks, sharing, known);
+    if memory.is_refused() {
+        flows.clear();
+        return Err(NoMemory);
+    }
     Ok(())
-}
-
-/// The flow that pulses make of one.
-fn brought<R: Threads + Sync, G: PhaseGate>(
-    rt: &R,
-    alloc: Global,
-    region: &Region,
-    marks: Option<NodeMarks>,
-    sharing: Sharing<G>,
-    known: Vec<GateFlow>,
-) -> Result<Vec<GateFlow>, NoMemory> {
-    let search = Search::new(alloc, region, known);
-    let mut search = left_out(search, marks)?;
-    match bring_in(rt, alloc, sharing, &mut search) {
-        Ok(()) => Ok(search.into_flows()),
-        Err(error) => {
-            drop(search);
-            Err(error)
-        }
-    }
-}
-
-/// From before the gates that have no mark, if there are marks, no unit can come to the sink.
-fn left_out<'a>(
-    search: Result<Search<'a>, NoMemory>,
-    marks: Option<NodeMarks>,
-) -> Result<Search<'a>, NoMemory> {
-    let mut search = search;
-    if let (Ok(search), Some(marks)) = (&mut search, &marks) {
-        search.leave_out(marks.before.as_slice());
-    }
-    drop(marks);
-    search
-}
-
-/// Brings units by rounds of pulses, whose parts are made first.
-fn bring_in<R: Threads + Sync, G: PhaseGate>(
-    rt: &R,
-    alloc: Global,
-    sharing: Sharing<G>,
-    search: &mut Search,
-) -> Result<(), NoMemory> {
-    let mut pulses = Pulses::none(alloc, sharing, search.spots.len())?;
-    let brought = rounds(rt, alloc, search, &mut pulses);
-    drop(pulses);
-    brought
 }

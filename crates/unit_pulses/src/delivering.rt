@@ -1,144 +1,88 @@
 //! What the pushes of a pulse change at the places that a worker owns.
 
-use crate::parts::{Arc, Delivery, Part, Push, Range};
+use crate::memory::Memory;
+use crate::nodes::Nodes;
+use crate::parts::{Delivery, Kept, Part, Push, Range};
 use crate::raising::raised_with_arrivals;
-use crate::spots::{Labels, Spot, label_before};
-use aig_graph::NoMemory;
-use std::alloc::Global;
+use crate::spots::{Labels, Spot, label_before, spot_at};
+use std::mem;
 use unit_flows::GateFlow;
 
-/// What a worker owns in a delivery phase: what stands at its places, and what the flow does at its gates.
+/// The units of a worker's own pushes leave the tails. Its places are these from the first on.
+fn leave_all(spots: &mut [Spot], first: u32, pushes: &[Push]) {
+    for k in 0..pushes.len() {
+        let Push {
+            arc,
+            tail,
+            units,
+            ..
+        } = pushes[k];
+        let at = tail.wrapping_sub(first) as usize;
+        if at < spots.len() {
+            if arc.is_from_after() {
+                spots[at].waits = false;
+            } else {
+                spots[at].excess = spots[at].excess.saturating_sub(units);
+            }
+        }
+    }
+}
+
+/// A push is noted in the flow of its gate, if that is one of these from the first on.
+fn note(flows: &mut [GateFlow], first_gate: u32, push: &Push) {
+    let at = push.gate().wrapping_sub(first_gate) as usize;
+    if at < flows.len() {
+        push.note(&mut flows[at]);
+    }
+}
+
+/// The units of a push come to its head, if that is one of these places from the first on.
+fn come(spots: &mut [Spot], first: u32, push: &Push, next: &mut Nodes) {
+    let at = push.head.wrapping_sub(first) as usize;
+    if at < spots.len() {
+        if push.arc.is_to_after() {
+            spots[at].waits = true;
+            next.push_after(push.head);
+        } else {
+            let excess = spots[at].excess;
+            spots[at].excess = excess.saturating_add(push.units);
+            if excess == 0 {
+                next.push_before(push.head);
+            }
+        }
+    }
+}
+
+/// Lists the labels of a worker's own nodes before gates that kept units. Its places are these from the first on.
+fn find_labels(
+    spots: &[Spot],
+    first: u32,
+    labels: &[Labels],
+    kept: &[Kept],
+    delivery: &mut Delivery,
+) {
+    for k in 0..kept.len() {
+        let Kept {
+            place,
+            units,
+            label,
+        } = kept[k];
+        let excess = spot_at(spots, place.wrapping_sub(first)).excess;
+        delivery.push_label(if excess > units {
+            raised_with_arrivals(label_before(labels, place), label)
+        } else {
+            label
+        });
+    }
+}
+
+/// The places of a worker and its gates, from the first of each on.
 #[derive(Drop)]
-pub(crate) struct Owned<'a> {
-    pub worker: u32,
-    /// Its first place, and that of its first gate.
+pub(crate) struct Ground<'a> {
     first: u32,
     first_gate: u32,
     spots: &'a mut [Spot],
     flows: &'a mut [GateFlow],
-    delivery: Delivery,
-}
-
-impl<'a> Owned<'a> {
-    /// All places, whose first gate is at this one.
-    pub fn all(
-        latches: u32,
-        spots: &'a mut [Spot],
-        flows: &'a mut [GateFlow],
-        delivery: Delivery,
-    ) -> Owned<'a> {
-        Owned {
-            worker: 0,
-            first: 0,
-            first_gate: latches,
-            spots,
-            flows,
-            delivery,
-        }
-    }
-
-    /// The units of a push of its own nodes leave the tail.
-    fn leave(&mut self, push: &Push) {
-        let at = push.tail.wrapping_sub(self.first);
-        if let Some(spot) = self.spots.get_mut(at as usize) {
-            match push.arc {
-                Arc::Back | Arc::Up | Arc::Out => spot.waits = false,
-                Arc::Through | Arc::Home | Arc::Down | Arc::Lift => {
-                    spot.excess = spot.excess.saturating_sub(push.units);
-                }
-            }
-        }
-    }
-
-    /// A push is noted in the flow of its gate, if that is its own.
-    fn note(&mut self, push: &Push) {
-        let at = push.gate().wrapping_sub(self.first_gate);
-        if let Some(flow) = self.flows.get_mut(at as usize) {
-            let second = push.second;
-            match push.arc {
-                Arc::Through => flow.through = true,
-                Arc::Back => flow.through = false,
-                Arc::Up => flow.note_up(second),
-                Arc::Home => flow.clear_up(second),
-                Arc::Down => flow.note_down(second, flow.down(second).saturating_add(push.units)),
-                Arc::Lift => flow.note_down(second, flow.down(second).saturating_sub(push.units)),
-                Arc::Out => {}
-            }
-        }
-    }
-
-    /// The units of a push come to its head, if that is its own.
-    fn come(&mut self, push: &Push) -> Result<(), NoMemory> {
-        let at = push.head.wrapping_sub(self.first);
-        if let Some(spot) = self.spots.get_mut(at as usize) {
-            match push.arc {
-                Arc::Through | Arc::Home => {
-                    spot.waits = true;
-                    self.delivery.next.after.push(push.head)?;
-                }
-                Arc::Back | Arc::Up | Arc::Down | Arc::Lift => {
-                    if spot.excess == 0 {
-                        self.delivery.next.before.push(push.head)?;
-                    }
-                    spot.excess = spot.excess.saturating_add(push.units);
-                }
-                Arc::Out => {}
-            }
-        }
-        Ok(())
-    }
-
-    /// The labels of its own nodes before gates that kept units.
-    fn find_labels(&mut self, labels: &[Labels], part: &Part) -> Result<(), NoMemory> {
-        for kept in &part.kept_before {
-            let at = kept.place.wrapping_sub(self.first);
-            let excess = match self.spots.get(at as usize) {
-                Some(spot) => spot.excess,
-                None => 0,
-            };
-            let label = if excess > kept.units {
-                raised_with_arrivals(label_before(labels, kept.place), kept.label)
-            } else {
-                kept.label
-            };
-            self.delivery.labels.push(label)?;
-        }
-        Ok(())
-    }
-
-    /// Delivers what was read by all workers, of which the part with its number is its own.
-    ///
-    /// # Errors
-    ///
-    /// `NoMemory` where a list is refused.
-    pub fn deliver(mut self, labels: &[Labels], parts: &[Part]) -> Result<Delivery, NoMemory> {
-        self.delivery.clear();
-        self.deliver_in(labels, parts)?;
-        Ok(self.delivery)
-    }
-
-    /// Notes what is delivered.
-    fn deliver_in(&mut self, labels: &[Labels], parts: &[Part]) -> Result<(), NoMemory> {
-        let Some(own) = parts.get(self.worker as usize) else {
-            return self.come_all(parts);
-        };
-        for push in &own.pushes {
-            self.leave(push);
-        }
-        self.come_all(parts)?;
-        self.find_labels(labels, own)
-    }
-
-    /// All units come, and what the flow does then is noted.
-    fn come_all(&mut self, parts: &[Part]) -> Result<(), NoMemory> {
-        for part in parts {
-            for push in &part.pushes {
-                self.note(push);
-                self.come(push)?;
-            }
-        }
-        Ok(())
-    }
 }
 
 /// How many of so many latches and gates come before a place and are gates, where there are so many latches.
@@ -146,39 +90,119 @@ fn gates_before(place: u32, latches: u32) -> u32 {
     place.max(latches).wrapping_sub(latches)
 }
 
-/// What each worker owns, by the ranges of their parts.
-///
-/// # Errors
-///
-/// `NoMemory` where the list is refused.
-pub(crate) fn owned_by_ranges<'a>(
-    alloc: Global,
-    latches: u32,
-    spots: &'a mut [Spot],
-    flows: &'a mut [GateFlow],
-    parts: &[Part],
-    deliveries: Vec<Delivery>,
-) -> Result<Vec<Owned<'a>>, NoMemory> {
-    let mut owned = Vec::with_capacity(alloc, parts.len())?;
-    let mut spots = spots;
-    let mut flows = flows;
-    for (part, delivery) in parts.iter().zip(deliveries) {
-        let Range { first, end } = part.range;
+impl<'a> Ground<'a> {
+    /// All places and gates, where there are so many latches.
+    pub fn all(latches: u32, spots: &'a mut [Spot], flows: &'a mut [GateFlow]) -> Ground<'a> {
+        Ground {
+            first: 0,
+            first_gate: latches,
+            spots,
+            flows,
+        }
+    }
+
+    /// Those of a range, with which these begin, where there are so many latches; and the others.
+    fn cut(self, range: Range, latches: u32) -> (Ground<'a>, Ground<'a>) {
+        let Ground { spots, flows, .. } = self;
+        let Range { first, end } = range;
         let places = (end.wrapping_sub(first) as usize).min(spots.len());
-        let (own_spots, other_spots) = spots.split_at_mut(places);
         let gates = gates_before(end, latches).wrapping_sub(gates_before(first, latches));
         let gates = (gates as usize).min(flows.len());
+        let (own_spots, other_spots) = spots.split_at_mut(places);
         let (own_flows, other_flows) = flows.split_at_mut(gates);
-        owned.push(Owned {
-            worker: part.worker,
+        let own = Ground {
             first,
             first_gate: first.max(latches),
             spots: own_spots,
             flows: own_flows,
-            delivery,
-        })?;
-        spots = other_spots;
-        flows = other_flows;
+        };
+        let others = Ground {
+            first: end,
+            first_gate: end.max(latches),
+            spots: other_spots,
+            flows: other_flows,
+        };
+        (own, others)
     }
-    Ok(owned)
+
+    /// All units of these pushes come, and what the flow does then is noted.
+    fn come_all(&mut self, pushes: &[Push], next: &mut Nodes) {
+        let (first, first_gate) = (self.first, self.first_gate);
+        for k in 0..pushes.len() {
+            note(self.flows, first_gate, &pushes[k]);
+            come(self.spots, first, &pushes[k], next);
+        }
+    }
+
+    /// Delivers what was read by all workers, of which the part with this number is its own.
+    pub fn deliver(
+        &mut self,
+        worker: u32,
+        labels: &[Labels],
+        parts: &[Part],
+        delivery: &mut Delivery,
+    ) {
+        let first = self.first;
+        let worker = worker as usize;
+        delivery.clear();
+        if worker >= parts.len() {
+            return;
+        }
+        leave_all(self.spots, first, parts[worker].pushes.as_slice());
+        for k in 0..parts.len() {
+            self.come_all(parts[k].pushes.as_slice(), &mut delivery.next);
+        }
+        let kept = parts[worker].kept_before.as_slice();
+        find_labels(self.spots, first, labels, kept, delivery);
+    }
+}
+
+/// What a worker owns in a delivery phase.
+#[derive(Drop)]
+pub(crate) struct Owned<'a> {
+    pub worker: u32,
+    ground: Ground<'a>,
+    delivery: Delivery,
+}
+
+impl<'a> Owned<'a> {
+    /// Delivers what was read by all workers.
+    pub fn deliver(self, labels: &[Labels], parts: &[Part]) -> Delivery {
+        let Owned {
+            worker,
+            ground,
+            delivery,
+        } = self;
+        let (mut ground, mut delivery) = (ground, delivery);
+        ground.deliver(worker, labels, parts, &mut delivery);
+        delivery
+    }
+}
+
+/// What each worker owns of all, by the ranges of their parts. Other deliveries are left for theirs.
+pub(crate) fn owned_by_ranges<'a>(
+    memory: &mut Memory,
+    latches: u32,
+    all: Ground<'a>,
+    parts: &[Part],
+    deliveries: &mut [Delivery],
+) -> Vec<Owned<'a>> {
+    let mut owned = memory.nothing();
+    let mut others = all;
+    for k in 0..parts.len() {
+        if k < deliveries.len() {
+            let delivery = mem::replace(&mut deliveries[k], Delivery::none(memory));
+            let (ground, left) = others.cut(parts[k].range, latches);
+            memory.push(
+                &mut owned,
+                Owned {
+                    worker: parts[k].worker,
+                    ground,
+                    delivery,
+                },
+            );
+            others = left;
+        }
+    }
+    owned
 }

@@ -3,46 +3,48 @@
 
 use aig_graph::{Gate, NoMemory};
 use std::alloc::Global;
-use std::mem;
 use unit_flows::GateFlow;
 use unit_starts::{Region, narrow};
 
-/// By place whether a unit came there, and doesn't leave.
-fn coming(alloc: Global, region: &Region, flows: &[GateFlow]) -> Result<Vec<bool>, NoMemory> {
-    let mut waits = Vec::with_capacity(alloc, region.places())?;
-    for place in 0..region.latches.len() {
-        waits.push(region.is_known_latch(place))?;
+/// Whether a unit came to a place.
+fn came(region: &Region, flows: &[GateFlow], place: usize) -> bool {
+    let number = region.gate_number(place);
+    if number < flows.len() {
+        flows[number].through
+    } else {
+        region.is_known_latch(place)
     }
-    for flow in flows {
-        waits.push(flow.through)?;
-    }
-    clear_leaving(waits.as_mut_slice(), region.leaving);
-    Ok(waits)
 }
 
-/// Nothing waits where it leaves.
-fn clear_leaving(waits: &mut [bool], leaving: &[bool]) {
-    for (wait, leaves) in waits.iter_mut().zip(leaving.iter()) {
-        *wait &= !*leaves;
+/// Notes by place whether a unit came there, and doesn't leave.
+fn note_waiting(region: &Region, flows: &[GateFlow], waits: &mut [bool]) {
+    for place in 0..waits.len() {
+        waits[place] = came(region, flows, place) & !region.leaves(place);
     }
 }
 
 /// No unit waits at a place any more. Whether one did.
 fn takes(waits: &mut [bool], place: u32) -> bool {
-    match waits.get_mut(place as usize) {
-        Some(wait) => mem::replace(wait, false),
-        None => false,
+    let place = place as usize;
+    if place >= waits.len() {
+        return false;
     }
+    let waited = waits[place];
+    waits[place] = false;
+    waited
 }
 
 /// Nothing waits from where units went on to gates.
 fn clear_gone(region: &Region, flows: &[GateFlow], waits: &mut [bool]) {
-    for (gate, flow) in region.gates.iter().zip(flows) {
-        if flow.first_up {
-            takes(waits, region.place(gate.rhs1));
-        }
-        if flow.second_up {
-            takes(waits, region.place(gate.rhs0));
+    let gates = region.gates;
+    for k in 0..gates.len() {
+        if k < flows.len() {
+            if flows[k].first_up {
+                takes(waits, region.place(gates[k].rhs1));
+            }
+            if flows[k].second_up {
+                takes(waits, region.place(gates[k].rhs0));
+            }
         }
     }
 }
@@ -55,9 +57,10 @@ fn take(region: &Region, waits: &mut [bool], place: u32, gate: &Gate, flow: &mut
     }
     flow.note_up(second);
     flow.through = true;
-    let leaves = region.leaves(place as usize);
-    if let Some(wait) = waits.get_mut(place as usize) {
-        *wait = !leaves;
+    let place = place as usize;
+    let leaves = region.leaves(place);
+    if place < waits.len() {
+        waits[place] = !leaves;
     }
     leaves
 }
@@ -72,19 +75,25 @@ pub(crate) fn extend(
     region: &Region,
     flows: &mut [GateFlow],
 ) -> Result<usize, NoMemory> {
-    let mut waits = coming(alloc, region, flows)?;
+    let Ok(mut waits) = vec![in alloc; false; region.places()] else {
+        return Err(NoMemory);
+    };
+    note_waiting(region, flows, waits.as_mut_slice());
     clear_gone(region, flows, waits.as_mut_slice());
     Ok(take_all(region, waits.as_mut_slice(), flows))
 }
 
 /// Each gate that nothing goes through takes a unit that waits, if one does. How many come to the sink.
 fn take_all(region: &Region, waits: &mut [bool], flows: &mut [GateFlow]) -> usize {
+    let gates = region.gates;
     let mut place = narrow(region.latches.len());
     let mut brought = 0usize;
-    for (gate, flow) in region.gates.iter().zip(flows.iter_mut()) {
-        let passes = region.is_passable(place as usize);
-        if passes && !flow.through && take(region, waits, place, gate, flow) {
-            brought = brought.saturating_add(1);
+    for k in 0..flows.len() {
+        if k < gates.len() {
+            let takes = region.is_passable(place as usize) & !flows[k].through;
+            if takes && take(region, waits, place, &gates[k], &mut flows[k]) {
+                brought = brought.saturating_add(1);
+            }
         }
         place = place.wrapping_add(1);
     }

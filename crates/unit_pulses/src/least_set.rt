@@ -9,6 +9,7 @@ use crate::sharing::Sharing;
 use aig_graph::{Choice, ClosedSet, NoMemory};
 use pulse::{Crew, PhaseGate};
 use std::alloc::Global;
+use std::mem;
 use std::thread::Threads;
 use unit_flows::{Frame, GateFlow, NodeMarks, SpareTables, UnitFlow, shown_chosen};
 use unit_starts::{Region, Started, start_along, start_in};
@@ -27,7 +28,9 @@ fn shown_by_more(
         frame.now.keep.now)) }
 {
     let UnitFlow { gates, spare } = flow;
-    let brought = extend(alloc, &Region::of(frame), gates.as_mut_slice())?;
+    let Ok(brought) = extend(alloc, &Region::of(frame), gates.as_mut_slice()) else {
+        return Err(NoMemory);
+    };
     if brought < MANY_BROUGHT {
         return Ok(None);
     }
@@ -45,15 +48,20 @@ fn started(
         frame.now.keep.now)) }
 {
     let is_first = flow.gates.is_empty();
-    let started = start_along(alloc, frame, choice, &mut *flow)?;
-    if is_first || started.set.is_some() {
+    let Ok(started) = start_along(alloc, frame, choice, &mut *flow) else {
+        return Err(NoMemory);
+    };
+    if is_first | started.set.is_some() {
         return Ok(started);
     }
-    let set = shown_by_more(alloc, frame, choice, flow)?;
-    Ok(Started {
-        set,
-        marks: started.marks,
-    })
+    let Started { marks, .. } = started;
+    match shown_by_more(alloc, frame, choice, flow) {
+        Ok(set) => Ok(Started { set, marks }),
+        Err(error) => {
+            drop(marks);
+            Err(error)
+        }
+    }
 }
 
 /// By pulses of a crew from what a flow leaves, where the marks, if there are any, have each node from which units can come to the sink. The spare
@@ -71,8 +79,10 @@ fn shown_by_pulses<R: Threads + Sync, G: PhaseGate>(
         frame.now.keep.now)) }
 {
     let UnitFlow { gates, spare } = flow;
-    *spare = SpareTables::none(alloc);
-    bring(rt, alloc, &Region::of(frame), marks, sharing, gates)?;
+    drop(mem::replace(spare, SpareTables::none(alloc)));
+    if bring(rt, alloc, &Region::of(frame), marks, sharing, gates).is_err() {
+        return Err(NoMemory);
+    }
     shown_chosen(alloc, frame, choice, gates.as_slice(), spare)
 }
 
@@ -101,10 +111,15 @@ pub fn chosen_least_brought<R: Threads + Sync, G: PhaseGate>(
     let aig = frame.circuit.aig();
     let sharing = Sharing::of(crew, aig.latches_and_gates(), flow.gates.is_empty());
     if sharing.from_sources {
-        flow.gates = vec![in alloc; GateFlow::none(); aig.gates().len()]?;
+        let Ok(none) = vec![in alloc; GateFlow::none(); aig.gates().len()] else {
+            return Err(NoMemory);
+        };
+        drop(mem::replace(&mut flow.gates, none));
         return shown_by_pulses(rt, alloc, frame, choice, None, sharing, flow);
     }
-    let Started { set, marks } = started(alloc, frame, choice, &mut *flow)?;
+    let Ok(Started { set, marks }) = started(alloc, frame, choice, &mut *flow) else {
+        return Err(NoMemory);
+    };
     match set {
         Some(set) => {
             if let Some(marks) = marks {
@@ -129,9 +144,12 @@ pub fn first_flow<R: Threads + Sync, G: PhaseGate>(
     crew: &Crew<G>,
 ) -> Result<Vec<GateFlow>, NoMemory> {
     let mut flows = Vec::new(alloc);
-    if start_in(alloc, region, &mut flows)? {
-        let sharing = Sharing::of_started(crew);
-        bring(rt, alloc, region, None, sharing, &mut flows)?;
+    let Ok(leaves) = start_in(alloc, region, &mut flows) else {
+        return Err(NoMemory);
+    };
+    let sharing = Sharing::of_started(crew);
+    if leaves && bring(rt, alloc, region, None, sharing, &mut flows).is_err() {
+        return Err(NoMemory);
     }
     Ok(flows)
 }

@@ -3,9 +3,9 @@
 //! In the read phase it lists what its active nodes push, and writes nothing else. In the delivery phase it goes through the lists of all workers, and
 //! writes what they change at its places. So what a pulse leaves depends on no order of nodes, and on no number of workers.
 
+use crate::memory::Memory;
 use crate::nodes::Nodes;
-use aig_graph::NoMemory;
-use std::alloc::Global;
+use unit_flows::GateFlow;
 
 /// An arc that units go over, between a gate's nodes, or between one of them and a node of its second or first fan-in.
 #[derive(Clone, Copy)]
@@ -26,6 +26,35 @@ pub(crate) enum Arc {
     Out,
 }
 
+impl Arc {
+    /// Whether it leads from after a place.
+    pub fn is_from_after(self) -> bool {
+        match self {
+            Arc::Back | Arc::Up | Arc::Out => true,
+            Arc::Through | Arc::Home | Arc::Down | Arc::Lift => false,
+        }
+    }
+
+    /// Whether it leads to after a place.
+    pub fn is_to_after(self) -> bool {
+        match self {
+            Arc::Through | Arc::Home => true,
+            Arc::Back | Arc::Up | Arc::Down | Arc::Lift | Arc::Out => false,
+        }
+    }
+
+    /// Whether it leads from a node of a fan-in to before a gate.
+    fn is_from_fan_in(self) -> bool {
+        match self {
+            Arc::Up | Arc::Lift => true,
+            Arc::Through | Arc::Back | Arc::Home | Arc::Down | Arc::Out => false,
+        }
+    }
+}
+
+/// The place of the sink, which no worker owns.
+const SINK: u32 = u32::MAX;
+
 /// Units that a node pushes over an arc, by the places of the nodes that it leads from and to.
 #[derive(Clone, Copy)]
 pub(crate) struct Push {
@@ -38,11 +67,37 @@ pub(crate) struct Push {
 }
 
 impl Push {
+    /// The unit after a place leaves to the sink.
+    pub fn out(place: u32) -> Push {
+        Push {
+            arc: Arc::Out,
+            second: false,
+            tail: place,
+            head: SINK,
+            units: 1,
+        }
+    }
+
     /// The place of the gate whose flow it changes.
     pub fn gate(&self) -> u32 {
+        if self.arc.is_from_fan_in() {
+            self.head
+        } else {
+            self.tail
+        }
+    }
+
+    /// What the flow does at that gate once it is made.
+    pub fn note(&self, flow: &mut GateFlow) {
+        let (second, units) = (self.second, self.units);
         match self.arc {
-            Arc::Up | Arc::Lift => self.head,
-            Arc::Through | Arc::Back | Arc::Home | Arc::Down | Arc::Out => self.tail,
+            Arc::Through => flow.through = true,
+            Arc::Back => flow.through = false,
+            Arc::Up => flow.note_up(second),
+            Arc::Home => flow.clear_up(second),
+            Arc::Down => flow.note_down(second, flow.down(second).saturating_add(units)),
+            Arc::Lift => flow.note_down(second, flow.down(second).saturating_sub(units)),
+            Arc::Out => {}
         }
     }
 }
@@ -80,7 +135,7 @@ impl Range {
 
     /// Whether a place is one of them.
     pub fn has(&self, place: u32) -> bool {
-        self.first <= place && place < self.end
+        (self.first <= place) & (place < self.end)
     }
 }
 
@@ -93,18 +148,21 @@ pub(crate) struct Part {
     pub kept_before: Vec<Kept>,
     pub kept_after: Vec<Kept>,
     pub work: usize,
+    /// Whether memory was refused for a list, so that something is missing.
+    pub refused: bool,
 }
 
 impl Part {
     /// The part of a worker, one of so many, before it has read.
-    pub fn of(alloc: Global, worker: u32, workers: u32, places: usize) -> Part {
+    pub fn of(memory: &Memory, worker: u32, workers: u32, places: usize) -> Part {
         Part {
             worker,
             range: Range::of(worker, workers, places),
-            pushes: Vec::new(alloc),
-            kept_before: Vec::new(alloc),
-            kept_after: Vec::new(alloc),
+            pushes: memory.nothing(),
+            kept_before: memory.nothing(),
+            kept_after: memory.nothing(),
             work: 0,
+            refused: false,
         }
     }
 
@@ -121,12 +179,34 @@ impl Part {
         self.work = self.work.wrapping_add(arcs);
     }
 
-    /// Lists a push of some of these units, unless it is of none. How many stay.
-    pub fn list(&mut self, push: Push, units: u32) -> Result<u32, NoMemory> {
-        if push.units > 0 {
-            self.pushes.push(push)?;
+    /// Lists a push.
+    pub fn list(&mut self, push: Push) {
+        let refused = self.pushes.push(push).is_err();
+        self.refused = self.refused | refused;
+    }
+
+    /// Lists a push of as many of these units as the arc takes, which are those of this push, unless it is of none. How many stay.
+    pub fn list_most(&mut self, most: Push, units: u32) -> u32 {
+        let sent = units.min(most.units);
+        if sent > 0 {
+            self.list(Push {
+                units: sent,
+                ..most
+            });
         }
-        Ok(units.saturating_sub(push.units))
+        units.saturating_sub(sent)
+    }
+
+    /// Lists a node before a gate that keeps units.
+    pub fn keep_before(&mut self, kept: Kept) {
+        let refused = self.kept_before.push(kept).is_err();
+        self.refused = self.refused | refused;
+    }
+
+    /// Lists a node after a place that keeps its unit.
+    pub fn keep_after(&mut self, kept: Kept) {
+        let refused = self.kept_after.push(kept).is_err();
+        self.refused = self.refused | refused;
     }
 }
 
@@ -138,10 +218,10 @@ pub(crate) struct Delivery {
 }
 
 impl Delivery {
-    pub fn none(alloc: Global) -> Delivery {
+    pub fn none(memory: &Memory) -> Delivery {
         Delivery {
-            next: Nodes::none(alloc),
-            labels: Vec::new(alloc),
+            next: Nodes::none(memory),
+            labels: memory.nothing(),
         }
     }
 
@@ -149,5 +229,11 @@ impl Delivery {
     pub fn clear(&mut self) {
         self.next.clear();
         self.labels.clear();
+    }
+
+    /// Lists the label of the next node that kept units.
+    pub fn push_label(&mut self, label: u32) {
+        let refused = self.labels.push(label).is_err();
+        self.next.refused = self.next.refused | refused;
     }
 }

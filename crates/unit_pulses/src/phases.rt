@@ -3,15 +3,14 @@
 //! Each worker has a range of places. It is given its part and what it owns by value and returns them, in worker order; all else is lent to all
 //! workers. A pulse of few active nodes is made by the calling thread, as worker 0, over all places.
 
-use crate::delivering::{Owned, owned_by_ranges};
+use crate::delivering::{Ground, Owned, owned_by_ranges};
+use crate::memory::Memory;
 use crate::nodes::Nodes;
-use crate::parts::{Delivery, Part};
+use crate::parts::{Delivery, Kept, Part};
 use crate::search::Search;
 use crate::sharing::Parts;
-use crate::spots::FAR;
-use aig_graph::NoMemory;
+use crate::spots::{FAR, Labels};
 use pulse::PhaseGate;
-use std::alloc::Global;
 use std::thread::Threads;
 use std::{mem, thread};
 
@@ -22,178 +21,173 @@ pub(crate) struct Passage<'a, G> {
     pub pulse: u64,
 }
 
-/// Read of all places, by the calling thread.
-fn read_alone<G: PhaseGate>(
-    search: &Search,
-    actives: &Nodes,
-    parts: &mut [Part],
-    passage: &Passage<G>,
-) -> Result<(), NoMemory> {
-    let phase = passage.pulse.wrapping_mul(2);
-    passage.gate.pass(phase, 0);
-    for part in parts.iter_mut() {
-        search.read(actives, part)?;
+/// Reads for all parts, one after another.
+fn read_all(search: &Search, actives: &Nodes, parts: &mut [Part]) {
+    for k in 0..parts.len() {
+        search.read(actives, &mut parts[k]);
     }
-    passage.gate.leave(phase, 0);
-    Ok(())
 }
 
 /// Read of each worker's places by that worker.
 fn read_by_crew<R: Threads + Sync, G: PhaseGate>(
     rt: &R,
-    alloc: Global,
+    memory: &mut Memory,
     search: &Search,
     actives: &Nodes,
     parts: &mut Vec<Part>,
     passage: &Passage<G>,
-) -> Result<(), NoMemory> {
+) {
     let (gate, phase) = (passage.gate, passage.pulse.wrapping_mul(2));
-    let work = |part: Part| -> Result<Part, NoMemory> {
+    let work = |part: Part| -> Part {
         let mut part = part;
         gate.pass(phase, part.worker);
-        let read = search.read(actives, &mut part);
+        search.read(actives, &mut part);
         gate.leave(phase, part.worker);
-        read?;
-        Ok(part)
+        part
     };
-    let taken = mem::replace(parts, Vec::new(alloc));
-    put_all(parts, thread::map_vec(rt, taken, &work)?)
-}
-
-/// Puts what all workers made at the end of a list, unless one was refused memory.
-fn put_all<T: Drop>(list: &mut Vec<T>, made: Vec<Result<T, NoMemory>>) -> Result<(), NoMemory> {
-    for item in made {
-        list.push(item?)?;
+    let taken = mem::replace(parts, memory.nothing());
+    match thread::map_vec(rt, taken, &work) {
+        Ok(made) => drop(mem::replace(parts, made)),
+        Err(_) => memory.refuse_if(true),
     }
-    Ok(())
 }
 
-/// Delivery at all places, by the calling thread.
-fn deliver_alone<G: PhaseGate>(
-    alloc: Global,
-    search: &mut Search,
-    shared: &mut Parts,
-    passage: &Passage<G>,
-) -> Result<(), NoMemory> {
-    let phase = passage.pulse.wrapping_mul(2).wrapping_add(1);
-    passage.gate.pass(phase, 0);
-    let delivery = match shared.deliveries.pop() {
-        Some(delivery) => delivery,
-        None => Delivery::none(alloc),
-    };
-    let owned = Owned::all(
+/// All places and gates of a search, and its labels.
+fn ground_of<'a>(search: &'a mut Search) -> (Ground<'a>, &'a [Labels]) {
+    let all = Ground::all(
         search.latches,
         search.spots.as_mut_slice(),
         search.flows.as_mut_slice(),
-        delivery,
     );
-    let delivery = owned.deliver(search.labels.as_slice(), shared.parts.as_slice())?;
-    shared.deliveries.push(delivery)?;
-    passage.gate.leave(phase, 0);
-    Ok(())
+    (all, search.labels.as_slice())
+}
+
+/// Delivers at all places, which are those of the first worker.
+fn deliver_all(search: &mut Search, parts: &[Part], deliveries: &mut [Delivery]) {
+    let (mut all, labels) = ground_of(search);
+    if !deliveries.is_empty() {
+        all.deliver(0, labels, parts, &mut deliveries[0]);
+    }
 }
 
 /// Delivery at each worker's places by that worker.
 fn deliver_by_crew<R: Threads + Sync, G: PhaseGate>(
     rt: &R,
-    alloc: Global,
+    memory: &mut Memory,
     search: &mut Search,
     shared: &mut Parts,
     passage: &Passage<G>,
-) -> Result<(), NoMemory> {
+) {
     let gate = passage.gate;
     let phase = passage.pulse.wrapping_mul(2).wrapping_add(1);
-    let labels = search.labels.as_slice();
     let parts = shared.parts.as_slice();
-    let work = |owned: Owned| -> Result<Delivery, NoMemory> {
+    let latches = search.latches;
+    let (all, labels) = ground_of(search);
+    let work = |owned: Owned| -> Delivery {
         let worker = owned.worker;
         gate.pass(phase, worker);
         let delivery = owned.deliver(labels, parts);
         gate.leave(phase, worker);
         delivery
     };
-    let taken = mem::replace(&mut shared.deliveries, Vec::new(alloc));
-    let owned = owned_by_ranges(
-        alloc,
-        search.latches,
-        search.spots.as_mut_slice(),
-        search.flows.as_mut_slice(),
-        parts,
-        taken,
-    )?;
-    put_all(&mut shared.deliveries, thread::map_vec(rt, owned, &work)?)
+    let taken = shared.deliveries.as_mut_slice();
+    let owned = owned_by_ranges(memory, latches, all, parts, taken);
+    match thread::map_vec(rt, owned, &work) {
+        Ok(made) => drop(mem::replace(&mut shared.deliveries, made)),
+        Err(_) => memory.refuse_if(true),
+    }
 }
 
-impl<'a> Search<'a> {
-    /// The nodes that kept units get their new labels; those from which units can still come to the sink are active in the next pulse.
-    fn turn(&mut self, part: &Part, delivery: &mut Delivery) -> Result<(), NoMemory> {
-        for kept in &part.kept_after {
-            if let Some(labels) = self.labels.get_mut(kept.place as usize) {
-                labels.after = kept.label;
-            }
-            if kept.label < FAR {
-                delivery.next.after.push(kept.place)?;
-            }
+/// The nodes after places that kept their unit get their new labels; those from which it can still come to the sink are active in the next pulse.
+fn turn_after(labels: &mut [Labels], kept: &[Kept], next: &mut Nodes) {
+    for k in 0..kept.len() {
+        let Kept { place, label, .. } = kept[k];
+        let at = place as usize;
+        if at < labels.len() {
+            labels[at].after = label;
         }
-        for (kept, label) in part.kept_before.iter().zip(delivery.labels.iter()) {
-            if let Some(labels) = self.labels.get_mut(kept.place as usize) {
-                labels.before = *label;
-            }
-            if *label < FAR {
-                delivery.next.before.push(kept.place)?;
-            }
+        if label < FAR {
+            next.push_after(place);
         }
-        Ok(())
     }
+}
 
-    /// Ends a pulse of these parts; then other nodes are active. How many arcs it looked at.
-    fn end(&mut self, actives: &mut Nodes, shared: &mut Parts) -> Result<usize, NoMemory> {
-        let mut work = 0usize;
-        actives.clear();
-        for (part, delivery) in shared.parts.iter().zip(shared.deliveries.iter_mut()) {
-            work = work.wrapping_add(part.work);
-            self.turn(part, delivery)?;
-            if actives.is_empty() {
-                mem::swap(actives, &mut delivery.next);
-            } else {
-                actives.append(&delivery.next)?;
+/// The same of nodes before gates, by the labels that were found as units came there.
+fn turn_before(labels: &mut [Labels], kept: &[Kept], found: &[u32], next: &mut Nodes) {
+    for k in 0..kept.len() {
+        if k < found.len() {
+            let (place, label) = (kept[k].place, found[k]);
+            let at = place as usize;
+            if at < labels.len() {
+                labels[at].before = label;
+            }
+            if label < FAR {
+                next.push_before(place);
             }
         }
-        Ok(work)
     }
+}
+
+/// The nodes of a part that kept units get their new labels, and are active in the next pulse after those of before.
+fn turn(labels: &mut [Labels], part: &Part, delivery: &mut Delivery, actives: &mut Nodes) {
+    let Delivery {
+        next,
+        labels: found,
+    } = delivery;
+    turn_after(labels, part.kept_after.as_slice(), next);
+    turn_before(labels, part.kept_before.as_slice(), found.as_slice(), next);
+    next.refused = next.refused | part.refused;
+    actives.join(next);
+}
+
+/// Ends a pulse of these parts; then other nodes are active. How many arcs it looked at.
+fn end(search: &mut Search, actives: &mut Nodes, shared: &mut Parts) -> usize {
+    let labels = search.labels.as_mut_slice();
+    let parts = shared.parts.as_slice();
+    let deliveries = shared.deliveries.as_mut_slice();
+    let mut work = 0usize;
+    actives.clear();
+    for k in 0..parts.len() {
+        if k < deliveries.len() {
+            work = work.wrapping_add(parts[k].work);
+            turn(labels, &parts[k], &mut deliveries[k], actives);
+        }
+    }
+    work
 }
 
 /// Makes a pulse by the calling thread; then other nodes are active. How many arcs it looked at.
-///
-/// # Errors
-///
-/// `NoMemory` where a list is refused.
 pub(crate) fn pulse_alone<G: PhaseGate>(
-    alloc: Global,
     search: &mut Search,
     actives: &mut Nodes,
     shared: &mut Parts,
     passage: &Passage<G>,
-) -> Result<usize, NoMemory> {
-    read_alone(search, actives, shared.parts.as_mut_slice(), passage)?;
-    deliver_alone(alloc, search, shared, passage)?;
-    search.end(actives, shared)
+) -> usize {
+    let (gate, reading) = (passage.gate, passage.pulse.wrapping_mul(2));
+    let delivery = reading.wrapping_add(1);
+    gate.pass(reading, 0);
+    read_all(search, actives, shared.parts.as_mut_slice());
+    gate.leave(reading, 0);
+    gate.pass(delivery, 0);
+    deliver_all(
+        search,
+        shared.parts.as_slice(),
+        shared.deliveries.as_mut_slice(),
+    );
+    gate.leave(delivery, 0);
+    end(search, actives, shared)
 }
 
 /// Makes a pulse by a worker for each part; then other nodes are active. How many arcs it looked at.
-///
-/// # Errors
-///
-/// `NoMemory` where a list or a thread's memory is refused.
 pub(crate) fn pulse_by_crew<R: Threads + Sync, G: PhaseGate>(
     rt: &R,
-    alloc: Global,
+    memory: &mut Memory,
     search: &mut Search,
     actives: &mut Nodes,
     shared: &mut Parts,
     passage: &Passage<G>,
-) -> Result<usize, NoMemory> {
-    read_by_crew(rt, alloc, search, actives, &mut shared.parts, passage)?;
-    deliver_by_crew(rt, alloc, search, shared, passage)?;
-    search.end(actives, shared)
+) -> usize {
+    read_by_crew(rt, memory, search, actives, &mut shared.parts, passage);
+    deliver_by_crew(rt, memory, search, shared, passage);
+    end(search, actives, shared)
 }

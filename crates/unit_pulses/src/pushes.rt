@@ -6,8 +6,7 @@
 use crate::nodes::Nodes;
 use crate::parts::{Arc, Kept, Part, Push};
 use crate::search::{Before, Search};
-use crate::spots::{label_after, label_before};
-use aig_graph::NoMemory;
+use crate::spots::{label_after, label_before, labels_at, spot_at};
 
 /// What becomes of a unit after a place: it goes on to before a gate, or it stays, and the node gets a new label.
 enum Way {
@@ -24,11 +23,12 @@ impl<'a> Search<'a> {
         if least == below {
             return Way::To(place);
         }
-        for reader in self.readers.at(place) {
+        let readers = self.readers.at(place);
+        for k in 0..readers.len() {
             part.count(1);
-            let at = label_before(labels, *reader);
+            let at = label_before(labels, readers[k]);
             if at == below {
-                return Way::To(*reader);
+                return Way::To(readers[k]);
             }
             least = least.min(at);
         }
@@ -46,171 +46,131 @@ impl<'a> Search<'a> {
         }
     }
 
-    /// Whether an arc leads from after a place to the sink.
-    fn is_observed(&self, place: u32) -> bool {
-        match self.spots.get(place as usize) {
-            Some(spot) => spot.is_observed,
-            None => false,
-        }
-    }
-
     /// Reads what the node after a place does with its unit.
-    fn read_after(&self, place: u32, part: &mut Part) -> Result<(), NoMemory> {
-        if self.is_observed(place) {
-            part.pushes.push(Push {
-                arc: Arc::Out,
-                second: false,
-                tail: place,
-                head: place,
-                units: 1,
-            })?;
-            return Ok(());
+    fn read_after(&self, place: u32, part: &mut Part) {
+        if spot_at(self.spots.as_slice(), place).is_observed {
+            part.list(Push::out(place));
+            return;
         }
         let below = label_after(self.labels.as_slice(), place).saturating_sub(1);
         match self.way(place, below, part) {
-            Way::To(to) => part.pushes.push(self.push_to(place, to))?,
-            Way::Stays(label) => part.kept_after.push(Kept {
+            Way::To(to) => part.list(self.push_to(place, to)),
+            Way::Stays(label) => part.keep_after(Kept {
                 place,
                 units: 1,
                 label,
-            })?,
+            }),
         }
-        Ok(())
     }
 
-    /// As many of these units as there is room for go on to before a fan-in. How many stay.
-    fn push_down(
-        &self,
-        node: &Before,
-        second: bool,
-        units: u32,
-        part: &mut Part,
-    ) -> Result<u32, NoMemory> {
-        let head = node.fan_ins.at(second);
-        if units == 0 || label_before(self.labels.as_slice(), head) != node.below {
-            return Ok(units);
+    /// As many of these units as there is room for go on to before a fan-in, and one goes home to after it, if it came from there. How many stay.
+    fn push_to_fan_in(&self, node: &Before, second: bool, units: u32, part: &mut Part) -> u32 {
+        if units == 0 {
+            return 0;
         }
+        let head = node.fan_ins.at(second);
+        let at = labels_at(self.labels.as_slice(), head);
         let room = self.most.saturating_sub(node.flow.down(second));
-        let push = Push {
+        let down = Push {
             arc: Arc::Down,
             second,
             tail: node.place,
             head,
-            units: units.min(room),
+            units: if at.before == node.below { room } else { 0 },
         };
-        part.list(push, units)
-    }
-
-    /// One of these units goes home to after a fan-in, if it came from there. How many stay.
-    fn push_home(
-        &self,
-        node: &Before,
-        second: bool,
-        units: u32,
-        part: &mut Part,
-    ) -> Result<u32, NoMemory> {
-        let head = node.fan_ins.at(second);
-        let came = node.flow.up(second);
-        if units == 0 || !came || label_after(self.labels.as_slice(), head) != node.below {
-            return Ok(units);
-        }
-        let push = Push {
+        let home = Push {
             arc: Arc::Home,
-            second,
-            tail: node.place,
-            head,
-            units: 1,
+            units: u32::from(node.flow.up(second) & (at.after == node.below)),
+            ..down
         };
-        part.list(push, units)
+        let left = part.list_most(down, units);
+        part.list_most(home, left)
     }
 
     /// One of these units goes through the gate, if none does. How many stay.
-    fn push_through(&self, node: &Before, units: u32, part: &mut Part) -> Result<u32, NoMemory> {
-        let labels = self.labels.as_slice();
-        if units == 0 || node.flow.through || label_after(labels, node.place) != node.below {
-            return Ok(units);
-        }
-        let push = Push {
+    fn push_through(&self, node: &Before, units: u32, part: &mut Part) -> u32 {
+        let label = label_after(self.labels.as_slice(), node.place);
+        let through = Push {
             arc: Arc::Through,
             second: false,
             tail: node.place,
             head: node.place,
-            units: 1,
+            units: u32::from(!node.flow.through & (label == node.below)),
         };
-        part.list(push, units)
+        part.list_most(through, units)
     }
 
     /// These units go back to before readers, as many as came down from each. How many stay.
-    fn push_up(&self, node: &Before, units: u32, part: &mut Part) -> Result<u32, NoMemory> {
+    fn push_up(&self, node: &Before, units: u32, part: &mut Part) -> u32 {
         let labels = self.labels.as_slice();
+        let readers = self.readers.at(node.place);
         let mut left = units;
-        for reader in self.readers.at(node.place) {
+        for k in 0..readers.len() {
             if left == 0 {
-                return Ok(0);
+                return 0;
             }
             part.count(1);
-            if label_before(labels, *reader) == node.below {
-                let (second, came) = self.came_from(*reader, node.place);
-                let push = Push {
+            let reader = readers[k];
+            if label_before(labels, reader) == node.below {
+                let (second, came) = self.came_from(reader, node.place);
+                let lift = Push {
                     arc: Arc::Lift,
                     second,
                     tail: node.place,
-                    head: *reader,
-                    units: left.min(came),
+                    head: reader,
+                    units: came,
                 };
-                left = part.list(push, left)?;
+                left = part.list_most(lift, left);
             }
         }
-        Ok(left)
-    }
-
-    /// Reads what the node before a gate pushes, and what it keeps.
-    fn read_before(&self, place: u32, part: &mut Part) -> Result<(), NoMemory> {
-        let (Some(spot), Some(node)) = (self.spots.get(place as usize), self.before(place)) else {
-            return Ok(());
-        };
-        let left = self.push_all(&node, spot.excess, part)?;
-        if left > 0 {
-            let label = self.raised_before(&node, part);
-            part.kept_before.push(Kept {
-                place,
-                units: left,
-                label,
-            })?;
-        }
-        Ok(())
+        left
     }
 
     /// These units go where an arc leads from before a gate. How many stay.
-    fn push_all(&self, node: &Before, units: u32, part: &mut Part) -> Result<u32, NoMemory> {
-        let mut left = self.push_down(node, false, units, part)?;
-        left = self.push_home(node, false, left, part)?;
-        left = self.push_down(node, true, left, part)?;
-        left = self.push_home(node, true, left, part)?;
-        left = self.push_through(node, left, part)?;
+    fn push_all(&self, node: &Before, units: u32, part: &mut Part) -> u32 {
+        let mut left = self.push_to_fan_in(node, false, units, part);
+        left = self.push_to_fan_in(node, true, left, part);
+        left = self.push_through(node, left, part);
         self.push_up(node, left, part)
     }
 
-    /// Reads what those of these nodes do that are a worker's own.
-    ///
-    /// # Errors
-    ///
-    /// `NoMemory` where a list is refused.
-    pub fn read(&self, actives: &Nodes, part: &mut Part) -> Result<(), NoMemory> {
-        part.clear();
+    /// Reads what the node before a gate pushes, and what it keeps.
+    fn read_before(&self, place: u32, part: &mut Part) {
+        if !self.is_gate(place) {
+            return;
+        }
+        let node = self.before(place);
+        let units = self.push_all(&node, spot_at(self.spots.as_slice(), place).excess, part);
+        if units > 0 {
+            let label = self.raised_before(&node, part);
+            part.keep_before(Kept {
+                place,
+                units,
+                label,
+            });
+        }
+    }
+
+    /// Reads what the nodes before or after these places do that are a worker's own.
+    fn read_all(&self, places: &[u32], are_before: bool, part: &mut Part) {
         let range = part.range;
-        for place in &actives.after {
-            if range.has(*place) {
+        for k in 0..places.len() {
+            let place = places[k];
+            if range.has(place) {
                 part.count(4);
-                self.read_after(*place, part)?;
+                if are_before {
+                    self.read_before(place, part);
+                } else {
+                    self.read_after(place, part);
+                }
             }
         }
-        for place in &actives.before {
-            if range.has(*place) {
-                part.count(4);
-                self.read_before(*place, part)?;
-            }
-        }
-        Ok(())
+    }
+
+    /// Reads what those of these nodes do that are a worker's own.
+    pub fn read(&self, actives: &Nodes, part: &mut Part) {
+        part.clear();
+        self.read_all(actives.after.as_slice(), false, part);
+        self.read_all(actives.before.as_slice(), true, part);
     }
 }

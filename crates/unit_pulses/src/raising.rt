@@ -6,36 +6,26 @@ use crate::parts::Part;
 use crate::search::{Before, Search};
 use crate::spots::{FAR, label_after, label_before, labels_at};
 
-/// A label that an arc leads to which isn't filled in this pulse, or none.
-fn near(label: u32, below: u32) -> u32 {
-    if label == below { FAR } else { label }
+/// A label where an arc leads there that isn't filled in this pulse, or none.
+fn near(label: u32, below: u32, leads: bool) -> u32 {
+    if leads & (label != below) { label } else { FAR }
 }
 
 impl<'a> Search<'a> {
     /// The least label of the fan-ins' nodes and of that after a gate to which an arc leads from before it.
     fn least_near(&self, node: &Before) -> u32 {
-        let labels = self.labels.as_slice();
-        let (flow, below) = (node.flow, node.below);
-        let mut least = if flow.through {
-            FAR
-        } else {
-            near(label_after(labels, node.place), below)
-        };
-        least = least.min(self.least_of_fan_in(node, false));
-        least.min(self.least_of_fan_in(node, true))
+        let label = label_after(self.labels.as_slice(), node.place);
+        near(label, node.below, !node.flow.through)
+            .min(self.least_of_fan_in(node, false))
+            .min(self.least_of_fan_in(node, true))
     }
 
     /// The same of the nodes of one fan-in.
     fn least_of_fan_in(&self, node: &Before, second: bool) -> u32 {
         let labels = labels_at(self.labels.as_slice(), node.fan_ins.at(second));
-        let mut least = FAR;
-        if node.flow.down(second) < self.most {
-            least = near(labels.before, node.below);
-        }
-        if node.flow.up(second) {
-            least = least.min(near(labels.after, node.below));
-        }
-        least
+        let has_room = node.flow.down(second) < self.most;
+        let came = node.flow.up(second);
+        near(labels.before, node.below, has_room).min(near(labels.after, node.below, came))
     }
 
     /// The new label of the node before a gate, where nothing comes to it in this pulse.
@@ -43,11 +33,12 @@ impl<'a> Search<'a> {
         let labels = self.labels.as_slice();
         part.count(4);
         let mut least = self.least_near(node);
-        for reader in self.readers.at(node.place) {
+        let readers = self.readers.at(node.place);
+        for k in 0..readers.len() {
             part.count(1);
-            let (_, came) = self.came_from(*reader, node.place);
-            if came > 0 {
-                least = least.min(near(label_before(labels, *reader), node.below));
+            let (reader, below) = (readers[k], node.below);
+            if self.came_from(reader, node.place).1 > 0 {
+                least = least.min(near(label_before(labels, reader), below, true));
             }
         }
         least.saturating_add(1)

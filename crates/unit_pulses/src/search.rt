@@ -1,38 +1,12 @@
 //! The tables of a flow of units by place: what the flow does at each gate, what stands at each place, and which gates read it.
 
+use crate::fan_ins::FanIns;
+use crate::memory::Memory;
+use crate::nodes::Nodes;
 use crate::readers::Readers;
 use crate::spots::{Labels, Spot, label_before};
-use aig_graph::{Gate, NoMemory};
-use std::alloc::Global;
 use unit_flows::GateFlow;
 use unit_starts::{Region, narrow};
-
-/// The places of a gate's two fan-ins, that of the smaller variable first.
-#[derive(Clone, Copy)]
-pub(crate) struct FanIns {
-    pub smaller: u32,
-    pub larger: u32,
-}
-
-impl FanIns {
-    /// Those of a gate, where places begin at this variable.
-    pub fn of(gate: &Gate, first: u32) -> FanIns {
-        FanIns {
-            smaller: gate.rhs1.var().wrapping_sub(first),
-            larger: gate.rhs0.var().wrapping_sub(first),
-        }
-    }
-
-    /// The place of the second or the first fan-in.
-    pub fn at(&self, second: bool) -> u32 {
-        if second { self.larger } else { self.smaller }
-    }
-
-    /// Whether the gate reads a place by its second fan-in.
-    pub fn is_second(&self, place: u32) -> bool {
-        self.smaller != place
-    }
-}
 
 /// The node before a gate, as a pulse finds it: what the flow does at the gate, and the label that the node pushes to.
 #[derive(Clone, Copy)]
@@ -44,7 +18,6 @@ pub(crate) struct Before {
 }
 
 /// A flow of units over the gates of a region, and what its pulses need to know.
-#[derive(Drop)]
 pub(crate) struct Search<'a> {
     pub region: Region<'a>,
     /// How many latches there are, the place of the first gate.
@@ -57,56 +30,57 @@ pub(crate) struct Search<'a> {
     pub flows: Vec<GateFlow>,
 }
 
+impl<'a> Drop for Search<'a> {
+    // written out: docs/PROOFS.md, Drops and exits
+    fn drop(self) {
+        let Search {
+            region: _region,
+            latches: _latches,
+            most: _most,
+            readers: _readers,
+            labels: _labels,
+            spots: _spots,
+            flows: _flows,
+        } = self;
+    }
+}
+
 impl<'a> Search<'a> {
     /// The tables of a flow.
-    ///
-    /// # Errors
-    ///
-    /// `NoMemory` where a table is refused.
-    pub fn new(
-        alloc: Global,
-        region: &Region<'a>,
-        flows: Vec<GateFlow>,
-    ) -> Result<Search<'a>, NoMemory> {
-        let spots = spots_of(alloc, region)?;
-        let labels = vec![in alloc; Labels::NONE; spots.len()]?;
-        let mut search = Search {
+    pub fn new(memory: &mut Memory, region: &Region<'a>, flows: Vec<GateFlow>) -> Search<'a> {
+        let mut spots = memory.table(Spot::NONE, region.places());
+        set_spots(spots.as_mut_slice(), region);
+        note_all(spots.as_mut_slice(), region, flows.as_slice());
+        Search {
             region: *region,
             latches: narrow(region.latches.len()),
             most: narrow(region.known_latches()).saturating_add(1),
-            readers: Readers::none(alloc),
-            labels,
+            readers: Readers::none(memory),
+            labels: memory.table(Labels::NONE, region.places()),
             spots,
             flows,
-        };
-        for place in (0..region.places()).rev() {
-            search.note(narrow(place));
-        }
-        Ok(search)
-    }
-
-    /// From before the gates that have no mark no unit can come to the sink.
-    pub fn leave_out(&mut self, marks: &[bool]) {
-        for (spot, mark) in self.spots.iter_mut().zip(marks) {
-            spot.reaches = spot.reaches && *mark;
         }
     }
 
-    /// Makes lists of readers, where there are none.
-    ///
-    /// # Errors
-    ///
-    /// `NoMemory` where a table is refused.
-    pub fn list_readers(&mut self, alloc: Global) -> Result<(), NoMemory> {
-        if self.readers.are_none() {
-            self.readers = Readers::of(alloc, &self.region)?;
+    /// Makes lists of readers for active nodes, where there are some and no lists yet.
+    pub fn list_readers(&mut self, memory: &mut Memory, actives: &Nodes) {
+        if self.readers.are_none() & !actives.is_empty() {
+            self.readers = Readers::of(memory, &self.region);
         }
-        Ok(())
     }
 
     /// The flow alone.
     pub fn into_flows(self) -> Vec<GateFlow> {
-        self.flows
+        let Search {
+            region: _region,
+            latches: _latches,
+            most: _most,
+            readers: _readers,
+            labels: _labels,
+            spots: _spots,
+            flows,
+        } = self;
+        flows
     }
 
     /// The number of a place among the gates, if there is one.
@@ -114,112 +88,125 @@ impl<'a> Search<'a> {
         place.wrapping_sub(self.latches) as usize
     }
 
+    /// Whether a gate is at a place.
+    pub fn is_gate(&self, place: u32) -> bool {
+        self.number(place) < self.region.gates.len()
+    }
+
     /// The fan-ins of the gate at a place.
-    pub fn fan_ins(&self, place: u32) -> Option<FanIns> {
-        let gate = self.region.gates.get(self.number(place))?;
-        Some(FanIns::of(gate, self.region.first))
+    pub fn fan_ins(&self, place: u32) -> FanIns {
+        let number = self.number(place);
+        let gates = self.region.gates;
+        if number < gates.len() {
+            FanIns::of(&gates[number], self.region.first)
+        } else {
+            FanIns::NONE
+        }
     }
 
     /// What the flow does at the gate at a place.
     pub fn flow(&self, place: u32) -> GateFlow {
-        match self.flows.get(self.number(place)) {
-            Some(flow) => *flow,
-            None => GateFlow::none(),
-        }
+        flow_at(self.flows.as_slice(), self.number(place))
     }
 
     /// The node before a gate at a place, as a pulse finds it.
-    pub fn before(&self, place: u32) -> Option<Before> {
-        Some(Before {
+    pub fn before(&self, place: u32) -> Before {
+        Before {
             place,
-            fan_ins: self.fan_ins(place)?,
+            fan_ins: self.fan_ins(place),
             flow: self.flow(place),
             below: label_before(self.labels.as_slice(), place).saturating_sub(1),
-        })
+        }
     }
 
     /// Whether a reader reads a place by its second fan-in, and how many units came from before it down to before that place.
     pub fn came_from(&self, reader: u32, place: u32) -> (bool, u32) {
-        match self.fan_ins(reader) {
-            Some(fan_ins) => {
-                let second = fan_ins.is_second(place);
-                (second, self.flow(reader).down(second))
-            }
-            None => (false, 0),
+        let second = self.fan_ins(reader).is_second(place);
+        (second, self.flow(reader).down(second))
+    }
+}
+
+/// From before the gates that have no mark no unit can come to the sink.
+pub(crate) fn leave_out(spots: &mut [Spot], marks: &[bool]) {
+    for place in 0..spots.len() {
+        if place < marks.len() {
+            spots[place].reaches = spots[place].reaches & marks[place];
         }
     }
+}
 
-    /// Units come to the node before a place.
-    fn add_before(&mut self, place: u32, units: u32) {
-        if let Some(spot) = self.spots.get_mut(place as usize) {
-            spot.excess = spot.excess.saturating_add(units);
-        }
-    }
-
-    /// A unit waits after a place, or none does any more.
-    fn set_waits(&mut self, place: u32, waits: bool) {
-        if let Some(spot) = self.spots.get_mut(place as usize) {
-            spot.waits = waits;
-        }
-    }
-
-    /// Notes what the flow does at the gate at a place, if there is one, and all gates above it are noted.
-    fn note(&mut self, place: u32) {
-        let Some(fan_ins) = self.fan_ins(place) else {
-            return;
-        };
-        let flow = self.flow(place);
-        if flow.is_none() {
-            self.set_waits(place, false);
-        } else {
-            self.note_coming(place, &fan_ins, &flow);
-            self.note_going(place, &flow);
-        }
-    }
-
-    /// Notes what came to before a gate from after its fan-ins, and what it sent on to before these.
-    fn note_coming(&mut self, place: u32, fan_ins: &FanIns, flow: &GateFlow) {
-        self.note_coming_by(place, fan_ins.smaller, flow.first_up, flow.first_down);
-        self.note_coming_by(place, fan_ins.larger, flow.second_up, flow.second_down);
-    }
-
-    /// The same of one fan-in.
-    fn note_coming_by(&mut self, place: u32, fan_in: u32, came: bool, went: u32) {
-        if came {
-            self.set_waits(fan_in, false);
-            self.add_before(place, 1);
-        }
-        if went > 0 {
-            self.add_before(fan_in, went);
-        }
-    }
-
-    /// Notes what goes on from before a gate, once all is noted that came there.
-    fn note_going(&mut self, place: u32, flow: &GateFlow) {
-        let goes = u32::from(flow.through)
-            .saturating_add(flow.first_down)
-            .saturating_add(flow.second_down);
-        if let Some(spot) = self.spots.get_mut(place as usize) {
-            spot.excess = spot.excess.saturating_sub(goes);
-            spot.waits = spot.waits && flow.through;
-        }
+/// What a flow does at the gate with a number.
+fn flow_at(flows: &[GateFlow], number: usize) -> GateFlow {
+    if number < flows.len() {
+        flows[number]
+    } else {
+        GateFlow::none()
     }
 }
 
 /// What stands at each place where no gate has done anything: a unit has come after each known latch, and it waits where no arc leads to the
 /// sink.
-fn spots_of(alloc: Global, region: &Region) -> Result<Vec<Spot>, NoMemory> {
-    let mut spots = Vec::with_capacity(alloc, region.places())?;
-    for place in 0..region.places() {
-        let holds = region.is_passable(place) || region.is_known_latch(place);
-        let is_observed = holds && region.leaves(place);
-        spots.push(Spot {
+fn set_spots(spots: &mut [Spot], region: &Region) {
+    for place in 0..spots.len() {
+        let holds = region.is_passable(place) | region.is_known_latch(place);
+        let is_observed = holds & region.leaves(place);
+        spots[place] = Spot {
             excess: 0,
             reaches: holds,
             is_observed,
-            waits: holds && !is_observed,
+            waits: holds & !is_observed,
             is_open: false,
-        })?;
+        };
     }
-    Ok(spots)
+}
+
+/// Units come to the node before a place.
+fn add_before(spots: &mut [Spot], place: u32, units: u32) {
+    let place = place as usize;
+    if place < spots.len() {
+        spots[place].excess = spots[place].excess.saturating_add(units);
+    }
+}
+
+/// Notes what came to before a gate from after a fan-in, and what it sent on to before that.
+fn note_fan_in(spots: &mut [Spot], place: u32, fan_in: u32, came: bool, went: u32) {
+    if came {
+        add_before(spots, place, 1);
+        let fan_in = fan_in as usize;
+        if fan_in < spots.len() {
+            spots[fan_in].waits = false;
+        }
+    }
+    if went > 0 {
+        add_before(spots, fan_in, went);
+    }
+}
+
+/// Notes what goes on from before a gate, once all is noted that came there.
+fn note_going(spots: &mut [Spot], place: u32, flow: &GateFlow) {
+    let goes = u32::from(flow.through)
+        .saturating_add(flow.first_down)
+        .saturating_add(flow.second_down);
+    let place = place as usize;
+    if place < spots.len() {
+        let spot = spots[place];
+        spots[place] = Spot {
+            excess: spot.excess.saturating_sub(goes),
+            waits: spot.waits & flow.through,
+            ..spot
+        };
+    }
+}
+
+/// Notes what a flow does at all gates, from the last to the first: so all gates that read one are noted before it.
+fn note_all(spots: &mut [Spot], region: &Region, flows: &[GateFlow]) {
+    let (gates, latches) = (region.gates, region.latches.len());
+    for k in (0..gates.len()).rev() {
+        let place = narrow(latches.wrapping_add(k));
+        let flow = flow_at(flows, k);
+        let FanIns { smaller, larger } = FanIns::of(&gates[k], region.first);
+        note_fan_in(spots, place, smaller, flow.first_up, flow.first_down);
+        note_fan_in(spots, place, larger, flow.second_up, flow.second_down);
+        note_going(spots, place, &flow);
+    }
 }

@@ -2,11 +2,10 @@
 //! the sources of a tiny circuit, so that the smallest ones are worked on by two workers at once, too. What that costs is the start of two threads,
 //! a tenth of such a run; by all of a crew it would be more than half, and on a circuit of some hundred places as much for nothing.
 
+use crate::memory::Memory;
 use crate::nodes::Nodes;
 use crate::parts::{Delivery, Part};
-use aig_graph::NoMemory;
 use pulse::{Crew, PhaseGate};
-use std::alloc::Global;
 
 /// So many active nodes make a pulse worth its two forks.
 const MANY_ACTIVE: usize = 4096;
@@ -66,26 +65,15 @@ pub(crate) struct Parts {
 
 impl Parts {
     /// A part for each of so many workers that share so many places.
-    pub fn among(alloc: Global, workers: u32, places: usize) -> Result<Parts, NoMemory> {
-        Ok(Parts {
-            parts: parts_among(alloc, workers, places)?,
-            deliveries: deliveries_of(alloc, workers)?,
-        })
+    pub fn among(memory: &mut Memory, workers: u32, places: usize) -> Parts {
+        let mut parts = memory.nothing();
+        let mut deliveries = memory.nothing();
+        for worker in 0..workers {
+            let part = Part::of(memory, worker, workers, places);
+            let delivery = Delivery::none(memory);
+            memory.push(&mut parts, part);
+            memory.push(&mut deliveries, delivery);
+        }
+        Parts { parts, deliveries }
     }
-}
-
-fn parts_among(alloc: Global, workers: u32, places: usize) -> Result<Vec<Part>, NoMemory> {
-    let mut parts = Vec::with_capacity(alloc, workers as usize)?;
-    for worker in 0..workers {
-        parts.push(Part::of(alloc, worker, workers, places))?;
-    }
-    Ok(parts)
-}
-
-fn deliveries_of(alloc: Global, workers: u32) -> Result<Vec<Delivery>, NoMemory> {
-    let mut deliveries = Vec::with_capacity(alloc, workers as usize)?;
-    for _ in 0..workers {
-        deliveries.push(Delivery::none(alloc))?;
-    }
-    Ok(deliveries)
 }

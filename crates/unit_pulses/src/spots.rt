@@ -1,4 +1,4 @@
-//! What stands at each place, and how far the sink is from there.
+//! What stands at each place, and how far the sink is from there. What is past the end of a table isn't there.
 
 /// The label of a node from which no unit can come to the sink.
 pub(crate) const FAR: u32 = u32::MAX;
@@ -31,26 +31,42 @@ pub(crate) struct Spot {
     pub is_open: bool,
 }
 
+impl Spot {
+    pub const NONE: Spot = Spot {
+        excess: 0,
+        reaches: false,
+        is_observed: false,
+        waits: false,
+        is_open: false,
+    };
+}
+
+/// What stands at a place.
+pub(crate) fn spot_at(spots: &[Spot], place: u32) -> Spot {
+    let place = place as usize;
+    if place < spots.len() {
+        spots[place]
+    } else {
+        Spot::NONE
+    }
+}
+
 /// The labels at a place.
 pub(crate) fn labels_at(labels: &[Labels], place: u32) -> Labels {
-    match labels.get(place as usize) {
-        Some(labels) => *labels,
-        None => Labels::NONE,
+    let place = place as usize;
+    if place < labels.len() {
+        labels[place]
+    } else {
+        Labels::NONE
     }
 }
 
 /// The label of the node before a place.
 pub(crate) fn label_before(labels: &[Labels], place: u32) -> u32 {
-    match labels.get(place as usize) {
-        Some(labels) => labels.before,
-        None => FAR,
-    }
+    labels_at(labels, place).before
 }
 
 /// The label of the node after a place.
 pub(crate) fn label_after(labels: &[Labels], place: u32) -> u32 {
-    match labels.get(place as usize) {
-        Some(labels) => labels.after,
-        None => FAR,
-    }
+    labels_at(labels, place).after
 }

@@ -3,111 +3,113 @@
 
 use crate::left_units::LeftUnits;
 use crate::region::{Region, narrow};
-use aig_graph::{Gate, Lit, NoMemory};
+use aig_graph::{Gate, NoMemory};
 use std::alloc::Global;
+use std::mem;
 use unit_flows::{GateFlow, UnitFlow, filled};
 
 /// Stands for no gate.
 const NOBODY: u32 = u32::MAX;
 
-/// Notes that a gate takes the unit after a place, where no gate before it does.
-fn note_taker(takers: &mut [u32], place: u32, gate: u32) {
-    if let Some(taker) = takers.get_mut(place as usize) {
-        if *taker == NOBODY {
-            *taker = gate;
-        }
-    }
-}
-
-/// Notes where a gate took units.
-fn note_takes(takers: &mut [u32], region: &Region, literals: &Gate, flow: &GateFlow, gate: u32) {
-    if flow.first_up {
-        note_taker(takers, region.place(literals.rhs1), gate);
-    }
-    if flow.second_up {
-        note_taker(takers, region.place(literals.rhs0), gate);
+/// Notes that a gate takes the unit after what a literal reads, if it took one, where no gate before it does.
+fn note_taker(takers: &mut [u32], place: u32, took: bool, gate: u32) {
+    let place = place as usize;
+    if place < takers.len() && took & (takers[place] == NOBODY) {
+        takers[place] = gate;
     }
 }
 
 /// Notes where all gates took units.
 fn note_takers(takers: &mut [u32], region: &Region, known: &[GateFlow]) {
-    let mut gate = 0u32;
-    for literals in region.gates {
-        if let Some(flow) = known.get(gate as usize) {
-            note_takes(takers, region, literals, flow, gate);
+    let gates = region.gates;
+    for k in 0..gates.len() {
+        if k < known.len() {
+            let (literals, flow) = (&gates[k], known[k]);
+            note_taker(
+                takers,
+                region.place(literals.rhs1),
+                flow.first_up,
+                narrow(k),
+            );
+            note_taker(
+                takers,
+                region.place(literals.rhs0),
+                flow.second_up,
+                narrow(k),
+            );
         }
-        gate = gate.wrapping_add(1);
     }
 }
 
 /// By place, from the first latch on, the number of the gate that took the unit after it, in the memory of a table.
 fn takers_in(memory: Vec<u32>, region: &Region, known: &[GateFlow]) -> Result<Vec<u32>, NoMemory> {
-    let mut takers = filled(memory, NOBODY, region.places())?;
+    let Ok(mut takers) = filled(memory, NOBODY, region.places()) else {
+        return Err(NoMemory);
+    };
     note_takers(takers.as_mut_slice(), region, known);
     Ok(takers)
 }
 
-/// The number of a gate, where the variable of a literal is one.
-fn number_of(region: &Region, lit: Lit) -> Option<usize> {
-    let number = region.gate_number(region.place(lit) as usize);
-    if number < region.gates.len() {
-        Some(number)
+/// What was known of a gate, nothing past the end.
+fn known_at(known: &[GateFlow], gate: usize) -> GateFlow {
+    if gate < known.len() {
+        known[gate]
     } else {
-        None
+        GateFlow::none()
     }
 }
 
-/// A unit goes on from before a gate to before a fan-in, where fewer do than it is known of. The number of that gate.
-fn goes_down(
+/// A unit goes on from before a gate to before a fan-in, where fewer do than it is known of. The number of that gate, past all gates where it
+/// doesn't.
+fn goes_down(region: &Region, literals: &Gate, known: &GateFlow, flow: &mut GateFlow) -> usize {
+    let second = flow.first_down >= known.first_down;
+    let fan_in = if second { literals.rhs0 } else { literals.rhs1 };
+    let next = region.gate_number(region.place(fan_in) as usize);
+    let goes = flow.down(second) < known.down(second);
+    if goes & (next < region.gates.len()) {
+        flow.note_down(second, flow.down(second).saturating_add(1));
+        next
+    } else {
+        usize::MAX
+    }
+}
+
+/// From before a gate a unit goes through it, or through one that it goes down to. The number of the last gate that it comes to, and whether it
+/// goes through.
+fn goes_through(
     region: &Region,
-    literals: &Gate,
-    known: &GateFlow,
-    flow: &mut GateFlow,
-) -> Option<usize> {
-    if flow.first_down < known.first_down {
-        let next = number_of(region, literals.rhs1)?;
-        flow.first_down = flow.first_down.saturating_add(1);
-        return Some(next);
-    }
-    if flow.second_down < known.second_down {
-        let next = number_of(region, literals.rhs0)?;
-        flow.second_down = flow.second_down.saturating_add(1);
-        return Some(next);
-    }
-    None
-}
-
-/// How far a unit goes on.
-enum Way {
-    /// Through the gate with this number.
-    Through(usize),
-    /// To before that gate, where nothing more is known.
-    Before(usize),
-    /// Nowhere.
-    Stays,
-}
-
-/// From before a gate a unit goes through it, or through one that it goes down to.
-fn goes_through(region: &Region, known: &[GateFlow], flows: &mut [GateFlow], from: usize) -> Way {
+    known: &[GateFlow],
+    flows: &mut [GateFlow],
+    from: usize,
+) -> (usize, bool) {
+    let gates = region.gates;
     let mut gate = from;
     for _ in 0..u32::MAX {
-        let (Some(literals), Some(told), Some(flow)) = (
-            region.gates.get(gate),
-            known.get(gate),
-            flows.get_mut(gate),
-        ) else {
-            return Way::Before(gate);
-        };
-        if told.through && !flow.through {
-            flow.through = true;
-            return Way::Through(gate);
+        if gate >= gates.len() || gate >= flows.len() {
+            return (gate, false);
         }
-        match goes_down(region, literals, told, flow) {
-            Some(next) => gate = next,
-            None => return Way::Before(gate),
+        let told = known_at(known, gate);
+        if told.through & !flows[gate].through {
+            flows[gate].through = true;
+            return (gate, true);
         }
+        let next = goes_down(region, &gates[gate], &told, &mut flows[gate]);
+        if next >= gates.len() {
+            return (gate, false);
+        }
+        gate = next;
     }
-    Way::Before(gate)
+    (gate, false)
+}
+
+/// The number of the gate that takes the unit after a place.
+fn taker_of(takers: &[u32], place: usize) -> usize {
+    let taker = if place < takers.len() {
+        takers[place]
+    } else {
+        NOBODY
+    };
+    taker as usize
 }
 
 /// A gate, if there is one with this number, takes the unit after a place. Whether it does.
@@ -118,35 +120,12 @@ fn comes_to(
     place: usize,
     taker: usize,
 ) -> bool {
-    let (Some(literals), Some(told), Some(flow)) = (
-        region.gates.get(taker),
-        known.get(taker),
-        flows.get_mut(taker),
-    ) else {
+    if taker >= region.gates.len() || taker >= flows.len() {
         return false;
-    };
-    let is_first = region.place(literals.rhs1) as usize == place;
-    flow.note_up(!(is_first & told.first_up));
-    true
-}
-
-/// The gate that takes the unit after a place takes it, and it goes through that gate or through one that it goes down to.
-fn goes_on(
-    region: &Region,
-    known: &[GateFlow],
-    takers: &[u32],
-    flows: &mut [GateFlow],
-    place: usize,
-) -> Way {
-    let Some(taker) = takers.get(place) else {
-        return Way::Stays;
-    };
-    let taker = *taker as usize;
-    if comes_to(region, known, flows, place, taker) {
-        goes_through(region, known, flows, taker)
-    } else {
-        Way::Stays
     }
+    let is_first = region.place(region.gates[taker].rhs1) as usize == place;
+    flows[taker].note_up(!(is_first & known_at(known, taker).first_up));
+    true
 }
 
 /// Sends the unit after a latch as far as it is known to go, and notes where it is left.
@@ -157,20 +136,22 @@ fn send(
     flows: &mut [GateFlow],
     left: &mut LeftUnits,
     latch: usize,
-) -> Result<(), NoMemory> {
-    let latches = region.latches.len();
+) {
     let mut place = latch;
     for _ in 0..region.places() {
-        if region.leaving.get(place).copied() != Some(false) {
-            return Ok(());
+        if !region.is_inside(place) {
+            return;
         }
-        match goes_on(region, known, takers, flows, place) {
-            Way::Through(gate) => place = latches.saturating_add(gate),
-            Way::Before(gate) => return left.push_before(latches.saturating_add(gate)),
-            Way::Stays => return left.push_after(place),
+        let taker = taker_of(takers, place);
+        if !comes_to(region, known, flows, place, taker) {
+            return left.push(place, false);
+        }
+        let (gate, goes_on) = goes_through(region, known, flows, taker);
+        place = region.latches.len().saturating_add(gate);
+        if !goes_on {
+            return left.push(place, true);
         }
     }
-    Ok(())
 }
 
 /// Sends the units after all known latches as far as they are known to go. Where they are left.
@@ -180,14 +161,31 @@ fn send_all(
     known: &[GateFlow],
     takers: &[u32],
     flows: &mut [GateFlow],
-) -> Result<LeftUnits, NoMemory> {
+) -> LeftUnits {
     let mut left = LeftUnits::none(alloc);
     for place in 0..region.latches.len() {
         if region.is_known_latch(place) {
-            send(region, known, takers, flows, &mut left, place)?;
+            send(region, known, takers, flows, &mut left, place);
         }
     }
-    Ok(left)
+    left
+}
+
+/// Sends the units by what is known, for which a spare table serves. Where they are left.
+fn send_along(
+    alloc: Global,
+    region: &Region,
+    known: &mut UnitFlow,
+    flows: &mut [GateFlow],
+) -> Result<LeftUnits, NoMemory> {
+    let UnitFlow { gates, spare } = known;
+    let known = gates.as_slice();
+    let Ok(takers) = takers_in(spare.take_numbers(alloc), region, known) else {
+        return Err(NoMemory);
+    };
+    let left = send_all(alloc, region, known, takers.as_slice(), flows);
+    spare.keep_numbers(takers);
+    left.complete()
 }
 
 /// A flow along what is known of an earlier one at each gate, in its place: 4 bytes a latch and gate, for which a spare table serves, and what the
@@ -201,20 +199,15 @@ pub(crate) fn put_along(
     region: &Region,
     known: &mut UnitFlow,
 ) -> Result<LeftUnits, NoMemory> {
-    let UnitFlow {
-        gates: known,
-        spare,
-    } = known;
-    let takers = takers_in(spare.take_numbers(alloc), region, known.as_slice())?;
-    let mut flows = vec![in alloc; GateFlow::none(); region.gates.len()]?;
-    let left = send_all(
-        alloc,
-        region,
-        known.as_slice(),
-        takers.as_slice(),
-        flows.as_mut_slice(),
-    );
-    *known = flows;
-    spare.keep_numbers(takers);
+    let Ok(mut flows) = vec![in alloc; GateFlow::none(); region.gates.len()] else {
+        return Err(NoMemory);
+    };
+    let left = send_along(alloc, region, known, flows.as_mut_slice());
+    let put = if left.is_ok() {
+        mem::replace(&mut known.gates, flows)
+    } else {
+        flows
+    };
+    drop(put);
     left
 }

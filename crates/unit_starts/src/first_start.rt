@@ -23,71 +23,73 @@ struct GatePlaces {
 }
 
 impl GatePlaces {
-    /// The places of the gate with this number, where it is passable.
-    fn of(region: &Region, gate: usize) -> Option<GatePlaces> {
-        let own = region.latches.len().saturating_add(gate);
-        if !region.is_passable(own) {
-            return None;
-        }
-        let literals = region.gates.get(gate)?;
-        Some(GatePlaces {
-            own,
-            smaller: region.place(literals.rhs1) as usize,
-            larger: region.place(literals.rhs0) as usize,
-        })
-    }
+    /// What stands where there is no passable gate.
+    const NONE: GatePlaces = GatePlaces {
+        own: usize::MAX,
+        smaller: usize::MAX,
+        larger: usize::MAX,
+    };
 
-    fn fan_in(&self, fan_in: FanIn) -> usize {
-        match fan_in {
-            FanIn::Smaller => self.smaller,
-            FanIn::Larger => self.larger,
+    /// The places of the gate with this number, where it is passable.
+    fn of(region: &Region, gate: usize) -> GatePlaces {
+        let own = region.latches.len().saturating_add(gate);
+        let gates = region.gates;
+        if gate >= gates.len() || !region.is_passable(own) {
+            return GatePlaces::NONE;
+        }
+        GatePlaces {
+            own,
+            smaller: region.place(gates[gate].rhs1) as usize,
+            larger: region.place(gates[gate].rhs0) as usize,
         }
     }
 }
 
-/// A gate that has taken nothing takes a unit that waits after one of its fan-ins, in this order.
-fn take_waiting(region: &Region, start: &mut Start, gate: usize, order: [FanIn; 2]) {
+/// Whether a unit waited after a gate's fan-in, which the gate takes then.
+fn takes(start: &mut Start, gate: usize, places: &GatePlaces, fan_in: FanIn) -> bool {
+    let place = match fan_in {
+        FanIn::Smaller => places.smaller,
+        FanIn::Larger => places.larger,
+    };
+    start.takes_from(gate, places.own, fan_in, place)
+}
+
+/// A gate that has taken nothing takes a unit that waits after one of its fan-ins: this one before the other.
+fn take_waiting(region: &Region, start: &mut Start, gate: usize, first: FanIn, second: FanIn) {
     if start.taken(gate).is_some() {
         return;
     }
-    if let Some(places) = GatePlaces::of(region, gate) {
-        for fan_in in order {
-            if start.takes_from(gate, places.own, fan_in, places.fan_in(fan_in)) {
-                return;
-            }
-        }
+    let places = GatePlaces::of(region, gate);
+    if !takes(start, gate, &places, first) {
+        takes(start, gate, &places, second);
     }
 }
 
-/// In one pass up the gates each that has taken nothing takes a unit that waits after a fan-in, in this order.
-fn take_all_waiting(region: &Region, start: &mut Start, order: [FanIn; 2]) {
+/// In one pass up the gates each that has taken nothing takes a unit that waits after a fan-in: this one before the other.
+fn take_all_waiting(region: &Region, start: &mut Start, first: FanIn, second: FanIn) {
     for gate in 0..region.gates.len() {
-        take_waiting(region, start, gate, order);
+        take_waiting(region, start, gate, first, second);
     }
 }
 
 /// A gate whose unit is asked for asks a fan-in that nobody has asked, the smaller first.
 fn ask(region: &Region, start: &mut Start, gate: usize) {
-    if let Some(places) = GatePlaces::of(region, gate) {
-        if !start.is_asked(places.own) {
-            return;
-        }
-        if start.asks(places.smaller) {
-            start.note(gate, Some(FanIn::Smaller));
-        } else if start.asks(places.larger) {
-            start.note(gate, Some(FanIn::Larger));
-        }
+    let places = GatePlaces::of(region, gate);
+    if !start.is_asked(places.own) {
+        return;
+    }
+    if start.asks(places.smaller) {
+        start.note(gate, Some(FanIn::Smaller));
+    } else if start.asks(places.larger) {
+        start.note(gate, Some(FanIn::Larger));
     }
 }
 
 /// A gate that asked a fan-in takes the unit that waits there, or else nothing.
 fn take_asked(region: &Region, start: &mut Start, gate: usize) {
-    let Some(fan_in) = start.taken(gate) else {
-        return;
-    };
-    start.note(gate, None);
-    if let Some(places) = GatePlaces::of(region, gate) {
-        start.takes_from(gate, places.own, fan_in, places.fan_in(fan_in));
+    if let Some(fan_in) = start.taken(gate) {
+        start.note(gate, None);
+        takes(start, gate, &GatePlaces::of(region, gate), fan_in);
     }
 }
 
@@ -102,21 +104,6 @@ fn ask_and_take(region: &Region, start: &mut Start) {
     }
 }
 
-/// The start up the gates.
-fn start_up(alloc: Global, region: &Region) -> Result<Start, NoMemory> {
-    let mut start = Start::new(alloc, region)?;
-    take_all_waiting(region, &mut start, [FanIn::Larger, FanIn::Smaller]);
-    Ok(start)
-}
-
-/// The start from the sink down.
-fn start_down(alloc: Global, region: &Region) -> Result<Start, NoMemory> {
-    let mut start = Start::new(alloc, region)?;
-    ask_and_take(region, &mut start);
-    take_all_waiting(region, &mut start, [FanIn::Smaller, FanIn::Larger]);
-    Ok(start)
-}
-
 /// What a gate does that takes its unit there, if any: it goes through.
 fn flow_of(taken: Option<FanIn>) -> GateFlow {
     let mut flow = GateFlow::none();
@@ -129,14 +116,14 @@ fn flow_of(taken: Option<FanIn>) -> GateFlow {
     flow
 }
 
-/// Puts the flow of a start in place of another.
-fn put(flows: &mut Vec<GateFlow>, start: &Start) -> Result<(), NoMemory> {
+/// Puts the flow that takes these units in place of another.
+fn put(flows: &mut Vec<GateFlow>, takes: &[Option<FanIn>]) -> Result<(), NoMemory> {
     flows.clear();
-    flows.reserve(start.takes.len())?;
-    for taken in &start.takes {
-        flows.push(flow_of(*taken))?;
+    let mut refused = flows.reserve(takes.len()).is_err();
+    for k in 0..takes.len() {
+        refused = refused | flows.push(flow_of(takes[k])).is_err();
     }
-    Ok(())
+    if refused { Err(NoMemory) } else { Ok(()) }
 }
 
 /// How many units a start brings to the sink, and where it leaves the others.
@@ -152,11 +139,16 @@ fn put_first(
     flows: &mut Vec<GateFlow>,
     start: &Start,
 ) -> Result<FirstStart, NoMemory> {
-    put(flows, start)?;
-    Ok(FirstStart {
-        arrived: start.arrived,
-        left: start.left(alloc)?,
-    })
+    if put(flows, start.takes.as_slice()).is_err() {
+        return Err(NoMemory);
+    }
+    match start.left(alloc) {
+        Ok(left) => Ok(FirstStart {
+            arrived: start.arrived,
+            left,
+        }),
+        Err(error) => Err(error),
+    }
 }
 
 /// Puts the flow of a start in place of another, where it brings more units to the sink than so many. Whether it does.
@@ -164,8 +156,10 @@ fn put_better(flows: &mut Vec<GateFlow>, start: &Start, arrived: usize) -> Resul
     if start.arrived <= arrived {
         return Ok(false);
     }
-    put(flows, start)?;
-    Ok(true)
+    match put(flows, start.takes.as_slice()) {
+        Ok(()) => Ok(true),
+        Err(error) => Err(error),
+    }
 }
 
 /// Puts the flow of the start up the gates in place of another.
@@ -178,7 +172,10 @@ pub(crate) fn put_start_up(
     region: &Region,
     flows: &mut Vec<GateFlow>,
 ) -> Result<FirstStart, NoMemory> {
-    let start = start_up(alloc, region)?;
+    let Ok(mut start) = Start::new(alloc, region) else {
+        return Err(NoMemory);
+    };
+    take_all_waiting(region, &mut start, FanIn::Larger, FanIn::Smaller);
     let first = put_first(alloc, flows, &start);
     drop(start);
     first
@@ -195,7 +192,11 @@ pub(crate) fn put_start_down(
     flows: &mut Vec<GateFlow>,
     arrived: usize,
 ) -> Result<bool, NoMemory> {
-    let start = start_down(alloc, region)?;
+    let Ok(mut start) = Start::new(alloc, region) else {
+        return Err(NoMemory);
+    };
+    ask_and_take(region, &mut start);
+    take_all_waiting(region, &mut start, FanIn::Smaller, FanIn::Larger);
     let is_put = put_better(flows, &start, arrived);
     drop(start);
     is_put

@@ -39,16 +39,24 @@ fn judged_greatest(
             marks: None,
         });
     }
-    let marks = mark(alloc, frame, flows, &mut *spare)?;
+    let Ok(marks) = mark(alloc, frame, flows, &mut *spare) else {
+        return Err(NoMemory);
+    };
     let set = if left.are_marked(&marks) {
         Ok(None)
     } else {
         shown_by_marks(alloc, frame, flows, &marks, spare)
     };
-    Ok(Started {
-        set: set?,
-        marks: Some(marks),
-    })
+    match set {
+        Ok(set) => Ok(Started {
+            set,
+            marks: Some(marks),
+        }),
+        Err(error) => {
+            drop(marks);
+            Err(error)
+        }
+    }
 }
 
 /// The same for the chosen one. For the smallest the judge is asked at once, which marks other nodes.
@@ -66,8 +74,10 @@ fn judged(
         Choice::Greatest => judged_greatest(alloc, frame, flow, left),
         Choice::Smallest => {
             let UnitFlow { gates, spare } = flow;
-            let set = shown_chosen(alloc, frame, choice, gates.as_slice(), spare)?;
-            Ok(Started { set, marks: None })
+            match shown_chosen(alloc, frame, choice, gates.as_slice(), spare) {
+                Ok(set) => Ok(Started { set, marks: None }),
+                Err(error) => Err(error),
+            }
         }
     }
 }
@@ -84,35 +94,48 @@ fn start_first(
         frame.now.keep.now)) }
 {
     let region = Region::of(frame);
-    let first = put_start_up(alloc, &region, &mut flow.gates)?;
+    let Ok(first) = put_start_up(alloc, &region, &mut flow.gates) else {
+        return Err(NoMemory);
+    };
     let arrived = first.arrived;
     let judged = judged(alloc, frame, choice, &mut *flow, &first.left);
     drop(first);
-    let Started { set, marks } = judged?;
-    match set {
-        Some(set) => Ok(Started {
-            set: Some(set),
-            marks,
-        }),
-        None => started_down(alloc, &region, &mut flow.gates, arrived, marks),
+    match judged {
+        Ok(started) => {
+            if started.set.is_some() {
+                return Ok(started);
+            }
+            started_down(alloc, &region, &mut flow.gates, arrived, started)
+        }
+        Err(error) => Err(error),
     }
 }
 
-/// The start from the sink down takes the place of a flow that shows none, if it brings more than so many units; else its marks stay.
+/// The start from the sink down takes the place of one that shows none, if it brings more than so many units; else what that came to stays.
 fn started_down(
     alloc: Global,
     region: &Region,
     flows: &mut Vec<GateFlow>,
     arrived: usize,
-    marks: Option<NodeMarks>,
+    up: Started,
 ) -> Result<Started, NoMemory>
+    requires { up.set ≡ None }
     ensures { IfOk result (λ started. started.set ≡ None) }
 {
-    let is_put = put_start_down(alloc, region, flows, arrived)?;
-    Ok(Started {
-        set: None,
-        marks: if is_put { None } else { marks },
-    })
+    match put_start_down(alloc, region, flows, arrived) {
+        Ok(false) => Ok(up),
+        Ok(true) => {
+            drop(up);
+            Ok(Started {
+                set: None,
+                marks: None,
+            })
+        }
+        Err(error) => {
+            drop(up);
+            Err(error)
+        }
+    }
 }
 
 /// The chosen least set, where a start shows it: one along `flow`, what the last flow did at the circuit's gates, or along nothing where there
@@ -133,8 +156,12 @@ pub fn start_along(
     if flow.gates.is_empty() {
         return start_first(alloc, frame, choice, flow);
     }
-    let left = put_along(alloc, &Region::of(frame), &mut *flow)?;
-    judged(alloc, frame, choice, flow, &left)
+    let Ok(left) = put_along(alloc, &Region::of(frame), &mut *flow) else {
+        return Err(NoMemory);
+    };
+    let judged = judged(alloc, frame, choice, flow, &left);
+    drop(left);
+    judged
 }
 
 /// Puts a start along nothing in place of a flow over a region, the one of two that brings more, and judges nothing. Whether it leaves units.
@@ -147,10 +174,16 @@ pub fn start_in(
     region: &Region,
     flows: &mut Vec<GateFlow>,
 ) -> Result<bool, NoMemory> {
-    let first = put_start_up(alloc, region, flows)?;
-    if first.left.is_empty() {
+    let Ok(first) = put_start_up(alloc, region, flows) else {
+        return Err(NoMemory);
+    };
+    let (arrived, is_all) = (first.arrived, first.left.is_empty());
+    drop(first);
+    if is_all {
         return Ok(false);
     }
-    put_start_down(alloc, region, flows, first.arrived)?;
-    Ok(true)
+    match put_start_down(alloc, region, flows, arrived) {
+        Ok(_) => Ok(true),
+        Err(error) => Err(error),
+    }
 }

@@ -4,52 +4,70 @@ use aig_graph::NoMemory;
 use std::alloc::Global;
 use unit_flows::NodeMarks;
 
-/// The places of the nodes at which units are left, from the first latch on.
+/// A node at which a unit is left: before or after a place, from the first latch on.
+#[derive(Clone, Copy)]
+struct LeftUnit {
+    place: usize,
+    before: bool,
+}
+
+/// The nodes at which units are left.
 #[derive(Drop)]
 pub(crate) struct LeftUnits {
-    before: Vec<usize>,
-    after: Vec<usize>,
+    nodes: Vec<LeftUnit>,
+    /// Whether memory was refused for one, so that some are missing.
+    refused: bool,
 }
 
 /// Whether a place is marked.
-fn has_mark(places: &[usize], marks: &[bool]) -> bool {
-    for place in places {
-        if let Some(true) = marks.get(*place) {
-            return true;
-        }
-    }
-    false
+fn has_mark(marks: &[bool], place: usize) -> bool {
+    place < marks.len() && marks[place]
 }
 
 impl LeftUnits {
     /// None are left.
     pub fn none(alloc: Global) -> LeftUnits {
         LeftUnits {
-            before: Vec::new(alloc),
-            after: Vec::new(alloc),
+            nodes: Vec::new(alloc),
+            refused: false,
         }
     }
 
     /// Whether none are left.
     pub fn is_empty(&self) -> bool {
-        self.before.is_empty() && self.after.is_empty()
+        self.nodes.is_empty()
     }
 
-    /// A unit is left before the gate at a place.
-    pub fn push_before(&mut self, place: usize) -> Result<(), NoMemory> {
-        self.before.push(place)?;
-        Ok(())
+    /// A unit is left before or after a place.
+    pub fn push(&mut self, place: usize, before: bool) {
+        if self.nodes.push(LeftUnit { place, before }).is_err() {
+            self.refused = true;
+        }
     }
 
-    /// A unit is left after a place.
-    pub fn push_after(&mut self, place: usize) -> Result<(), NoMemory> {
-        self.after.push(place)?;
-        Ok(())
+    /// The same, unless memory was refused for one.
+    ///
+    /// # Errors
+    ///
+    /// `NoMemory` where it was.
+    pub fn complete(self) -> Result<LeftUnits, NoMemory> {
+        if self.refused {
+            drop(self);
+            return Err(NoMemory);
+        }
+        Ok(self)
     }
 
     /// Whether one is left at a marked node.
     pub fn are_marked(&self, marks: &NodeMarks) -> bool {
-        has_mark(self.before.as_slice(), marks.before.as_slice())
-            || has_mark(self.after.as_slice(), marks.after.as_slice())
+        let (before, after) = (marks.before.as_slice(), marks.after.as_slice());
+        let nodes = self.nodes.as_slice();
+        for k in 0..nodes.len() {
+            let node = nodes[k];
+            if has_mark(if node.before { before } else { after }, node.place) {
+                return true;
+            }
+        }
+        false
     }
 }

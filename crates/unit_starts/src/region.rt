@@ -56,17 +56,14 @@ impl<'a> Region<'a> {
 
     /// Whether a known latch is at a place.
     pub fn is_known_latch(&self, place: usize) -> bool {
-        match self.latches.get(place) {
-            Some(latch) => latch.reset != Reset::Free,
-            None => false,
-        }
+        place < self.latches.len() && self.latches[place].reset != Reset::Free
     }
 
     /// How many latches are known.
     pub fn known_latches(&self) -> usize {
         let mut known = 0usize;
-        for latch in self.latches {
-            if latch.reset != Reset::Free {
+        for place in 0..self.latches.len() {
+            if self.is_known_latch(place) {
                 known = known.wrapping_add(1);
             }
         }
@@ -75,11 +72,16 @@ impl<'a> Region<'a> {
 
     /// Whether a passable gate is at a place.
     pub fn is_passable(&self, place: usize) -> bool {
-        self.passes.get(place).copied() == Some(true)
+        place < self.passes.len() && self.passes[place]
     }
 
     /// Whether units go to the sink from after a place.
     pub fn leaves(&self, place: usize) -> bool {
-        self.leaving.get(place).copied() == Some(true)
+        place < self.leaving.len() && self.leaving[place]
+    }
+
+    /// Whether units at a place stay in the region: it has the place, and none go to the sink from there.
+    pub(crate) fn is_inside(&self, place: usize) -> bool {
+        place < self.leaving.len() && !self.leaving[place]
     }
 }

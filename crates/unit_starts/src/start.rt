@@ -4,7 +4,6 @@ use crate::left_units::LeftUnits;
 use crate::region::Region;
 use aig_graph::NoMemory;
 use std::alloc::Global;
-use std::mem;
 
 /// One of the two fan-ins of a gate, by their variables.
 #[derive(Clone, Copy)]
@@ -21,17 +20,45 @@ struct Spot {
     waits: bool,
 }
 
-/// What stands after each variable before any unit has come.
-fn spots_of(alloc: Global, leaving: &[bool]) -> Result<Vec<Spot>, NoMemory> {
-    let mut spots = Vec::with_capacity(alloc, leaving.len())?;
-    for is_observed in leaving {
-        spots.push(Spot {
-            is_observed: *is_observed,
-            asked: *is_observed,
-            waits: false,
-        })?;
+impl Spot {
+    /// What stands where units don't leave.
+    const NONE: Spot = Spot {
+        is_observed: false,
+        asked: false,
+        waits: false,
+    };
+}
+
+/// Where units leave there is the sink, and a unit is asked for.
+fn put_sink(spots: &mut [Spot], leaving: &[bool]) {
+    for place in 0..spots.len() {
+        if place < leaving.len() {
+            spots[place] = Spot {
+                is_observed: leaving[place],
+                asked: leaving[place],
+                waits: false,
+            };
+        }
     }
-    Ok(spots)
+}
+
+/// A unit comes after a latch or a gate: from there it goes to the sink, or it waits. How many have come to the sink, where it was so many.
+fn put_after(spots: &mut [Spot], place: usize, arrived: usize) -> usize {
+    if place >= spots.len() {
+        return arrived;
+    }
+    let leaves = spots[place].is_observed;
+    spots[place].waits = !leaves;
+    arrived.saturating_add(u32::from(leaves) as usize)
+}
+
+/// Lists where units wait.
+fn list_waiting(spots: &[Spot], left: &mut LeftUnits) {
+    for place in 0..spots.len() {
+        if spots[place].waits {
+            left.push(place, false);
+        }
+    }
 }
 
 /// A start: the fan-in from which each gate takes a unit, what stands after each variable, by its place from the first latch on, and how many
@@ -46,46 +73,41 @@ pub(crate) struct Start {
 impl Start {
     /// A unit has come after each known latch, and no gate has taken one.
     pub(crate) fn new(alloc: Global, region: &Region) -> Result<Start, NoMemory> {
-        let spots = spots_of(alloc, region.leaving)?;
-        let takes = vec![in alloc; None; region.gates.len()]?;
-        let mut start = Start {
-            takes,
-            spots,
-            arrived: 0,
+        let Ok(takes) = vec![in alloc; None; region.gates.len()] else {
+            return Err(NoMemory);
         };
-        start.put_after_latches(region);
-        Ok(start)
+        let Ok(spots) = vec![in alloc; Spot::NONE; region.leaving.len()] else {
+            return Err(NoMemory);
+        };
+        Ok(Start::begin(region, takes, spots))
     }
 
-    /// A unit comes after each known latch.
-    fn put_after_latches(&mut self, region: &Region) {
+    /// The same, in tables that say nothing yet.
+    fn begin(region: &Region, takes: Vec<Option<FanIn>>, spots: Vec<Spot>) -> Start {
+        let mut spots = spots;
+        let mut arrived = 0usize;
+        put_sink(spots.as_mut_slice(), region.leaving);
         for place in 0..region.latches.len() {
             if region.is_known_latch(place) {
-                self.put_after(place);
+                arrived = put_after(spots.as_mut_slice(), place, arrived);
             }
         }
-    }
-
-    /// A unit comes after a latch or a gate: from there it goes to the sink, or it waits.
-    fn put_after(&mut self, place: usize) {
-        if let Some(spot) = self.spots.get_mut(place) {
-            if spot.is_observed {
-                self.arrived = self.arrived.saturating_add(1);
-            } else {
-                spot.waits = true;
-            }
+        Start {
+            takes,
+            spots,
+            arrived,
         }
     }
 
     /// Where units wait.
+    ///
+    /// # Errors
+    ///
+    /// `NoMemory` where a list is refused.
     pub(crate) fn left(&self, alloc: Global) -> Result<LeftUnits, NoMemory> {
         let mut left = LeftUnits::none(alloc);
-        for (place, spot) in self.spots.iter().enumerate() {
-            if spot.waits {
-                left.push_after(place)?;
-            }
-        }
-        Ok(left)
+        list_waiting(self.spots.as_slice(), &mut left);
+        left.complete()
     }
 
     /// Whether a unit waited after a fan-in; then the gate has taken it, and it comes after the gate's own place.
@@ -96,42 +118,48 @@ impl Start {
         fan_in: FanIn,
         place: usize,
     ) -> bool {
-        let waited = match self.spots.get_mut(place) {
-            Some(spot) => mem::replace(&mut spot.waits, false),
-            None => false,
-        };
-        if waited {
-            self.note(gate, Some(fan_in));
-            self.put_after(own);
+        let spots = self.spots.as_mut_slice();
+        if place >= spots.len() || !spots[place].waits {
+            return false;
         }
-        waited
+        spots[place].waits = false;
+        self.arrived = put_after(spots, own, self.arrived);
+        self.note(gate, Some(fan_in));
+        true
     }
 
     /// Notes from which fan-in a gate takes its unit.
     pub(crate) fn note(&mut self, gate: usize, taken: Option<FanIn>) {
-        if let Some(take) = self.takes.get_mut(gate) {
-            *take = taken;
+        let takes = self.takes.as_mut_slice();
+        if gate < takes.len() {
+            takes[gate] = taken;
         }
     }
 
     /// The fan-in from which a gate takes its unit.
     pub(crate) fn taken(&self, gate: usize) -> Option<FanIn> {
-        *self.takes.get(gate)?
+        let takes = self.takes.as_slice();
+        if gate < takes.len() {
+            takes[gate]
+        } else {
+            None
+        }
     }
 
     /// Whether nobody has asked for the unit after a fan-in yet; now it is asked for.
     pub(crate) fn asks(&mut self, place: usize) -> bool {
-        match self.spots.get_mut(place) {
-            Some(spot) => !mem::replace(&mut spot.asked, true),
-            None => false,
+        let spots = self.spots.as_mut_slice();
+        if place >= spots.len() {
+            return false;
         }
+        let asked = spots[place].asked;
+        spots[place].asked = true;
+        !asked
     }
 
     /// Whether the unit after a place is asked for.
     pub(crate) fn is_asked(&self, place: usize) -> bool {
-        match self.spots.get(place) {
-            Some(spot) => spot.asked,
-            None => false,
-        }
+        let spots = self.spots.as_slice();
+        place < spots.len() && spots[place].asked
     }
 }
