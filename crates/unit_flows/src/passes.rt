@@ -98,16 +98,18 @@ pub(crate) fn places_hold(
     let mut crossed = 0;
     for place in 0..latches.len() {
         let known = is_known(&latches[place]);
-        holds &= place_holds(known, went[place], leaving[place], after[place]);
-        arrived += unit(arrives(known, went[place], leaving[place]));
-        crossed += unit(known & after[place]);
+        let (goes, leaves, reached) = (went[place], leaving[place], after[place]);
+        holds &= place_holds(known, goes, leaves, reached);
+        arrived += unit(arrives(known, goes, leaves));
+        crossed += unit(known & reached);
     }
     for k in 0..passes.len() {
         let place = latches.len() + k;
         let through = flows[k].through;
-        holds &= place_holds(through, went[place], leaving[place], after[place]);
-        arrived += unit(arrives(through, went[place], leaving[place]));
-        crossed += unit(passes[k] & !before[place] & after[place]);
+        let (goes, leaves, reached) = (went[place], leaving[place], after[place]);
+        holds &= place_holds(through, goes, leaves, reached);
+        arrived += unit(arrives(through, goes, leaves));
+        crossed += unit(passes[k] & !before[place] & reached);
     }
     holds & (crossed <= arrived)
 }

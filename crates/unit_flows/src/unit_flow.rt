@@ -1,6 +1,6 @@
 //! What one look at a frame leaves to the next: what the flow did at the gates, and tables that serve again. A large frame's tables go back to the
 //! system as they are dropped; asked for anew, they would be cleared by it, page by page.
-ghost use Rattle.std.specs.Prelude.{◌≡◌, IfOk, replicate};
+ghost use Rattle.std.specs.Prelude.{◌≡◌, ◌≤◌, IfOk, replicate, vec_capacity, vec_len};
 
 use crate::gate_flow::GateFlow;
 use crate::sweeps::NodeMarks;
@@ -71,8 +71,12 @@ impl SpareTables {
         ensures went { IfOk result (λ tables. tables.0.items ≡ replicate entries 0) }
         ensures came { IfOk result (λ tables. tables.1.items ≡ replicate entries 0) }
     {
-        let went = filled(self.take_went(alloc), 0u8, entries)?;
-        let came = filled(self.take_numbers(alloc), 0u32, entries)?;
+        let Ok(went) = filled(self.take_went(alloc), 0u8, entries) else {
+            return Err(NoMemory);
+        };
+        let Ok(came) = filled(self.take_numbers(alloc), 0u32, entries) else {
+            return Err(NoMemory);
+        };
         Ok((went, came))
     }
 
@@ -100,6 +104,19 @@ impl SpareTables {
     }
 }
 
+/// A table without entries, and with room for so many numbers, in the memory of another.
+pub(crate) fn emptied(memory: Vec<u32>, room: usize) -> Result<Vec<u32>, NoMemory>
+    ensures none { IfOk result (λ t. vec_len t ≡ 0) }
+    ensures room { IfOk result (λ t. room ≤ vec_capacity t) }
+{
+    let mut table = memory;
+    table.clear();
+    let Ok(()) = table.reserve(room) else {
+        return Err(NoMemory);
+    };
+    Ok(table)
+}
+
 /// A table of so many entries that are the same, in the memory of another.
 ///
 /// # Errors
@@ -110,6 +127,8 @@ pub fn filled<T: Copy + Drop>(memory: Vec<T>, entry: T, entries: usize) -> Resul
 {
     let mut table = memory;
     table.clear();
-    table.resize(entries, entry)?;
+    let Ok(()) = table.resize(entries, entry) else {
+        return Err(NoMemory);
+    };
     Ok(table)
 }

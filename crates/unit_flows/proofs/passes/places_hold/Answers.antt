@@ -11,11 +11,6 @@ bounds-leaving-place c =
     let latches : length c.latches-latches.result.now ≡ length c.args.frame.now.circuit.now.aig.latches = ap length (c.latches-latches.ensures.value ∙ ap (λ (g : Graph). g.latches) c.aig.ensures.value) in
     omega (arith, latches, ap length c.as_slice-leaving.ensures.value, leaving-long c.args.frame.now.circuit.now c.args.frame.now.keep.now c.args.frame.now.leaving.items c.args.frame.now.leaving_are)
 
-pub bounds-leaving-place-in-loop-place : goal.bounds-leaving-place-in-loop-place
-bounds-leaving-place-in-loop-place c =
-    let latches : length c.latches-latches.result.now ≡ length c.args.frame.now.circuit.now.aig.latches = ap length (c.latches-latches.ensures.value ∙ ap (λ (g : Graph). g.latches) c.aig.ensures.value) in
-    omega (arith, latches, ap length c.as_slice-leaving.ensures.value, leaving-long c.args.frame.now.circuit.now c.args.frame.now.keep.now c.args.frame.now.leaving.items c.args.frame.now.leaving_are)
-
 pub loop-place-preserved : goal.loop-place-preserved
 loop-place-preserved c =
     seen-more _ _ _ _ _ _ _ _ _ _ _ _ _ _ _ _ _ _ c.loop-place.invariant
@@ -28,11 +23,6 @@ loop-place-preserved c =
 
 pub bounds-leaving-place-in-loop-k : goal.bounds-leaving-place-in-loop-k
 bounds-leaving-place-in-loop-k c =
-    let latches : length c.latches-latches.result.now ≡ length c.args.frame.now.circuit.now.aig.latches = ap length (c.latches-latches.ensures.value ∙ ap (λ (g : Graph). g.latches) c.aig.ensures.value) in
-    omega (arith, latches, c.passing_gates-passes.ensures.len, ap length c.as_slice-leaving.ensures.value, leaving-long c.args.frame.now.circuit.now c.args.frame.now.keep.now c.args.frame.now.leaving.items c.args.frame.now.leaving_are)
-
-pub bounds-leaving-place-in-loop-k-2 : goal.bounds-leaving-place-in-loop-k-2
-bounds-leaving-place-in-loop-k-2 c =
     let latches : length c.latches-latches.result.now ≡ length c.args.frame.now.circuit.now.aig.latches = ap length (c.latches-latches.ensures.value ∙ ap (λ (g : Graph). g.latches) c.aig.ensures.value) in
     omega (arith, latches, c.passing_gates-passes.ensures.len, ap length c.as_slice-leaving.ensures.value, leaving-long c.args.frame.now.circuit.now c.args.frame.now.keep.now c.args.frame.now.leaving.items c.args.frame.now.leaving_are)
 
