@@ -44,7 +44,6 @@ fn has_full_cut(
 
 /// The same, by spare tables.
 fn is_shown(
-    alloc: Global,
     frame: &Frame,
     flows: &[GateFlow],
     marks: &NodeMarks,
@@ -61,13 +60,11 @@ fn is_shown(
         (mark_at (first_latch frame.now.circuit.now.aig) marks.now.after.items)) }
 {
     let entries = frame.circuit.aig().latches_and_gates();
-    let Ok((mut went, mut came)) = spare.take_zeros(alloc, entries) else {
+    let Ok(()) = spare.clear_tallies(entries) else {
         return Err(NoMemory);
     };
-    let (goes, comes) = (went.as_mut_slice(), came.as_mut_slice());
-    let is_shown = has_full_cut(frame, flows, marks, goes, comes);
-    spare.keep_tallies(went, came);
-    Ok(is_shown)
+    let (went, came) = (spare.went.as_mut_slice(), spare.numbers.as_mut_slice());
+    Ok(has_full_cut(frame, flows, marks, went, came))
 }
 
 /// The passable gates that aren't marked before, rising.
@@ -118,7 +115,7 @@ pub fn shown_by_marks(
 {
     // That its gates come in order is what the graph's readers ensure.
     frame.circuit.aig().known();
-    let Ok(is_shown) = is_shown(alloc, frame, flows, marks, spare) else {
+    let Ok(is_shown) = is_shown(frame, flows, marks, spare) else {
         return Err(NoMemory);
     };
     if !is_shown {

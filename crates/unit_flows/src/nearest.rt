@@ -149,11 +149,9 @@ pub(crate) fn shown_smallest_set(
     if flows.len() != aig.gates().len() {
         return Ok(None);
     }
-    let Ok((mut went, mut came)) = spare.take_zeros(alloc, aig.latches_and_gates()) else {
+    let Ok(()) = spare.clear_tallies(aig.latches_and_gates()) else {
         return Err(NoMemory);
     };
-    let (goes, comes) = (went.as_mut_slice(), came.as_mut_slice());
-    let shown = shown_by_zeros(alloc, frame, flows, goes, comes);
-    spare.keep_tallies(went, came);
-    shown
+    let (went, came) = (spare.went.as_mut_slice(), spare.numbers.as_mut_slice());
+    shown_by_zeros(alloc, frame, flows, went, came)
 }

@@ -7,7 +7,7 @@ ghost use Rattle.unit_flows.specs.Marks.{ReachSink};
 use crate::frame::Frame;
 use crate::gate_flow::GateFlow;
 use crate::marks::see;
-use crate::unit_flow::{SpareTables, emptied, filled};
+use crate::unit_flow::{SpareTables, filled, taken};
 use aig_graph::NoMemory;
 use std::alloc::Global;
 
@@ -178,22 +178,25 @@ pub fn mark(
         ≡ latches_and_gates frame.now.circuit.now.aig) }
 {
     let aig = frame.circuit.aig();
-    let Ok(mut open) = emptied(spare.take_numbers(alloc), aig.gates().len()) else {
+    let Ok(()) = spare.clear_numbers(aig.gates().len()) else {
         return Err(NoMemory);
     };
-    let Ok(mut before) = filled(spare.take_before(alloc), false, aig.latches_and_gates()) else {
+    let Ok(mut before) = filled(
+        taken(&mut spare.before, alloc),
+        false,
+        aig.latches_and_gates(),
+    ) else {
         return Err(NoMemory);
     };
-    let Ok(mut after) = leaving_in(spare.take_after(alloc), frame) else {
+    let Ok(mut after) = leaving_in(taken(&mut spare.after, alloc), frame) else {
         return Err(NoMemory);
     };
     sweep_all(
         before.as_mut_slice(),
         after.as_mut_slice(),
-        &mut open,
+        &mut spare.numbers,
         frame,
         flows,
     );
-    spare.keep_numbers(open);
     Ok(NodeMarks { before, after })
 }
