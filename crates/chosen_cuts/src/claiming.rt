@@ -19,10 +19,10 @@ use unit_flows::GateFlow;
 fn members(alloc: Global, set: &ClosedSet) -> Result<Sequence<u32>, NoMemory>
     ensures { IfOk result (λ gates. gates ≡ set.now) }
 {
-    let vars = set.vars();
-    let mut gates = Vec::with_capacity(alloc, vars.len())?;
-    gates.extend_from_slice(vars)?;
-    Ok(Sequence::from_vec(gates))
+    match Vec::from_slice(alloc, set.vars()) {
+        Ok(gates) => Ok(Sequence::from_vec(gates)),
+        Err(_) => Err(NoMemory),
+    }
 }
 
 /// What the units of a flow are to show of a set: its gates, and as many as its border has variables there are routes.
@@ -35,7 +35,9 @@ fn claim(
 ) -> Result<Certificate, NoMemory>
     ensures { IfOk result (λ cert. cert.gates ≡ set.now) }
 {
-    let routes = routes_of_units(alloc, circuit, leaving, flows)?;
+    let Ok(routes) = routes_of_units(alloc, circuit, leaving, flows) else {
+        return Err(NoMemory);
+    };
     match members(alloc, set) {
         Ok(gates) => Ok(Certificate {
             count: routes.len().min(u32::MAX as usize) as u32,
@@ -70,7 +72,9 @@ fn certify_leaving(
         → AddsOne circuit.now keep.now records.old records.new set.now) }
     ensures kept { IfOk result (λ done. done ≡ false → AddsNone records.old records.new) }
 {
-    let certificate = claim(alloc, circuit, leaving, set, records.flows.as_slice())?;
+    let Ok(certificate) = claim(alloc, circuit, leaving, set, records.flows.as_slice()) else {
+        return Err(NoMemory);
+    };
     match check_closed(alloc, circuit, keep, pass, leaving, set, &certificate) {
         Ok(verdict) => records.add_judged(certificate, verdict),
         Err(error) => {
@@ -102,8 +106,12 @@ pub(crate) fn certify_by_units(
         return Ok(true);
     }
     let aig = circuit.aig();
-    let pass = passable(alloc, aig, keep)?;
-    let leaving = leaving_marks(alloc, aig, circuit.props(), &pass, keep)?;
+    let Ok(pass) = passable(alloc, aig, keep) else {
+        return Err(NoMemory);
+    };
+    let Ok(leaving) = leaving_marks(alloc, aig, circuit.props(), &pass, keep) else {
+        return Err(NoMemory);
+    };
     certify_leaving(
         alloc,
         circuit,

@@ -2,7 +2,7 @@
 //!
 //! What is made here are hints. Whether these are routes, apart from one another, and as many as a certificate takes, its check tells.
 
-use aig_graph::{Aig, Circuit, NoMemory};
+use aig_graph::{Aig, Circuit, Gate, NoMemory};
 use certificates::Routes;
 use frame_net::Point;
 use std::alloc::Global;
@@ -11,15 +11,16 @@ use unit_flows::GateFlow;
 /// Stands for no gate.
 const NOBODY: u32 = u32::MAX;
 
-/// How a unit goes on from before a gate: through it, or to before the fan-in of this variable.
-#[derive(Clone, Copy, PartialEq, Eq)]
+/// How a unit goes on from before a gate: through it, to before the fan-in of this variable, or nowhere.
+#[derive(Clone, Copy)]
 enum Step {
     Through,
     Down(u32),
+    Left,
 }
 
-/// The ways of a flow's units: by place, from the first latch on, what leaves and which gate took the unit there; and by gate, how many have
-/// been followed from before it.
+/// The ways of a flow's units: by place, from the first latch on, what leaves and which gate took the unit there; by gate, how many have been followed
+/// from before it; and the points on the way of the last one. Where memory was refused, points or routes are missing.
 #[derive(Drop)]
 struct Ways<'a> {
     aig: &'a Aig,
@@ -27,29 +28,42 @@ struct Ways<'a> {
     leaving: &'a [bool],
     takers: Vec<u32>,
     followed: Vec<u32>,
+    trail: Vec<Point>,
+    refused: bool,
 }
 
-/// Notes which gate took the unit after a variable.
-fn note_taker(takers: &mut [u32], first: u32, var: u32, gate: u32) {
-    if let Some(taker) = takers.get_mut(var.wrapping_sub(first) as usize) {
-        *taker = gate;
+/// Notes which gate took the unit after a variable, where it took one.
+fn note_taker(takers: &mut [u32], place: u32, gate: u32, took: bool) {
+    let place = place as usize;
+    if took && place < takers.len() {
+        takers[place] = gate;
     }
 }
 
-/// By place, from the first latch on, the number of the gate that took the unit there.
-fn takers_of(alloc: Global, aig: &Aig, flows: &[GateFlow]) -> Result<Vec<u32>, NoMemory> {
+/// Notes by place, from the first latch on, the number of the gate that took the unit there.
+fn note_takers(takers: &mut [u32], aig: &Aig, flows: &[GateFlow]) {
     let first = aig.first_latch();
-    let mut takers = vec![in alloc; NOBODY; aig.latches_and_gates()]?;
-    let table = takers.as_mut_slice();
-    for (gate, (literals, flow)) in aig.gates().iter().zip(flows).enumerate() {
-        if flow.first_up {
-            note_taker(table, first, literals.rhs1.var(), gate as u32);
-        }
-        if flow.second_up {
-            note_taker(table, first, literals.rhs0.var(), gate as u32);
+    let gates = aig.gates();
+    for k in 0..gates.len() {
+        if k < flows.len() {
+            let (literals, flow) = (&gates[k], &flows[k]);
+            let (smaller, larger) = (literals.rhs1.var(), literals.rhs0.var());
+            note_taker(takers, smaller.wrapping_sub(first), k as u32, flow.first_up);
+            note_taker(takers, larger.wrapping_sub(first), k as u32, flow.second_up);
         }
     }
-    Ok(takers)
+}
+
+/// The number of the next unit to be followed from before a gate, and one more from now on. There is none where the table has no entry.
+fn next_followed(followed: &mut [u32], gate: u32) -> u32 {
+    let gate = gate as usize;
+    if gate < followed.len() {
+        let number = followed[gate];
+        followed[gate] = number.saturating_add(1);
+        number
+    } else {
+        u32::MAX
+    }
 }
 
 impl<'a> Ways<'a> {
@@ -60,59 +74,72 @@ impl<'a> Ways<'a> {
         leaving: &'a [bool],
         flows: &'a [GateFlow],
     ) -> Result<Ways<'a>, NoMemory> {
-        let takers = takers_of(alloc, aig, flows)?;
-        let followed = vec![in alloc; 0u32; aig.gates().len()]?;
+        let Ok(mut takers) = vec![in alloc; NOBODY; aig.latches_and_gates()] else {
+            return Err(NoMemory);
+        };
+        note_takers(takers.as_mut_slice(), aig, flows);
+        let Ok(followed) = vec![in alloc; 0u32; aig.gates().len()] else {
+            return Err(NoMemory);
+        };
         Ok(Ways {
             aig,
             flows,
             leaving,
             takers,
             followed,
+            trail: Vec::new(alloc),
+            refused: false,
         })
     }
 
     /// How the next unit goes on from before a gate. The first goes through, where one does.
-    fn step(&mut self, gate: u32) -> Option<Step> {
-        let flow = self.flows.get(gate as usize)?;
-        let followed = self.followed.get_mut(gate as usize)?;
-        let number = *followed;
-        *followed = number.saturating_add(1);
-        if flow.through && number == 0 {
-            return Some(Step::Through);
-        }
-        let below = number.saturating_sub(u32::from(flow.through));
-        let literals = self.aig.gates().get(gate as usize)?;
-        if below < flow.first_down {
-            Some(Step::Down(literals.rhs1.var()))
-        } else if below < flow.first_down.saturating_add(flow.second_down) {
-            Some(Step::Down(literals.rhs0.var()))
+    fn step(&mut self, gate: u32) -> Step {
+        let number = next_followed(self.followed.as_mut_slice(), gate);
+        let gates = self.aig.gates();
+        let gate = gate as usize;
+        if gate < gates.len() && gate < self.flows.len() {
+            step_by(&gates[gate], &self.flows[gate], number)
         } else {
-            None
+            Step::Left
         }
     }
 
-    /// Follows a unit from before a gate, down to before others, until it goes through one. The number of that gate, or none where the unit is left.
-    fn climb(&mut self, taker: u32, trail: &mut Vec<Point>) -> Result<Option<u32>, NoMemory> {
+    /// Appends the point before a variable, or the one behind it, to the trail.
+    fn put(&mut self, var: u32, behind: bool) {
+        if self.trail.push(Point { var, behind }).is_err() {
+            self.refused = true;
+        }
+    }
+
+    /// Follows a unit from before a gate, down to before others, until it goes through one. The number of that gate, or `NOBODY` where the unit is left.
+    fn climb(&mut self, taker: u32) -> u32 {
         let first = self.aig.first_gate();
         let mut gate = taker;
         for _ in 0..u32::MAX {
-            trail.push(Point {
-                var: first.wrapping_add(gate),
-                behind: false,
-            })?;
+            self.put(first.wrapping_add(gate), false);
             match self.step(gate) {
-                Some(Step::Through) => return Ok(Some(gate)),
-                Some(Step::Down(var)) => gate = var.wrapping_sub(first),
-                None => return Ok(None),
+                Step::Through => return gate,
+                Step::Down(var) => gate = var.wrapping_sub(first),
+                Step::Left => return NOBODY,
             }
         }
-        Ok(None)
+        NOBODY
     }
 
-    /// The gate that took the unit after a place.
-    fn taker(&self, place: u32) -> Option<u32> {
-        let taker = *self.takers.get(place as usize)?;
-        if taker == NOBODY { None } else { Some(taker) }
+    /// The gate that took the unit after a place, or `NOBODY`.
+    fn taker(&self, place: u32) -> u32 {
+        let place = place as usize;
+        if place < self.takers.len() {
+            self.takers[place]
+        } else {
+            NOBODY
+        }
+    }
+
+    /// Whether a unit leaves after a place.
+    fn leaves(&self, place: u32) -> bool {
+        let place = place as usize;
+        place < self.leaving.len() && self.leaving[place]
     }
 
     /// How many latches come before the gates.
@@ -121,44 +148,66 @@ impl<'a> Ways<'a> {
     }
 
     /// Follows the unit of a latch. Whether it leaves; the trail has its points.
-    fn follow(&mut self, latch: u32, trail: &mut Vec<Point>) -> Result<bool, NoMemory> {
+    fn follow(&mut self, latch: u32) -> bool {
         let (first, latches) = (self.aig.first_latch(), self.latches());
         let mut place = latch;
-        trail.clear();
+        self.trail.clear();
         for _ in 0..u32::MAX {
-            trail.push(Point {
-                var: first.wrapping_add(place),
-                behind: true,
-            })?;
-            if self.leaving.get(place as usize).copied().unwrap_or(false) {
-                return Ok(true);
+            self.put(first.wrapping_add(place), true);
+            if self.leaves(place) {
+                return true;
             }
-            let Some(taker) = self.taker(place) else {
-                return Ok(false);
-            };
-            let Some(gate) = self.climb(taker, trail)? else {
-                return Ok(false);
-            };
+            let taker = self.taker(place);
+            if taker == NOBODY {
+                return false;
+            }
+            let gate = self.climb(taker);
+            if gate == NOBODY {
+                return false;
+            }
             place = latches.saturating_add(gate);
         }
-        Ok(false)
+        false
+    }
+
+    /// Appends the routes of all units that leave, until memory is refused.
+    fn push_routes(&mut self, routes: &mut Routes) {
+        let first = self.aig.first_latch();
+        for latch in 0..self.latches() {
+            let is_known = self.aig.is_known_latch(first.saturating_add(latch));
+            if is_known & !self.refused && self.follow(latch) {
+                self.refused |= routes.push(self.trail.as_slice()).is_err();
+            }
+        }
+    }
+
+    /// The routes of all units that leave.
+    fn routes(&mut self, alloc: Global) -> Result<Routes, NoMemory> {
+        let Ok(mut routes) = Routes::with_room(alloc, self.aig.known_latches() as usize) else {
+            return Err(NoMemory);
+        };
+        self.push_routes(&mut routes);
+        if self.refused {
+            drop(routes);
+            return Err(NoMemory);
+        }
+        Ok(routes)
     }
 }
 
-/// Appends the routes of all units that leave.
-fn push_routes(
-    ways: &mut Ways,
-    trail: &mut Vec<Point>,
-    routes: &mut Routes,
-) -> Result<(), NoMemory> {
-    let first = ways.aig.first_latch();
-    for latch in 0..ways.latches() {
-        let is_known = ways.aig.is_known_latch(first.saturating_add(latch));
-        if is_known && ways.follow(latch, trail)? {
-            routes.push(trail.as_slice())?;
-        }
+/// How a unit of this number, of those before a gate, goes on from there.
+fn step_by(gate: &Gate, flow: &GateFlow, number: u32) -> Step {
+    if flow.through & (number == 0) {
+        return Step::Through;
     }
-    Ok(())
+    let below = number.saturating_sub(u32::from(flow.through));
+    if below < flow.first_down {
+        Step::Down(gate.rhs1.var())
+    } else if below < flow.first_down.saturating_add(flow.second_down) {
+        Step::Down(gate.rhs0.var())
+    } else {
+        Step::Left
+    }
 }
 
 /// The routes of all units of a flow that leave, by marks of what leaves: 4 bytes a latch and 8 a gate, and the points of the routes.
@@ -172,10 +221,10 @@ pub(crate) fn routes_of_units(
     leaving: &[bool],
     flows: &[GateFlow],
 ) -> Result<Routes, NoMemory> {
-    let aig = circuit.aig();
-    let mut ways = Ways::new(alloc, aig, leaving, flows)?;
-    let mut trail = Vec::new(alloc);
-    let mut routes = Routes::with_room(alloc, aig.known_latches() as usize)?;
-    push_routes(&mut ways, &mut trail, &mut routes)?;
-    Ok(routes)
+    let Ok(mut ways) = Ways::new(alloc, circuit.aig(), leaving, flows) else {
+        return Err(NoMemory);
+    };
+    let routes = ways.routes(alloc);
+    drop(ways);
+    routes
 }

@@ -60,7 +60,9 @@ fn greatest_set(
     if !records.certify {
         return greatest_cut(alloc, net, preflow);
     }
-    let routes = routes(alloc, net, preflow)?;
+    let Ok(routes) = routes(alloc, net, preflow) else {
+        return Err(NoMemory);
+    };
     match greatest_cut(alloc, net, preflow) {
         Ok(set) => recorded(alloc, circuit, keep, set, routes, records),
         Err(error) => {
@@ -84,7 +86,9 @@ fn smallest_set(
     ensures set { IfOk result (IsSmallestLeast circuit.now keep.now) }
     ensures certificate { IfOk result (AddsOne circuit.now keep.now records.old records.new) }
 {
-    let routes = routes(alloc, net, preflow)?;
+    let Ok(routes) = routes(alloc, net, preflow) else {
+        return Err(NoMemory);
+    };
     match near_cut(alloc, net, &routes) {
         Ok(set) => recorded(alloc, circuit, keep, set, routes, records),
         Err(error) => {
@@ -158,9 +162,10 @@ fn by_units<G: PhaseGate>(
     let mut flow = records.take_flow(alloc);
     let shown = chosen_least_in_parts(rt, alloc, circuit, keep, choice, crew, &mut flow);
     records.keep_flow(flow);
-    match shown? {
-        Some(set) => certified(alloc, circuit, keep, set, records),
-        None => Ok(None),
+    match shown {
+        Ok(Some(set)) => certified(alloc, circuit, keep, set, records),
+        Ok(None) => Ok(None),
+        Err(error) => Err(error),
     }
 }
 
@@ -177,8 +182,12 @@ fn chosen_by_flow<G: PhaseGate>(
     ensures set { IfOk result (IsChosen choice circuit.now keep.now) }
     ensures certificate { IfOk result (AddsOne circuit.now keep.now records.old records.new) }
 {
-    let net = network(alloc, circuit, keep)?;
-    let preflow = maximum_preflow(rt, alloc, &net, crew)?;
+    let Ok(net) = network(alloc, circuit, keep) else {
+        return Err(NoMemory);
+    };
+    let Ok(preflow) = maximum_preflow(rt, alloc, &net, crew) else {
+        return Err(NoMemory);
+    };
     let set = chosen_set(alloc, circuit, keep, &net, &preflow, choice, records);
     drop(preflow);
     drop(net);
@@ -207,8 +216,9 @@ pub fn chosen_least_along<G: PhaseGate>(
     ensures set { IfOk result (IsChosen choice circuit.now keep.now) }
     ensures certificate { IfOk result (AddsOne circuit.now keep.now records.old records.new) }
 {
-    match by_units(rt, alloc, circuit, keep, choice, crew, records)? {
-        Some(set) => Ok(set),
-        None => chosen_by_flow(rt, alloc, circuit, keep, choice, crew, records),
+    match by_units(rt, alloc, circuit, keep, choice, crew, records) {
+        Ok(Some(set)) => Ok(set),
+        Ok(None) => chosen_by_flow(rt, alloc, circuit, keep, choice, crew, records),
+        Err(error) => Err(error),
     }
 }

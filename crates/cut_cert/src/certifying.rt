@@ -13,10 +13,10 @@ use std::alloc::Global;
 fn members(alloc: Global, set: &ClosedSet) -> Result<Sequence<u32>, NoMemory>
     ensures { IfOk result (λ gates. gates ≡ set.now) }
 {
-    let vars = set.vars();
-    let mut gates = Vec::with_capacity(alloc, vars.len())?;
-    gates.extend_from_slice(vars)?;
-    Ok(Sequence::from_vec(gates))
+    match Vec::from_slice(alloc, set.vars()) {
+        Ok(gates) => Ok(Sequence::from_vec(gates)),
+        Err(_) => Err(NoMemory),
+    }
 }
 
 /// The certificate of a least set: its gates, the size of its border, and routes that show that no closed set has a smaller one, as
@@ -37,8 +37,12 @@ pub fn certificate_of(
     ensures gates { IfOk result (λ cert. cert.gates ≡ set.now) }
     ensures passes { IfOk result (λ cert. IsVerdict circuit.now keep.now cert Yes) }
 {
-    let count = count(alloc, circuit, set, keep)?;
-    let gates = members(alloc, set)?;
+    let Ok(count) = count(alloc, circuit, set, keep) else {
+        return Err(NoMemory);
+    };
+    let Ok(gates) = members(alloc, set) else {
+        return Err(NoMemory);
+    };
     Ok(Certificate {
         count,
         gates,

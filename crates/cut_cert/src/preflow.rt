@@ -17,8 +17,12 @@ use std::thread::Threads;
 pub fn network(alloc: Global, circuit: &Circuit, keep: &Keep) -> Result<Net, NoMemory>
     ensures { IfOk result (IsNetworkOf circuit.now keep.now) }
 {
-    let pass = passable(alloc, circuit.aig(), keep)?;
-    let net = Net::build(alloc, circuit.aig(), circuit.props(), &pass, keep)?;
+    let Ok(pass) = passable(alloc, circuit.aig(), keep) else {
+        return Err(NoMemory);
+    };
+    let Ok(net) = Net::build(alloc, circuit.aig(), circuit.props(), &pass, keep) else {
+        return Err(NoMemory);
+    };
     // That a network has a point for each side of a gate is what its reader ensures.
     net.known();
     net.known_points();

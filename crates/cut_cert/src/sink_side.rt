@@ -73,17 +73,27 @@ pub(crate) fn sink_side(alloc: Global, net: &Net, preflow: &MaxPreflow) -> Resul
 {
     net.known();
     let nodes = net.nodes();
-    let mut side = Reached::none(alloc, nodes)?;
-    side.reach(1)?;
-    read(net, preflow, &mut side, 1, nodes)?;
+    let Ok(mut side) = Reached::none(alloc, nodes) else {
+        return Err(NoMemory);
+    };
+    let Ok(()) = side.reach(1) else {
+        return Err(NoMemory);
+    };
+    let Ok(()) = read(net, preflow, &mut side, 1, nodes) else {
+        return Err(NoMemory);
+    };
     for v in (2..nodes).rev() {
         if side.has(v) {
-            read(net, preflow, &mut side, v, v)?;
+            let Ok(()) = read(net, preflow, &mut side, v, v) else {
+                return Err(NoMemory);
+            };
         }
     }
     let mut place = 1;
     while let Some(w) = side.queued(place) {
-        read(net, preflow, &mut side, w, 2)?;
+        let Ok(()) = read(net, preflow, &mut side, w, 2) else {
+            return Err(NoMemory);
+        };
         place += 1;
     }
     Ok(side)

@@ -49,7 +49,9 @@ fn walk(
     let mut at = lower(net, carried, 1, end);
     let mut nodes = Vec::new(alloc);
     while let Some(tail) = step_back(net, carried, places, at) {
-        push_marked(&mut nodes, marks, at)?;
+        let Ok(()) = push_marked(&mut nodes, marks, at) else {
+            return Err(NoMemory);
+        };
         come_to(&mut nodes, marks, tail);
         at = tail;
     }
@@ -74,6 +76,8 @@ pub(crate) fn next_route(
     ensures searched { OnOk result (AreSearched net.now carried.new places.new) }
     ensures clear { OnOk result (AreOn (length marks.old) marks.new []) }
 {
-    let mut nodes = walk(alloc, net, carried, places, marks, end)?;
+    let Ok(mut nodes) = walk(alloc, net, carried, places, marks, end) else {
+        return Err(NoMemory);
+    };
     take_points(alloc, net, &mut nodes, marks)
 }

@@ -1,8 +1,9 @@
 //! How a pulse is shared out among workers.
-ghost use Rattle.std.specs.Prelude.{◌≡◌, ◌<◌};
+ghost use Rattle.std.specs.Prelude.{◌≡◌, ◌<◌, ⊤};
 ghost use Rattle.frame_net.specs.FlowNet.{node_count};
 
 use frame_net::Net;
+use std::alloc::AllocError;
 
 /// So many active nodes are many in a network of any size.
 const MANY_ACTIVE: usize = 4096;
@@ -17,13 +18,25 @@ pub(crate) struct Share {
 
 /// How a phase is made: how it is shared out, the gate that each worker passes and leaves, and under which number; and whether the lists of
 /// the flow's parts are of this flow, so that the phase visits the nodes that they name.
-#[derive_where(Clone, Copy)]
 pub(crate) struct Phase<'a, G> {
     pub(crate) share: Share,
     pub(crate) gate: &'a G,
     pub(crate) number: u64,
     pub(crate) listed: bool,
 }
+
+impl<'a, G> Clone for Phase<'a, G> {
+    // written out: a derived one would clone field by field
+    ghost is_clone = { λ phase copy. copy ≡ phase };
+
+    ghost is_infallible = { λ _. ⊤ };
+
+    fn clone(&self) -> Result<Phase<'a, G>, AllocError> {
+        Ok(*self)
+    }
+}
+
+impl<'a, G> Copy for Phase<'a, G> {}
 
 impl Share {
     ghost use Rattle.pulse.specs.Sharing.{next_share, share_among};

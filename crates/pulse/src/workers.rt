@@ -164,7 +164,9 @@ pub(crate) fn read_all<R: Threads + Sync, G: PhaseGate>(
         → PushesNumbered parts.new.items) }
 {
     net.known();
-    part_pushes(alloc, net, parts, phase.share.parts)?;
+    let Ok(()) = part_pushes(alloc, net, parts, phase.share.parts) else {
+        return Err(AllocError);
+    };
     if !phase.share.handed {
         phase.gate.pass(phase.number, 0);
         read_every(net, labels, flow, parts.as_mut_slice(), phase.listed);
@@ -172,7 +174,10 @@ pub(crate) fn read_all<R: Threads + Sync, G: PhaseGate>(
         return Ok(());
     }
     let taken = mem::replace(parts, Vec::new(alloc));
-    *parts = read_by_crew(rt, net, labels, flow, taken, phase)?;
+    let Ok(done) = read_by_crew(rt, net, labels, flow, taken, phase) else {
+        return Err(AllocError);
+    };
+    *parts = done;
     Ok(())
 }
 
@@ -204,7 +209,10 @@ fn deliver_parts<R: Threads + Sync, G: PhaseGate>(
         return Ok(());
     }
     let parts = mem::replace(flow, Vec::new(alloc));
-    *flow = deliver_by_crew(rt, net, labels, pushes, parts, phase)?;
+    let Ok(done) = deliver_by_crew(rt, net, labels, pushes, parts, phase) else {
+        return Err(AllocError);
+    };
+    *flow = done;
     Ok(())
 }
 
@@ -233,8 +241,12 @@ pub(crate) fn deliver_all<R: Threads + Sync, G: PhaseGate>(
     ensures err { OnErr result (labels.new ≡ labels.old) }
 {
     net.known();
-    part_flow(alloc, net, labels, flow, phase.share.parts)?;
-    deliver_parts(rt, alloc, net, labels, pushes, flow, phase)?;
+    let Ok(()) = part_flow(alloc, net, labels, flow, phase.share.parts) else {
+        return Err(AllocError);
+    };
+    let Ok(()) = deliver_parts(rt, alloc, net, labels, pushes, flow, phase) else {
+        return Err(AllocError);
+    };
     turn(labels, flow.as_slice(), true);
     Ok(())
 }

@@ -3,123 +3,122 @@
 
 use crate::cut::Cut;
 use crate::gathering::{PartFlow, gathered};
-use crate::part_flows::part_flow;
-use aig_graph::NoMemory;
+use crate::memory::Memory;
+use crate::part_flows::Part;
 use pulse::{Crew, OpenGate, PhaseGate};
-use std::alloc::Global;
+use std::alloc::{AllocError, Global};
 use std::sync::atomic::{AtomicU64, Ordering};
 use std::thread;
 use std::thread::Threads;
 use unit_flows::GateFlow;
 use unit_starts::narrow;
 
-/// The flow of each part that a worker draws: the next one, of which this is the number, until none is left.
-fn drawn_flows<R: Threads + Sync>(
-    rt: &R,
-    alloc: Global,
-    cut: &Cut,
-    next: &AtomicU64,
-) -> Result<Vec<PartFlow>, NoMemory> {
-    let mut found = Vec::new(alloc);
-    draw_all(rt, alloc, cut, next, &mut found)?;
-    Ok(found)
+/// The flows of parts, and the memory for them.
+#[derive(Drop)]
+struct Found {
+    memory: Memory,
+    flows: Vec<PartFlow>,
 }
 
-/// Draws parts until none is left, and finds their flows.
-fn draw_all<R: Threads + Sync>(
-    rt: &R,
-    alloc: Global,
-    cut: &Cut,
-    next: &AtomicU64,
-    found: &mut Vec<PartFlow>,
-) -> Result<(), NoMemory> {
-    let crew = Crew::new(1, OpenGate);
-    let parts = cut.parts.count();
-    for _ in 0..parts {
-        let part = next.fetch_add(1, Ordering::SeqCst) as usize;
-        if part >= parts {
-            return Ok(());
-        }
-        if !cut.is_large(part) {
-            found.push(part_flow(rt, alloc, cut, part, &crew)?)?;
+impl Found {
+    /// None is found yet.
+    fn none(alloc: Global) -> Found {
+        Found {
+            memory: Memory::of(alloc),
+            flows: Vec::new(alloc),
         }
     }
-    Ok(())
-}
 
-/// Appends what all workers found, unless one was refused memory.
-fn append_all<T: Drop>(
-    lists: Vec<Result<Vec<T>, NoMemory>>,
-    found: &mut Vec<T>,
-) -> Result<(), NoMemory> {
-    for list in lists {
-        found.append(&mut list?)?;
+    /// Finds the flow of a part.
+    fn find<R: Threads + Sync, G: PhaseGate>(
+        &mut self,
+        rt: &R,
+        cut: &Cut,
+        part: usize,
+        crew: &Crew<G>,
+    ) {
+        let own = Part::of(&mut self.memory, cut, part);
+        let flows = own.flow(rt, &mut self.memory, crew);
+        drop(own);
+        self.memory.push(&mut self.flows, PartFlow { part, flows });
     }
-    Ok(())
-}
 
-/// Brings the units of the parts that workers draw, each in one thread. A worker passes the gate of the crew as it begins, and leaves it as it ends.
-fn bring_drawn<R: Threads + Sync, G: PhaseGate>(
-    rt: &R,
-    alloc: Global,
-    cut: &Cut,
-    crew: &Crew<G>,
-    found: &mut Vec<PartFlow>,
-) -> Result<(), NoMemory> {
-    let gate = crew.gate();
-    let next = AtomicU64::new(0);
-    let work = |worker: usize| -> Result<Vec<PartFlow>, NoMemory> {
-        gate.pass(0, narrow(worker));
-        let flows = drawn_flows(rt, alloc, cut, &next);
-        gate.leave(0, narrow(worker));
-        flows
-    };
-    let lists = thread::map_indices(rt, alloc, crew.workers() as usize, &work)?;
-    append_all(lists, found)
-}
-
-/// Brings the units of the large parts, one part after another, by pulses of the crew.
-fn bring_large<R: Threads + Sync, G: PhaseGate>(
-    rt: &R,
-    alloc: Global,
-    cut: &Cut,
-    crew: &Crew<G>,
-    found: &mut Vec<PartFlow>,
-) -> Result<(), NoMemory> {
-    for part in 0..cut.parts.count() {
-        if cut.is_large(part) {
-            found.push(part_flow(rt, alloc, cut, part, crew)?)?;
+    /// Draws parts, and finds their flows alone, until none is left or memory is refused. The number of the next part is shared.
+    fn draw_all<R: Threads + Sync>(
+        &mut self,
+        rt: &R,
+        cut: &Cut,
+        next: &AtomicU64,
+        alone: &Crew<OpenGate>,
+    ) {
+        let parts = cut.parts.count();
+        for _ in 0..parts {
+            let part = next.fetch_add(1, Ordering::SeqCst) as usize;
+            if (part >= parts) | self.memory.refused {
+                return;
+            }
+            if !cut.is_large(part) {
+                self.find(rt, cut, part, alone);
+            }
         }
     }
-    Ok(())
+
+    /// Takes what a worker found.
+    fn take(&mut self, found: &mut Found) {
+        let is_taken = self.flows.append(&mut found.flows).is_ok();
+        self.memory.refused |= found.memory.refused | !is_taken;
+    }
+
+    /// Takes what all workers found.
+    fn take_all(&mut self, lists: Result<Vec<Found>, AllocError>) {
+        let Ok(mut lists) = lists else {
+            self.memory.refused = true;
+            return;
+        };
+        for k in 0..lists.len() {
+            self.take(&mut lists[k]);
+        }
+    }
+
+    /// Brings the units of the parts that workers draw, each in one thread. A worker passes the gate of the crew as it begins, and leaves it as it ends.
+    fn bring_drawn<R: Threads + Sync, G: PhaseGate>(&mut self, rt: &R, cut: &Cut, crew: &Crew<G>) {
+        let alloc = self.memory.alloc;
+        let gate = crew.gate();
+        let alone = Crew::new(1, OpenGate);
+        let next = AtomicU64::new(0);
+        let work = |worker: usize| -> Found {
+            gate.pass(0, narrow(worker));
+            let mut found = Found::none(alloc);
+            found.draw_all(rt, cut, &next, &alone);
+            gate.leave(0, narrow(worker));
+            found
+        };
+        self.take_all(thread::map_indices(rt, alloc, crew.workers() as usize, &work));
+    }
+
+    /// Brings the units of the large parts, one part after another, by pulses of the crew, until memory is refused.
+    fn bring_large<R: Threads + Sync, G: PhaseGate>(&mut self, rt: &R, cut: &Cut, crew: &Crew<G>) {
+        for part in 0..cut.parts.count() {
+            if cut.is_large(part) & !self.memory.refused {
+                self.find(rt, cut, part, crew);
+            }
+        }
+    }
 }
 
 /// The flow at each gate of a region that is cut, shared out so.
-///
-/// # Errors
-///
-/// `NoMemory` where a table or a thread's memory is refused.
 pub(crate) fn flow_of_parts<R: Threads + Sync, G: PhaseGate>(
     rt: &R,
-    alloc: Global,
+    memory: &mut Memory,
     cut: &Cut,
     crew: &Crew<G>,
-) -> Result<Vec<GateFlow>, NoMemory> {
-    let mut found = Vec::with_capacity(alloc, cut.parts.count())?;
-    let flows = flow_found(rt, alloc, cut, crew, &mut found);
+) -> Vec<GateFlow> {
+    let mut found = Found::none(memory.alloc);
+    found.bring_drawn(rt, cut, crew);
+    found.bring_large(rt, cut, crew);
+    memory.refused |= found.memory.refused;
+    let workers = crew.workers() as usize;
+    let flows = gathered(rt, memory, cut, found.flows.as_slice(), workers);
     drop(found);
     flows
-}
-
-/// The same, by a list of the parts' flows that has none yet.
-fn flow_found<R: Threads + Sync, G: PhaseGate>(
-    rt: &R,
-    alloc: Global,
-    cut: &Cut,
-    crew: &Crew<G>,
-    found: &mut Vec<PartFlow>,
-) -> Result<Vec<GateFlow>, NoMemory> {
-    bring_drawn(rt, alloc, cut, crew, found)?;
-    bring_large(rt, alloc, cut, crew, found)?;
-    gathered(rt, alloc, cut, found.as_slice(), crew.workers() as usize)
 }

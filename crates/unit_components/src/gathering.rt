@@ -1,9 +1,8 @@
 //! The flows of parts put in the place of each gate, by workers that each have a range of gates.
 
 use crate::cut::Cut;
+use crate::memory::Memory;
 use crate::ranges::{border, count_before, entries};
-use aig_graph::NoMemory;
-use std::alloc::Global;
 use std::thread;
 use std::thread::Threads;
 use unit_flows::GateFlow;
@@ -13,6 +12,16 @@ use unit_flows::GateFlow;
 pub(crate) struct PartFlow {
     pub part: usize,
     pub flows: Vec<GateFlow>,
+}
+
+/// Puts flows in the places of gates, some of which a table has, from a first place on.
+fn put_at(table: &mut [GateFlow], first: usize, places: &[u32], flows: &[GateFlow]) {
+    for k in 0..places.len() {
+        let at = (places[k] as usize).wrapping_sub(first);
+        if k < flows.len() && at < table.len() {
+            table[at] = flows[k];
+        }
+    }
 }
 
 /// Puts the flow at the gates of a part into a table of some gates, of which the first has this number.
@@ -28,33 +37,25 @@ fn put(cut: &Cut, found: &PartFlow, first: usize, table: &mut [GateFlow]) {
         from.wrapping_sub(gates),
         to.wrapping_sub(gates),
     );
-    for (place, flow) in entries(places, from, to).iter().zip(flows) {
-        if let Some(entry) = table.get_mut((*place as usize).wrapping_sub(begin)) {
-            *entry = *flow;
-        }
-    }
+    put_at(table, begin, entries(places, from, to), flows);
 }
 
 /// The flow at each gate of a region, of which these parts are found, by so many workers. Where no part has a gate, nothing flows.
-///
-/// # Errors
-///
-/// `NoMemory` where the table is refused.
 pub(crate) fn gathered<R: Threads + Sync>(
     rt: &R,
-    alloc: Global,
+    memory: &mut Memory,
     cut: &Cut,
     found: &[PartFlow],
     workers: usize,
-) -> Result<Vec<GateFlow>, NoMemory> {
+) -> Vec<GateFlow> {
     let gates = cut.region.gates.len();
     let work = |first: usize, range: &mut [GateFlow]| {
-        for part in found {
-            put(cut, part, first, range);
+        for k in 0..found.len() {
+            put(cut, &found[k], first, range);
         }
     };
-    let mut table = vec![in alloc; GateFlow::none(); gates]?;
+    let mut table = memory.table(GateFlow::none(), gates);
     let range = border(1, workers, gates).max(1);
     thread::for_each_chunk_mut(rt, table.as_mut_slice(), range, &work);
-    Ok(table)
+    table
 }

@@ -3,11 +3,11 @@
 //! Each worker makes the part of the forest over a range of places. It joins the gates there with those fan-ins that are there too, and lists the
 //! others; the calling thread then joins these. Most gates read what stands a little before them, so the lists are short.
 
+use crate::memory::Memory;
 use crate::ranges::border;
-use aig_graph::NoMemory;
-use std::alloc::Global;
-use std::thread;
+use std::alloc::{AllocError, Global};
 use std::thread::Threads;
+use std::{mem, thread};
 use unit_starts::{Region, narrow};
 
 /// Two places that hang together.
@@ -17,103 +17,82 @@ struct Pair {
     late: u32,
 }
 
+/// What a place points to, in the part of a forest from a first place on. A place elsewhere points to itself.
+fn above(forest: &[u32], first: u32, place: u32) -> u32 {
+    let at = place.wrapping_sub(first) as usize;
+    if at < forest.len() { forest[at] } else { place }
+}
+
+/// A place points to another from now on.
+fn point(forest: &mut [u32], first: u32, place: u32, above: u32) {
+    let at = place.wrapping_sub(first) as usize;
+    if at < forest.len() {
+        forest[at] = above;
+    }
+}
+
+/// The place at the top of a place's tree. On the way there each second place is pointed to the next but one.
+fn top(forest: &mut [u32], first: u32, place: u32) -> u32 {
+    let mut at = place;
+    for _ in 0..u32::MAX {
+        let next = above(forest, first, at);
+        if next == at {
+            return at;
+        }
+        let after = above(forest, first, next);
+        point(forest, first, at, after);
+        at = after;
+    }
+    at
+}
+
+/// Joins the trees of two places.
+fn join(forest: &mut [u32], first: u32, a: u32, b: u32) {
+    if above(forest, first, a) != above(forest, first, b) {
+        let a = top(forest, first, a);
+        let b = top(forest, first, b);
+        point(forest, first, a.max(b), a.min(b));
+    }
+}
+
 /// The part of a forest from a place on, and the fan-ins before it of gates that are there.
 #[derive(Drop)]
 struct Stretch {
+    memory: Memory,
     first: u32,
     above: Vec<u32>,
     before: Vec<Pair>,
 }
 
 impl Stretch {
-    /// Each place from one up to another points to itself. There is room for so many.
-    fn of(alloc: Global, first: usize, end: usize, room: usize) -> Result<Stretch, NoMemory> {
-        let mut above = Vec::with_capacity(alloc, room)?;
-        for place in first..end {
-            above.push(narrow(place))?;
-        }
-        Ok(Stretch {
-            first: narrow(first),
-            above,
-            before: Vec::new(alloc),
-        })
-    }
-
-    /// What a place points to. A place elsewhere points to itself.
-    fn above(&self, place: u32) -> u32 {
-        match self.above.get(place.wrapping_sub(self.first) as usize) {
-            Some(above) => *above,
-            None => place,
-        }
-    }
-
-    /// A place points to another.
-    fn point(&mut self, place: u32, above: u32) {
-        let at = place.wrapping_sub(self.first);
-        if let Some(entry) = self.above.get_mut(at as usize) {
-            *entry = above;
-        }
-    }
-
-    /// The place at the top of a place's tree. On the way there each second place is pointed to the next but one.
-    fn top(&mut self, place: u32) -> u32 {
-        let mut at = place;
-        for _ in 0..u32::MAX {
-            let next = self.above(at);
-            if next == at {
-                return at;
-            }
-            let after = self.above(next);
-            self.point(at, after);
-            at = after;
-        }
-        at
-    }
-
-    /// Joins the trees of two places.
-    fn join(&mut self, a: u32, b: u32) {
-        if self.above(a) == self.above(b) {
-            return;
-        }
-        let (a, b) = (self.top(a), self.top(b));
-        self.point(a.max(b), a.min(b));
-    }
-
     /// Joins a gate with a fan-in, or lists it if that comes before the first place.
-    fn join_fan_in(&mut self, own: u32, place: u32) -> Result<(), NoMemory> {
+    fn join_fan_in(&mut self, own: u32, place: u32) {
         if place < self.first {
-            self.before.push(Pair {
+            let pair = Pair {
                 early: place,
                 late: own,
-            })?;
+            };
+            self.memory.push(&mut self.before, pair);
         } else {
-            self.join(place, own);
+            join(self.above.as_mut_slice(), self.first, place, own);
         }
-        Ok(())
     }
 
     /// Joins each passable gate here with its fan-ins.
-    fn join_gates(&mut self, region: &Region) -> Result<(), NoMemory> {
+    fn join_gates(&mut self, region: &Region) {
         for at in 0..self.above.len() {
             let own = self.first.wrapping_add(narrow(at));
-            if !region.is_passable(own as usize) {
-                continue;
-            }
-            if let Some(gate) = region.gate(own as usize) {
-                self.join_fan_in(own, region.place(gate.rhs1))?;
-                self.join_fan_in(own, region.place(gate.rhs0))?;
+            let number = region.gate_number(own as usize);
+            if region.is_passable(own as usize) && number < region.gates.len() {
+                let gate = &region.gates[number];
+                self.join_fan_in(own, region.place(gate.rhs1));
+                self.join_fan_in(own, region.place(gate.rhs0));
             }
         }
-        Ok(())
     }
 
-    /// What a worker makes, one of so many. The first has room for all.
-    fn of_worker(
-        alloc: Global,
-        region: &Region,
-        worker: usize,
-        workers: usize,
-    ) -> Result<Stretch, NoMemory> {
+    /// What a worker makes, one of so many: each place of its range points to itself, and then gates are joined. The first has room for all places.
+    fn of_worker(alloc: Global, region: &Region, worker: usize, workers: usize) -> Stretch {
         let places = region.places();
         let first = border(worker, workers, places);
         let end = border(worker.saturating_add(1), workers, places);
@@ -122,58 +101,57 @@ impl Stretch {
         } else {
             end.saturating_sub(first)
         };
-        let mut stretch = Stretch::of(alloc, first, end, room)?;
-        stretch.join_gates(region)?;
-        Ok(stretch)
+        let mut memory = Memory::of(alloc);
+        let mut above = memory.list(room);
+        for place in first..end {
+            memory.push(&mut above, narrow(place));
+        }
+        let mut stretch = Stretch {
+            memory,
+            first: narrow(first),
+            above,
+            before: Vec::new(alloc),
+        };
+        stretch.join_gates(region);
+        stretch
     }
 
-    /// Takes the stretch that comes next.
-    fn append(&mut self, next: &mut Stretch) -> Result<(), NoMemory> {
-        self.above.append(&mut next.above)?;
-        for pair in &next.before {
-            self.join(pair.early, pair.late);
+    /// Appends what is here to the forest of all places before it. The first stretch is that forest.
+    fn append_to(&mut self, memory: &mut Memory, forest: &mut Vec<u32>) {
+        memory.refused |= self.memory.refused;
+        if forest.is_empty() {
+            mem::swap(forest, &mut self.above);
+        } else if forest.append(&mut self.above).is_err() {
+            memory.refused = true;
         }
-        Ok(())
-    }
-
-    /// This stretch with the one that comes next, or that alone where this one has no places.
-    fn with(self, next: Stretch) -> Result<Stretch, NoMemory> {
-        if self.above.is_empty() {
-            return Ok(next);
+        for k in 0..self.before.len() {
+            let pair = self.before[k];
+            join(forest.as_mut_slice(), 0, pair.early, pair.late);
         }
-        let (mut whole, mut next) = (self, next);
-        let joined = whole.append(&mut next);
-        drop(next);
-        joined?;
-        Ok(whole)
     }
 }
 
 /// Stretches that come one after another, joined.
-fn joined(alloc: Global, stretches: Vec<Result<Stretch, NoMemory>>) -> Result<Stretch, NoMemory> {
-    let mut whole = Stretch::of(alloc, 0, 0, 0)?;
-    for stretch in stretches {
-        whole = whole.with(stretch?)?;
+fn joined(memory: &mut Memory, stretches: Result<Vec<Stretch>, AllocError>) -> Vec<u32> {
+    let Ok(mut stretches) = stretches else {
+        return memory.refused_list();
+    };
+    let mut forest = Vec::new(memory.alloc);
+    for k in 0..stretches.len() {
+        stretches[k].append_to(memory, &mut forest);
     }
-    Ok(whole)
+    forest
 }
 
 /// The forest of a region's components, by so many workers: 4 bytes a latch and gate. A place points to itself where it is the first of its component,
 /// and else to an earlier one of it.
-///
-/// # Errors
-///
-/// `NoMemory` where a table or a thread's memory is refused.
 pub(crate) fn forest_of<R: Threads + Sync>(
     rt: &R,
-    alloc: Global,
+    memory: &mut Memory,
     region: &Region,
     workers: usize,
-) -> Result<Vec<u32>, NoMemory> {
-    let work = |worker: usize| -> Result<Stretch, NoMemory> {
-        Stretch::of_worker(alloc, region, worker, workers)
-    };
-    let stretches = thread::map_indices(rt, alloc, workers, &work)?;
-    let Stretch { above, .. } = joined(alloc, stretches)?;
-    Ok(above)
+) -> Vec<u32> {
+    let alloc = memory.alloc;
+    let work = |worker: usize| -> Stretch { Stretch::of_worker(alloc, region, worker, workers) };
+    joined(memory, thread::map_indices(rt, alloc, workers, &work))
 }

@@ -4,6 +4,7 @@ ghost use Rattle.aig_graph.specs.Chosen.{IsChosen};
 
 use crate::bringing::flow_of_parts;
 use crate::cut::Cut;
+use crate::memory::Memory;
 use crate::parts::Parts;
 use crate::sizes::Sizes;
 use aig_graph::{Choice, Circuit, ClosedSet, Keep, NoMemory};
@@ -19,22 +20,27 @@ fn are_worth(parts: &Parts) -> bool {
     parts.largest() / 9 < parts.all_places() / 10
 }
 
-/// The parts of a frame, where it is large, there are workers to own them, and they are worth it.
-fn parts_of<R: Threads + Sync>(
+/// The flow of a region by its parts, where they are worth it.
+fn flow_by_parts<R: Threads + Sync, G: PhaseGate>(
     rt: &R,
-    alloc: Global,
-    region: &Region,
-    workers: u32,
+    memory: &mut Memory,
+    region: Region,
+    crew: &Crew<G>,
     sizes: Sizes,
-) -> Result<Option<Parts>, NoMemory> {
-    if workers < 2 || region.places() < sizes.circuit {
-        return Ok(None);
-    }
-    let parts = Parts::of(rt, alloc, region, sizes.part, workers as usize)?;
-    Ok(if are_worth(&parts) { Some(parts) } else { None })
+) -> Option<Vec<GateFlow>> {
+    let workers = crew.workers();
+    let parts = Parts::of(rt, memory, &region, sizes.part, workers as usize);
+    let flow = if !memory.refused & are_worth(&parts) {
+        let cut = Cut::of(region, &parts, workers, sizes);
+        Some(flow_of_parts(rt, memory, &cut, crew))
+    } else {
+        None
+    };
+    drop(parts);
+    flow
 }
 
-/// The flow of a region by its parts, where it is cut.
+/// The flow of a region by its parts, where it is large, there are workers to own them, and they are worth it.
 fn cut_flow<R: Threads + Sync, G: PhaseGate>(
     rt: &R,
     alloc: Global,
@@ -42,14 +48,32 @@ fn cut_flow<R: Threads + Sync, G: PhaseGate>(
     crew: &Crew<G>,
     sizes: Sizes,
 ) -> Result<Option<Vec<GateFlow>>, NoMemory> {
-    let workers = crew.workers();
-    let Some(parts) = parts_of(rt, alloc, &region, workers, sizes)? else {
+    if crew.workers() < 2 || region.places() < sizes.circuit {
         return Ok(None);
-    };
-    let cut = Cut::of(region, &parts, workers, sizes);
-    let flows = flow_of_parts(rt, alloc, &cut, crew);
-    drop(parts);
-    Ok(Some(flows?))
+    }
+    let mut memory = Memory::of(alloc);
+    let flow = flow_by_parts(rt, &mut memory, region, crew, sizes);
+    if memory.refused {
+        Err(NoMemory)
+    } else {
+        Ok(flow)
+    }
+}
+
+/// The chosen least set of a frame, where this flow shows it, which is kept.
+fn shown_by(
+    alloc: Global,
+    frame: &Frame,
+    choice: Choice,
+    found: Vec<GateFlow>,
+    flow: &mut UnitFlow,
+) -> Result<Option<ClosedSet>, NoMemory>
+    ensures { IfOk result (λ shown. IfSome shown (IsChosen choice frame.now.circuit.now
+        frame.now.keep.now)) }
+{
+    let UnitFlow { gates, spare } = flow;
+    *gates = found;
+    shown_chosen(alloc, frame, choice, gates.as_slice(), spare)
 }
 
 /// The chosen least set of a frame, where a flow of units shows it, as below: circuits of these sizes are cut, if no flow is known, into parts of
@@ -70,14 +94,16 @@ pub fn chosen_by_sizes<R: Threads + Sync, G: PhaseGate>(
     ensures { IfOk result (λ shown. IfSome shown (IsChosen choice frame.now.circuit.now
         frame.now.keep.now)) }
 {
-    if flow.gates.is_empty() {
-        if let Some(found) = cut_flow(rt, alloc, Region::of(frame), crew, sizes)? {
-            let UnitFlow { gates, spare } = flow;
-            *gates = found;
-            return shown_chosen(alloc, frame, choice, gates.as_slice(), spare);
-        }
+    let cut = if flow.gates.is_empty() {
+        cut_flow(rt, alloc, Region::of(frame), crew, sizes)
+    } else {
+        Ok(None)
+    };
+    match cut {
+        Ok(Some(found)) => shown_by(alloc, frame, choice, found, flow),
+        Ok(None) => chosen_least_brought(rt, alloc, frame, choice, crew, flow),
+        Err(error) => Err(error),
     }
-    chosen_least_brought(rt, alloc, frame, choice, crew, flow)
 }
 
 /// The chosen least set of a circuit whose held latches stay where they are, where a flow of units shows it: that of a start along `flow`,

@@ -14,6 +14,7 @@ mod cut;
 mod gathering;
 mod joining;
 mod least_set;
+mod memory;
 mod part_flows;
 mod parts;
 mod ranges;

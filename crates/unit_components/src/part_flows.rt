@@ -1,11 +1,12 @@
 //! The flow of a part, which is a region of its own: its known latches and its passable gates, with variables from 0 on in the order of their places.
 
 use crate::cut::Cut;
-use crate::gathering::PartFlow;
-use aig_graph::{Gate, Latch, Lit, NoMemory, Reset};
+use crate::memory::Memory;
+use crate::ranges::count_before;
+use aig_graph::{Gate, Latch, Lit, Reset};
 use pulse::{Crew, PhaseGate};
-use std::alloc::Global;
 use std::thread::Threads;
+use unit_flows::GateFlow;
 use unit_pulses::first_flow;
 use unit_starts::Region;
 
@@ -17,7 +18,7 @@ const KNOWN: Latch = Latch {
 
 /// The tables of a part.
 #[derive(Drop)]
-struct Part {
+pub(crate) struct Part {
     latches: Vec<Latch>,
     gates: Vec<Gate>,
     passes: Vec<bool>,
@@ -25,73 +26,59 @@ struct Part {
 }
 
 impl Part {
-    /// A part with room for so many places, of which it has none.
-    fn none(alloc: Global, places: usize) -> Result<Part, NoMemory> {
-        Ok(Part {
-            latches: Vec::new(alloc),
-            gates: Vec::with_capacity(alloc, places)?,
-            passes: Vec::with_capacity(alloc, places)?,
-            leaving: Vec::with_capacity(alloc, places)?,
-        })
-    }
-
-    /// The latch or the gate at a place comes next.
-    fn push(&mut self, cut: &Cut, place: usize) -> Result<(), NoMemory> {
+    /// The latch or the gate at a place comes next. Latches are there.
+    fn push(&mut self, memory: &mut Memory, cut: &Cut, place: usize) {
         let region = &cut.region;
-        self.leaving.push(region.leaves(place))?;
-        let gate = region.gate(place);
-        self.passes.push(gate.is_some())?;
-        match gate {
-            Some(gate) => self.gates.push(Gate {
+        let number = region.gate_number(place);
+        let is_gate = number < region.gates.len();
+        memory.push(&mut self.leaving, region.leaves(place));
+        memory.push(&mut self.passes, is_gate);
+        if is_gate {
+            let gate = &region.gates[number];
+            let own = Gate {
                 rhs0: cut.parts.literal(region, gate.rhs0),
                 rhs1: cut.parts.literal(region, gate.rhs1),
-            })?,
-            None => self.latches.push(KNOWN)?,
+            };
+            memory.push(&mut self.gates, own);
         }
-        Ok(())
     }
 
     /// The tables of the part with this number.
-    fn of(alloc: Global, cut: &Cut, number: usize) -> Result<Part, NoMemory> {
+    pub fn of(memory: &mut Memory, cut: &Cut, number: usize) -> Part {
         let places = cut.parts.places(number);
-        let mut part = Part::none(alloc, places.len())?;
-        part.push_all(cut, places)?;
-        Ok(part)
-    }
-
-    /// The latches and the gates at some places come next.
-    fn push_all(&mut self, cut: &Cut, places: &[u32]) -> Result<(), NoMemory> {
-        for place in places {
-            self.push(cut, *place as usize)?;
+        let latches = count_before(places, cut.region.latches.len());
+        let mut part = Part {
+            latches: memory.table(KNOWN, latches),
+            gates: memory.list(places.len().saturating_sub(latches)),
+            passes: memory.list(places.len()),
+            leaving: memory.list(places.len()),
+        };
+        for k in 0..places.len() {
+            part.push(memory, cut, places[k] as usize);
         }
-        Ok(())
+        part
     }
-}
 
-/// The flow of the part with this number, by the pulses of a crew from a start.
-///
-/// # Errors
-///
-/// `NoMemory` where a table is refused.
-pub(crate) fn part_flow<R: Threads + Sync, G: PhaseGate>(
-    rt: &R,
-    alloc: Global,
-    cut: &Cut,
-    number: usize,
-    crew: &Crew<G>,
-) -> Result<PartFlow, NoMemory> {
-    let part = Part::of(alloc, cut, number)?;
-    let own = Region {
-        first: 0,
-        latches: part.latches.as_slice(),
-        gates: part.gates.as_slice(),
-        passes: part.passes.as_slice(),
-        leaving: part.leaving.as_slice(),
-    };
-    let flows = first_flow(rt, alloc, &own, crew);
-    drop(part);
-    Ok(PartFlow {
-        part: number,
-        flows: flows?,
-    })
+    /// The flow at its gates, by the pulses of a crew from a start. None of it is found where memory was refused.
+    pub fn flow<R: Threads + Sync, G: PhaseGate>(
+        &self,
+        rt: &R,
+        memory: &mut Memory,
+        crew: &Crew<G>,
+    ) -> Vec<GateFlow> {
+        if memory.refused {
+            return Vec::new(memory.alloc);
+        }
+        let own = Region {
+            first: 0,
+            latches: self.latches.as_slice(),
+            gates: self.gates.as_slice(),
+            passes: self.passes.as_slice(),
+            leaving: self.leaving.as_slice(),
+        };
+        match first_flow(rt, memory.alloc, &own, crew) {
+            Ok(flows) => flows,
+            Err(_) => memory.refused_list(),
+        }
+    }
 }

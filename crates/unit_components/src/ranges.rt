@@ -23,9 +23,10 @@ pub(crate) fn count_before(places: &[u32], end: usize) -> usize {
             return from;
         }
         let middle = from.wrapping_add(to.wrapping_sub(from) / 2);
-        match places.get(middle) {
-            Some(place) if (*place as usize) < end => from = middle.wrapping_add(1),
-            Some(_) | None => to = middle,
+        if middle < places.len() && (places[middle] as usize) < end {
+            from = middle.wrapping_add(1);
+        } else {
+            to = middle;
         }
     }
     from

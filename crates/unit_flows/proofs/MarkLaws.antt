@@ -1,7 +1,7 @@
 -- Marks that stay within a set of nodes.
-use Rattle.std.proofs.Common.{◌≡◌, ◌⊎◌, ℕ, ◌+◌, ◌-◌, ◌<◌, ◌≤◌, ◌==◌, nat_le, Bool, true, false, not, ◌&&◌, List, length, map, get_or, replicate, arith, refl, ap, sym, ◌∙◌, subst, inl, inr}
-use Rattle.std.proofs.lemmas.Bool.{cases_lt, le-leb, leb-true, eqb-true, or_cases, and_parts, true≢false, false≢true}
-use Rattle.std.proofs.lemmas.List.{get_or_past, get_or-map}
+use Rattle.std.proofs.Common.{◌≡◌, ◌⊎◌, ℕ, ◌+◌, ◌-◌, ◌<◌, ◌≤◌, ◌==◌, nat_le, Bool, true, false, not, ◌&&◌, List, length, slice_set, get_or, get_or-set_same, get_or-set_other, replicate, arith, refl, ap, sym, ◌∙◌, subst, inl, inr}
+use Rattle.std.proofs.lemmas.Bool.{cases_eq, cases_lt, le-leb, leb-true, eqb-true, or_cases, and_parts, true≢false, false≢true}
+use Rattle.std.proofs.lemmas.List.{get_or_past, length-set}
 use Rattle.variable_tables.specs.Marking.{Marks, mark_at}
 use Rattle.variable_tables.specs.Tables.{table}
 use Rattle.variable_tables.proofs.MarkingLaws.{AreMarks-table, none-marked}
@@ -98,12 +98,40 @@ pub left-same : (c : Netlist) (held : List ℕ) (flows : List GateFlow) (went ca
 left-same c held flows went came xs xs' ys ys' e f reach =
     subst (λ (zs : List Bool). AreReachedFromLeft c held flows went came zs ys') (sym e) (subst (λ (zs : List Bool). AreReachedFromLeft c held flows went came xs zs) (sym f) reach)
 
+-- of some marks the first k are turned, and the others aren't
+pub record AreTurned (old new : List Bool) (k : ℕ) : Type 0 where
+  -- as many marks
+  pub long : length new ≡ length old
+  -- the first k
+  pub turned : (i : ℕ) → i < k → i < length old → get_or new i false ≡ not (get_or old i false)
+  -- the others
+  pub same : (i : ℕ) → k ≤ i → get_or new i false ≡ get_or old i false
+
+-- no mark is turned
+pub turned-none : (xs : List Bool) → AreTurned xs xs 0
+turned-none xs = record {
+  long = refl;
+  turned = λ i low within. absurd (omega (arith, low));
+  same = λ i high. refl;
+}
+
+-- one more is turned
+pub turned-more : (old new : List Bool) (k : ℕ) → AreTurned old new k → k < length old → AreTurned old (slice_set new k (not (get_or new k false))) (k + 1)
+turned-more old new k so here = record {
+  long = length-set new k (not (get_or new k false)) ∙ so.long;
+  turned = λ i low within. elim (cases_eq i k) [
+    | inl at ↦ rw at (get_or-set_same new k (not (get_or new k false)) false (omega (arith, here, so.long)) ∙ ap not (so.same k (omega arith)))
+    | inr other ↦ get_or-set_other new k i (not (get_or new k false)) false other ∙ so.turned i (omega (arith, low, other)) within
+  ];
+  same = λ i high. get_or-set_other new k i (not (get_or new k false)) false (λ e. omega (arith, high, e)) ∙ so.same i (omega (arith, high));
+}
+
 -- what isn't marked where marks are turned is marked
-pub flipped-off : (first n : ℕ) (xs ys : List Bool) (v : ℕ) → ys ≡ map not xs → length xs ≡ n → first ≤ v → v < first + n → mark_at first ys v ≡ false → mark_at first xs v ≡ true
+pub flipped-off : (first n : ℕ) (xs ys : List Bool) (v : ℕ) → ((k : ℕ) → k < length xs → get_or ys k false ≡ not (get_or xs k false)) → length xs ≡ n → first ≤ v → v < first + n → mark_at first ys v ≡ false → mark_at first xs v ≡ true
 unfolding mark_at
 flipped-off first n xs ys v turned long low high off =
     let here : v - first < length xs = omega (arith, long, low, high) in
-    let other : get_or ys (v - first) false ≡ not (get_or xs (v - first) false) = ap (λ (zs : List Bool). get_or zs (v - first) false) turned ∙ get_or-map not xs (v - first) false false here in
+    let other : get_or ys (v - first) false ≡ not (get_or xs (v - first) false) = turned (v - first) here in
     let in_row : nat_le first v ≡ true = le-leb first v low in
     let none : not (get_or xs (v - first) false) ≡ false = sym other ∙ sym (ap (λ (b : Bool). b && get_or ys (v - first) false) in_row) ∙ off in
     ap (λ (b : Bool). b && get_or xs (v - first) false) in_row ∙ not-off (get_or xs (v - first) false) none

@@ -63,18 +63,24 @@ pub record IsPlace (c : Netlist) (held : List ℕ) (flows : List GateFlow) (went
   -- whether it crosses
   pub crossing_is : crossing ≡ crosses c held before after (first_latch c.aig + p)
 
+-- a test counts as one at most
+unit-small : (b : Bool) → unit b ≤ 1
+unfolding unit
+unit-small true = omega arith
+unit-small false = omega arith
+
 -- one place more
-pub seen-more : (c : Netlist) (held : List ℕ) (flows : List GateFlow) (went : List ℕ) (before after : ℕ → Bool) (n arrived crossed : ℕ) (holds : Bool) (comes : Bool) (goes : ℕ) (leaves reached crossing test : Bool) (u w : ℕ)
+pub seen-more : (c : Netlist) (held : List ℕ) (flows : List GateFlow) (went : List ℕ) (before after : ℕ → Bool) (n arrived crossed : ℕ) (holds : Bool) (comes : Bool) (goes : ℕ) (leaves reached crossing : Bool) (arrived' crossed' : ℕ) (holds' : Bool)
     → AreSeen c held flows went before after n arrived crossed holds → IsPlace c held flows went before after n comes goes leaves reached crossing
-    → test ≡ place_test comes goes leaves reached → u ≡ unit (arrives_by comes goes leaves) → w ≡ unit crossing → u ≤ 1 → w ≤ 1
-    → AreSeen c held flows went before after (n + 1) (arrived + u) (crossed + w) (holds && test)
-seen-more c held flows went before after n arrived crossed holds comes goes leaves reached crossing test u w seen place tested counted counted' small small' = record {
-  few_arrived = omega (arith, seen.few_arrived, small);
-  few_crossed = omega (arith, seen.few_crossed, small');
-  arrived_is = sum-more _ _ _ _ seen.arrived_is (counted ∙ ap unit (rw (place.comes_is, place.goes_is, place.leaves_is) refl));
-  crossed_is = sum-more _ _ _ _ seen.crossed_is (counted' ∙ ap unit place.crossing_is);
-  each = λ t. let parts = and_parts holds test t in
-      all-more _ _ (seen.each parts.0) (here (sym tested ∙ parts.1));
+    → holds' ≡ (holds && place_test comes goes leaves reached) → arrived' ≡ arrived + unit (arrives_by comes goes leaves) → crossed' ≡ crossed + unit crossing
+    → AreSeen c held flows went before after (n + 1) arrived' crossed' holds'
+seen-more c held flows went before after n arrived crossed holds comes goes leaves reached crossing arrived' crossed' holds' seen place tested counted counted' = record {
+  few_arrived = omega (arith, seen.few_arrived, counted, unit-small (arrives_by comes goes leaves));
+  few_crossed = omega (arith, seen.few_crossed, counted', unit-small crossing);
+  arrived_is = counted ∙ sum-more _ _ _ _ seen.arrived_is (ap unit (rw (place.comes_is, place.goes_is, place.leaves_is) refl));
+  crossed_is = counted' ∙ sum-more _ _ _ _ seen.crossed_is (ap unit place.crossing_is);
+  each = λ t. let parts = and_parts holds (place_test comes goes leaves reached) (sym tested ∙ t) in
+      all-more _ _ (seen.each parts.0) (here parts.1);
 }
   where
     here : place_test comes goes leaves reached ≡ true → PlaceHolds c held flows went after n

@@ -33,8 +33,9 @@ fn push_outside(into: &mut Vec<GateFlow>, first: u32, set: &ClosedSet, flows: &[
     requires room { length flows.now ≤ vec_capacity into.old }
 {
     let mut from = 0;
-    for var in set.vars() {
-        let to = place_of(first, *var, flows.len());
+    let vars = set.vars();
+    for i in 0..vars.len() {
+        let to = place_of(first, vars[i], flows.len());
         if from <= to {
             push_run(into, flows, from, to);
             from = to + 1;
@@ -45,20 +46,17 @@ fn push_outside(into: &mut Vec<GateFlow>, first: u32, set: &ClosedSet, flows: &[
     }
 }
 
-/// Appends the flows of the gates of the set.
-fn push_members(
-    into: &mut Vec<GateFlow>,
-    first: u32,
-    set: &ClosedSet,
-    flows: &[GateFlow],
-) -> Result<(), NoMemory> {
-    for var in set.vars() {
-        let place = place_of(first, *var, flows.len());
+/// Appends the flows of the gates of the set. Whether there is memory.
+fn push_members(into: &mut Vec<GateFlow>, first: u32, set: &ClosedSet, flows: &[GateFlow]) -> bool {
+    let mut is_room = true;
+    let vars = set.vars();
+    for i in 0..vars.len() {
+        let place = place_of(first, vars[i], flows.len());
         if place < flows.len() {
-            into.push(flows[place])?;
+            is_room &= into.push(flows[place]).is_ok();
         }
     }
-    Ok(())
+    is_room
 }
 
 /// The flows in the order in which a move over the set leaves their gates: those outside it, and then those in it.
@@ -72,17 +70,36 @@ pub fn after_move(
     set: &ClosedSet,
     flows: &[GateFlow],
 ) -> Result<Vec<GateFlow>, NoMemory> {
-    let mut moved = Vec::with_capacity(alloc, flows.len())?;
-    push_outside(&mut moved, aig.first_gate(), set, flows);
-    push_members(&mut moved, aig.first_gate(), set, flows)?;
-    Ok(moved)
+    let first = aig.first_gate();
+    let Ok(mut moved) = Vec::with_capacity(alloc, flows.len()) else {
+        return Err(NoMemory);
+    };
+    push_outside(&mut moved, first, set, flows);
+    if push_members(&mut moved, first, set, flows) {
+        Ok(moved)
+    } else {
+        drop(moved);
+        Err(NoMemory)
+    }
 }
 
 /// The flow at a place, nothing where there is none.
 fn flow_at(flows: &[GateFlow], place: u32) -> GateFlow {
-    match flows.get(place as usize) {
-        Some(flow) => *flow,
-        None => GateFlow::none(),
+    let place = place as usize;
+    if place < flows.len() {
+        flows[place]
+    } else {
+        GateFlow::none()
+    }
+}
+
+/// Appends the flows at these places.
+fn push_places(into: &mut Vec<GateFlow>, places: &[u32], flows: &[GateFlow])
+    requires none { vec_len into.old ≡ 0 }
+    requires room { length places.now ≤ vec_capacity into.old }
+{
+    for k in 0..places.len() {
+        into.push_reserved(flow_at(flows, places[k]));
     }
 }
 
@@ -96,9 +113,9 @@ pub fn after_cleaning(
     kept_gates: &[u32],
     flows: &[GateFlow],
 ) -> Result<Vec<GateFlow>, NoMemory> {
-    let mut kept = Vec::with_capacity(alloc, kept_gates.len())?;
-    for place in kept_gates {
-        kept.push(flow_at(flows, *place))?;
-    }
+    let Ok(mut kept) = Vec::with_capacity(alloc, kept_gates.len()) else {
+        return Err(NoMemory);
+    };
+    push_places(&mut kept, kept_gates, flows);
     Ok(kept)
 }

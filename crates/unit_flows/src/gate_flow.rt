@@ -25,9 +25,9 @@ impl GateFlow {
 
     /// Whether nothing came to the gate and nothing went on from it.
     pub fn is_none(&self) -> bool {
-        !(self.first_up || self.second_up || self.through)
-            && self.first_down == 0
-            && self.second_down == 0
+        !(self.first_up | self.second_up | self.through)
+            & (self.first_down == 0)
+            & (self.second_down == 0)
     }
 
     /// Whether a unit came from the output of the second or the first fan-in.

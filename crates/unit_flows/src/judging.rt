@@ -44,7 +44,6 @@ fn has_full_cut(
 
 /// The same, by spare tables.
 fn is_shown(
-    alloc: Global,
     frame: &Frame,
     flows: &[GateFlow],
     marks: &NodeMarks,
@@ -61,11 +60,11 @@ fn is_shown(
         (mark_at (first_latch frame.now.circuit.now.aig) marks.now.after.items)) }
 {
     let entries = frame.circuit.aig().latches_and_gates();
-    let (mut went, mut came) = spare.take_zeros(alloc, entries)?;
-    let (goes, comes) = (went.as_mut_slice(), came.as_mut_slice());
-    let is_shown = has_full_cut(frame, flows, marks, goes, comes);
-    spare.keep_tallies(went, came);
-    Ok(is_shown)
+    let Ok(()) = spare.clear_tallies(entries) else {
+        return Err(NoMemory);
+    };
+    let (went, came) = (spare.went.as_mut_slice(), spare.numbers.as_mut_slice());
+    Ok(has_full_cut(frame, flows, marks, went, came))
 }
 
 /// The passable gates that aren't marked before, rising.
@@ -79,11 +78,13 @@ pub(crate) fn off_marks(alloc: Global, frame: &Frame, before: &[bool]) -> Result
     let latches = aig.latches().len();
     let first_gate = aig.first_gate();
     let passes = frame.passing_gates();
-    let mut vars = Vec::with_capacity(alloc, passes.len())?;
+    let Ok(mut vars) = Vec::with_capacity(alloc, passes.len()) else {
+        return Err(NoMemory);
+    };
     for k in 0..passes.len() {
         let is_off = passes[k] & !before[latches + k];
         if is_off {
-            vars.push(first_gate + k as u32)?;
+            vars.push_reserved(first_gate + k as u32);
         }
     }
     Ok(vars)
@@ -114,10 +115,15 @@ pub fn shown_by_marks(
 {
     // That its gates come in order is what the graph's readers ensure.
     frame.circuit.aig().known();
-    if !is_shown(alloc, frame, flows, marks, spare)? {
+    let Ok(is_shown) = is_shown(frame, flows, marks, spare) else {
+        return Err(NoMemory);
+    };
+    if !is_shown {
         return Ok(None);
     }
-    let vars = off_marks(alloc, frame, marks.before.as_slice())?;
+    let Ok(vars) = off_marks(alloc, frame, marks.before.as_slice()) else {
+        return Err(NoMemory);
+    };
     Ok(ClosedSet::new(vars))
 }
 
@@ -139,7 +145,9 @@ pub(crate) fn shown_set(
     if flows.len() != frame.circuit.aig().gates().len() {
         return Ok(None);
     }
-    let marks = mark(alloc, frame, flows, &mut *spare)?;
+    let Ok(marks) = mark(alloc, frame, flows, &mut *spare) else {
+        return Err(NoMemory);
+    };
     let shown = shown_by_marks(alloc, frame, flows, &marks, &mut *spare);
     spare.keep_marks(marks);
     shown

@@ -1,7 +1,8 @@
 //! Judges whether a flow shows the smallest least set: that of the gates that are reached from where units are left. Where no closed set has a
 //! smaller border than units arrive, all units that are left stand on the near side of each least set, and no residual arc leads from there to
 //! the far side.
-ghost use Rattle.std.specs.Prelude.{◌≡◌, IfOk, IfSome, IsTrue, length, map, not, replicate};
+ghost use Rattle.std.specs.Prelude.{◌≡◌, ◌<◌, ℕ, IfOk, IfSome, IsTrue, false, length, not, replicate};
+ghost use Rattle.std.specs.List.{slice_index_or};
 ghost use Rattle.variable_tables.specs.Marking.{mark_at};
 ghost use Rattle.aig_graph.specs.Graph.{first_latch, latches_and_gates};
 ghost use Rattle.aig_graph.specs.Border.{IsSmallestLeast};
@@ -20,11 +21,15 @@ use crate::unit_flow::SpareTables;
 use aig_graph::{ClosedSet, NoMemory};
 use std::alloc::Global;
 
-/// The marks of all that isn't marked.
-fn flipped(alloc: Global, marks: &[bool]) -> Result<Vec<bool>, NoMemory>
-    ensures { IfOk result (λ others. others.items ≡ map not marks.now) }
+/// Marks all that isn't marked, and nothing else.
+fn flip(marks: &mut [bool])
+    ensures len { length marks.new ≡ length marks.old }
+    ensures each { (k : ℕ) → k < length marks.old → slice_index_or marks.new k false
+        ≡ not (slice_index_or marks.old k false) }
 {
-    Ok(marks.iter().map(|mark| !*mark).collect(alloc)?)
+    for k in 0..marks.len() {
+        marks[k] = !marks[k];
+    }
 }
 
 /// The nodes that aren't reached from where units are left, where so many units go on and come.
@@ -45,10 +50,12 @@ fn far_marks(
     ensures after { IfOk result (λ marks. length marks.after.items
         ≡ latches_and_gates frame.now.circuit.now.aig) }
 {
-    let near = mark_onward(alloc, frame, flows, went, came)?;
-    let before = flipped(alloc, near.before.as_slice())?;
-    let after = flipped(alloc, near.after.as_slice())?;
-    Ok(NodeMarks { before, after })
+    let Ok(mut marks) = mark_onward(alloc, frame, flows, went, came) else {
+        return Err(NoMemory);
+    };
+    flip(marks.before.as_mut_slice());
+    flip(marks.after.as_mut_slice());
+    Ok(marks)
 }
 
 /// Whether no node of a flow gives more than it gets, and the marks are a full cut for it, where so many units go on and come.
@@ -89,12 +96,16 @@ fn shown_by_tallies(
         frame.now.circuit.now frame.now.keep.now set)) }
 {
     frame.circuit.aig().known();
-    let far = far_marks(alloc, frame, flows, went, came)?;
+    let Ok(far) = far_marks(alloc, frame, flows, went, came) else {
+        return Err(NoMemory);
+    };
     let (before, after) = (far.before.as_slice(), far.after.as_slice());
     if !is_full_cut(frame, flows, went, came, before, after) {
         return Ok(None);
     }
-    let vars = off_marks(alloc, frame, before)?;
+    let Ok(vars) = off_marks(alloc, frame, before) else {
+        return Err(NoMemory);
+    };
     Ok(ClosedSet::new(vars))
 }
 
@@ -138,9 +149,9 @@ pub(crate) fn shown_smallest_set(
     if flows.len() != aig.gates().len() {
         return Ok(None);
     }
-    let (mut went, mut came) = spare.take_zeros(alloc, aig.latches_and_gates())?;
-    let (goes, comes) = (went.as_mut_slice(), came.as_mut_slice());
-    let shown = shown_by_zeros(alloc, frame, flows, goes, comes);
-    spare.keep_tallies(went, came);
-    shown
+    let Ok(()) = spare.clear_tallies(aig.latches_and_gates()) else {
+        return Err(NoMemory);
+    };
+    let (went, came) = (spare.went.as_mut_slice(), spare.numbers.as_mut_slice());
+    shown_by_zeros(alloc, frame, flows, went, came)
 }

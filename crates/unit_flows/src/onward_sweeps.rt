@@ -1,6 +1,7 @@
 //! Marks where units are left, and then sweeps over the passable gates, up and down, until nothing is newly marked.
-ghost use Rattle.std.specs.Prelude.{◌≡◌, ◌≤◌, ◌+◌, ◌<◌, ℕ, Bool, List, IfOk, IsTrue, true, length, slice_index};
+ghost use Rattle.std.specs.Prelude.{◌≡◌, ◌≤◌, ◌+◌, ◌<◌, ℕ, Bool, List, IfOk, IsTrue, true, length, slice_index, vec_capacity, vec_len};
 ghost use Rattle.aig_graph.specs.Graph.{first_latch, first_gate, latches_and_gates};
+ghost use Rattle.aig_graph.specs.declared.literal.TheConstants.{MAX_VARIABLES};
 ghost use Rattle.unit_flows.specs.Units.{nth_flow};
 ghost use Rattle.unit_flows.specs.Marks.{AreWithin};
 ghost use Rattle.unit_flows.specs.Onward.{waits, IsFuller, AreReachedFromLeft};
@@ -151,15 +152,26 @@ fn settle(
     }
 }
 
+/// Appends the numbers of the marks that are set, rising.
+fn push_numbers(open: &mut Vec<u32>, passes: &[bool])
+    requires none { vec_len open.old ≡ 0 }
+    requires room { length passes.now ≤ vec_capacity open.old }
+    requires small { length passes.now ≤ MAX_VARIABLES }
+{
+    for k in 0..passes.len() {
+        if passes[k] {
+            open.push_reserved(k as u32);
+        }
+    }
+}
+
 /// The numbers of the passable gates, rising.
 fn open_gates(alloc: Global, frame: &Frame) -> Result<Vec<u32>, NoMemory> {
     let passes = frame.passing_gates();
-    let mut open = Vec::with_capacity(alloc, passes.len())?;
-    for k in 0..passes.len() {
-        if passes[k] {
-            open.push(k as u32)?;
-        }
-    }
+    let Ok(mut open) = Vec::with_capacity(alloc, passes.len()) else {
+        return Err(NoMemory);
+    };
+    push_numbers(&mut open, passes);
     Ok(open)
 }
 
@@ -186,9 +198,15 @@ pub(crate) fn mark_onward(
         ≡ latches_and_gates frame.now.circuit.now.aig) }
 {
     let entries = frame.circuit.aig().latches_and_gates();
-    let mut before = vec![in alloc; false; entries]?;
-    let mut after = vec![in alloc; false; entries]?;
-    let mut open = open_gates(alloc, frame)?;
+    let Ok(mut before) = vec![in alloc; false; entries] else {
+        return Err(NoMemory);
+    };
+    let Ok(mut after) = vec![in alloc; false; entries] else {
+        return Err(NoMemory);
+    };
+    let Ok(mut open) = open_gates(alloc, frame) else {
+        return Err(NoMemory);
+    };
     mark_from_left(
         before.as_mut_slice(),
         after.as_mut_slice(),

@@ -58,20 +58,30 @@ fn is_known(latch: &Latch) -> bool
     latch.reset != Reset::Free
 }
 
-/// Whether no more units go on from after a variable than come there, and it is marked where it leaves.
-fn place_holds(comes: bool, went: u8, leaves: bool, reached: bool) -> bool
-    ensures { result ≡ (nat_le went (unit comes) && (not leaves || reached)) }
-{
-    let is_balanced = u32::from(went) <= unit(comes);
-    is_balanced & (!leaves | reached)
+/// What was seen of some places: whether all of them hold, how many units arrive there, and how many variables cross.
+#[derive(Clone, Copy)]
+struct Seen {
+    holds: bool,
+    arrived: u32,
+    crossed: u32,
 }
 
-/// Whether a unit is left after a variable, and leaves there.
-fn arrives(comes: bool, went: u8, leaves: bool) -> bool
-    ensures { result ≡ (leaves && comes && (went == 0)) }
+/// What was seen with one more place: whether a unit comes there, how many go on, whether it leaves, is marked and crosses. It holds where no more go
+/// on than come, and it is marked if it leaves; a unit that is left there arrives if it leaves.
+fn seen_with(seen: Seen, comes: bool, went: u8, leaves: bool, reached: bool, crosses: bool) -> Seen
+    requires arrived { seen.arrived < 4294967295 }
+    requires crossed { seen.crossed < 4294967295 }
+    ensures holds { result.holds ≡ (seen.holds && (nat_le went (unit comes) && (not leaves || reached))) }
+    ensures arrived { result.arrived ≡ seen.arrived + unit (leaves && comes && (went == 0)) }
+    ensures crossed { result.crossed ≡ seen.crossed + unit crosses }
 {
+    let is_balanced = u32::from(went) <= unit(comes);
     let is_left = went == 0;
-    leaves & comes & is_left
+    Seen {
+        holds: seen.holds & (is_balanced & (!leaves | reached)),
+        arrived: seen.arrived + unit(leaves & comes & is_left),
+        crossed: seen.crossed + unit(crosses),
+    }
 }
 
 /// Whether all places hold, and no more variables cross than units arrive.
@@ -93,21 +103,23 @@ pub(crate) fn places_hold(
     let latches = frame.circuit.aig().latches();
     let passes = frame.passing_gates();
     let leaving = frame.leaving.as_slice();
-    let mut holds = true;
-    let mut arrived = 0;
-    let mut crossed = 0;
+    let mut seen = Seen {
+        holds: true,
+        arrived: 0,
+        crossed: 0,
+    };
     for place in 0..latches.len() {
         let known = is_known(&latches[place]);
-        holds &= place_holds(known, went[place], leaving[place], after[place]);
-        arrived += unit(arrives(known, went[place], leaving[place]));
-        crossed += unit(known & after[place]);
+        let reached = after[place];
+        let crosses = known & reached;
+        seen = seen_with(seen, known, went[place], leaving[place], reached, crosses);
     }
     for k in 0..passes.len() {
         let place = latches.len() + k;
         let through = flows[k].through;
-        holds &= place_holds(through, went[place], leaving[place], after[place]);
-        arrived += unit(arrives(through, went[place], leaving[place]));
-        crossed += unit(passes[k] & !before[place] & after[place]);
+        let reached = after[place];
+        let crosses = passes[k] & !before[place] & reached;
+        seen = seen_with(seen, through, went[place], leaving[place], reached, crosses);
     }
-    holds & (crossed <= arrived)
+    seen.holds & (seen.crossed <= seen.arrived)
 }

@@ -1,13 +1,13 @@
 //! Sweeps over the passable gates, down and up, until none is newly marked: a mark shows below its gate in a sweep down, and above it in a sweep
 //! up. A gate is open until the node before it is marked, and each sweep looks at the open gates alone.
-ghost use Rattle.std.specs.Prelude.{◌≡◌, ◌≤◌, ℕ, List, IfOk, length};
+ghost use Rattle.std.specs.Prelude.{◌≡◌, ◌≤◌, ℕ, List, IfOk, length, vec_capacity, vec_len};
 ghost use Rattle.aig_graph.specs.Graph.{latches_and_gates};
 ghost use Rattle.unit_flows.specs.Marks.{ReachSink};
 
 use crate::frame::Frame;
 use crate::gate_flow::GateFlow;
 use crate::marks::see;
-use crate::unit_flow::{SpareTables, filled};
+use crate::unit_flow::{SpareTables, filled, taken};
 use aig_graph::NoMemory;
 use std::alloc::Global;
 
@@ -21,17 +21,18 @@ pub struct NodeMarks {
     pub after: Vec<bool>,
 }
 
-/// Sees all passable gates, from the last to the first, and puts the numbers of those that stay open in a table with room for all gates, in that
-/// order. How many they are, or none where nothing is marked: then nothing is to be seen any more. Not inlined, so that the loop has the registers
-/// for itself.
+/// Sees all passable gates, from the last to the first, and appends the numbers of those that stay open to a table with room for all gates, in that
+/// order. Whether something is marked: else nothing is to be seen any more. Not inlined, so that the loop has the registers for itself.
 #[inline(never)]
 fn first_sweep(
     before: &mut [bool],
     after: &mut [bool],
-    open: &mut [u32],
+    open: &mut Vec<u32>,
     frame: &Frame,
     flows: &[GateFlow],
-) -> usize
+) -> bool
+    requires none { vec_len open.old ≡ 0 }
+    requires room { length frame.now.circuit.now.aig.gates ≤ vec_capacity open.old }
     requires flows { length flows.now ≡ length frame.now.circuit.now.aig.gates }
     requires before { length before.old ≡ latches_and_gates frame.now.circuit.now.aig }
     requires after { length after.old ≡ latches_and_gates frame.now.circuit.now.aig }
@@ -46,19 +47,17 @@ fn first_sweep(
     let gates = aig.gates();
     let passes = frame.passing_gates();
     let mut is_marked = false;
-    let mut kept = 0;
     for k in (0..gates.len()).rev() {
         if passes[k] {
             let var = first_gate + k as u32;
             if see(before, after, first, var, &gates[k], &flows[k]) {
                 is_marked = true;
-            } else if kept < open.len() {
-                open[kept] = k as u32;
-                kept += 1;
+            } else {
+                open.push_reserved(k as u32);
             }
         }
     }
-    if is_marked { kept } else { 0 }
+    is_marked
 }
 
 /// Sees the gates with these numbers, one after another. How many of them stay open: these then come first. Not inlined, so that the loop has
@@ -123,7 +122,7 @@ fn settle(
     }
 }
 
-/// Sweeps over the passable gates, from the last to the first and back, until none is newly marked. The table is for the numbers of those that are open:
+/// Sweeps over the passable gates, from the last to the first and back, until none is newly marked. The table gets the numbers of those that are open:
 /// it has room for those of all gates.
 fn sweep_all(
     before: &mut [bool],
@@ -132,6 +131,8 @@ fn sweep_all(
     frame: &Frame,
     flows: &[GateFlow],
 )
+    requires none { vec_len open.old ≡ 0 }
+    requires room { length frame.now.circuit.now.aig.gates ≤ vec_capacity open.old }
     requires flows { length flows.now ≡ length frame.now.circuit.now.aig.gates }
     requires before { length before.old ≡ latches_and_gates frame.now.circuit.now.aig }
     requires after { length after.old ≡ latches_and_gates frame.now.circuit.now.aig }
@@ -140,9 +141,9 @@ fn sweep_all(
     ensures before { length before.new ≡ length before.old }
     ensures after { length after.new ≡ length after.old }
 {
-    let kept = first_sweep(before, after, open.as_mut_slice(), frame, flows);
-    open.truncate(kept);
-    settle(before, after, open, frame, flows);
+    if first_sweep(before, after, open, frame, flows) {
+        settle(before, after, open, frame, flows);
+    }
 }
 
 /// A copy of the marks of what leaves, in the memory of other marks.
@@ -151,7 +152,9 @@ fn leaving_in(memory: Vec<bool>, frame: &Frame) -> Result<Vec<bool>, NoMemory>
 {
     let mut marks = memory;
     marks.clear();
-    marks.extend_from_slice(frame.leaving.as_slice())?;
+    let Ok(()) = marks.extend_from_slice(frame.leaving.as_slice()) else {
+        return Err(NoMemory);
+    };
     Ok(marks)
 }
 
@@ -175,16 +178,25 @@ pub fn mark(
         ≡ latches_and_gates frame.now.circuit.now.aig) }
 {
     let aig = frame.circuit.aig();
-    let mut open = filled(spare.take_numbers(alloc), 0u32, aig.gates().len())?;
-    let mut before = filled(spare.take_before(alloc), false, aig.latches_and_gates())?;
-    let mut after = leaving_in(spare.take_after(alloc), frame)?;
+    let Ok(()) = spare.clear_numbers(aig.gates().len()) else {
+        return Err(NoMemory);
+    };
+    let Ok(mut before) = filled(
+        taken(&mut spare.before, alloc),
+        false,
+        aig.latches_and_gates(),
+    ) else {
+        return Err(NoMemory);
+    };
+    let Ok(mut after) = leaving_in(taken(&mut spare.after, alloc), frame) else {
+        return Err(NoMemory);
+    };
     sweep_all(
         before.as_mut_slice(),
         after.as_mut_slice(),
-        &mut open,
+        &mut spare.numbers,
         frame,
         flows,
     );
-    spare.keep_numbers(open);
     Ok(NodeMarks { before, after })
 }

@@ -1,6 +1,6 @@
 //! What one look at a frame leaves to the next: what the flow did at the gates, and tables that serve again. A large frame's tables go back to the
 //! system as they are dropped; asked for anew, they would be cleared by it, page by page.
-ghost use Rattle.std.specs.Prelude.{◌≡◌, IfOk, replicate};
+ghost use Rattle.std.specs.Prelude.{◌≡◌, ◌≤◌, IfOk, OnOk, replicate, vec_capacity, vec_len};
 
 use crate::gate_flow::GateFlow;
 use crate::sweeps::NodeMarks;
@@ -11,10 +11,10 @@ use std::mem;
 /// Tables whose values don't matter.
 #[derive(Drop)]
 pub struct SpareTables {
-    before: Vec<bool>,
-    after: Vec<bool>,
-    went: Vec<u8>,
-    numbers: Vec<u32>,
+    pub(crate) before: Vec<bool>,
+    pub(crate) after: Vec<bool>,
+    pub(crate) went: Vec<u8>,
+    pub(crate) numbers: Vec<u32>,
 }
 
 /// A flow of units at the gates of a circuit, or nothing, and tables for the next look at a frame.
@@ -47,38 +47,32 @@ impl SpareTables {
         }
     }
 
-    /// A table for marks of nodes before variables.
-    pub(crate) fn take_before(&mut self, alloc: Global) -> Vec<bool> {
-        mem::replace(&mut self.before, Vec::new(alloc))
-    }
-
-    /// A table for marks of nodes after variables.
-    pub(crate) fn take_after(&mut self, alloc: Global) -> Vec<bool> {
-        mem::replace(&mut self.after, Vec::new(alloc))
-    }
-
-    /// A table for units that go on from after variables.
-    fn take_went(&mut self, alloc: Global) -> Vec<u8> {
-        mem::replace(&mut self.went, Vec::new(alloc))
-    }
-
-    /// Tables of so many zeros each, for units that go on from after variables, and for those that come to before them.
-    pub(crate) fn take_zeros(
-        &mut self,
-        alloc: Global,
-        entries: usize,
-    ) -> Result<(Vec<u8>, Vec<u32>), NoMemory>
-        ensures went { IfOk result (λ tables. tables.0.items ≡ replicate entries 0) }
-        ensures came { IfOk result (λ tables. tables.1.items ≡ replicate entries 0) }
+    /// Puts so many zeros each in the tables for units that go on from after variables, and for those that come to before them.
+    pub(crate) fn clear_tallies(&mut self, entries: usize) -> Result<(), NoMemory>
+        ensures went { OnOk result (self.new.went.items ≡ replicate entries 0) }
+        ensures came { OnOk result (self.new.numbers.items ≡ replicate entries 0) }
     {
-        let went = filled(self.take_went(alloc), 0u8, entries)?;
-        let came = filled(self.take_numbers(alloc), 0u32, entries)?;
-        Ok((went, came))
+        let Ok(()) = fill(&mut self.went, 0u8, entries) else {
+            return Err(NoMemory);
+        };
+        fill(&mut self.numbers, 0u32, entries)
+    }
+
+    /// Empties the table for numbers, which then has room for so many.
+    pub(crate) fn clear_numbers(&mut self, room: usize) -> Result<(), NoMemory>
+        ensures none { vec_len self.new.numbers ≡ 0 }
+        ensures room { OnOk result (room ≤ vec_capacity self.new.numbers) }
+    {
+        self.numbers.clear();
+        match self.numbers.reserve(room) {
+            Ok(()) => Ok(()),
+            Err(_) => Err(NoMemory),
+        }
     }
 
     /// A table for numbers of gates, or of units.
     pub fn take_numbers(&mut self, alloc: Global) -> Vec<u32> {
-        mem::replace(&mut self.numbers, Vec::new(alloc))
+        taken(&mut self.numbers, alloc)
     }
 
     /// Keeps the tables of marks.
@@ -88,15 +82,25 @@ impl SpareTables {
         self.after = after;
     }
 
-    /// Keeps tables of units that went on and came.
-    pub(crate) fn keep_tallies(&mut self, went: Vec<u8>, came: Vec<u32>) {
-        self.went = went;
-        self.numbers = came;
-    }
-
     /// Keeps a table of numbers.
     pub fn keep_numbers(&mut self, numbers: Vec<u32>) {
         self.numbers = numbers;
+    }
+}
+
+/// Takes a table out, and leaves an empty one.
+pub(crate) fn taken<T>(table: &mut Vec<T>, alloc: Global) -> Vec<T> {
+    mem::replace(table, Vec::new(alloc))
+}
+
+/// Fills a table anew, with so many entries that are the same.
+fn fill<T: Copy + Drop>(table: &mut Vec<T>, entry: T, entries: usize) -> Result<(), NoMemory>
+    ensures { OnOk result (table.new.items ≡ replicate entries entry) }
+{
+    table.clear();
+    match table.resize(entries, entry) {
+        Ok(()) => Ok(()),
+        Err(_) => Err(NoMemory),
     }
 }
 
@@ -109,7 +113,8 @@ pub fn filled<T: Copy + Drop>(memory: Vec<T>, entry: T, entries: usize) -> Resul
     ensures { IfOk result (λ t. t.items ≡ replicate entries entry) }
 {
     let mut table = memory;
-    table.clear();
-    table.resize(entries, entry)?;
+    let Ok(()) = fill(&mut table, entry, entries) else {
+        return Err(NoMemory);
+    };
     Ok(table)
 }

@@ -10,14 +10,14 @@ pub recorded-requires-clause-least : goal.recorded-requires-clause-least
 recorded-requires-clause-least c =
     let circuit = c.args.circuit.now in
     let held = c.args.keep.now in
-    (c.in-Ok.ensures circuit held c.requires.network (c.in_ok-routes.ensures circuit held c.requires.network)).least
+    (c.in-Ok-near_cut.ensures circuit held c.requires.network (c.in-Ok.ensures circuit held c.requires.network)).least
 
 pub recorded-requires-clause-routes : goal.recorded-requires-clause-routes
-recorded-requires-clause-routes c = c.in_ok-routes.ensures c.args.circuit.now c.args.keep.now c.requires.network
+recorded-requires-clause-routes c = c.in-Ok.ensures c.args.circuit.now c.args.keep.now c.requires.network
 
-pub returns-in-Ok-clause-set : goal.returns-in-Ok-clause-set
-returns-in-Ok-clause-set c =
+pub returns-in-Ok-near_cut-clause-set : goal.returns-in-Ok-near_cut-clause-set
+returns-in-Ok-near_cut-clause-set c =
     let circuit = c.args.circuit.now in
     let held = c.args.keep.now in
-    let smallest = c.in-Ok.ensures circuit held c.requires.network (c.in_ok-routes.ensures circuit held c.requires.network) in
+    let smallest = c.in-Ok-near_cut.ensures circuit held c.requires.network (c.in-Ok.ensures circuit held c.requires.network) in
     IfOk-weaker c.recorded.result _ (IsSmallestLeast circuit held) (λ set same. subst (IsSmallestLeast circuit held) (sym same) smallest) c.recorded.ensures.set

@@ -1,13 +1,17 @@
-use Rattle.std.proofs.Common.{◌≡◌, ◌<◌, ◌+◌, ◌∙◌, ℕ, Bool, false, length, slice_index_or, arith, refl, ap, sym, Vec, Global}
+use Rattle.std.proofs.Common.{◌≡◌, ◌<◌, ◌+◌, ◌∙◌, ℕ, Bool, false, length, slice_index_or, arith, refl, ap, sym, Vec, Global, vec_capacity, vec_len}
 use Rattle.variable_tables.specs.Marking.{mark_at}
 use Rattle.aig_graph.specs.Graph.{Graph, first_latch, first_gate}
 use Rattle.unit_flows.specs.Shown.{is_off}
 use Rattle.unit_flows.proofs.OffLaws.{off-start, off-here, off-pass, off-fail}
 use Rattle.unit_flows.proofs.judging.off_marks.Goals as goal
-use Rattle.unit_flows.proofs.judging.off_marks.Goals.{then-is_off+in_ok-push, else-is_off}
+use Rattle.unit_flows.proofs.judging.off_marks.Goals.{then-is_off, else-is_off}
 
 pub loop-k-init : goal.loop-k-init
-loop-k-init c = c.in_ok-vars.ensures.items ∙ sym (off-start c.args.frame.now.circuit.now c.args.frame.now.keep.now (mark_at (first_latch c.args.frame.now.circuit.now.aig) c.args.before.now))
+loop-k-init c = record {
+  few = omega (arith, c.in-Ok.ensures.len);
+  room = c.in-Ok.ensures.capacity;
+  listed = c.in-Ok.ensures.items ∙ sym (off-start c.args.frame.now.circuit.now c.args.frame.now.keep.now (mark_at (first_latch c.args.frame.now.circuit.now.aig) c.args.before.now));
+}
 
 pub loop-k-preserved : goal.loop-k-preserved
 loop-k-preserved c =
@@ -19,9 +23,19 @@ loop-k-preserved c =
     let here = ap test at ∙ off-here c.args.frame.now.circuit.now c.args.frame.now.keep.now c.args.before.now c.loop-k.k (length c.latches-latches.result.now) (slice_index_or c.passing_gates-passes.result.now c.loop-k.k false)
     (slice_index_or c.args.before.now (length c.latches-latches.result.now + c.loop-k.k) false) latches (c.passing_gates-passes.ensures.each c.loop-k.k within) refl in
     let items = λ (vars : Vec ℕ Global). vars.items in
+    let len = λ (vars : Vec ℕ Global). vec_len vars in
+    let room = λ (vars : Vec ℕ Global). vec_capacity vars in
     elim c.if-is_off.branch [
-      | then-is_off+in_ok-push w ↦ off-pass test (first_gate c.args.frame.now.circuit.now.aig) c.loop-k.k (c.first_gate-first_gate.result + c.loop-k.k) c.loop-k.vars.items c.if-is_off.vars.items at
-          (here ∙ w.if-is_off.true) c.loop-k.invariant (ap items w.vars-is ∙ w.in_ok-push.ensures.items)
-      | else-is_off w ↦ off-fail test (first_gate c.args.frame.now.circuit.now.aig) c.loop-k.k (c.first_gate-first_gate.result + c.loop-k.k) c.loop-k.vars.items c.if-is_off.vars.items at
-          (here ∙ w.if-is_off.false) c.loop-k.invariant (ap items w.vars-is)
+      | then-is_off w ↦ record {
+        few = omega (arith, c.loop-k.invariant.few, w.push_reserved.ensures.len, ap len w.vars-is);
+        room = omega (arith, c.loop-k.invariant.room, w.push_reserved.ensures.capacity, ap room w.vars-is);
+        listed = off-pass test (first_gate c.args.frame.now.circuit.now.aig) c.loop-k.k (c.first_gate-first_gate.result + c.loop-k.k) c.loop-k.vars.items c.if-is_off.vars.items at
+            (here ∙ w.if-is_off.true) c.loop-k.invariant.listed (ap items w.vars-is ∙ w.push_reserved.ensures.items);
+      }
+      | else-is_off w ↦ record {
+        few = omega (arith, c.loop-k.invariant.few, ap len w.vars-is);
+        room = omega (arith, c.loop-k.invariant.room, ap room w.vars-is);
+        listed = off-fail test (first_gate c.args.frame.now.circuit.now.aig) c.loop-k.k (c.first_gate-first_gate.result + c.loop-k.k) c.loop-k.vars.items c.if-is_off.vars.items at
+            (here ∙ w.if-is_off.false) c.loop-k.invariant.listed (ap items w.vars-is);
+      }
     ]

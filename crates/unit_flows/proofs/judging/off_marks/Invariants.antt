@@ -1,4 +1,4 @@
-use Rattle.std.proofs.Common.{◌≡◌, ◌+◌}
+use Rattle.std.proofs.Common.{◌≡◌, ◌+◌, ◌≤◌, length, vec_capacity, vec_len}
 use Rattle.variable_tables.specs.Counting.{places}
 use Rattle.variable_tables.specs.Marking.{mark_at}
 use Rattle.aig_graph.specs.Graph.{first_latch, first_gate}
@@ -6,4 +6,8 @@ use Rattle.unit_flows.specs.Shown.{is_off}
 use Rattle.unit_flows.proofs.judging.off_marks.Given as goal
 
 abbrev pub invariant-loop-k : goal.invariant-loop-k
-invariant-loop-k l = l.vars.items ≡ places (is_off l.frame.circuit.now l.frame.keep.now (mark_at (first_latch l.frame.circuit.now.aig) l.before)) (first_gate l.frame.circuit.now.aig + l.k)
+invariant-loop-k l = record {
+  few : vec_len l.vars ≤ l.k;
+  room : length l.passes ≤ vec_capacity l.vars;
+  listed : l.vars.items ≡ places (is_off l.frame.circuit.now l.frame.keep.now (mark_at (first_latch l.frame.circuit.now.aig) l.before)) (first_gate l.frame.circuit.now.aig + l.k);
+}

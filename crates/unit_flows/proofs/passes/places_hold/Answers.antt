@@ -1,18 +1,13 @@
 use Rattle.std.proofs.Common.{◌≡◌, ◌<◌, ◌+◌, ◌∙◌, ◌&&◌, not, ℕ, false, length, slice_index_or, arith, refl, ap, subst}
 use Rattle.variable_tables.specs.Marking.{mark_at}
 use Rattle.aig_graph.specs.Graph.{Graph, first_latch}
-use Rattle.unit_flows.specs.Units.{unit, nth_flow}
+use Rattle.unit_flows.specs.Units.{nth_flow}
 use Rattle.unit_flows.proofs.FrameLaws.{leaving-long}
 use Rattle.unit_flows.proofs.PlaceLaws.{AreSeen, seen-more, latch-place, gate-place}
 use Rattle.unit_flows.proofs.passes.places_hold.Goals as goal
 
 pub bounds-leaving-place : goal.bounds-leaving-place
 bounds-leaving-place c =
-    let latches : length c.latches-latches.result.now ≡ length c.args.frame.now.circuit.now.aig.latches = ap length (c.latches-latches.ensures.value ∙ ap (λ (g : Graph). g.latches) c.aig.ensures.value) in
-    omega (arith, latches, ap length c.as_slice-leaving.ensures.value, leaving-long c.args.frame.now.circuit.now c.args.frame.now.keep.now c.args.frame.now.leaving.items c.args.frame.now.leaving_are)
-
-pub bounds-leaving-place-in-loop-place : goal.bounds-leaving-place-in-loop-place
-bounds-leaving-place-in-loop-place c =
     let latches : length c.latches-latches.result.now ≡ length c.args.frame.now.circuit.now.aig.latches = ap length (c.latches-latches.ensures.value ∙ ap (λ (g : Graph). g.latches) c.aig.ensures.value) in
     omega (arith, latches, ap length c.as_slice-leaving.ensures.value, leaving-long c.args.frame.now.circuit.now c.args.frame.now.keep.now c.args.frame.now.leaving.items c.args.frame.now.leaving_are)
 
@@ -24,15 +19,10 @@ loop-place-preserved c =
     (c.is_known-known.result && slice_index_or c.args.after.now c.loop-place.place false) c.as_slice-leaving.result.now
     (c.latches-latches.ensures.value ∙ ap (λ (g : Graph). g.latches) c.aig.ensures.value) c.loop-place-test.true c.index-latches-place.is c.is_known-known.ensures
     (c.as_slice-leaving.ensures.value ∙ c.args.frame.now.leaving_are) refl refl refl)
-    c.place_holds-holds.ensures (c.unit-arrived.ensures.value ∙ ap unit c.arrives.ensures) c.unit-crossed.ensures.value c.unit-arrived.ensures.small c.unit-crossed.ensures.small
+    c.seen_with-seen.ensures.holds c.seen_with-seen.ensures.arrived c.seen_with-seen.ensures.crossed
 
 pub bounds-leaving-place-in-loop-k : goal.bounds-leaving-place-in-loop-k
 bounds-leaving-place-in-loop-k c =
-    let latches : length c.latches-latches.result.now ≡ length c.args.frame.now.circuit.now.aig.latches = ap length (c.latches-latches.ensures.value ∙ ap (λ (g : Graph). g.latches) c.aig.ensures.value) in
-    omega (arith, latches, c.passing_gates-passes.ensures.len, ap length c.as_slice-leaving.ensures.value, leaving-long c.args.frame.now.circuit.now c.args.frame.now.keep.now c.args.frame.now.leaving.items c.args.frame.now.leaving_are)
-
-pub bounds-leaving-place-in-loop-k-2 : goal.bounds-leaving-place-in-loop-k-2
-bounds-leaving-place-in-loop-k-2 c =
     let latches : length c.latches-latches.result.now ≡ length c.args.frame.now.circuit.now.aig.latches = ap length (c.latches-latches.ensures.value ∙ ap (λ (g : Graph). g.latches) c.aig.ensures.value) in
     omega (arith, latches, c.passing_gates-passes.ensures.len, ap length c.as_slice-leaving.ensures.value, leaving-long c.args.frame.now.circuit.now c.args.frame.now.keep.now c.args.frame.now.leaving.items c.args.frame.now.leaving_are)
 
@@ -44,10 +34,10 @@ loop-k-preserved c =
     let next : n + k + 1 ≡ n + (k + 1) = omega arith in
     let within : k < length c.args.frame.now.circuit.now.aig.gates = omega (arith, c.loop-k-test.true, c.passing_gates-passes.ensures.len) in
     subst (λ (m : ℕ). AreSeen c.args.frame.now.circuit.now c.args.frame.now.keep.now c.args.flows.now c.args.went.now (mark_at (first_latch c.args.frame.now.circuit.now.aig) c.args.before.now) (mark_at (first_latch c.args.frame.now.circuit.now.aig) c.args.after.now)
-    m (c.loop-k.arrived + c.unit-arrived-in-loop-k.result) (c.loop-k.crossed + c.unit-crossed-in-loop-k.result) (c.loop-k.holds && c.place_holds-holds-in-loop-k.result)) next
+    m c.seen_with-seen-in-loop-k.result.arrived c.seen_with-seen-in-loop-k.result.crossed c.seen_with-seen-in-loop-k.result.holds) next
     (seen-more _ _ _ _ _ _ _ _ _ _ _ _ _ _ _ _ _ _ c.loop-k.invariant
     (gate-place c.args.frame.now.circuit.now c.args.frame.now.keep.now c.args.flows.now c.args.went.now c.args.before.now c.args.after.now k n (nth_flow c.args.flows.now k)
     (slice_index_or c.passing_gates-passes.result.now k false) (slice_index_or c.as_slice-leaving.result.now (n + k) false) (slice_index_or c.args.before.now (n + k) false) (slice_index_or c.args.after.now (n + k) false)
     ((slice_index_or c.passing_gates-passes.result.now k false && not (slice_index_or c.args.before.now (n + k) false)) && slice_index_or c.args.after.now (n + k) false)
     c.as_slice-leaving.result.now latches within refl (c.passing_gates-passes.ensures.each k within) (c.as_slice-leaving.ensures.value ∙ c.args.frame.now.leaving_are) refl refl refl refl)
-    c.place_holds-holds-in-loop-k.ensures (c.unit-arrived-in-loop-k.ensures.value ∙ ap unit c.arrives-in-loop-k.ensures) c.unit-crossed-in-loop-k.ensures.value c.unit-arrived-in-loop-k.ensures.small c.unit-crossed-in-loop-k.ensures.small)
+    c.seen_with-seen-in-loop-k.ensures.holds c.seen_with-seen-in-loop-k.ensures.arrived c.seen_with-seen-in-loop-k.ensures.crossed)
