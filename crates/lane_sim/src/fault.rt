@@ -3,22 +3,20 @@ ghost use Rattle.std.specs.Prelude.{◌≡◌};
 
 use aig_graph::NoMemory;
 use std::alloc::{AllocError, AllocFailed};
+use std::fmt::{Display, Formatter};
+use std::{error, fmt};
 use thiserror::Error;
 
 /// Why bytes were not read as a stimulus. The number is the offset of the first byte of the line at fault.
-#[derive(Clone, Copy, Debug, Error)]
+#[derive(Clone, Copy, Debug)]
 pub enum StimError {
     /// A line is not a mark and digits, or it is a step before the first sequence.
-    #[error("BadLine at {0}")]
     BadLine(u64),
     /// A line has another number of digits than there are free latches or inputs.
-    #[error("Width at {0}")]
     Width(u64),
     /// There are more than 2^20 sequences.
-    #[error("TooMany at {0}")]
     TooMany(u64),
     /// Memory was refused.
-    #[error("out of memory")]
     NoMemory,
 }
 
@@ -58,7 +56,28 @@ impl StimError {
             StimError::NoMemory => None,
         }
     }
+
+    /// What its message begins with.
+    fn title(self) -> &'static str {
+        match self {
+            StimError::NoMemory => "out of memory",
+            fault => fault.name(),
+        }
+    }
 }
+
+// written out: derived, each variant's message has an arm with steps of its own
+impl Display for StimError {
+    fn fmt<W: fmt::Write>(&self, f: &mut Formatter<W>) -> fmt::Result {
+        f.write_str(self.title())?;
+        match self.offset() {
+            Some(at) => write!(f, " at {at}"),
+            None => Ok(()),
+        }
+    }
+}
+
+impl error::Error for StimError {}
 
 impl From<AllocError> for StimError {
     ghost use Rattle.std.specs.Prelude.{◌≡◌};
