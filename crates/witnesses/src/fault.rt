@@ -4,11 +4,11 @@ ghost use Rattle.std.specs.Prelude.{◌≡◌};
 use std::alloc::{AllocError, AllocFailed};
 use std::error::Error;
 use std::fmt;
-use std::fmt::{Display, Formatter};
+use std::fmt::{Debug, Display, Formatter};
 
 /// Why bytes were not read as a witness. The number is the offset of the first byte of the line at fault; a line that is missing would
 /// begin at the end.
-#[derive(Clone, Copy, Debug)]
+#[derive(Clone, Copy)]
 pub enum WitnessError {
     /// The first line isn't `1`: a checker that found no way to a bad state writes `0` or `2`.
     BadHeader(u64),
@@ -73,23 +73,23 @@ impl WitnessError {
             WitnessError::NoMemory => None,
         }
     }
+}
 
-    /// What its message begins with.
-    fn title(self) -> &'static str {
-        match self {
-            WitnessError::NoMemory => "out of memory",
-            fault => fault.name(),
+// written out: derived, each variant has an arm with steps of its own
+impl Debug for WitnessError {
+    fn fmt<W: fmt::Write>(&self, f: &mut Formatter<W>) -> fmt::Result {
+        match self.offset() {
+            Some(at) => write!(f, "{}({at})", self.name()),
+            None => f.write_str(self.name()),
         }
     }
 }
 
-// written out: derived, each variant's message has an arm with steps of its own
 impl Display for WitnessError {
     fn fmt<W: fmt::Write>(&self, f: &mut Formatter<W>) -> fmt::Result {
-        f.write_str(self.title())?;
         match self.offset() {
-            Some(at) => write!(f, " at {at}"),
-            None => Ok(()),
+            Some(at) => write!(f, "{} at {at}", self.name()),
+            None => f.write_str("out of memory"),
         }
     }
 }
