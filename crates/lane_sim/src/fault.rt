@@ -3,12 +3,12 @@ ghost use Rattle.std.specs.Prelude.{◌≡◌};
 
 use aig_graph::NoMemory;
 use std::alloc::{AllocError, AllocFailed};
-use std::fmt::{Display, Formatter};
+use std::fmt::{Debug, Display, Formatter};
 use std::{error, fmt};
 use thiserror::Error;
 
 /// Why bytes were not read as a stimulus. The number is the offset of the first byte of the line at fault.
-#[derive(Clone, Copy, Debug)]
+#[derive(Clone, Copy)]
 pub enum StimError {
     /// A line is not a mark and digits, or it is a step before the first sequence.
     BadLine(u64),
@@ -56,23 +56,23 @@ impl StimError {
             StimError::NoMemory => None,
         }
     }
+}
 
-    /// What its message begins with.
-    fn title(self) -> &'static str {
-        match self {
-            StimError::NoMemory => "out of memory",
-            fault => fault.name(),
+// written out: derived, each variant has an arm with steps of its own
+impl Debug for StimError {
+    fn fmt<W: fmt::Write>(&self, f: &mut Formatter<W>) -> fmt::Result {
+        match self.offset() {
+            Some(at) => write!(f, "{}({at})", self.name()),
+            None => f.write_str(self.name()),
         }
     }
 }
 
-// written out: derived, each variant's message has an arm with steps of its own
 impl Display for StimError {
     fn fmt<W: fmt::Write>(&self, f: &mut Formatter<W>) -> fmt::Result {
-        f.write_str(self.title())?;
         match self.offset() {
-            Some(at) => write!(f, " at {at}"),
-            None => Ok(()),
+            Some(at) => write!(f, "{} at {at}", self.name()),
+            None => f.write_str("out of memory"),
         }
     }
 }
