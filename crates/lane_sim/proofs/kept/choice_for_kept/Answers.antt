@@ -1,4 +1,4 @@
-use Rattle.std.proofs.Common.{ℕ, Bool, List, false, [], ◌∷◌, ◌++◌, ◌∙◌, ap, ap₂, get_or, map, sym}
+use Rattle.std.proofs.Common.{Bool, List, false, [], ◌∷◌, ◌++◌, ◌∙◌, ap, ap₂, get_or, map, sym}
 use Rattle.std.specs.List.{slice_index_or}
 use Rattle.std.proofs.lemmas.List.{map_more, take_all}
 use Rattle.lane_sim.specs.Traces.{choice_of}
