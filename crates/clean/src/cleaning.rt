@@ -57,14 +57,12 @@ pub fn composed(alloc: Global, first: &[u32], second: &[u32]) -> Result<Vec<u32>
 ///
 /// `NoMemory` where the list is refused.
 pub fn kept_twice(alloc: Global, first: &[bool], second: &[bool]) -> Result<Vec<bool>, NoMemory> {
-    let mut later = second.iter();
+    let mut next = 0usize;
     let mut kept = Vec::with_capacity(alloc, first.len())?;
-    for stays in first {
-        if *stays {
-            kept.push(later.next().copied().unwrap_or(false))?;
-        } else {
-            kept.push(false)?;
-        }
+    for place in 0..first.len() {
+        let stays = first[place];
+        kept.push(stays & (next < second.len() && second[next]))?;
+        next = next.saturating_add(usize::from(stays));
     }
     Ok(kept)
 }

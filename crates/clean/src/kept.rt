@@ -143,9 +143,14 @@ impl KeptGates {
     fn room_of(&self, var: u32) -> Option<usize>
         ensures { IfSome result (λ place. IsListOf self.now var place) }
     {
-        let place = var.checked_sub(self.first)? as usize;
-        let last = self.lists.get(place)?;
-        if self.is_short(*last) && self.gates.len() < u32::MAX as usize {
+        if var < self.first {
+            return None;
+        }
+        let place = (var - self.first) as usize;
+        if place >= self.lists.len() {
+            return None;
+        }
+        if self.is_short(self.lists[place]) & (self.gates.len() < u32::MAX as usize) {
             Some(place)
         } else {
             None
@@ -159,10 +164,11 @@ impl KeptGates {
             if link == 0 {
                 return true;
             }
-            link = match self.gates.get((link - 1) as usize) {
-                Some(kept) => kept.before,
-                None => 0,
-            };
+            let place = (link - 1) as usize;
+            if place >= self.gates.len() {
+                return true;
+            }
+            link = self.gates[place].before;
         }
         link == 0
     }

@@ -31,9 +31,8 @@ fn is_constant_latch(latch: Latch, own: Lit, is_held: bool) -> bool
     ensures { result ≡ (not (is_free latch) && not is_held &&
         (latch.next == own || latch.next == constant_of latch.reset)) }
 {
-    latch.reset != Reset::Free
-        && !is_held
-        && (latch.next == own || latch.next == constant_of(latch.reset))
+    let stays = (latch.next == own) | (latch.next == constant_of(latch.reset));
+    (latch.reset != Reset::Free) & !is_held & stays
 }
 
 /// The literal of the latch at a place.

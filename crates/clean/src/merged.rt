@@ -5,7 +5,6 @@ ghost use Rattle.aig_graph.specs.Graph.{IsGraph, variable, variables_end};
 ghost use Rattle.aig_graph.specs.Circuits.{IsNetlist};
 ghost use Rattle.cleaned_circuits.specs.Merged.{replaced_latch, replaced_gate, replaced_graph, replaced_circuit, merged_of, substitutes_of};
 
-use crate::held::Held;
 use crate::names::copied_symbols;
 use crate::substitution::Substitution;
 use aig_graph::{Aig, Circuit, Gate, Latch, NoMemory, Props};
@@ -95,14 +94,12 @@ pub fn replaced_circuit(
 pub(crate) fn merged_by(
     alloc: Global,
     circuit: &Circuit,
-    held: &Held<'_>,
+    held: &[u32],
     substitutes: &Substitution,
 ) -> Result<Merged, NoMemory>
-    requires { substitutes.now ≡ substitutes_of circuit.now.aig held.now.positions.now }
-    ensures aig { IfOk result (λ merged. merged.aig
-        ≡ (merged_of held.now.positions.now circuit.now).aig) }
-    ensures props { IfOk result (λ merged. merged.props
-        ≡ (merged_of held.now.positions.now circuit.now).props) }
+    requires { substitutes.now ≡ substitutes_of circuit.now.aig held.now }
+    ensures aig { IfOk result (λ merged. merged.aig ≡ (merged_of held.now circuit.now).aig) }
+    ensures props { IfOk result (λ merged. merged.props ≡ (merged_of held.now circuit.now).props) }
 {
     let _held = held;
     let aig = replaced_aig(alloc, circuit.aig(), substitutes)?;

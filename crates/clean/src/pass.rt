@@ -9,12 +9,11 @@ ghost use Rattle.cleaned_circuits.specs.Cleaned.{IsPass};
 ghost use Rattle.clean.specs.Passes.{IsPassOf};
 ghost use Rattle.clean.specs.Sweep.{is_marked};
 
-use crate::held::Held;
 use crate::merged::{Merged, merged_by};
 use crate::reached::{Reached, reach_everything};
-use crate::substitutes::substitutes_of;
+use crate::substitutes::put_substitutes;
 use crate::substitution::Substitution;
-use crate::trim::Trim;
+use crate::trim::{Trim, put_new_literals};
 use aig_graph::{Circuit, NoMemory};
 use std::alloc::Global;
 
@@ -30,15 +29,14 @@ pub(crate) struct Pass {
     pub(crate) held: Vec<u32>,
 }
 
-/// The merged circuit, without what isn't reached. The new literals take the memory of a table that is needed no more, and leave it to `spare`.
+/// The merged circuit, without what isn't reached. The new literals take the place of what the table held.
 pub(crate) fn trimmed(
     alloc: Global,
     circuit: &Circuit,
     held: &[u32],
     merged: &Merged,
     reached: &Reached,
-    standing: Substitution,
-    spare: &mut Substitution,
+    table: &mut Substitution,
 ) -> Result<Pass, NoMemory>
     requires graph { IsGraph circuit.now.aig }
     requires in_range { All (λ j. j < length circuit.now.aig.latches) held.now }
@@ -49,12 +47,12 @@ pub(crate) fn trimmed(
         pass.held.items (is_marked reached.now)) }
 {
     let symbols = circuit.symbols();
-    let trim = Trim::new(&merged.aig, reached, standing)?;
+    put_new_literals(&merged.aig, reached, table)?;
+    let trim = Trim::new(&merged.aig, reached, table);
     let kept_free = trim.kept_free(alloc)?;
     let kept = reached.copied_marks(alloc)?;
     let held = trim.new_positions(alloc, held)?;
     let circuit = trim.circuit(alloc, &merged.props, symbols)?;
-    spare.keep(trim.into_table());
     Ok(Pass {
         circuit,
         kept_free,
@@ -63,12 +61,13 @@ pub(crate) fn trimmed(
     })
 }
 
-/// One pass over a circuit, with the latches at these positions held. Its tables of literals take the memory of the spare one.
+/// One pass over a circuit, with the latches at these positions held. What literals are replaced by, in both of its halves, takes the place
+/// of what the table held.
 pub(crate) fn run_pass(
     alloc: Global,
     circuit: &Circuit,
     held: &[u32],
-    spare: &mut Substitution,
+    table: &mut Substitution,
 ) -> Result<Pass, NoMemory>
     requires { All (λ j. j < length circuit.now.aig.latches) held.now }
     ensures pass { IfOk result (λ pass. IsPass held.now circuit.now pass.circuit
@@ -76,10 +75,11 @@ pub(crate) fn run_pass(
     ensures streams { IfOk result (λ pass. SameStreams circuit.now pass.circuit
         pass.kept_free.items) }
 {
-    let marks = Held::new(alloc, held, circuit.aig().latches().len())?;
-    let table = spare.take(alloc);
-    let standing = substitutes_of(alloc, circuit.aig(), &marks, table)?;
-    let merged = merged_by(alloc, circuit, &marks, &standing)?;
+    put_substitutes(alloc, circuit.aig(), held, table)?;
+    let merged = merged_by(alloc, circuit, held, table)?;
     let reached = reach_everything(alloc, &merged.aig, &merged.props, held)?;
-    trimmed(alloc, circuit, held, &merged, &reached, standing, spare)
+    let pass = trimmed(alloc, circuit, held, &merged, &reached, table);
+    drop(reached);
+    drop(merged);
+    pass
 }

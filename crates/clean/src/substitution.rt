@@ -8,7 +8,6 @@ ghost use Rattle.clean.specs.Substitutions.{own_literals};
 use aig_graph::{Gate, Latch, Lit, NoMemory, Substitute};
 use std::alloc::Global;
 use std::marker::Model;
-use std::mem;
 
 /// A literal for each variable. The variables before the first latch, the constant and the inputs, stand for themselves
 /// and take no room: a circuit may have 2^28 - 1 inputs and nothing else.
@@ -56,28 +55,15 @@ impl Substitution {
         }
     }
 
-    /// Takes a table that is needed no more, for its memory.
-    pub(crate) fn take(&mut self, alloc: Global) -> Substitution {
-        mem::replace(self, Substitution::none(alloc))
-    }
-
-    /// Keeps a table that is needed no more, for its memory.
-    pub(crate) fn keep(&mut self, table: Substitution) {
-        drop(mem::replace(self, table));
-    }
-
-    /// The variables before `first`, with room for `room` more, in the memory of a table that is needed no more.
-    pub(crate) fn renewed(self, first: u32, room: usize) -> Result<Substitution, NoMemory>
+    /// The variables before `first`, with room for `room` more, in place of what the table held and in its memory.
+    pub(crate) fn renew(&mut self, first: u32, room: usize) -> Result<(), NoMemory>
         requires { first ≤ 2 ^ 28 }
-        ensures { IfOk result (λ s. s ≡ own_literals first) }
+        ensures { OnOk result (self.new ≡ own_literals first) }
     {
-        let Substitution {
-            first: _,
-            mut literals,
-        } = self;
-        literals.clear();
-        literals.reserve(room)?;
-        Ok(Substitution { first, literals })
+        self.literals.clear();
+        self.first = first;
+        self.literals.reserve(room)?;
+        Ok(())
     }
 
     /// The number of variables.

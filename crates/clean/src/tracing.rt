@@ -7,12 +7,11 @@ ghost use Rattle.cleaned_circuits.specs.Merged.{substitutes_of};
 ghost use Rattle.clean.specs.Sweep.{is_marked};
 ghost use Rattle.clean.specs.Tracing.{IsTraced};
 
-use crate::held::Held;
 use crate::latches::own_literal;
 use crate::merged::merged_by;
 use crate::pass::trimmed;
 use crate::reached::{Reached, reach_everything};
-use crate::substitutes::substitutes_of;
+use crate::substitutes::put_substitutes;
 use crate::substitution::Substitution;
 use aig_graph::{Aig, Circuit, Lit, NoMemory};
 use std::alloc::Global;
@@ -38,12 +37,12 @@ pub struct TracedPass {
 fn latch_literals(
     alloc: Global,
     aig: &Aig,
-    held: &Held<'_>,
+    held: &[u32],
     substitutes: &Substitution,
 ) -> Result<Vec<Lit>, NoMemory>
-    requires { substitutes.now ≡ substitutes_of aig.now held.now.positions.now }
+    requires { substitutes.now ≡ substitutes_of aig.now held.now }
     ensures { IfOk result (λ literals. literals.items ≡ table 0 (length aig.now.latches)
-        (λ j. latch_substitute aig.now held.now.positions.now j (slice_get aig.now.latches j))) }
+        (λ j. latch_substitute aig.now held.now j (slice_get aig.now.latches j))) }
 {
     let _held = held;
     let mut literals = Vec::with_capacity(alloc, aig.latches().len())?;
@@ -72,17 +71,13 @@ pub fn traced_pass(alloc: Global, circuit: &Circuit, held: &[u32]) -> Result<Tra
     requires { All (λ j. j < length circuit.now.aig.latches) held.now }
     ensures { IfOk result (IsTraced held.now circuit.now) }
 {
-    let marks = Held::new(alloc, held, circuit.aig().latches().len())?;
-    let table = Substitution::none(alloc);
-    let standing = substitutes_of(alloc, circuit.aig(), &marks, table)?;
-    let substitutes = latch_literals(alloc, circuit.aig(), &marks, &standing)?;
-    let merged = merged_by(alloc, circuit, &marks, &standing)?;
+    let mut table = Substitution::none(alloc);
+    put_substitutes(alloc, circuit.aig(), held, &mut table)?;
+    let substitutes = latch_literals(alloc, circuit.aig(), held, &table)?;
+    let merged = merged_by(alloc, circuit, held, &table)?;
     let reached = reach_everything(alloc, &merged.aig, &merged.props, held)?;
     let stays = stays_of(alloc, circuit.aig(), &reached)?;
-    let mut spare = Substitution::none(alloc);
-    let pass = trimmed(
-        alloc, circuit, held, &merged, &reached, standing, &mut spare,
-    )?;
+    let pass = trimmed(alloc, circuit, held, &merged, &reached, &mut table)?;
     Ok(TracedPass {
         circuit: pass.circuit,
         kept_free: pass.kept_free,

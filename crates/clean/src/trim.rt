@@ -1,6 +1,6 @@
 //! The second half of a pass: what isn't reached goes. A variable's new number is by how many reached ones come before it, so
 //! order is kept, and fan-ins still come first.
-ghost use Rattle.std.specs.Prelude.{◌≡◌, ◌+◌, ◌<◌, ◌≤◌, All, IfOk, Some, length, map, slice_get, if◌then◌else◌};
+ghost use Rattle.std.specs.Prelude.{◌≡◌, ◌+◌, ◌<◌, ◌≤◌, All, IfOk, OnOk, Some, length, map, slice_get, if◌then◌else◌};
 ghost use Rattle.aig_graph.specs.Graph.{is_free, IsGraph, IsLiteralOf, first_latch, first_gate};
 ghost use Rattle.aig_graph.specs.Circuits.{IsNetlist};
 ghost use Rattle.aig_graph.specs.Mapped.{OfProps};
@@ -16,26 +16,30 @@ use aig_graph::{Aig, Circuit, Gate, Latch, Lit, NoMemory, Props, Reset, Symbols}
 use std::alloc::Global;
 
 /// A graph of which the latches and gates that aren't reached go, with the new literal of each variable.
-#[derive(Drop)]
+#[derive(Clone, Copy)]
 pub(crate) struct Trim<'a> {
     pub(crate) aig: &'a Aig,
     pub(crate) reached: &'a Reached,
-    literals: Substitution,
-    ghost renumbers: { literals ≡ new_literals aig.now (is_marked reached.now) },
+    literals: &'a Substitution,
+    ghost renumbers: { literals.now ≡ new_literals aig.now (is_marked reached.now) },
 }
 
-/// The new literals: numbers close up. In the memory of a table that is needed no more.
-fn new_literals(aig: &Aig, reached: &Reached, spare: Substitution) -> Result<Substitution, NoMemory>
-    ensures { IfOk result (λ literals. literals ≡ new_literals aig.now (is_marked reached.now)) }
+/// Puts the new literals in the place of what the table held: numbers close up.
+pub(crate) fn put_new_literals(
+    aig: &Aig,
+    reached: &Reached,
+    literals: &mut Substitution,
+) -> Result<(), NoMemory>
+    ensures { OnOk result (literals.new ≡ new_literals aig.now (is_marked reached.now)) }
 {
     let first = aig.first_latch();
-    let mut literals = spare.renewed(first, aig.latches_and_gates())?;
+    literals.renew(first, aig.latches_and_gates())?;
     let mut next = first;
     for var in first..aig.variables() as u32 {
         literals.push(Lit::new(next, false))?;
         next += u32::from(reached.has(var));
     }
-    Ok(literals)
+    Ok(())
 }
 
 /// 1 where the latch is free, else 0.
@@ -47,27 +51,17 @@ fn one_if_free(latch: Latch) -> u32
 }
 
 impl<'a> Trim<'a> {
-    /// The graph without what isn't reached. The new literals take the memory of a table that is needed no more.
-    pub(crate) fn new(
-        aig: &'a Aig,
-        reached: &'a Reached,
-        spare: Substitution,
-    ) -> Result<Trim<'a>, NoMemory>
-        ensures aig { IfOk result (λ trim. trim.aig.now ≡ aig.now) }
-        ensures reached { IfOk result (λ trim. trim.reached.now ≡ reached.now) }
+    /// The graph without what isn't reached, by its new literals.
+    pub(crate) fn new(aig: &'a Aig, reached: &'a Reached, literals: &'a Substitution) -> Trim<'a>
+        requires { literals.now ≡ new_literals aig.now (is_marked reached.now) }
+        ensures aig { result.aig.now ≡ aig.now }
+        ensures reached { result.reached.now ≡ reached.now }
     {
-        let literals = new_literals(aig, reached, spare)?;
-        Ok(Trim {
+        Trim {
             aig,
             reached,
             literals,
-        })
-    }
-
-    /// The table of new literals, which is needed no more.
-    pub(crate) fn into_table(self) -> Substitution {
-        let Trim { literals, .. } = self;
-        literals
+        }
     }
 
     /// Whether the latch at a place stays.
@@ -153,7 +147,7 @@ impl<'a> Trim<'a> {
             (is_marked self.now.reached.now)) }
     {
         let aig = self.graph(alloc)?;
-        let props = props.mapped(alloc, &self.literals)?;
+        let props = props.mapped(alloc, self.literals)?;
         let symbols = trimmed_symbols(alloc, self, symbols)?;
         Ok(Circuit::new(aig, props, symbols))
     }

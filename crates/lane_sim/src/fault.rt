@@ -3,22 +3,20 @@ ghost use Rattle.std.specs.Prelude.{◌≡◌};
 
 use aig_graph::NoMemory;
 use std::alloc::{AllocError, AllocFailed};
+use std::fmt::{Debug, Display, Formatter};
+use std::{error, fmt};
 use thiserror::Error;
 
 /// Why bytes were not read as a stimulus. The number is the offset of the first byte of the line at fault.
-#[derive(Clone, Copy, Debug, Error)]
+#[derive(Clone, Copy)]
 pub enum StimError {
     /// A line is not a mark and digits, or it is a step before the first sequence.
-    #[error("BadLine at {0}")]
     BadLine(u64),
     /// A line has another number of digits than there are free latches or inputs.
-    #[error("Width at {0}")]
     Width(u64),
     /// There are more than 2^20 sequences.
-    #[error("TooMany at {0}")]
     TooMany(u64),
     /// Memory was refused.
-    #[error("out of memory")]
     NoMemory,
 }
 
@@ -59,6 +57,27 @@ impl StimError {
         }
     }
 }
+
+// written out: derived, each variant has an arm with steps of its own
+impl Debug for StimError {
+    fn fmt<W: fmt::Write>(&self, f: &mut Formatter<W>) -> fmt::Result {
+        match self.offset() {
+            Some(at) => write!(f, "{}({at})", self.name()),
+            None => f.write_str(self.name()),
+        }
+    }
+}
+
+impl Display for StimError {
+    fn fmt<W: fmt::Write>(&self, f: &mut Formatter<W>) -> fmt::Result {
+        match self.offset() {
+            Some(at) => write!(f, "{} at {at}", self.name()),
+            None => f.write_str("out of memory"),
+        }
+    }
+}
+
+impl error::Error for StimError {}
 
 impl From<AllocError> for StimError {
     ghost use Rattle.std.specs.Prelude.{◌≡◌};

@@ -1,5 +1,6 @@
 //! Which free latches of a circuit another one has: reading a list of them, and the stimulus of the first for the other.
-ghost use Rattle.std.specs.Prelude.{◌≡◌, IfOk, map, length};
+ghost use Rattle.std.specs.Prelude.{◌≡◌, IfOk, false, map, length};
+ghost use Rattle.std.specs.List.{slice_index_or};
 ghost use Rattle.file_words.specs.Answering.{Gives};
 ghost use Rattle.lane_sim.specs.Kept.{ArePlaces, for_kept, next_place, read_place};
 ghost use Rattle.lane_sim.specs.Kept as wanted;
@@ -90,6 +91,17 @@ fn sequence_for_kept(
     Ok(InputSequence { choice, steps })
 }
 
+/// The digit at a place, and false where there is none.
+fn digit_at(choice: &[bool], place: usize) -> bool
+    ensures { result ≡ slice_index_or choice.now place false }
+{
+    if place < choice.len() {
+        choice[place]
+    } else {
+        false
+    }
+}
+
 /// What these free latches hold at step 0.
 fn choice_for_kept(
     alloc: Global,
@@ -101,7 +113,7 @@ fn choice_for_kept(
     let choice = sequence.choice.as_slice();
     let mut values = Vec::with_capacity(alloc, kept.len())?;
     for place in kept {
-        values.push(choice.get(*place as usize).copied().unwrap_or(false))?;
+        values.push(digit_at(choice, *place as usize))?;
     }
     Ok(Sequence::from_vec(values))
 }

@@ -19,11 +19,21 @@ struct Group {
 }
 
 /// The groups of a turn, by class and signature, each with its name once it has one.
-#[derive(Drop)]
 pub(crate) struct Groups {
     places: IndexMap<Signature, usize>,
     groups: Vec<Group>,
     names: Vec<Lit>,
+}
+
+impl Drop for Groups {
+    // written out: docs/PROOFS.md, Drops and exits
+    fn drop(self) {
+        let Groups {
+            places: _places,
+            groups: _groups,
+            names: _names,
+        } = self;
+    }
 }
 
 impl Groups {
@@ -54,15 +64,13 @@ impl Groups {
 
     /// One more latch.
     pub(crate) fn add(&mut self, signature: Signature) -> Result<(), NoMemory> {
-        match self.find(&signature) {
-            Some(place) => {
-                if let Some(group) = self.groups.get_mut(place) {
-                    group.latches = group.latches.saturating_add(1);
-                }
-                Ok(())
-            }
-            None => self.begin(signature),
+        let Some(place) = self.find(&signature) else {
+            return self.begin(signature);
+        };
+        if place < self.groups.len() {
+            self.groups[place].latches = self.groups[place].latches.saturating_add(1);
         }
+        Ok(())
     }
 
     /// The name of a group.
@@ -94,6 +102,16 @@ fn short(place: usize) -> u32 {
     place.min(u32::MAX as usize) as u32
 }
 
+/// How many latches the group has that comes right before a place; none where there is no such group.
+fn size_before(groups: &[Group], place: u32) -> u32 {
+    let at = place.wrapping_sub(1) as usize;
+    if at < groups.len() {
+        groups[at].latches
+    } else {
+        0
+    }
+}
+
 /// The classes of latches, the constant's first, and then one for each latch that others may read as. Each but the constant's has for its name
 /// the variable that is as many after `before` as it is after the constant's.
 #[derive(Drop)]
@@ -111,8 +129,8 @@ impl Classes {
             classes: none,
         };
         classes.grow(Lit::FALSE);
-        for lit in reads {
-            classes.grow(*lit);
+        for k in 0..reads.len() {
+            classes.grow(reads[k]);
         }
         Ok(classes)
     }
@@ -120,18 +138,9 @@ impl Classes {
     /// One more variable has the name of a class.
     fn grow(&mut self, class: Lit) {
         let at = self.place(class);
-        if let Some(class) = self.classes.get_mut(at) {
-            class.size = class.size.saturating_add(1);
+        if at < self.classes.len() {
+            self.classes[at].size = self.classes[at].size.saturating_add(1);
         }
-    }
-
-    fn push(&mut self, size: u32) -> Result<(), NoMemory> {
-        self.classes.push(Class {
-            size,
-            leaving: 0,
-            largest: 0,
-        })?;
-        Ok(())
     }
 
     fn place(&self, class: Lit) -> usize {
@@ -142,43 +151,44 @@ impl Classes {
         }
     }
 
-    /// Counts a group, of which the largest before it has so many latches.
-    fn count(&mut self, group: &Group, place: u32, largest: u32) {
+    /// Counts the group at a place.
+    fn count(&mut self, groups: &[Group], group: &Group, place: u32) {
         let at = self.place(group.class);
-        if let Some(class) = self.classes.get_mut(at) {
+        if at < self.classes.len() {
+            let mut class = self.classes[at];
             class.leaving = class.leaving.saturating_add(group.latches);
-            if class.largest == 0 || largest < group.latches {
+            if (class.largest == 0) | (size_before(groups, class.largest) < group.latches) {
                 class.largest = place.saturating_add(1);
             }
+            self.classes[at] = class;
         }
-    }
-
-    /// The size of the largest group of a class so far.
-    fn largest(&self, groups: &[Group], class: Lit) -> u32 {
-        let place = self
-            .classes
-            .get(self.place(class))
-            .map_or(0, |it| it.largest);
-        groups
-            .get(place.wrapping_sub(1) as usize)
-            .map_or(0, |it| it.latches)
     }
 
     /// Whether the group at a place keeps the name of its class.
     fn keeps(&self, group: &Group, place: u32) -> bool {
-        self.classes.get(self.place(group.class)).is_some_and(|it| it.leaving == it.size
-            && it.largest == place.saturating_add(1))
+        let at = self.place(group.class);
+        if at >= self.classes.len() {
+            return false;
+        }
+        let class = self.classes[at];
+        (class.leaving == class.size) & (class.largest == place.saturating_add(1))
     }
 
     /// A group leaves its class for one of its own.
     fn part(&mut self, group: &Group) -> Result<Lit, NoMemory> {
         let at = self.place(group.class);
-        if let Some(class) = self.classes.get_mut(at) {
+        if at < self.classes.len() {
+            let mut class = self.classes[at];
             class.size = class.size.wrapping_sub(group.latches);
             class.leaving = class.leaving.wrapping_sub(group.latches);
+            self.classes[at] = class;
         }
         let var = (self.before as usize).saturating_add(self.classes.len());
-        self.push(group.latches)?;
+        self.classes.push(Class {
+            size: group.latches,
+            leaving: 0,
+            largest: 0,
+        })?;
         if var < MAX_VARIABLES {
             Ok(Lit::new(var as u32, false))
         } else {
@@ -186,27 +196,40 @@ impl Classes {
         }
     }
 
-    /// Names the groups of a turn.
-    pub(crate) fn name(&mut self, groups: &mut Groups) -> Result<(), NoMemory> {
-        for (place, group) in groups.groups.iter().enumerate() {
-            let largest = self.largest(groups.groups.as_slice(), group.class);
-            self.count(group, short(place), largest);
+    /// The name of the group at a place, where all groups are counted.
+    fn name_of(&mut self, group: &Group, place: u32) -> Result<Lit, NoMemory> {
+        if self.keeps(group, place) {
+            return Ok(group.class);
         }
-        for (place, group) in groups.groups.iter().enumerate() {
-            let name = if self.keeps(group, short(place)) {
-                group.class
-            } else {
-                self.part(group)?
-            };
-            groups.names.push(name)?;
+        self.part(group)
+    }
+
+    /// Nothing leaves a class any more.
+    fn settle(&mut self, class: Lit) {
+        let at = self.place(class);
+        if at < self.classes.len() {
+            self.classes[at].leaving = 0;
+            self.classes[at].largest = 0;
         }
-        for group in groups.groups.iter() {
-            let at = self.place(group.class);
-            if let Some(class) = self.classes.get_mut(at) {
-                class.leaving = 0;
-                class.largest = 0;
-            }
+    }
+
+    /// Puts the name of each group.
+    fn put_names(&mut self, groups: &[Group], names: &mut Vec<Lit>) -> Result<(), NoMemory> {
+        for place in 0..groups.len() {
+            self.count(groups, &groups[place], short(place));
+        }
+        for place in 0..groups.len() {
+            let name = self.name_of(&groups[place], short(place))?;
+            names.push(name)?;
+        }
+        for place in 0..groups.len() {
+            self.settle(groups[place].class);
         }
         Ok(())
+    }
+
+    /// Names the groups of a turn.
+    pub(crate) fn name(&mut self, groups: &mut Groups) -> Result<(), NoMemory> {
+        self.put_names(groups.groups.as_slice(), &mut groups.names)
     }
 }

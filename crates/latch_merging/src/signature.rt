@@ -18,9 +18,17 @@ pub(crate) struct Signature {
 }
 
 /// The first of each class and signature, by its own literal, negated where its reset is 1.
-#[derive(Drop)]
 pub(crate) struct FirstOfSignature {
     literals: IndexMap<Signature, Lit>,
+}
+
+impl Drop for FirstOfSignature {
+    // written out: docs/PROOFS.md, Drops and exits
+    fn drop(self) {
+        let FirstOfSignature {
+            literals: _literals,
+        } = self;
+    }
 }
 
 impl Model for FirstOfSignature {

@@ -2,12 +2,12 @@
 //! the signature of a latch is the name of its next literal, those of a class that leave their signature get another name, group by group,
 //! and then gates get the name of their fan-ins' pair. What reads a variable that got another name is marked, and what is marked alone
 //! is looked at, so a turn costs what it changes: a delay line no more than it is long.
-ghost use Rattle.std.specs.Prelude.{ℕ, List, true, ◌≡◌, ◌<◌, ◌+◌, ◌++◌, IfOk, IfSome, OnOk, length, replicate, slice_get, Some};
+ghost use Rattle.std.specs.Prelude.{ℕ, List, true, ◌≡◌, ◌<◌, ◌+◌, ◌++◌, ◌∷◌, [], IfOk, IfSome, OnOk, length, replicate, slice_get, Some};
 ghost use Rattle.aig_graph.specs.declared.graph.Gate.{Gate as Pair};
 ghost use Rattle.aig_graph.specs.Graph.{variable, first_latch, variables_end};
 ghost use Rattle.cleaned_circuits.specs.Merged.{replaced, replaced_gate};
 ghost use Rattle.merged_latches.specs.Readings.{from_reset, leaves};
-ghost use Rattle.latch_merging.specs.Rounds.{round_by};
+ghost use Rattle.latch_merging.specs.Rounds.{constant_signature, round_by};
 ghost use Rattle.latch_merging.specs.Names.{AreAtRest, AreLeaving, AreNamed, AreReaders, AreRegrouped, AreSignatures, IsRenamed, IsRough, IsUnmarked, class_of, group_name, renamed_latch, signature_by, AreCarried, AreGatesNamed, IsGateNamed, IsLeft};
 
 use crate::groups::{Classes, Groups};
@@ -240,7 +240,6 @@ fn rename_latches(
 }
 
 /// The names so far, what they were made of, and what is to be looked at again.
-#[derive(Drop)]
 struct Splitting {
     readers: Readers,
     marked: Marked,
@@ -253,6 +252,20 @@ struct Splitting {
     leaving: Marks,
 }
 
+impl Drop for Splitting {
+    // written out: docs/PROOFS.md, Drops and exits
+    fn drop(self) {
+        let Splitting {
+            readers: _readers,
+            marked: _marked,
+            names: _names,
+            signatures: _signatures,
+            pairs: _pairs,
+            leaving: _leaving,
+        } = self;
+    }
+}
+
 impl Splitting {
     /// Before any gate has a name; latches have those of a reading.
     fn start(alloc: Global, aig: &Aig, reads: &[Lit]) -> Result<Splitting, NoMemory>
@@ -263,15 +276,25 @@ impl Splitting {
             s.marked.gates s.leaving) }
     {
         let latches = aig.latches().len();
-        let readers = Readers::of(alloc, aig)?;
-        let names = first_names(alloc, aig, reads)?;
-        let signatures = vec![in alloc; Lit::FALSE; latches]?;
-        let marked = Marked {
-            latches: Marks::all(alloc, true, latches)?,
-            gates: Marks::all(alloc, true, aig.gates().len())?,
+        let (Ok(readers), Ok(names), Ok(signatures)) = (
+            Readers::of(alloc, aig),
+            first_names(alloc, aig, reads),
+            vec![in alloc; Lit::FALSE; latches],
+        ) else {
+            return Err(NoMemory);
         };
-        let leaving = Marks::all(alloc, false, latches)?;
-        let pairs = PairNames::none(alloc, aig, aig.first_gate() + latches as u32 + 1)?;
+        let (Ok(of_latches), Ok(of_gates), Ok(leaving), Ok(pairs)) = (
+            Marks::all(alloc, true, latches),
+            Marks::all(alloc, true, aig.gates().len()),
+            Marks::all(alloc, false, latches),
+            PairNames::none(alloc, aig, aig.first_gate() + latches as u32 + 1),
+        ) else {
+            return Err(NoMemory);
+        };
+        let marked = Marked {
+            latches: of_latches,
+            gates: of_gates,
+        };
         Ok(Splitting {
             readers,
             marked,
@@ -436,6 +459,29 @@ fn class_by(name: Lit, latch: &Latch) -> Signature
     }
 }
 
+/// The reading in which each latch reads as the first of its name, where nothing but the constant has a name yet.
+fn reads_by_names(
+    alloc: Global,
+    aig: &Aig,
+    held: &Held<'_>,
+    names: &[Lit],
+    firsts: &mut FirstOfSignature,
+) -> Result<Vec<Lit>, NoMemory>
+    requires held { length held.now.marks.items ≡ length aig.now.latches }
+    requires names { length names.now ≡ length aig.now.latches + length aig.now.gates }
+    requires firsts { firsts.old ≡ (constant_signature, 0) ∷ [] }
+    ensures { IfOk result (λ reads. reads.items
+        ≡ round_by aig.now held.now.positions.now (class_of names.now)) }
+{
+    let mut reads = Vec::with_capacity(alloc, aig.latches().len())?;
+    for (place, latch) in aig.latches().iter().enumerate() {
+        let class = class_by(names[place], latch);
+        let lit = next_read(firsts, aig, held, class, place, latch)?;
+        reads.push(lit)?;
+    }
+    Ok(reads)
+}
+
 /// The reading in which each latch reads as the first of its name.
 fn reading_by_names(
     alloc: Global,
@@ -449,13 +495,9 @@ fn reading_by_names(
         ≡ round_by aig.now held.now.positions.now (class_of names.now)) }
 {
     let mut firsts = FirstOfSignature::new(alloc)?;
-    let mut reads = Vec::with_capacity(alloc, aig.latches().len())?;
-    for (place, latch) in aig.latches().iter().enumerate() {
-        let class = class_by(names[place], latch);
-        let lit = next_read(&mut firsts, aig, held, class, place, latch)?;
-        reads.push(lit)?;
-    }
-    Ok(reads)
+    let reads = reads_by_names(alloc, aig, held, names, &mut firsts);
+    drop(firsts);
+    reads
 }
 
 /// What splitting makes of a reading, or none where names run out.

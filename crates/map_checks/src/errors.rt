@@ -1,24 +1,42 @@
 ghost use Rattle.std.specs.Prelude.{◌≡◌};
 
 use std::alloc::{AllocError, AllocFailed};
-use thiserror::Error;
+use std::error::Error;
+use std::fmt;
+use std::fmt::{Display, Formatter};
 
 /// Why a map isn't checked.
-#[derive(Clone, Copy, Debug, PartialEq, Eq, Error)]
+#[derive(Clone, Copy, Debug, PartialEq, Eq)]
 pub enum CheckError {
     /// Memory was refused.
-    #[error("out of memory")]
     NoMemory,
     /// Together the circuits have more gates than a graph may have.
-    #[error("too many variables")]
     TooLarge,
     /// The map has a latch, a bad state, a justice property or a fairness constraint.
-    #[error("not a map")]
     NotAMap,
     /// The circuits differ in their inputs or properties, or the map in its inputs or outputs from their latches.
-    #[error("shapes differ")]
     ShapesDiffer,
 }
+
+impl CheckError {
+    fn text(self) -> &'static str {
+        match self {
+            CheckError::NoMemory => "out of memory",
+            CheckError::TooLarge => "too many variables",
+            CheckError::NotAMap => "not a map",
+            CheckError::ShapesDiffer => "shapes differ",
+        }
+    }
+}
+
+// written out: derived, each variant's message has an arm with steps of its own
+impl Display for CheckError {
+    fn fmt<W: fmt::Write>(&self, f: &mut Formatter<W>) -> fmt::Result {
+        f.write_str(self.text())
+    }
+}
+
+impl Error for CheckError {}
 
 /// Why gates aren't shared.
 pub(crate) enum SharingError {

@@ -109,10 +109,19 @@ impl SharedGates {
     fn listed(&self, gate: &Gate) -> Option<usize>
         ensures { IfSome result (λ place. slice_get self.now.gates place ≡ Some gate.now) }
     {
-        let mut link = self.lists.get(gate.rhs0.var() as usize)?.last;
+        let var = gate.rhs0.var() as usize;
+        if var >= self.lists.len() {
+            return None;
+        }
+        let mut link = self.lists[var].last;
         for _ in 0..LONGEST {
-            let place = (link as usize).checked_sub(1)?;
-            let shared = self.gates.get(place)?;
+            if link == 0 {
+                return None;
+            }
+            let place = (link - 1) as usize;
+            let Some(shared) = self.gates.get(place) else {
+                return None;
+            };
             if shared.gate == *gate {
                 return Some(place);
             }

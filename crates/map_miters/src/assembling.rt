@@ -1,5 +1,5 @@
 //! The questions as a circuit.
-ghost use Rattle.std.specs.Prelude.{◌≡◌, ◌+◌, [], IfOk, length};
+ghost use Rattle.std.specs.Prelude.{◌≡◌, ◌+◌, ◌++◌, ◌∷◌, [], IfOk, OnOk, length};
 ghost use Rattle.aig_graph.specs.Building.{without_gates};
 ghost use Rattle.aig_graph.specs.Circuits.{IsNetlist, no_symbols};
 ghost use Rattle.aig_graph.specs.Graph.{IsGraph};
@@ -22,15 +22,39 @@ fn question_name(alloc: Global, position: u32, text: &str) -> Result<Symbol, NoM
     })
 }
 
+/// Puts a name at the next position after those before.
+fn push_name(
+    alloc: Global,
+    names: &mut Vec<Symbol>,
+    position: u32,
+    text: &str,
+) -> Result<(), NoMemory>
+    ensures { OnOk result (names.new.items
+        ≡ names.old.items ++ question_name position text.now ∷ []) }
+{
+    let name = question_name(alloc, position, text)?;
+    names.push(name)?;
+    Ok(())
+}
+
+/// Puts the names of the outputs.
+fn push_names(alloc: Global, names: &mut Vec<Symbol>) -> Result<(), NoMemory>
+    requires { names.old.items ≡ [] }
+    ensures { OnOk result (names.new.items ≡ question_names) }
+{
+    push_name(alloc, names, 0, "reset")?;
+    push_name(alloc, names, 1, "keep")?;
+    push_name(alloc, names, 2, "next")?;
+    push_name(alloc, names, 3, "read")?;
+    Ok(())
+}
+
 /// The names of the outputs.
 fn question_names(alloc: Global) -> Result<Sequence<Symbol>, NoMemory>
     ensures { IfOk result (λ names. names ≡ question_names) }
 {
     let mut names = Vec::with_capacity(alloc, 4)?;
-    names.push(question_name(alloc, 0, "reset")?)?;
-    names.push(question_name(alloc, 1, "keep")?)?;
-    names.push(question_name(alloc, 2, "next")?)?;
-    names.push(question_name(alloc, 3, "read")?)?;
+    push_names(alloc, &mut names)?;
     Ok(Sequence::from_vec(names))
 }
 
@@ -48,12 +72,9 @@ fn symbols_of_questions(alloc: Global) -> Result<Symbols, NoMemory>
 fn failure_list(alloc: Global, failures: Failures) -> Result<Vec<Lit>, NoMemory>
     ensures { IfOk result (λ lits. lits.items ≡ failure_list failures) }
 {
-    let mut lits = Vec::with_capacity(alloc, 4)?;
-    lits.push(failures.reset)?;
-    lits.push(failures.keep)?;
-    lits.push(failures.next)?;
-    lits.push(failures.read)?;
-    Ok(lits)
+    let lits = [failures.reset, failures.keep, failures.next, failures.read];
+    let list = Vec::from_slice(alloc, &lits)?;
+    Ok(list)
 }
 
 /// The graph, its outputs and their names as a circuit. Takes no memory.

@@ -18,7 +18,7 @@ use map_circuits::add_conjunction;
 use std::alloc::Global;
 
 /// What is good.
-#[derive(Clone, Copy, Debug, PartialEq, Eq)]
+#[derive(Clone, Copy)]
 pub enum Goal {
     /// That all properties of both circuits have the same values: what a model asks.
     Agree,

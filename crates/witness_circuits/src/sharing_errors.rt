@@ -2,7 +2,7 @@ use std::alloc::{AllocError, AllocFailed};
 use thiserror::Error;
 
 /// Why it isn't known what a witness circuit shares with the model.
-#[derive(Clone, Copy, Debug, PartialEq, Eq, Error)]
+#[derive(Clone, Copy, Debug, Error)]
 pub enum SharingError {
     /// Memory was refused.
     #[error("out of memory")]

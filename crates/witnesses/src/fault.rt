@@ -2,32 +2,27 @@
 ghost use Rattle.std.specs.Prelude.{◌≡◌};
 
 use std::alloc::{AllocError, AllocFailed};
-use thiserror::Error;
+use std::error::Error;
+use std::fmt;
+use std::fmt::{Debug, Display, Formatter};
 
 /// Why bytes were not read as a witness. The number is the offset of the first byte of the line at fault; a line that is missing would
 /// begin at the end.
-#[derive(Clone, Copy, Debug, Error)]
+#[derive(Clone, Copy)]
 pub enum WitnessError {
     /// The first line isn't `1`: a checker that found no way to a bad state writes `0` or `2`.
-    #[error("BadHeader at {0}")]
     BadHeader(u64),
     /// A line has another form than the one that comes next.
-    #[error("BadLine at {0}")]
     BadLine(u64),
     /// A line has another number of values than there are latches or inputs.
-    #[error("Width at {0}")]
     Width(u64),
     /// The circuit has no property of a number that is named.
-    #[error("NoSuchProperty at {0}")]
     NoSuchProperty(u64),
     /// The text ends before the line that ends a witness.
-    #[error("Truncated at {0}")]
     Truncated(u64),
     /// A line that is no comment follows the end.
-    #[error("Trailing at {0}")]
     Trailing(u64),
     /// Memory was refused.
-    #[error("out of memory")]
     NoMemory,
 }
 
@@ -79,6 +74,27 @@ impl WitnessError {
         }
     }
 }
+
+// written out: derived, each variant has an arm with steps of its own
+impl Debug for WitnessError {
+    fn fmt<W: fmt::Write>(&self, f: &mut Formatter<W>) -> fmt::Result {
+        match self.offset() {
+            Some(at) => write!(f, "{}({at})", self.name()),
+            None => f.write_str(self.name()),
+        }
+    }
+}
+
+impl Display for WitnessError {
+    fn fmt<W: fmt::Write>(&self, f: &mut Formatter<W>) -> fmt::Result {
+        match self.offset() {
+            Some(at) => write!(f, "{} at {at}", self.name()),
+            None => f.write_str("out of memory"),
+        }
+    }
+}
+
+impl Error for WitnessError {}
 
 impl From<AllocError> for WitnessError {
     ghost use Rattle.std.specs.Prelude.{◌≡◌};

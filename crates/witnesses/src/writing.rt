@@ -83,10 +83,12 @@ fn put_all_spaced<W: CountedWrite>(out: &mut Buffered<'_, W>, properties: &[Prop
 fn put_properties<W: CountedWrite>(out: &mut Buffered<'_, W>, properties: &[Property])
     ensures { Puts W.output out.old out.new (properties_text properties.now) }
 {
-    if let Some((first, others)) = properties.split_first() {
-        put_property(out, *first);
-        put_all_spaced(out, others);
-    }
+    let Some((first, others)) = properties.split_first() else {
+        out.put_byte(b'\n');
+        return;
+    };
+    put_property(out, *first);
+    put_all_spaced(out, others);
     out.put_byte(b'\n');
 }
 

@@ -11,18 +11,18 @@ pub mapped-requires : goal.mapped-requires
 mapped-requires c =
     let g : Graph = c.args.circuit.now.aig in
     let substitutes : List ℕ = c.args.substitutes.now in
-    let long : length substitutes ≡ variables_end g = substitutes-long g c.args.held.now.positions.now substitutes c.requires in
+    let long : length substitutes ≡ variables_end g = substitutes-long g c.args.held.now substitutes c.requires in
     let P : Props → Type 0 = λ p. OfProps (λ lit. variable lit < length substitutes) p in
     subst P (sym c.props.ensures.value) (props-within g c.args.circuit.now.props (length substitutes) c.props.ensures.netlist.props long)
 
 pub replaced_aig-requires-clause-long : goal.replaced_aig-requires-clause-long
 replaced_aig-requires-clause-long c =
-    substitutes-long c.aig.result.now c.args.held.now.positions.now c.args.substitutes.now (c.requires ∙ ap (λ (h : Graph). substitutes_of h c.args.held.now.positions.now) (sym c.aig.ensures.value))
+    substitutes-long c.aig.result.now c.args.held.now c.args.substitutes.now (c.requires ∙ ap (λ (h : Graph). substitutes_of h c.args.held.now) (sym c.aig.ensures.value))
 
 pub replaced_aig-requires-clause-graph : goal.replaced_aig-requires-clause-graph
 replaced_aig-requires-clause-graph c =
     let g : Graph = c.aig.result.now in
-    let held : List ℕ = c.args.held.now.positions.now in
+    let held : List ℕ = c.args.held.now in
     let substitutes : c.args.substitutes.now ≡ substitutes_of g held = c.requires ∙ ap (λ (h : Graph). substitutes_of h held) (sym c.aig.ensures.value) in
     let valid : IsGraph g = subst (λ (h : Graph). IsGraph h) (sym c.aig.ensures.value) c.aig.ensures.graph in
     subst (λ (xs : List ℕ). IsGraph (replaced_graph xs g)) (sym substitutes) (IsGraph-merged g held valid)

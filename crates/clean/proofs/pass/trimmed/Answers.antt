@@ -13,32 +13,32 @@ use Rattle.clean.proofs.pass.trimmed.Goals as goal
 
 pub circuit-requires-clause-graph : goal.circuit-requires-clause-graph
 circuit-requires-clause-graph c =
-    subst (λ (g : Graph). IsGraph g) (sym (same-graph c.in_ok-trim.trim.aig.now c.args.merged.now.aig c.in_ok-trim.trim.reached.now c.args.reached.now c.in_ok-trim.ensures.aig c.in_ok-trim.ensures.reached))
+    subst (λ (g : Graph). IsGraph g) (sym (same-graph c.new-trim.result.aig.now c.args.merged.now.aig c.new-trim.result.reached.now c.args.reached.now c.new-trim.ensures.aig c.new-trim.ensures.reached))
     (pass-graph c.args.circuit.now c.args.held.now c.requires.graph c.symbols-symbols.ensures.netlist c.args.merged.now.aig c.args.merged.now.props c.requires.aig c.requires.props
     (is_marked c.args.reached.now) c.requires.reached)
 
 pub circuit-requires-clause-props : goal.circuit-requires-clause-props
 circuit-requires-clause-props c =
-    subst (λ (g : Graph). OfProps (λ (lit : ℕ). IsLiteralOf g lit) c.args.merged.now.props) (sym c.in_ok-trim.ensures.aig)
+    subst (λ (g : Graph). OfProps (λ (lit : ℕ). IsLiteralOf g lit) c.args.merged.now.props) (sym c.new-trim.ensures.aig)
     (merged-props c.args.circuit.now c.args.held.now c.requires.graph c.symbols-symbols.ensures.netlist c.args.merged.now.aig c.args.merged.now.props c.requires.aig c.requires.props)
 
 pub circuit-requires-clause-names : goal.circuit-requires-clause-names
 circuit-requires-clause-names c =
     let names = merged-names c.args.circuit.now c.args.held.now c.requires.graph c.symbols-symbols.ensures.netlist c.args.merged.now.aig c.args.merged.now.props c.requires.aig c.requires.props in
-    subst (λ (g : Graph). All (λ (name : Symbol). name.position < length g.latches) c.symbols-symbols.result.now.latches) (sym c.in_ok-trim.ensures.aig)
+    subst (λ (g : Graph). All (λ (name : Symbol). name.position < length g.latches) c.symbols-symbols.result.now.latches) (sym c.new-trim.ensures.aig)
     (subst (λ (y : Symbols). All (λ (name : Symbol). name.position < length c.args.merged.now.aig.latches) y.latches) (sym c.symbols-symbols.ensures.value) names)
 
 pub circuit-requires-clause-netlist : goal.circuit-requires-clause-netlist
 circuit-requires-clause-netlist c =
     subst (λ (d : Netlist). IsNetlist d)
-    (sym (same-trimmed c.in_ok-trim.trim.aig.now c.args.merged.now.aig c.args.merged.now.props c.symbols-symbols.result.now c.args.circuit.now.symbols c.in_ok-trim.trim.reached.now c.args.reached.now
-    c.in_ok-trim.ensures.aig c.symbols-symbols.ensures.value c.in_ok-trim.ensures.reached))
+    (sym (same-trimmed c.new-trim.result.aig.now c.args.merged.now.aig c.args.merged.now.props c.symbols-symbols.result.now c.args.circuit.now.symbols c.new-trim.result.reached.now c.args.reached.now
+    c.new-trim.ensures.aig c.symbols-symbols.ensures.value c.new-trim.ensures.reached))
     (pass-netlist c.args.circuit.now c.args.held.now c.requires.graph c.symbols-symbols.ensures.netlist c.args.merged.now.aig c.args.merged.now.props c.requires.aig c.requires.props
     (is_marked c.args.reached.now) c.requires.reached)
 
 pub new_positions-requires : goal.new_positions-requires
 new_positions-requires c =
-    subst (λ (g : Graph). All (λ (j : ℕ). j < length g.latches) c.args.held.now) (sym c.in_ok-trim.ensures.aig)
+    subst (λ (g : Graph). All (λ (j : ℕ). j < length g.latches) c.args.held.now) (sym c.new-trim.ensures.aig)
     (merged-range c.args.circuit.now c.args.held.now c.requires.graph c.symbols-symbols.ensures.netlist c.args.merged.now.aig c.args.merged.now.props c.requires.aig c.requires.props c.requires.in_range)
 
 pub returns : goal.returns
@@ -46,19 +46,19 @@ returns c =
     let held : List ℕ = c.args.held.now in
     let m : Netlist = merged_of held c.args.circuit.now in
     let s : ℕ → Bool = is_marked c.args.reached.now in
-    let at : c.in_ok-trim.trim.aig.now ≡ m.aig = c.in_ok-trim.ensures.aig ∙ c.requires.aig in
+    let at : c.new-trim.result.aig.now ≡ m.aig = c.new-trim.ensures.aig ∙ c.requires.aig in
     record {
       pass = record {
         reached = s;
         are_reached = pass-reached c.args.circuit.now held c.requires.graph c.symbols-symbols.ensures.netlist c.args.merged.now.aig c.args.merged.now.props c.requires.aig c.requires.props s c.requires.reached;
         circuit = c.in_ok-circuit.ensures
-            ∙ same-trimmed c.in_ok-trim.trim.aig.now c.args.merged.now.aig c.args.merged.now.props c.symbols-symbols.result.now c.args.circuit.now.symbols c.in_ok-trim.trim.reached.now c.args.reached.now
-            c.in_ok-trim.ensures.aig c.symbols-symbols.ensures.value c.in_ok-trim.ensures.reached
+            ∙ same-trimmed c.new-trim.result.aig.now c.args.merged.now.aig c.args.merged.now.props c.symbols-symbols.result.now c.args.circuit.now.symbols c.new-trim.result.reached.now c.args.reached.now
+            c.new-trim.ensures.aig c.symbols-symbols.ensures.value c.new-trim.ensures.reached
             ∙ ap (λ (d : Netlist). trimmed_of d s)
             (whole c.args.circuit.now held c.requires.graph c.symbols-symbols.ensures.netlist c.args.merged.now.aig c.args.merged.now.props c.requires.aig c.requires.props);
-        free = c.in_ok-kept_free.ensures ∙ ap (λ (g : Graph). kept_free g (is_marked c.in_ok-trim.trim.reached.now)) at ∙ ap (λ (f : Front). kept_free m.aig (is_marked f)) c.in_ok-trim.ensures.reached;
-        positions = c.in_ok-held.ensures ∙ ap (λ (g : Graph). map (new_position g (is_marked c.in_ok-trim.trim.reached.now)) held) at
-            ∙ ap (λ (f : Front). map (new_position m.aig (is_marked f)) held) c.in_ok-trim.ensures.reached;
+        free = c.in_ok-kept_free.ensures ∙ ap (λ (g : Graph). kept_free g (is_marked c.new-trim.result.reached.now)) at ∙ ap (λ (f : Front). kept_free m.aig (is_marked f)) c.new-trim.ensures.reached;
+        positions = c.in_ok-held.ensures ∙ ap (λ (g : Graph). map (new_position g (is_marked c.new-trim.result.reached.now)) held) at
+            ∙ ap (λ (f : Front). map (new_position m.aig (is_marked f)) held) c.new-trim.ensures.reached;
       };
       leaves = refl;
     }

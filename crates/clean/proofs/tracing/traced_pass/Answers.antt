@@ -12,16 +12,16 @@ pub reach_everything-requires-clause-held : goal.reach_everything-requires-claus
 reach_everything-requires-clause-held c =
     let held : List ℕ = c.args.held.now in
     let n : Netlist = c.args.circuit.now in
-    let aig : c.in_ok-merged.merged.aig ≡ (merged_of held n).aig = c.in_ok-merged.ensures.aig ∙ ap (λ (xs : List ℕ). (merged_of xs n).aig) c.in_ok-marks.ensures.positions in
-    let props : c.in_ok-merged.merged.props ≡ (merged_of held n).props = c.in_ok-merged.ensures.props ∙ ap (λ (xs : List ℕ). (merged_of xs n).props) c.in_ok-marks.ensures.positions in
+    let aig : c.in_ok-merged.merged.aig ≡ (merged_of held n).aig = c.in_ok-merged.ensures.aig in
+    let props : c.in_ok-merged.merged.props ≡ (merged_of held n).props = c.in_ok-merged.ensures.props in
     merged-range n held c.aig.ensures.graph c.aig.ensures.netlist c.in_ok-merged.merged.aig c.in_ok-merged.merged.props aig props c.requires
 
 pub reach_everything-requires-clause-props : goal.reach_everything-requires-clause-props
 reach_everything-requires-clause-props c =
     let held : List ℕ = c.args.held.now in
     let n : Netlist = c.args.circuit.now in
-    let aig : c.in_ok-merged.merged.aig ≡ (merged_of held n).aig = c.in_ok-merged.ensures.aig ∙ ap (λ (xs : List ℕ). (merged_of xs n).aig) c.in_ok-marks.ensures.positions in
-    let props : c.in_ok-merged.merged.props ≡ (merged_of held n).props = c.in_ok-merged.ensures.props ∙ ap (λ (xs : List ℕ). (merged_of xs n).props) c.in_ok-marks.ensures.positions in
+    let aig : c.in_ok-merged.merged.aig ≡ (merged_of held n).aig = c.in_ok-merged.ensures.aig in
+    let props : c.in_ok-merged.merged.props ≡ (merged_of held n).props = c.in_ok-merged.ensures.props in
     merged-props n held c.aig.ensures.graph c.aig.ensures.netlist c.in_ok-merged.merged.aig c.in_ok-merged.merged.props aig props
 
 pub returns : goal.returns
@@ -33,6 +33,6 @@ returns c =
     let by_marks : (g : Graph) (r : ℕ → Bool) → List Bool = λ g r. table 0 (length g.latches) (λ j. r (first_latch g + j)) in
     record {
       pass = is.pass;
-      substitutes = c.in_ok-substitutes.ensures ∙ ap (λ (js : List ℕ). by_stands c.aig-3.result.now js) c.in_ok-marks.ensures.positions ∙ ap (λ (g : Graph). by_stands g held) c.aig-3.ensures.value;
-      stays = c.in_ok-stays.ensures ∙ ap (λ (g : Graph). by_marks g (is_marked c.in_ok-reached.reached)) c.aig-4.ensures.value ∙ ap (by_marks n.aig) (sym is.leaves);
+      substitutes = c.in_ok-substitutes.ensures ∙ ap (λ (g : Graph). by_stands g held) c.aig-2.ensures.value;
+      stays = c.in_ok-stays.ensures ∙ ap (λ (g : Graph). by_marks g (is_marked c.in_ok-reached.reached)) c.aig-3.ensures.value ∙ ap (by_marks n.aig) (sym is.leaves);
     }

@@ -28,3 +28,21 @@ loop-step-preserved c =
           subst (λ rows. P t (slice_get rows t)) (sym c.in_ok-push.ensures.items)
           (pushed P c.loop-step.rows.items row c.loop-step.step held.long (λ n m. held.each k n h m) (c.in_ok-row.ensures.row k h) t l);
     }
+
+pub open-requires-clause-lanes : goal.open-requires-clause-lanes
+open-requires-clause-lanes c = c.requires.lanes
+
+pub open-requires-clause-room : goal.open-requires-clause-room
+open-requires-clause-room c = c.in_ok-state.ensures
+
+pub simulate_step-requires-clause-lanes : goal.simulate_step-requires-clause-lanes
+simulate_step-requires-clause-lanes c = c.requires.lanes
+
+pub simulate_step-requires-clause-literals : goal.simulate_step-requires-clause-literals
+simulate_step-requires-clause-literals c = c.requires.literals
+
+pub simulate_step-requires-clause-state : goal.simulate_step-requires-clause-state
+simulate_step-requires-clause-state c = c.loop-step.invariant.state
+
+pub simulate_step-requires-clause-values : goal.simulate_step-requires-clause-values
+simulate_step-requires-clause-values c = c.loop-step.invariant.values

@@ -10,3 +10,12 @@ returns c = λ k h state.
     (λ i l. c.loop-k.invariant.loaded i k (omega (arith, inputs)) h ∙ digit_loaded c.args.sequences.now k c.loop-k.k c.args.step i c.loop-k-test.false)
     (c.loop-k.invariant.constant)
     (λ v l. c.loop-k.invariant.after v (omega (arith, inputs)))
+
+pub clear_inputs-requires : goal.clear_inputs-requires
+clear_inputs-requires c = omega (arith, c.requires.variables, c.inputs-inputs.ensures.value)
+
+pub load_row-requires-clause-inputs : goal.load_row-requires-clause-inputs
+load_row-requires-clause-inputs c = omega (arith, c.requires.variables, c.inputs-inputs.ensures.value, c.loop-k.auto.table)
+
+pub load_row-requires-clause-lane : goal.load_row-requires-clause-lane
+load_row-requires-clause-lane c = omega (arith, c.requires.lanes, c.loop-k-test.true)

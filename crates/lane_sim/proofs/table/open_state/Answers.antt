@@ -24,3 +24,6 @@ loop-j-preserved c =
 
 pub returns : goal.returns
 returns c = λ k h. record { each = λ j less. c.loop-j.invariant.before k j h (omega (arith, less, c.loop-j-test.false, ap length c.latches-latch-items.ensures.value)) }
+
+pub opening_lanes-requires : goal.opening_lanes-requires
+opening_lanes-requires c = c.requires.lanes

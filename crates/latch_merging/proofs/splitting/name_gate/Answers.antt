@@ -27,3 +27,21 @@ returns c = λ _.
     IsRenamed g (length xs + c.args.place) c.in-Some.name names c.rename.new.names.items c.args.marked.now.latches c.rename.new.marked.latches c.args.marked.now.gates c.rename.new.marked.gates in
     gate-named g c.gates.ensures.graph c.args.place c.in-Some.name gate names c.rename.new.names.items c.args.pairs.now c.name.new.self c.args.marked.now.latches c.rename.new.marked.latches
     c.args.marked.now.gates c.rename.new.marked.gates there c.requires.long (subst Q pair (subst P c.in-Some.is c.in_ok-name.ensures)) (subst R c.latches.ensures.value c.rename.ensures)
+
+pub rename-requires-clause-readers : goal.rename-requires-clause-readers
+rename-requires-clause-readers c = c.requires.readers
+
+pub rename-requires-clause-long : goal.rename-requires-clause-long
+rename-requires-clause-long c = c.requires.long
+
+pub rename-requires-clause-latches : goal.rename-requires-clause-latches
+rename-requires-clause-latches c = c.requires.latches
+
+pub rename-requires-clause-gates : goal.rename-requires-clause-gates
+rename-requires-clause-gates c = c.requires.gates
+
+pub named-requires-clause-long : goal.named-requires-clause-long
+named-requires-clause-long c = ap (λ (xs : List ℕ). length xs) c.as_slice.ensures.value ∙ c.requires.long
+
+pub named-requires-2-clause-long : goal.named-requires-2-clause-long
+named-requires-2-clause-long c = ap (λ (xs : List ℕ). length xs) c.as_slice-2.ensures.value ∙ c.requires.long

@@ -26,3 +26,21 @@ loop-preserved c =
     c.in-Some.ensures
     (c.name_by_group-name.ensures ∙ ap (λ (n : ℕ). renamed_latch places given n c.index-signatures-place.result latch) class ∙ ap (λ (n : ℕ). renamed_latch places given (read names k) n latch) signature)
     c.rename.ensures
+
+pub index-requires : goal.index-requires
+index-requires c = omega (arith, c.in-Some.ensures.0, c.loop.invariant.long_leaving, c.requires.leaving, c.loop.invariant.carried.long_names, c.requires.names)
+
+pub rename-requires-clause-readers : goal.rename-requires-clause-readers
+rename-requires-clause-readers c = c.requires.readers
+
+pub rename-requires-clause-entry : goal.rename-requires-clause-entry
+rename-requires-clause-entry c = omega (arith, c.in-Some.ensures.0, c.loop.invariant.long_leaving, c.requires.leaving, c.loop.invariant.carried.long_names, c.requires.names)
+
+pub rename-requires-clause-long : goal.rename-requires-clause-long
+rename-requires-clause-long c = c.loop.invariant.carried.long_names ∙ c.requires.names
+
+pub rename-requires-clause-latches : goal.rename-requires-clause-latches
+rename-requires-clause-latches c = c.loop.invariant.carried.long_latches ∙ c.requires.latches
+
+pub rename-requires-clause-gates : goal.rename-requires-clause-gates
+rename-requires-clause-gates c = c.loop.invariant.carried.long_gates ∙ c.requires.gates

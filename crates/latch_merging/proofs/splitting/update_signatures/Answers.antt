@@ -36,3 +36,15 @@ loop-preserved c =
     (ap (λ (b : Bool). b && c.ne.result) c.may_merge.ensures
     ∙ ap (λ (b : Bool). may_merge held k latch && b) (c.ne.ensures ∙ ap (λ (n : ℕ). not (nat_eq n name)) (item-read signatures k c.index.result.now within c.index.ensures)))
     c.in_ok-leave.ensures
+
+pub signature_now-signature-requires-clause-long : goal.signature_now-signature-requires-clause-long
+signature_now-signature-requires-clause-long c = c.requires.names
+
+pub may_merge-requires : goal.may_merge-requires
+may_merge-requires c = omega (arith, c.in-Some.ensures.0, c.loop.invariant.long_latches, c.requires.held)
+
+pub index-requires : goal.index-requires
+index-requires c = omega (arith, c.in-Some.ensures.0, c.loop.invariant.long_latches, c.loop.invariant.long)
+
+pub index_mut-requires : goal.index_mut-requires
+index_mut-requires c = omega (arith, c.in-Some.ensures.0, c.loop.invariant.long_latches, c.loop.invariant.long)

@@ -1,6 +1,7 @@
 use Rattle.std.proofs.Common.{subst}
 use Rattle.aig_graph.specs.Graph.{Graph}
 use Rattle.map_checks.specs.Equal.{Equal, StaysRight}
+use Rattle.map_checks.specs.Shared.{Shared}
 use Rattle.map_checks.specs.Images.{IsFaithfulCopy, Learns, in_map, in_second_mapped}
 use Rattle.map_checks.proofs.SharedLaws.{grows-transitive}
 use Rattle.map_checks.proofs.ImageLaws.{shared-later}
@@ -26,3 +27,15 @@ returns-clause-sides c =
     c.in_ok-after.ensures.grows
     (subst (λ (h : Graph). (e : Equal) → StaysRight e c.later_side.new.equal → IsFaithfulCopy c.later_side.new.shared e h c.args.map.now.aig (in_map c.args.map.now) c.in_ok-image.image
     → IsFaithfulCopy c.second_side.new.shared e h c.args.second.now.aig (in_second_mapped c.args.second.now c.args.map.now) c.in_ok-after.after) c.aig-3.ensures.value c.in_ok-after.ensures.view)
+
+pub returns-clause-grows : goal.returns-clause-grows
+returns-clause-grows c =
+    let k : Shared = c.args.shared.now in
+    let k1 : Shared = c.learn_all.new.shared in
+    let k2 : Shared = c.image.new.shared in
+    let k3 : Shared = c.first_side.new.shared in
+    let k4 : Shared = c.later_side.new.shared in
+    let k5 : Shared = c.second_side.new.shared in
+    grows-transitive k k4 k5
+    (grows-transitive k k3 k4 (grows-transitive k k2 k3 (grows-transitive k k1 k2 c.in_ok-learn_all.ensures.grows c.in_ok-image.ensures.grows) c.in_ok-before.ensures.grows) c.in_ok-later.ensures.grows)
+    c.in_ok-after.ensures.grows

@@ -1,9 +1,9 @@
-use Rattle.std.proofs.Common.{◌≡◌, ◌∙◌, List, Some, ap, sym, refl, length, slice_get, ℕ, zero-add}
+use Rattle.std.proofs.Common.{◌≡◌, ◌∙◌, List, Some, ap, arith, sym, refl, length, slice_get, ℕ, zero-add}
 use Rattle.std.proofs.lemmas.Option.{slice_get_read}
 use Rattle.aig_graph.specs.declared.graph.Latch.{Latch}
 use Rattle.aig_graph.specs.Graph.{Graph, free_before}
 use Rattle.aig_graph.proofs.FreeLaws.{free-more}
-use Rattle.variable_tables.proofs.TableLaws.{entry, table-none}
+use Rattle.variable_tables.proofs.TableLaws.{entry, table-end, table-none}
 use Rattle.map_checks.proofs.starting.free_places.Goals as goal
 
 pub loop-latch-init : goal.loop-latch-init
@@ -24,3 +24,10 @@ loop-latch-preserved c =
       places = entry 0 k (free_before g) c.loop-latch.places.items c.push.new.self.items c.loop-latch.free c.loop-latch.invariant.places c.in_ok-push.ensures.items (c.loop-latch.invariant.free ∙ ap (free_before g) (sym (zero-add k)));
       free = free-more g k c.loop-latch.free c.one_if_free-free.result latch there c.loop-latch.invariant.free c.one_if_free-free.ensures.value;
     }
+
+pub returns : goal.returns
+returns c =
+    let g : Graph = c.args.aig.now in
+    let many = ap (λ (xs : List Latch). length xs) c.latches-latch-items.ensures.value in
+    table-end 0 c.loop-latch.latch-index (length g.latches) (free_before g) c.loop-latch.places.items (omega (arith, c.loop-latch.auto.latch-index-end, many)) (omega (arith, c.loop-latch-test.false, many))
+    c.loop-latch.invariant.places

@@ -1,4 +1,4 @@
-use Rattle.std.proofs.Common.{ℕ, ◌+◌, ◌*◌, ◌≡◌, ◌∙◌, List, Some, ap₂, arith, get_or, length, slice_get, sym}
+use Rattle.std.proofs.Common.{ℕ, ◌+◌, ◌*◌, ◌≡◌, ◌∙◌, List, Some, ap, ap₂, arith, get_or, length, slice_get, sym}
 use Rattle.std.proofs.lemmas.Option.{get_or_from_slice_get}
 use Rattle.aig_graph.specs.declared.graph.Latch.{Latch}
 use Rattle.aig_graph.specs.Graph.{Graph, first_latch}
@@ -24,3 +24,23 @@ loop-place-preserved c =
           ∙ ap₂ (λ (x : Latch) (lit : ℕ). opening_literal x.reset lit) (read ∙ get_or_from_slice_get g.latches (length old) l c.latch-item.result there) own)
           j (omega (arith, less, long)) latch;
     }
+
+pub overflow_add-first : goal.overflow_add-first
+overflow_add-first c =
+    omega (
+      arith,
+      c.first_latch-first.ensures.value,
+      c.first_latch-first.ensures.graph.small,
+      c.loop-place-test.true,
+      ap (λ (xs : List Latch). length xs) c.latches-latch-items.ensures.value,
+    )
+
+pub new-own-requires : goal.new-own-requires
+new-own-requires c =
+    omega (
+      arith,
+      c.first_latch-first.ensures.value,
+      c.first_latch-first.ensures.graph.small,
+      c.loop-place-test.true,
+      ap (λ (xs : List Latch). length xs) c.latches-latch-items.ensures.value,
+    )

@@ -1,6 +1,6 @@
-use Rattle.std.proofs.Common.{ℕ, ◌≡◌, ◌<◌, ◌∙◌, List, arith, ap, subst, length, get_or}
+use Rattle.std.proofs.Common.{ℕ, ◌≡◌, ◌<◌, ◌∙◌, List, arith, ap, subst, length, get_or, sym}
 use Rattle.aig_graph.specs.Graph.{Graph}
-use Rattle.map_circuits.specs.Constraining.{AddsEquality, substitute_function}
+use Rattle.map_circuits.specs.Constraining.{AddsEquality, substitute_function, IsSubstitute}
 use Rattle.map_circuits.proofs.ConstrainingLaws.{read-entry, substitute-within, substitutes-more}
 use Rattle.map_circuits.proofs.constraining.add_constraints.Goals as goal
 
@@ -25,3 +25,7 @@ loop-place-preserved c =
     subst (λ (y : ℕ). P (get_or functions k 0) y) b (subst (λ (x : ℕ). P x c.function_of-function.result) a c.in_ok-add_constraint.ensures) in
     substitutes-more g first functions substitutes c.args.constraints.now.items h i old new k (c.requires.functions k 0 below)
     (substitute-within g first functions (get_or substitutes k 0) c.requires.graph c.requires.functions (c.requires.substitutes k 0 within)) c.loop-place.invariant adds
+
+pub function_of-function-requires : goal.function_of-function-requires
+function_of-function-requires c =
+    subst (λ (l : ℕ). IsSubstitute c.args.first c.args.functions.now l) (sym c.index-substitutes-place.is) (c.requires.substitutes c.loop-place.place c.index-substitutes-place.result c.loop-place-test.true)

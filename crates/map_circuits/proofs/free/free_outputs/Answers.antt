@@ -1,3 +1,4 @@
+use Rattle.std.proofs.lemmas.List.{take_all}
 use Rattle.std.proofs.Common.{ℕ, ◌<◌, ◌≡◌, ◌∙◌, ◌+◌, List, Some, arith, ap, length, refl, slice_get, subst, sym, take}
 use Rattle.std.proofs.lemmas.Option.{slice_get_read}
 use Rattle.aig_graph.specs.declared.graph.Latch.{Latch}
@@ -22,3 +23,11 @@ loop-place-preserved c =
       | else-is_free w ↦ subst (λ (ls : List ℕ). ls ≡ free_outputs (take (k + 1) latches) (take (k + 1) outputs)) (ap (λ (v : _). v.items) (sym w.codes-is))
           (known-more latches outputs k latch there short c.loop-place.codes.items (sym c.is_free.ensures ∙ w.if-is_free.false) c.loop-place.invariant)
     ]
+
+pub returns : goal.returns
+returns c =
+    let latches : List Latch = c.args.latches.now in
+    let outputs : List ℕ = c.args.outputs.now in
+    let k : ℕ = c.loop-place.place in
+    c.loop-place.invariant ∙ ap (λ (ls : List Latch). free_outputs ls (take k outputs)) (take_all k latches c.loop-place-test.false)
+    ∙ ap (λ (ls : List ℕ). free_outputs latches ls) (take_all k outputs (omega (arith, c.loop-place-test.false, c.requires)))

@@ -33,3 +33,15 @@ returns-clause-moved c =
     let inside : c.in_ok-kept.kept ≤ length c.moved_front.new.table = c.in_ok-kept.ensures.few in
     let within : c.in_ok-kept.kept ≤ c.lengthen.new.table.len = omega (arith, inside, c.moved_front.auto.table, sized, c.in_ok-lengthen.ensures.long) in
     c.in_ok-kept.ensures.moved (take l old) _ follows (front-cut c.in_ok-kept.kept c.lengthen.new.table.len c.moved_front.new.table _ _ c.lengthen.new.table.items refl inside within)
+
+pub moved_front-requires-clause-graph : goal.moved_front-requires-clause-graph
+moved_front-requires-clause-graph c = c.requires.graph
+
+pub moved_front-requires-clause-closed : goal.moved_front-requires-clause-closed
+moved_front-requires-clause-closed c = c.requires.closed
+
+pub moved_front-requires-clause-marked : goal.moved_front-requires-clause-marked
+moved_front-requires-clause-marked c = c.requires.marked
+
+pub returns-clause-extends : goal.returns-clause-extends
+returns-clause-extends c = c.in_ok-kept.ensures.extends

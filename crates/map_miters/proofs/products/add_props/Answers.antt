@@ -1,3 +1,4 @@
+use Rattle.map_circuits.proofs.GrowingLaws.{extends-transitive}
 use Rattle.aig_graph.specs.Circuits.{Netlist}
 use Rattle.aig_graph.specs.Graph.{Graph}
 use Rattle.map_miters.specs.declared.products.Wanted.{Wanted}
@@ -18,3 +19,10 @@ returns-clause-props c =
     let h : Graph = c.add_good.new.gates in
     props-are h c.add_constraints.new.gates w a d m c.in_ok-good.good c.not.result c.in_ok-constraints.constraints.items c.in_ok-props.props c.in_ok-constraints.ensures.extends c.in_ok-good.ensures.says
     c.not.ensures.same_variable c.not.ensures.other_sign c.in_ok-constraints.ensures.constraints c.in_ok-props.ensures
+
+pub returns-clause-extends : goal.returns-clause-extends
+returns-clause-extends c =
+    let g : Graph = c.args.gates.now in
+    let h1 : Graph = c.add_good.new.gates in
+    let h2 : Graph = c.add_constraints.new.gates in
+    extends-transitive g h1 h2 c.in_ok-good.ensures.extends c.in_ok-constraints.ensures.extends

@@ -47,3 +47,13 @@ returns-clause-compared c =
       read = where-kept g h4 h5 h5 sides read_lit c.in_ok-read.read (AreEqualIn g props first_props) e4 kept (says-grow h2 h4 read_lit (AreEqualIn g props first_props) to_h4 read_here) c.in_ok-read.ensures.fails
           (extends-itself h5 c.in_ok-read.ensures.extends.graph);
     }
+
+pub returns-clause-extends : goal.returns-clause-extends
+returns-clause-extends c =
+    let g : Graph = c.args.gates.now in
+    let h1 : Graph = c.add_each_equal.new.gates in
+    let h2 : Graph = c.add_each_equal-2.new.gates in
+    let h3 : Graph = c.add_failure.new.gates in
+    let h4 : Graph = c.add_failure-2.new.gates in
+    let h5 : Graph = c.add_failure-3.new.gates in
+    extends-transitive g h4 h5 (extends-transitive g h3 h4 (extends-transitive g h2 h3 (extends-transitive g h1 h2 c.in_ok-same_nexts.ensures.extends c.in_ok-same_props.ensures.extends) c.in_ok-keep.ensures.extends) c.in_ok-next.ensures.extends) c.in_ok-read.ensures.extends

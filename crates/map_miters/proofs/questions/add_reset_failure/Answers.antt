@@ -1,3 +1,4 @@
+use Rattle.map_circuits.proofs.GrowingLaws.{extends-transitive}
 use Rattle.std.proofs.Common.{ℕ, ◌≡◌, ◌∙◌, List, ap, length, refl, slice_get, sym, subst}
 use Rattle.aig_graph.specs.declared.graph.Latch.{Latch}
 use Rattle.aig_graph.specs.Circuits.{Netlist, AreLiteralsOf}
@@ -159,3 +160,19 @@ returns-clause-reset c =
     let d : Netlist = c.args.second.now in
     never-begins a d m (asked_state a.aig) c.add_conjunction.new.gates c.in_ok-begins.ensures.extends.graph 1 refl
     (stays-not a d m (asked_state a.aig) c.in_ok-free_stay.field-0 c.in_ok-free_stay.ensures c.if-branch.false)
+
+pub returns-then-branch-clause-extends : goal.returns-then-branch-clause-extends
+returns-then-branch-clause-extends c =
+    let g : Graph = c.args.gates.now in
+    let h1 : Graph = c.add_image.new.gates in
+    let h2 : Graph = c.add_each_equal.new.gates in
+    let h3 : Graph = c.add_conjunction.new.gates in
+    extends-transitive g h2 h3 (extends-transitive g h1 h2 c.in_ok-image.ensures.extends c.in_ok-equal.ensures.extends) c.in_ok-begins.ensures.extends
+
+pub returns-clause-extends : goal.returns-clause-extends
+returns-clause-extends c =
+    let g : Graph = c.args.gates.now in
+    let h1 : Graph = c.add_image.new.gates in
+    let h2 : Graph = c.add_each_equal.new.gates in
+    let h3 : Graph = c.add_conjunction.new.gates in
+    extends-transitive g h2 h3 (extends-transitive g h1 h2 c.in_ok-image.ensures.extends c.in_ok-equal.ensures.extends) c.in_ok-begins.ensures.extends

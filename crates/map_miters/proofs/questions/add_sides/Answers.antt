@@ -126,3 +126,12 @@ returns-clause-sides c =
     let after : IsStep h4 d x given c.in_ok-after.after = c.in_ok-after.ensures.step x given (holds-grow g h3 c.as_slice-inputs.result.now x more of_inputs) of_outputs in
     sides-are h1 h2 h3 h4 a d m (record { before = c.in_ok-before.before; image = c.in_ok-image.image; later = c.in_ok-later.later; after = c.in_ok-after.after })
     c.in_ok-image.ensures.extends c.in_ok-later.ensures.extends c.in_ok-after.ensures.extends before image later after
+
+pub returns-clause-extends : goal.returns-clause-extends
+returns-clause-extends c =
+    let g : Graph = c.args.gates.now in
+    let h1 : Graph = c.add_step.new.gates in
+    let h2 : Graph = c.add_image.new.gates in
+    let h3 : Graph = c.add_image-2.new.gates in
+    let h4 : Graph = c.add_step-2.new.gates in
+    extends-transitive g h3 h4 (extends-transitive g h2 h3 (extends-transitive g h1 h2 c.in_ok-before.ensures.extends c.in_ok-image.ensures.extends) c.in_ok-later.ensures.extends) c.in_ok-after.ensures.extends

@@ -46,3 +46,11 @@ returns-clause-says c =
     ) in
     start-says a d m g h1 h2 h3 c.new.result c.in_ok-alike.alike c.in_ok-failure.failure c.not.result c.in_ok-ties.ties.items c.requires.graph c.requires.latches c.in_ok-ties.ensures.ties
     c.in_ok-ties.ensures.extends c.in_ok-alike.ensures.extends all c.in_ok-failure.ensures.extends started c.in_ok-failure.ensures.fails c.not.ensures.same_variable c.not.ensures.other_sign
+
+pub returns-clause-extends : goal.returns-clause-extends
+returns-clause-extends c =
+    let g : Graph = c.args.gates.now in
+    let h1 : Graph = c.add_ties.new.gates in
+    let h2 : Graph = c.add_conjunction_of.new.gates in
+    let h3 : Graph = c.add_failure.new.gates in
+    extends-transitive g h2 h3 (extends-transitive g h1 h2 c.in_ok-ties.ensures.extends c.in_ok-alike.ensures.extends) c.in_ok-failure.ensures.extends

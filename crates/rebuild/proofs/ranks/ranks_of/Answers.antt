@@ -1,5 +1,5 @@
-use Rattle.std.proofs.Common.{ℕ, List, [], ◌∷◌, ◌++◌, ◌+◌, ◌<◌, ◌∙◌, get_or, map, take, ap, arith, sym}
-use Rattle.std.proofs.lemmas.List.{map_more}
+use Rattle.std.proofs.Common.{ℕ, List, [], ◌∷◌, ◌++◌, ◌+◌, ◌<◌, ◌∙◌, get_or, length, map, take, ap, arith, sym}
+use Rattle.std.proofs.lemmas.List.{map_more, take_all}
 use Rattle.std.proofs.lemmas.List.Kept.{AllPairs-from_increasing}
 use Rattle.variable_tables.proofs.MarkingLaws.{count-start}
 use Rattle.variable_tables.specs.Counting.{count_below}
@@ -30,3 +30,18 @@ loop-place-preserved c =
           ∙ ap (λ (rank : ℕ). map rank_of (take i places) ++ rank ∷ []) (c.rank_from-rank.ensures.rank first p all (c.loop-place.invariant.last first p all))
           ∙ sym (map_more rank_of places i 0 c.loop-place-test.true);
     }
+
+pub rank_from-rank-requires-clause-few : goal.rank_from-rank-requires-clause-few
+rank_from-rank-requires-clause-few c = c.loop-place.invariant.few
+
+pub rank_from-rank-requires-clause-order : goal.rank_from-rank-requires-clause-order
+rank_from-rank-requires-clause-order c = c.loop-place.invariant.ahead c.loop-place.place-index (omega arith) c.loop-place-test.true
+
+pub rank_from-rank-requires-clause-within : goal.rank_from-rank-requires-clause-within
+rank_from-rank-requires-clause-within c =
+    let here : get_or c.args.places.now c.loop-place.place-index 0 < length c.args.marks.now = c.requires.within c.loop-place.place-index 0 c.loop-place-test.true in
+    omega (arith, here)
+
+pub returns : goal.returns
+returns c = λ first p all.
+    c.loop-place.invariant.ranked first p all ∙ ap (map (λ place. count_below p (first + place))) (take_all _ _ c.loop-place-test.false)

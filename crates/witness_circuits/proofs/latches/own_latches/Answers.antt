@@ -29,3 +29,8 @@ loop-place-preserved c =
           subst (λ (ls : List Latch). AreOwn places latches (k + 1) ls) (ap (λ (v : _). v.items) (sym w.own-is))
           (own-skips places latches c.loop-place.own.items k some.0 (at ∙ ap (λ (p : Option ℕ). Some p) some.1) c.loop-place.invariant))
     ]
+
+pub returns : goal.returns
+returns c =
+    let end : c.loop-place.place ≡ length c.args.places.now = omega (arith, c.loop-place-test.false, c.loop-place.auto.place-end, c.requires) in
+    subst (λ (n : ℕ). AreOwn c.args.places.now c.args.latches.now n c.loop-place.own.items) end c.loop-place.invariant

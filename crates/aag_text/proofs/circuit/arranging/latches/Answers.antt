@@ -1,5 +1,5 @@
-use Rattle.std.proofs.Common.{ℕ, ◌+◌, ◌≡◌, [], ◌∷◌, ◌++◌, ◌∙◌, ap, ap₂, length, sym, subst}
-use Rattle.std.proofs.lemmas.List.{map_more}
+use Rattle.std.proofs.Common.{ℕ, ◌+◌, ◌≡◌, [], ◌∷◌, ◌++◌, ◌∙◌, ap, ap₂, length, map, sym, subst}
+use Rattle.std.proofs.lemmas.List.{map_more, take_all}
 use Rattle.aig_graph.specs.declared.graph.Latch.{Latch}
 use Rattle.aag_text.specs.Arranging.{IsBelow, moved_latch}
 use Rattle.aag_text.proofs.circuit.arranging.latches.Goals as goal
@@ -14,3 +14,9 @@ loop-latch-preserved c =
     let read : _ ≡ move c.latch-item.result = ap (λ (lit : ℕ). record c.latch-item.result { next = lit }) c.literal.ensures in
     c.in_ok-push.ensures.items ∙ ap₂ (λ xs x. xs ++ x ∷ []) c.loop-latch.invariant (read ∙ ap move c.latch-item.is)
     ∙ sym (map_more move _ _ _ c.loop-latch-test.true)
+
+pub literal-requires-clause-movable : goal.literal-requires-clause-movable
+literal-requires-clause-movable c = c.requires.movable
+
+pub returns : goal.returns
+returns c = c.loop-latch.invariant ∙ ap (map (moved_latch c.args.first c.args.ranks.now)) (take_all _ _ c.loop-latch-test.false)

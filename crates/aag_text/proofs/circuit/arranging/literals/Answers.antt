@@ -1,5 +1,5 @@
-use Rattle.std.proofs.Common.{◌+◌, [], ◌∷◌, ◌++◌, ◌∙◌, ap, ap₂, length, sym, subst}
-use Rattle.std.proofs.lemmas.List.{map_more}
+use Rattle.std.proofs.Common.{◌+◌, [], ◌∷◌, ◌++◌, ◌∙◌, ap, ap₂, length, map, sym, subst}
+use Rattle.std.proofs.lemmas.List.{map_more, take_all}
 use Rattle.aag_text.specs.Arranging.{IsBelow, moved}
 use Rattle.aag_text.proofs.circuit.arranging.literals.Goals as goal
 
@@ -11,3 +11,9 @@ loop-lit-preserved c =
     let move = moved c.args.first c.args.ranks.now in
     c.in_ok-push.ensures.items ∙ ap₂ (λ xs x. xs ++ x ∷ []) c.loop-lit.invariant (c.code.ensures.code ∙ c.literal.ensures ∙ ap move c.lit-item.is)
     ∙ sym (map_more move _ _ _ c.loop-lit-test.true)
+
+pub literal-requires-clause-movable : goal.literal-requires-clause-movable
+literal-requires-clause-movable c = c.requires.movable
+
+pub returns : goal.returns
+returns c = c.loop-lit.invariant ∙ ap (map (moved c.args.first c.args.ranks.now)) (take_all _ _ c.loop-lit-test.false)

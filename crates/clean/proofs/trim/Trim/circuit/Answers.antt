@@ -8,7 +8,7 @@ use Rattle.clean.proofs.trim.Trim.circuit.Goals as goal
 
 pub mapped-requires : goal.mapped-requires
 mapped-requires c =
-    let long : length c.args.self.now.literals ≡ variables_end c.args.self.now.aig.now =
+    let long : length c.args.self.now.literals.now ≡ variables_end c.args.self.now.aig.now =
     ap (λ (xs : List ℕ). length xs) c.args.self.now.renumbers ∙ length-new_literals c.args.self.now.aig.now (is_marked c.args.self.now.reached.now) in
     subst (λ (n : ℕ). OfProps (λ (lit : ℕ). variable lit < n) c.args.props.now) (sym long) c.requires.props
 
@@ -18,7 +18,7 @@ new-requires c =
     let s : ℕ → Bool = is_marked c.args.self.now.reached.now in
     subst (λ (d : Netlist). IsNetlist d)
     (sym (netlist-is (record { aig = g; props = c.args.props.now; symbols = c.args.symbols.now }) s c.in_ok-aig.aig c.in_ok-props.props c.in_ok-symbols.symbols c.in_ok-aig.ensures
-    (c.in_ok-props.ensures ∙ props-new g s c.args.self.now.literals c.args.props.now c.args.self.now.renumbers c.requires.props) c.in_ok-symbols.ensures))
+    (c.in_ok-props.ensures ∙ props-new g s c.args.self.now.literals.now c.args.props.now c.args.self.now.renumbers c.requires.props) c.in_ok-symbols.ensures))
     c.requires.netlist
 
 pub returns : goal.returns
@@ -27,4 +27,4 @@ returns c =
     let s : ℕ → Bool = is_marked c.args.self.now.reached.now in
     c.new.ensures
     ∙ netlist-is (record { aig = g; props = c.args.props.now; symbols = c.args.symbols.now }) s c.in_ok-aig.aig c.in_ok-props.props c.in_ok-symbols.symbols c.in_ok-aig.ensures
-    (c.in_ok-props.ensures ∙ props-new g s c.args.self.now.literals c.args.props.now c.args.self.now.renumbers c.requires.props) c.in_ok-symbols.ensures
+    (c.in_ok-props.ensures ∙ props-new g s c.args.self.now.literals.now c.args.props.now c.args.self.now.renumbers c.requires.props) c.in_ok-symbols.ensures

@@ -19,13 +19,13 @@ loop-place-init c =
 pub gate-requires-clause-first : goal.gate-requires-clause-first
 gate-requires-clause-first c =
     let g : Graph = c.args.self.now.aig.now in
-    (gate-within g c.gates-gate-items.result.now c.loop-place.place (length c.args.self.now.literals) c.gate-item.result c.gates-gate-items.ensures.graph c.gates-gate-items.ensures.value c.loop-place-test.true c.gate-item.is
+    (gate-within g c.gates-gate-items.result.now c.loop-place.place (length c.args.self.now.literals.now) c.gate-item.result c.gates-gate-items.ensures.graph c.gates-gate-items.ensures.value c.loop-place-test.true c.gate-item.is
     (ap (λ (xs : List ℕ). length xs) c.args.self.now.renumbers ∙ length-new_literals g (is_marked c.args.self.now.reached.now))).0
 
 pub gate-requires-clause-second : goal.gate-requires-clause-second
 gate-requires-clause-second c =
     let g : Graph = c.args.self.now.aig.now in
-    (gate-within g c.gates-gate-items.result.now c.loop-place.place (length c.args.self.now.literals) c.gate-item.result c.gates-gate-items.ensures.graph c.gates-gate-items.ensures.value c.loop-place-test.true c.gate-item.is
+    (gate-within g c.gates-gate-items.result.now c.loop-place.place (length c.args.self.now.literals.now) c.gate-item.result c.gates-gate-items.ensures.graph c.gates-gate-items.ensures.value c.loop-place-test.true c.gate-item.is
     (ap (λ (xs : List ℕ). length xs) c.args.self.now.renumbers ∙ length-new_literals g (is_marked c.args.self.now.reached.now))).1
 
 pub loop-place-preserved : goal.loop-place-preserved
@@ -43,7 +43,7 @@ loop-place-preserved c =
           ap (λ (v : Vec Gate Global). v.items) w.gates-is
           ∙ picked-more (stays g s) (renumbered_gate g s) (first_gate g) k g.gates c.gate-item.result within read c.loop-place.gates.items w.push.new.self.items w.gate.result
           (stays-reached g s (first_gate g + k) (sym mark ∙ w.if-has.true)) c.loop-place.invariant w.in_ok-push.ensures.items
-          (w.gate.ensures ∙ gate-new g s c.args.self.now.literals k c.gate-item.result c.args.self.now.renumbers in_range)
+          (w.gate.ensures ∙ gate-new g s c.args.self.now.literals.now k c.gate-item.result c.args.self.now.renumbers in_range)
       | else-has w ↦
           ap (λ (v : Vec Gate Global). v.items) w.gates-is
           ∙ picked-skip (stays g s) (renumbered_gate g s) (first_gate g) k g.gates c.gate-item.result within read c.loop-place.gates.items

@@ -37,7 +37,7 @@ loop-place-preserved c =
           ap (λ (v : Vec Latch Global). v.items) w.latches-is
           ∙ picked-more (stays g s) (renumbered_latch g s) (first_latch g) k g.latches c.latch-item.result within read c.loop-place.latches.items w.push.new.self.items w.latch.result
           (stays-reached g s (first_latch g + k) (sym c.keeps_latch.ensures ∙ w.if-keeps_latch.true)) c.loop-place.invariant w.in_ok-push.ensures.items
-          (w.latch.ensures ∙ latch-new g s c.args.self.now.literals k c.latch-item.result c.latches-latch-items.ensures.graph c.args.self.now.renumbers there)
+          (w.latch.ensures ∙ latch-new g s c.args.self.now.literals.now k c.latch-item.result c.latches-latch-items.ensures.graph c.args.self.now.renumbers there)
       | else-keeps_latch w ↦
           ap (λ (v : Vec Latch Global). v.items) w.latches-is
           ∙ picked-skip (stays g s) (renumbered_latch g s) (first_latch g) k g.latches c.latch-item.result within read c.loop-place.latches.items

@@ -24,7 +24,7 @@ overflow_sub-result c =
     let s : ℕ → Bool = is_marked c.args.self.now.reached.now in
     let at : c.new.result ≡ 2 * (first_latch g + c.args.position) = omega (arith, c.new.ensures, c.first_latch-first.ensures.value) in
     let is : c.var.result ≡ new_variable g s (first_latch g + c.args.position) =
-    position-new g s c.args.self.now.literals c.new.result c.args.position c.var.result c.args.self.now.renumbers at c.requires (c.var.ensures.variable ∙ ap variable c.literal.ensures) in
+    position-new g s c.args.self.now.literals.now c.new.result c.args.position c.var.result c.args.self.now.renumbers at c.requires (c.var.ensures.variable ∙ ap variable c.literal.ensures) in
     omega (arith, is, new-from g s (first_latch g + c.args.position) (omega arith), c.first_latch-first.ensures.value)
 
 pub returns : goal.returns
@@ -33,5 +33,5 @@ returns c =
     let s : ℕ → Bool = is_marked c.args.self.now.reached.now in
     let at : c.new.result ≡ 2 * (first_latch g + c.args.position) = omega (arith, c.new.ensures, c.first_latch-first.ensures.value) in
     let is : c.var.result ≡ new_variable g s (first_latch g + c.args.position) =
-    position-new g s c.args.self.now.literals c.new.result c.args.position c.var.result c.args.self.now.renumbers at c.requires (c.var.ensures.variable ∙ ap variable c.literal.ensures) in
+    position-new g s c.args.self.now.literals.now c.new.result c.args.position c.var.result c.args.self.now.renumbers at c.requires (c.var.ensures.variable ∙ ap variable c.literal.ensures) in
     ap (λ (v : ℕ). v - c.first_latch-first.result) is ∙ ap (λ (n : ℕ). new_variable g s (first_latch g + c.args.position) - n) c.first_latch-first.ensures.value

@@ -21,3 +21,21 @@ loop-init c =
           c.requires.rest (c.in_ok-goes_on.ensures.named went)));
       settled = λ went. c.in_ok-goes_on.ensures.all went;
     }
+
+pub name_gates-requires-clause-readers : goal.name_gates-requires-clause-readers
+name_gates-requires-clause-readers c = c.requires.readers
+
+pub name_gates-requires-clause-names : goal.name_gates-requires-clause-names
+name_gates-requires-clause-names c = c.requires.rest.long.long_names
+
+pub name_gates-requires-clause-latches : goal.name_gates-requires-clause-latches
+name_gates-requires-clause-latches c = c.requires.rest.long.long_latches
+
+pub name_gates-requires-clause-gates : goal.name_gates-requires-clause-gates
+name_gates-requires-clause-gates c = c.requires.rest.long.long_gates
+
+pub turn-requires-clause-held : goal.turn-requires-clause-held
+turn-requires-clause-held c = c.requires.held
+
+pub turn-requires-clause-readers : goal.turn-requires-clause-readers
+turn-requires-clause-readers c = c.loop.invariant.readers

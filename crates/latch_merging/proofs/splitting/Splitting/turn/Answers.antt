@@ -1,7 +1,7 @@
-use Rattle.std.proofs.Common.{ℕ, ◌&&◌, sym, List, Bool, subst}
+use Rattle.std.proofs.Common.{ℕ, ◌&&◌, ◌∙◌, ap, length, sym, List, Bool, subst}
 use Rattle.std.proofs.lemmas.Bool.{and_parts}
 use Rattle.aig_graph.specs.Graph.{Graph, IsGraph}
-use Rattle.latch_merging.specs.Names.{AreAtRest, AreLeaving, AreRegrouped, group_name}
+use Rattle.latch_merging.specs.Names.{AreAtRest, AreLeaving, AreRegrouped, AreSignatures, group_name}
 use Rattle.latch_merging.proofs.SplitLaws.{rest-named, rest-renamed}
 use Rattle.latch_merging.proofs.splitting.Splitting.turn.Goals as goal
 
@@ -33,3 +33,35 @@ returns-clause-rest c = λ went.
     let S : List Bool → Type 0 = λ bs.
     AreAtRest g held c.name_gates.new.self.names.items c.name_gates.new.self.signatures.items c.name_gates.new.self.pairs c.name_gates.new.self.marked.latches c.name_gates.new.self.marked.gates bs in
     subst S (sym c.name_gates.ensures.leaving) (subst Q (sym c.name_gates.ensures.signatures) named)
+
+pub update_signatures-requires-clause-names : goal.update_signatures-requires-clause-names
+update_signatures-requires-clause-names c = ap length c.as_slice.ensures.value ∙ c.requires.rest.long.long_names
+
+pub update_signatures-requires-clause-signature : goal.update_signatures-requires-clause-signature
+update_signatures-requires-clause-signature c =
+    let P : List ℕ → Type 0 = λ xs. AreSignatures c.args.aig.now xs c.args.self.now.signatures.items c.args.self.now.marked.latches in
+    subst P (sym c.as_slice.ensures.value) c.requires.rest.signature
+
+pub rename_latches-renamed-requires-clause-signatures : goal.rename_latches-renamed-requires-clause-signatures
+rename_latches-renamed-requires-clause-signatures c =
+    ap length c.as_slice-2.ensures.value ∙ c.in_ok-updated.ensures.signatures ∙ c.requires.rest.long.long_signatures
+
+pub rename_latches-renamed-requires-clause-latches : goal.rename_latches-renamed-requires-clause-latches
+rename_latches-renamed-requires-clause-latches c = c.in_ok-updated.ensures.latches ∙ c.requires.rest.long.long_latches
+
+pub rename_latches-renamed-requires-clause-leaving : goal.rename_latches-renamed-requires-clause-leaving
+rename_latches-renamed-requires-clause-leaving c = c.in_ok-updated.ensures.leaving ∙ c.requires.rest.long.long_leaving
+
+pub name_gates-requires-clause-names : goal.name_gates-requires-clause-names
+name_gates-requires-clause-names c = c.rename_latches-renamed.ensures.carried.long_names ∙ c.requires.rest.long.long_names
+
+pub name_gates-requires-clause-latches : goal.name_gates-requires-clause-latches
+name_gates-requires-clause-latches c =
+    c.rename_latches-renamed.ensures.carried.long_latches ∙ c.in_ok-updated.ensures.latches ∙ c.requires.rest.long.long_latches
+
+pub name_gates-requires-clause-gates : goal.name_gates-requires-clause-gates
+name_gates-requires-clause-gates c = c.rename_latches-renamed.ensures.carried.long_gates ∙ c.requires.rest.long.long_gates
+
+pub returns-clause-settled : goal.returns-clause-settled
+returns-clause-settled c = λ went.
+    c.in_ok-named.ensures.all (and_parts (c.in_ok-updated.updated && c.rename_latches-renamed.result) c.in_ok-named.named went).1

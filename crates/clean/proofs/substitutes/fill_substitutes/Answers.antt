@@ -3,7 +3,7 @@ use Rattle.aig_graph.specs.Graph.{first_gate}
 use Rattle.variable_tables.proofs.TableLaws.{length-table}
 use Rattle.cleaned_circuits.specs.Latches.{leaf_substitute}
 use Rattle.cleaned_circuits.specs.Merged.{Merging, merge_gates, substitutes_of}
-use Rattle.clean.proofs.substitutes.substitutes_of.Goals as goal
+use Rattle.clean.proofs.substitutes.fill_substitutes.Goals as goal
 
 pub merge_gates-requires : goal.merge_gates-requires
 merge_gates-requires c =

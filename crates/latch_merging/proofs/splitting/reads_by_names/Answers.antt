@@ -10,12 +10,12 @@ use Rattle.clean.proofs.MappingLaws.{latch-there}
 use Rattle.latch_merging.proofs.CoarsestLaws.{signature_is}
 use Rattle.latch_merging.proofs.RoundLaws.{firsts-start, firsts-more, read-more}
 use Rattle.latch_merging.proofs.RoundStepLaws.{next-more, next-end, item-read}
-use Rattle.latch_merging.proofs.splitting.reading_by_names.Goals as goal
+use Rattle.latch_merging.proofs.splitting.reads_by_names.Goals as goal
 
 pub loop-place-init : goal.loop-place-init
 loop-place-init c = record {
   next = c.in_ok-reads.ensures.items ∙ sym (table-none 0 _);
-  firsts = rw c.in_ok-firsts.ensures (firsts-start c.args.aig.now c.args.held.now.positions.now (class_of c.args.names.now));
+  firsts = rw c.requires.firsts (firsts-start c.args.aig.now c.args.held.now.positions.now (class_of c.args.names.now));
 }
 
 pub next_read-requires-clause-there : goal.next_read-requires-clause-there

@@ -7,7 +7,7 @@ use Rattle.cleaned_circuits.proofs.TrimmedLaws.{new-low}
 use Rattle.clean.specs.Substitutions.{own_literals}
 use Rattle.clean.specs.Sweep.{is_marked}
 use Rattle.clean.proofs.TrimLaws.{new-start, new-more, new-next, new-end, new-bound}
-use Rattle.clean.proofs.trim.new_literals.Goals as goal
+use Rattle.clean.proofs.trim.put_new_literals.Goals as goal
 
 pub loop-var-init : goal.loop-var-init
 loop-var-init c =
@@ -15,8 +15,8 @@ loop-var-init c =
     let s : ℕ → Bool = is_marked c.args.reached.now in
     let first : c.first_latch-first.result ≡ first_latch g = c.first_latch-first.ensures.value in
     record {
-      literals = subst (λ (n : ℕ). c.in_ok-literals.literals ≡ table 0 n (λ v. 2 * new_variable g s v)) (sym first)
-          (new-start g s c.in_ok-literals.literals (c.in_ok-literals.ensures ∙ ap own_literals first));
+      literals = subst (λ (n : ℕ). c.renew.new.self ≡ table 0 n (λ v. 2 * new_variable g s v)) (sym first)
+          (new-start g s c.renew.new.self (c.in_ok-renew.ensures ∙ ap own_literals first));
       next = first ∙ sym (new-low g s (first_latch g) (omega arith)) ∙ ap (new_variable g s) (sym first);
     }
 

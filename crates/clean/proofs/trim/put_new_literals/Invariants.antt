@@ -2,7 +2,7 @@ use Rattle.std.proofs.Common.{◌≡◌, ◌*◌}
 use Rattle.variable_tables.specs.Tables.{table}
 use Rattle.cleaned_circuits.specs.Trimmed.{new_variable}
 use Rattle.clean.specs.Sweep.{is_marked}
-use Rattle.clean.proofs.trim.new_literals.Given as goal
+use Rattle.clean.proofs.trim.put_new_literals.Given as goal
 
 abbrev pub invariant-loop-var : goal.invariant-loop-var
 invariant-loop-var l = record {
