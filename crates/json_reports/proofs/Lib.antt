@@ -1,2 +1,3 @@
+pub mod ArrayLaws
 pub mod PlainLaws
 mod Examples
