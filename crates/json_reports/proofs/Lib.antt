@@ -1,3 +1,3 @@
-pub mod ArrayLaws
+mod ArrayLaws
 pub mod PlainLaws
 mod Examples
