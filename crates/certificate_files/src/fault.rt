@@ -1,3 +1,4 @@
+//! Why a file of certificates is refused: its name, its number, where in the file, and what is said of it.
 ghost use Rattle.std.specs.Prelude.{◌≡◌};
 
 use std::alloc::AllocFailed;
