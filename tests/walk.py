@@ -14,7 +14,7 @@ TOP = pathlib.Path(__file__).resolve().parent.parent
 # What such a run never calls: other commands, binary files, objects of JSON, maps, merging, the smallest sets, pages of faults.
 OTHER_CRATES = set("""binary_reader json_reports map_circuits retiming_maps state_maps map_checks map_commands merged_latches
     latch_merging batch_lists batch_pool lane_sim witnesses pictures certificate_audits simulation_commands fault_pages
-    map_miters waves backward_sets backward_moves backward_circuits backward_retiming backward_witnesses backward_commands
+    map_miters waves backward_sets backward_moves backward_circuits backward_retiming backward_witnesses
     witness_circuits""".split())
 OTHER_FUNCTIONS = set("""retime_list print_statistics convert print_simulation print_comparison print_verification write_picture
     print_witness_back print_moves write_lifted write_miter retime_spelt_mapped print_check explain print_object mapped_between mapped_answer map_written

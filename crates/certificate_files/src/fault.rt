@@ -1,25 +1,23 @@
+//! Why a file of certificates is refused: its name, its number, where in the file, and what is said of it.
 ghost use Rattle.std.specs.Prelude.{◌≡◌};
 
 use std::alloc::AllocFailed;
-use thiserror::Error;
+use std::error::Error;
+use std::fmt;
+use std::fmt::{Display, Formatter};
 
 /// Why a certificate file is refused, with the offset of the line's first byte; a line that is missing would begin at the end.
-#[derive(Clone, Copy, Debug, PartialEq, Eq, Error)]
+#[derive(Clone, Copy, Debug, PartialEq, Eq)]
 pub enum CertError {
     /// The first line is none of a certificate file.
-    #[error("BadHeader at {0}")]
     BadHeader(u64),
     /// A line has another form than the one that comes next.
-    #[error("BadLine at {0}")]
     BadLine(u64),
     /// A number is above 2^28 - 1.
-    #[error("TooLarge at {0}")]
     TooLarge(u64),
     /// The text ends within a block, or before the line of the choice.
-    #[error("Truncated at {0}")]
     Truncated(u64),
     /// Memory was refused.
-    #[error("out of memory")]
     NoMemory,
 }
 
@@ -64,7 +62,28 @@ impl CertError {
             CertError::NoMemory => None,
         }
     }
+
+    /// What its text begins with: the name, or words where memory was refused.
+    fn title(self) -> &'static str {
+        match self {
+            CertError::NoMemory => "out of memory",
+            fault => fault.name(),
+        }
+    }
 }
+
+/// Its name, and where it has one its offset.
+impl Display for CertError {
+    fn fmt<W: fmt::Write>(&self, f: &mut Formatter<W>) -> fmt::Result {
+        f.write_str(self.title())?;
+        match self.offset() {
+            Some(at) => write!(f, " at {at}"),
+            None => Ok(()),
+        }
+    }
+}
+
+impl Error for CertError {}
 
 impl<T: Drop> From<AllocFailed<T>> for CertError {
     ghost use Rattle.std.specs.Prelude.{◌≡◌};

@@ -8,7 +8,8 @@ use certificate_files::CertError;
 use counted_io::ReadAllError;
 use file_words::ReadError;
 use lane_sim::StimError;
-use thiserror::Error;
+use std::fmt;
+use std::fmt::{Display, Formatter};
 use witnesses::WitnessError;
 
 /// How a run ended.
@@ -52,46 +53,33 @@ impl Outcome {
 
 /// Why a command failed, with the path of the file, or `stdin` or `stdout`. Its `Display` is the message on standard error,
 /// without a newline.
-#[derive(Clone, Copy, Debug, Error)]
+#[derive(Clone, Copy)]
 pub enum Failure<'a> {
     /// The circuit has a fault.
-    #[error("{0}: {1}")]
     Refused(&'a str, ReadError),
     /// The stimulus has a fault.
-    #[error("{0}: {1}")]
     RefusedStimulus(&'a str, StimError),
     /// The list of files has a fault.
-    #[error("{0}: {1}")]
     RefusedList(&'a str, ListError),
     /// The file of certificates has a fault.
-    #[error("{0}: {1}")]
     RefusedCertificates(&'a str, CertError),
     /// The witness has a fault.
-    #[error("{0}: {1}")]
     RefusedWitness(&'a str, WitnessError),
     /// No latch of the circuit has the name.
-    #[error("{0}: NoSuchName {1}")]
     NoSuchName(&'a str, &'a str),
     /// The circuit has no latch at the place.
-    #[error("{0}: NoSuchLatch {1}")]
     NoSuchLatch(&'a str, u32),
     /// The circuit has too many nodes for a picture.
-    #[error("{0}: TooManyNodes, over 2000: --around NAME draws a neighbourhood")]
     TooManyNodes(&'a str),
     /// Random sequences of the circuit would take too much memory.
-    #[error("{0}: TooManySteps: take fewer steps or sequences")]
     TooManySteps(&'a str),
     /// The circuit of a map has a latch, a bad state, a justice property or a fairness constraint.
-    #[error("{0}: NotAMap")]
     NotAMap(&'a str),
     /// A name of a witness circuit says a literal that its circuit hasn't, or one that another name says.
-    #[error("{0}: NoSuchLiteral")]
     NoSuchLiteral(&'a str),
     /// The file couldn't be opened, created, read or written.
-    #[error("{0}: device")]
     Device(&'a str),
     /// Out of memory.
-    #[error("out of memory")]
     Memory,
 }
 
@@ -175,6 +163,62 @@ impl<'a> Failure<'a> {
             | Failure::NoSuchLiteral(_) => Outcome::Refused,
             Failure::Device(_) => Outcome::Device,
             Failure::Memory => Outcome::Memory,
+        }
+    }
+
+    /// The path of the file; none where memory was refused.
+    fn path(self) -> Option<&'a str> {
+        match self {
+            Failure::Refused(path, _)
+            | Failure::RefusedStimulus(path, _)
+            | Failure::RefusedList(path, _)
+            | Failure::RefusedCertificates(path, _)
+            | Failure::RefusedWitness(path, _)
+            | Failure::NoSuchName(path, _)
+            | Failure::NoSuchLatch(path, _)
+            | Failure::TooManyNodes(path)
+            | Failure::TooManySteps(path)
+            | Failure::NotAMap(path)
+            | Failure::NoSuchLiteral(path)
+            | Failure::Device(path) => Some(path),
+            Failure::Memory => None,
+        }
+    }
+
+    /// What is wrong, as far as that is the same of each file.
+    fn title(self) -> &'static str {
+        match self {
+            Failure::NoSuchName(_, _) => "NoSuchName ",
+            Failure::NoSuchLatch(_, _) => "NoSuchLatch ",
+            Failure::TooManyNodes(_) => {
+                "TooManyNodes, over 2000: --around NAME draws a neighbourhood"
+            }
+            Failure::TooManySteps(_) => "TooManySteps: take fewer steps or sequences",
+            Failure::NotAMap(_) => "NotAMap",
+            Failure::NoSuchLiteral(_) => "NoSuchLiteral",
+            Failure::Device(_) => "device",
+            Failure::Memory => "out of memory",
+            _ => "",
+        }
+    }
+}
+
+/// The path of the file, and what is wrong.
+impl Display for Failure<'_> {
+    fn fmt<W: fmt::Write>(&self, f: &mut Formatter<W>) -> fmt::Result {
+        if let Some(path) = self.path() {
+            write!(f, "{path}: ")?;
+        }
+        f.write_str(self.title())?;
+        match self {
+            Failure::Refused(_, fault) => fault.fmt(f),
+            Failure::RefusedStimulus(_, fault) => fault.fmt(f),
+            Failure::RefusedList(_, fault) => fault.fmt(f),
+            Failure::RefusedCertificates(_, fault) => fault.fmt(f),
+            Failure::RefusedWitness(_, fault) => fault.fmt(f),
+            Failure::NoSuchName(_, name) => f.write_str(name),
+            Failure::NoSuchLatch(_, position) => position.fmt(f),
+            _ => Ok(()),
         }
     }
 }

@@ -101,8 +101,11 @@ fn batch<'a>(alloc: Global, matches: &ArgMatches<'a>) -> Result<Option<Task<'a>>
 fn statistics<'a>(matches: &ArgMatches<'a>) -> Option<Task<'a>>
     ensures { IfSome result (Asks (codes "stat") matches.now) }
 {
+    let Some(input) = source(matches, "IN") else {
+        return None;
+    };
     Some(Task::Stat(Counting {
-        input: source(matches, "IN")?,
+        input,
         merge: merge(matches),
         json: json(matches),
     }))
@@ -111,8 +114,9 @@ fn statistics<'a>(matches: &ArgMatches<'a>) -> Option<Task<'a>>
 fn conversion<'a>(matches: &ArgMatches<'a>) -> Option<Task<'a>>
     ensures { IfSome result (Asks (codes "convert") matches.now) }
 {
-    let input = source(matches, "IN")?;
-    let output = target(matches, "OUT")?;
+    let (Some(input), Some(output)) = (source(matches, "IN"), target(matches, "OUT")) else {
+        return None;
+    };
     Some(Task::Convert(input, output, spelling(matches)))
 }
 
@@ -135,7 +139,10 @@ fn stimuli<'a>(matches: &ArgMatches<'a>) -> Option<Stimuli<'a>>
 {
     match sequences(matches) {
         Some(sequences) => Some(Stimuli::Random(sequences)),
-        None => Some(Stimuli::Read(source(matches, "STIM")?)),
+        None => match source(matches, "STIM") {
+            Some(stimulus) => Some(Stimuli::Read(stimulus)),
+            None => None,
+        },
     }
 }
 
@@ -210,7 +217,10 @@ fn checking<'a>(matches: &ArgMatches<'a>) -> Option<Checking<'a>>
 fn check<'a>(matches: &ArgMatches<'a>) -> Option<Task<'a>>
     ensures { IfSome result (Asks (codes "check") matches.now) }
 {
-    Some(Task::Check(checking(matches)?))
+    match checking(matches) {
+        Some(asked) => Some(Task::Check(asked)),
+        None => None,
+    }
 }
 
 fn miter<'a>(matches: &ArgMatches<'a>) -> Option<Task<'a>>
@@ -273,7 +283,10 @@ fn lifting<'a>(matches: &ArgMatches<'a>) -> Option<Task<'a>>
 fn explanation<'a>(matches: &ArgMatches<'a>) -> Option<Task<'a>>
     ensures { IfSome result (Asks (codes "explain") matches.now) }
 {
-    Some(Task::Explain(matches.get_str("FAULT")?))
+    match matches.get_str("FAULT") {
+        Some(name) => Some(Task::Explain(name)),
+        None => None,
+    }
 }
 
 /// What the matches of a subcommand ask for, where it moves no latches.

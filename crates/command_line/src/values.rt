@@ -16,14 +16,20 @@ use stream_paths::{Source, Target};
 pub(crate) fn source<'a>(matches: &ArgMatches<'a>, id: &str) -> Option<Source<'a>>
     ensures { IfSome result (IsSource matches.now id.now) }
 {
-    Some(Source::of(matches.get_str(id)?))
+    match matches.get_str(id) {
+        Some(path) => Some(Source::of(path)),
+        None => None,
+    }
 }
 
 /// The same, where the argument is given.
 pub(crate) fn source_if_given<'a>(matches: &ArgMatches<'a>, id: &str) -> Option<Source<'a>>
     ensures { IsSomeSource matches.now id.now result }
 {
-    Some(Source::of(matches.get_str(id)?))
+    match matches.get_str(id) {
+        Some(path) => Some(Source::of(path)),
+        None => None,
+    }
 }
 
 /// What paths that are read stand for.
@@ -52,7 +58,10 @@ pub(crate) fn sources<'a>(
 pub(crate) fn target<'a>(matches: &ArgMatches<'a>, id: &str) -> Option<Target<'a>>
     ensures { IsSomeTarget matches.now id.now result }
 {
-    Some(Target::of(matches.get_str(id)?))
+    match matches.get_str(id) {
+        Some(path) => Some(Target::of(path)),
+        None => None,
+    }
 }
 
 /// The spelling that a flag chooses.

@@ -59,6 +59,16 @@ fn option<'a>(alloc: Global, argument: &Argument, value: &'a str, action: ArgAct
         .help(help)
 }
 
+/// An option with a number within these bounds.
+fn number_option<'a>(
+    alloc: Global,
+    argument: &Argument,
+    (least, most): (u64, u64),
+    action: ArgAction,
+) -> Arg<'a> {
+    option(alloc, argument, "n", action).value_parser(ValueParser::unsigned(least, most))
+}
+
 /// The argument by its form, which may be given with all others.
 fn formed<'a>(alloc: Global, argument: &Argument) -> Arg<'a> {
     let Argument(id, form, _, help) = *argument;
@@ -71,15 +81,11 @@ fn formed<'a>(alloc: Global, argument: &Argument) -> Arg<'a> {
         Form::Text(value) => option(alloc, argument, value, ArgAction::Set),
         Form::Texts(value) => option(alloc, argument, value, ArgAction::Append),
         Form::Hidden(value) => option(alloc, argument, value, ArgAction::Set).hide(true),
-        Form::Number(least, most) => option(alloc, argument, "n", ArgAction::Set).value_parser(
-            ValueParser::unsigned(least, most),
-        ),
-        Form::Limit(most, default) => option(alloc, argument, "n", ArgAction::Set)
-            .value_parser(ValueParser::unsigned(1, most))
-            .default_value(default),
-        Form::Numbers(most) => option(alloc, argument, "n", ArgAction::Append).value_parser(
-            ValueParser::unsigned(0, most),
-        ),
+        Form::Number(least, most) => number_option(alloc, argument, (least, most), ArgAction::Set),
+        Form::Limit(most, default) => {
+            number_option(alloc, argument, (1, most), ArgAction::Set).default_value(default)
+        }
+        Form::Numbers(most) => number_option(alloc, argument, (0, most), ArgAction::Append),
     }
 }
 

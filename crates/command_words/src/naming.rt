@@ -7,9 +7,9 @@ use std::alloc::{AllocError, Global};
 /// The command with this name.
 fn subcommand_named(name: &str) -> Option<Subcommand> {
     for number in 0..COUNT {
-        match subcommand_at(number) {
-            Some(subcommand) if subcommand.name == name => return Some(subcommand),
-            _ => {}
+        let subcommand = subcommand_at(number);
+        if subcommand.name == name {
+            return Some(subcommand);
         }
     }
     None

@@ -1,8 +1,7 @@
 //! The program for the command-line library, made of the tables. Each of the library's calls returns a command or a refusal of
 //! memory.
 use crate::argument::{Argument, arg_of};
-use crate::subcommands::{COUNT, Subcommand, subcommand_at};
-use crate::texts;
+use crate::subcommands::{COUNT, PROGRAM, Subcommand, subcommand_at};
 use clap::{ArgGroup, Command};
 use std::alloc::{AllocError, Global};
 
@@ -34,8 +33,11 @@ fn with_arguments<'a>(
     Ok(command)
 }
 
-/// A command with its longer texts.
-fn with_texts<'a>(command: Command<'a>, subcommand: &Subcommand) -> Command<'a> {
+/// A command without arguments, whose help is shown where it is given nothing.
+fn described<'a>(alloc: Global, subcommand: &Subcommand) -> Command<'a> {
+    let command = Command::new(alloc, subcommand.name)
+        .about(subcommand.about)
+        .arg_required_else_help(true);
     let command = match subcommand.long_about {
         Some(text) => command.long_about(text),
         None => command,
@@ -54,17 +56,12 @@ fn stimulus<'a>(alloc: Global) -> Result<ArgGroup<'a>, AllocError> {
     group.arg("STIM")?.arg("random")
 }
 
-/// A command that takes a stimulus wants it read or random, and has a usage that names both after the circuits.
+/// A command that takes a stimulus wants it read or random, and has a usage that says so.
 fn with_stimulus<'a>(
     alloc: Global,
     command: Command<'a>,
-    name: &str,
+    usage: &'a str,
 ) -> Result<Command<'a>, AllocError> {
-    let usage = match name {
-        "sim" => "fretime sim [OPTIONS] <IN> <STIM|--random <n>>",
-        "same" => "fretime same [OPTIONS] <A> <B> <STIM|--random <n>>",
-        _ => return Ok(command),
-    };
     match stimulus(alloc) {
         Ok(group) => command.override_usage(usage).group(group),
         Err(error) => {
@@ -74,16 +71,19 @@ fn with_stimulus<'a>(
     }
 }
 
-/// A command, whose help is shown where it is given nothing.
+/// A command.
 pub(crate) fn command_of<'a>(
     alloc: Global,
     subcommand: &Subcommand,
 ) -> Result<Command<'a>, AllocError> {
-    let command = Command::new(alloc, subcommand.name)
-        .about(subcommand.about)
-        .arg_required_else_help(true);
-    let command = with_stimulus(alloc, with_texts(command, subcommand), subcommand.name)?;
-    with_arguments(alloc, command, subcommand.arguments)
+    let command = described(alloc, subcommand);
+    match subcommand.stimulus_usage {
+        Some(usage) => {
+            let command = with_stimulus(alloc, command, usage)?;
+            with_arguments(alloc, command, subcommand.arguments)
+        }
+        None => with_arguments(alloc, command, subcommand.arguments),
+    }
 }
 
 /// A program with one more command.
@@ -101,34 +101,18 @@ fn with_subcommand<'a>(
     }
 }
 
-/// A program with the command that has this number.
-fn with_number<'a>(
-    alloc: Global,
-    program: Command<'a>,
-    number: usize,
-) -> Result<Command<'a>, AllocError> {
-    match subcommand_at(number) {
-        Some(subcommand) => with_subcommand(alloc, program, &subcommand),
-        None => Ok(program),
-    }
-}
-
 /// The program without its commands.
 fn bare_program<'a>(alloc: Global) -> Command<'a> {
-    Command::new(alloc, "fretime")
+    described(alloc, &PROGRAM)
         .version("0.7.1")
-        .about(texts::ABOUT)
-        .long_about(texts::LONG_ABOUT)
-        .after_help(texts::EXAMPLE)
         .subcommand_required(true)
-        .arg_required_else_help(true)
 }
 
 /// The program's commands, in the order of the help text.
 pub fn program_command<'a>(alloc: Global) -> Result<Command<'a>, AllocError> {
     let mut program = bare_program(alloc);
     for number in 0..COUNT {
-        program = with_number(alloc, program, number)?;
+        program = with_subcommand(alloc, program, &subcommand_at(number))?;
     }
     Ok(program)
 }

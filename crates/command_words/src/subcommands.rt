@@ -14,12 +14,24 @@ pub(crate) struct Subcommand {
     pub(crate) long_about: Option<&'static str>,
     /// What the help ends with.
     pub(crate) example: Option<&'static str>,
+    /// Its usage where it takes a stimulus, which is read or random: that names both after the circuits.
+    pub(crate) stimulus_usage: Option<&'static str>,
     /// Its arguments, in the order of its help.
     pub(crate) arguments: &'static [Argument],
 }
 
 /// How many commands there are.
 pub(crate) const COUNT: usize = 15;
+
+/// The program, as far as it is described as a command is.
+pub(crate) const PROGRAM: Subcommand = Subcommand {
+    name: "fretime",
+    about: texts::ABOUT,
+    long_about: Some(texts::LONG_ABOUT),
+    example: Some(texts::EXAMPLE),
+    stimulus_usage: None,
+    arguments: &[],
+};
 
 /// The command with this number that makes circuits.
 fn making(number: usize) -> Subcommand {
@@ -29,6 +41,7 @@ fn making(number: usize) -> Subcommand {
             about: texts::RETIME_ABOUT,
             long_about: Some(texts::RETIME_LONG_ABOUT),
             example: Some(texts::RETIME_EXAMPLE),
+            stimulus_usage: None,
             arguments: arguments::RETIME,
         },
         1 => Subcommand {
@@ -36,6 +49,7 @@ fn making(number: usize) -> Subcommand {
             about: texts::BACKWARD_ABOUT,
             long_about: Some(texts::BACKWARD_LONG_ABOUT),
             example: Some(texts::BACKWARD_EXAMPLE),
+            stimulus_usage: None,
             arguments: arguments::BACKWARD,
         },
         2 => Subcommand {
@@ -43,6 +57,7 @@ fn making(number: usize) -> Subcommand {
             about: texts::BATCH_ABOUT,
             long_about: Some(texts::BATCH_LONG_ABOUT),
             example: Some(texts::BATCH_EXAMPLE),
+            stimulus_usage: None,
             arguments: arguments::BATCH,
         },
         _ => Subcommand {
@@ -50,6 +65,7 @@ fn making(number: usize) -> Subcommand {
             about: texts::CONVERT_ABOUT,
             long_about: None,
             example: None,
+            stimulus_usage: None,
             arguments: arguments::CONVERT,
         },
     }
@@ -63,6 +79,7 @@ fn looking(number: usize) -> Subcommand {
             about: texts::STAT_ABOUT,
             long_about: None,
             example: Some(texts::STAT_EXAMPLE),
+            stimulus_usage: None,
             arguments: arguments::STAT,
         },
         5 => Subcommand {
@@ -70,6 +87,7 @@ fn looking(number: usize) -> Subcommand {
             about: texts::SIM_ABOUT,
             long_about: None,
             example: Some(texts::SIM_EXAMPLE),
+            stimulus_usage: Some("fretime sim [OPTIONS] <IN> <STIM|--random <n>>"),
             arguments: arguments::SIM,
         },
         6 => Subcommand {
@@ -77,6 +95,7 @@ fn looking(number: usize) -> Subcommand {
             about: texts::SAME_ABOUT,
             long_about: None,
             example: Some(texts::SAME_EXAMPLE),
+            stimulus_usage: Some("fretime same [OPTIONS] <A> <B> <STIM|--random <n>>"),
             arguments: arguments::SAME,
         },
         _ => Subcommand {
@@ -84,6 +103,7 @@ fn looking(number: usize) -> Subcommand {
             about: texts::DOT_ABOUT,
             long_about: Some(texts::DOT_LONG_ABOUT),
             example: Some(texts::DOT_EXAMPLE),
+            stimulus_usage: None,
             arguments: arguments::DOT,
         },
     }
@@ -97,6 +117,7 @@ fn checking(number: usize) -> Subcommand {
             about: texts::EXPLAIN_ABOUT,
             long_about: Some(texts::EXPLAIN_LONG_ABOUT),
             example: Some(texts::EXPLAIN_EXAMPLE),
+            stimulus_usage: None,
             arguments: arguments::EXPLAIN,
         },
         9 => Subcommand {
@@ -104,6 +125,7 @@ fn checking(number: usize) -> Subcommand {
             about: texts::VERIFY_ABOUT,
             long_about: Some(texts::VERIFY_LONG_ABOUT),
             example: Some(texts::VERIFY_EXAMPLE),
+            stimulus_usage: None,
             arguments: arguments::VERIFY,
         },
         10 => Subcommand {
@@ -111,6 +133,7 @@ fn checking(number: usize) -> Subcommand {
             about: texts::CHECK_ABOUT,
             long_about: Some(texts::CHECK_LONG_ABOUT),
             example: Some(texts::CHECK_EXAMPLE),
+            stimulus_usage: None,
             arguments: arguments::CHECK,
         },
         _ => Subcommand {
@@ -118,6 +141,7 @@ fn checking(number: usize) -> Subcommand {
             about: texts::MITER_ABOUT,
             long_about: Some(texts::MITER_LONG_ABOUT),
             example: Some(texts::MITER_EXAMPLE),
+            stimulus_usage: None,
             arguments: arguments::MITER,
         },
     }
@@ -131,6 +155,7 @@ fn carrying(number: usize) -> Subcommand {
             about: texts::PRODUCT_ABOUT,
             long_about: Some(texts::PRODUCT_LONG_ABOUT),
             example: Some(texts::PRODUCT_EXAMPLE),
+            stimulus_usage: None,
             arguments: arguments::PRODUCT,
         },
         13 => Subcommand {
@@ -138,6 +163,7 @@ fn carrying(number: usize) -> Subcommand {
             about: texts::LIFT_ABOUT,
             long_about: Some(texts::LIFT_LONG_ABOUT),
             example: Some(texts::LIFT_EXAMPLE),
+            stimulus_usage: None,
             arguments: arguments::LIFT,
         },
         _ => Subcommand {
@@ -145,22 +171,21 @@ fn carrying(number: usize) -> Subcommand {
             about: texts::WITNESS_ABOUT,
             long_about: Some(texts::WITNESS_LONG_ABOUT),
             example: Some(texts::WITNESS_EXAMPLE),
+            stimulus_usage: None,
             arguments: arguments::WITNESS,
         },
     }
 }
 
-/// The command with this number, from 0.
-pub(crate) fn subcommand_at(number: usize) -> Option<Subcommand> {
+/// The command with this number, from 0 on; with one past the last, the last.
+pub(crate) fn subcommand_at(number: usize) -> Subcommand {
     if number < 4 {
-        Some(making(number))
+        making(number)
     } else if number < 8 {
-        Some(looking(number))
+        looking(number)
     } else if number < 12 {
-        Some(checking(number))
-    } else if number < COUNT {
-        Some(carrying(number))
+        checking(number)
     } else {
-        None
+        carrying(number)
     }
 }

@@ -41,13 +41,17 @@ fn newlines(bytes: &[u8]) -> u64 {
 
 /// The number of the line at an offset, from 1, by the newlines before it; none where these can't be read.
 pub(crate) fn line_number<R: Files>(rt: &R, path: &str, offset: u64) -> Option<u64> {
-    let mut file = File::open(rt, path).ok()?;
+    let Ok(mut file) = File::open(rt, path) else {
+        return None;
+    };
     let mut piece = [0u8; PIECE];
     let mut left = offset;
     let mut number: u64 = 1;
     for _ in 0..offset {
         let wanted = left.min(PIECE as u64) as usize;
-        let count = file.read(&mut piece[..wanted]).ok()?;
+        let Ok(count) = file.read(&mut piece[..wanted]) else {
+            return None;
+        };
         number = number.saturating_add(newlines(&piece[..count]));
         left -= count as u64;
         if left == 0 {

@@ -1,2 +1,4 @@
+mod ArrayLaws
+mod PutLaws
 pub mod PlainLaws
 mod Examples

@@ -7,7 +7,7 @@ ghost use Rattle.json_reports.specs.Audits as names;
 ghost use Rattle.json_reports.specs.Members.{array_of, or_null};
 ghost use Rattle.serde_json.specs.Data.{no_members, object, string};
 
-use crate::members::{Scalar, put_scalars, scalars_object, wide};
+use crate::members::{Scalar, put_made, put_scalars, scalars_object, wide};
 use certificate_audits::{Audit, End};
 use certificates::Certificate;
 use reports::Agreement;
@@ -98,14 +98,14 @@ fn put_audit(
         ≡ audit_data blocks.now audit agreement bound status) }
 {
     let confirmed = first_blocks(blocks, audit.confirmed);
-    serde_json::put(members, alloc, "counts", counts_array(alloc, confirmed)?)?;
-    serde_json::put(
+    put_made(members, alloc, "counts", counts_array(alloc, confirmed))?;
+    put_made(
         members,
         alloc,
         "objection",
-        objection_value(alloc, audit.end)?,
+        objection_value(alloc, audit.end),
     )?;
-    serde_json::put(members, alloc, "out", agreement_value(alloc, agreement)?)?;
+    put_made(members, alloc, "out", agreement_value(alloc, agreement))?;
     put_scalars(
         members,
         alloc,

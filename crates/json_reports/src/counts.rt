@@ -5,7 +5,7 @@ ghost use Rattle.serde_json.specs.View.{members_view, view};
 ghost use Rattle.json_reports.specs.Counts.{circuit_data, map_data, merge_data, statistics_data};
 ghost use Rattle.json_reports.specs.Members.{or_null};
 
-use crate::members::{Scalar, put_scalars, scalars_object};
+use crate::members::{Scalar, put_made, put_scalars, scalars_object};
 use circuit_counts::{Counts, Statistics};
 use merged_latches::MergeCounts;
 use serde_json::{Map, Value};
@@ -107,13 +107,9 @@ fn put_statistics(
     ensures { OnOk result (members_view members.old.entries ≡ no_members
         → object (members_view members.new.entries) ≡ statistics_data statistics.now merged) }
 {
-    serde_json::put(
-        members,
-        alloc,
-        "circuit",
-        circuit_object(alloc, &statistics.counts)?,
-    )?;
-    serde_json::put(members, alloc, "merged", merged_value(alloc, merged)?)?;
+    let circuit = circuit_object(alloc, &statistics.counts);
+    put_made(members, alloc, "circuit", circuit)?;
+    put_made(members, alloc, "merged", merged_value(alloc, merged))?;
     put_scalars(
         members,
         alloc,

@@ -1,6 +1,6 @@
 //! Members of objects. An object that grows is borrowed, so that no member waits while another is made.
 ghost use Rattle.std.specs.Prelude.{◌≡◌, IfOk, OnOk};
-ghost use Rattle.serde_json.specs.Data.{no_members, object, put, string};
+ghost use Rattle.serde_json.specs.Data.{Data, no_members, object, put, string};
 ghost use Rattle.serde_json.specs.View.{view, members_view};
 ghost use Rattle.json_reports.specs.Members.{count, or_null, scalar_data, with_scalars};
 
@@ -58,6 +58,22 @@ fn scalar_value(alloc: Global, scalar: Scalar<'_>) -> Result<Value, AllocError>
         Scalar::CountIfAny(number) => Ok(count_value(number)),
         Scalar::Text(text) => Value::try_from_str(alloc, text),
         Scalar::TextIfAny(text) => text_value(alloc, text),
+    }
+}
+
+/// Puts a value that was to be made under its name; where it wasn't made, nothing is put.
+pub(crate) fn put_made(
+    members: &mut Map<String, Value>,
+    alloc: Global,
+    name: &str,
+    made: Result<Value, AllocError>,
+) -> Result<(), AllocError>
+    ensures { (d : Data) → IfOk made (λ v. view v ≡ d) → OnOk result (members_view members.new.entries
+        ≡ put name.now d (members_view members.old.entries)) }
+{
+    match made {
+        Ok(value) => serde_json::put(members, alloc, name, value),
+        Err(error) => Err(error),
     }
 }
 

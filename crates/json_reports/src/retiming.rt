@@ -6,7 +6,7 @@ ghost use Rattle.json_reports.specs.Members.{array_of, count};
 ghost use Rattle.json_reports.specs.Retimings.{before_data, frame_data, held_back_data, retiming_data};
 
 use crate::counts::{MapCounts, ReadLevels, circuit_object, map_value, merged_value};
-use crate::members::{Scalar, put_scalars, scalars_object, wide};
+use crate::members::{Scalar, put_made, put_scalars, scalars_object, wide};
 use crate::times::{Times, times_value};
 use circuit_counts::{HeldBack, Remaining};
 use retimed_circuits::{FrameReport, Retimed};
@@ -96,39 +96,22 @@ fn put_retiming(
 {
     let frames = retimed.frames.as_slice();
     let free_kept = retimed.kept_free.as_slice();
-    serde_json::put(
-        members,
-        alloc,
-        "after",
-        circuit_object(alloc, &remaining.counts)?,
-    )?;
-    serde_json::put(
-        members,
-        alloc,
-        "before",
-        before_object(alloc, retimed.read_latches, levels.counted)?,
-    )?;
-    serde_json::put(members, alloc, "frames", frames_array(alloc, frames)?)?;
-    serde_json::put(
-        members,
-        alloc,
-        "free_kept",
-        numbers_array(alloc, free_kept)?,
-    )?;
-    serde_json::put(
-        members,
-        alloc,
-        "held_back",
-        held_back_object(alloc, &remaining.held_back, remaining.is_least)?,
-    )?;
-    serde_json::put(members, alloc, "map", map_value(alloc, map)?)?;
-    serde_json::put(
+    let after = &remaining.counts;
+    put_made(members, alloc, "after", circuit_object(alloc, after))?;
+    let before = before_object(alloc, retimed.read_latches, levels.counted);
+    put_made(members, alloc, "before", before)?;
+    put_made(members, alloc, "frames", frames_array(alloc, frames))?;
+    put_made(members, alloc, "free_kept", numbers_array(alloc, free_kept))?;
+    let held_back = held_back_object(alloc, &remaining.held_back, remaining.is_least);
+    put_made(members, alloc, "held_back", held_back)?;
+    put_made(members, alloc, "map", map_value(alloc, map))?;
+    put_made(
         members,
         alloc,
         "merged",
-        merged_value(alloc, retimed.merged)?,
+        merged_value(alloc, retimed.merged),
     )?;
-    serde_json::put(members, alloc, "microseconds", times_value(alloc, times)?)?;
+    put_made(members, alloc, "microseconds", times_value(alloc, times))?;
     put_scalars(
         members,
         alloc,

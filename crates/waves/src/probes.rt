@@ -9,9 +9,7 @@ use std::alloc::Global;
 fn append(literals: &mut Vec<Lit>, more: &[Lit]) -> Result<(), NoMemory>
     ensures { OnOk result (literals.new.items ≡ literals.old.items ++ more.now) }
 {
-    for lit in more {
-        literals.push(*lit)?;
-    }
+    literals.extend_from_slice(more)?;
     Ok(())
 }
 

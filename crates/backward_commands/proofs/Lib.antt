@@ -1,3 +1,0 @@
-mod MovingLaws
-mod PlainLaws
-mod PrintingLaws

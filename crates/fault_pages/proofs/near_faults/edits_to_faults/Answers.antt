@@ -1,0 +1,13 @@
+use Rattle.std.proofs.Common.{ℕ, List, [], ◌∷◌, ◌++◌, ◌∙◌, ap, ap₂, sym}
+use Rattle.std.proofs.lemmas.List.{map_more}
+use Rattle.fault_pages.specs.Faults.{name_of}
+use Rattle.fault_pages.specs.Nearest.{edits}
+use Rattle.fault_pages.specs.declared.fault.Fault.{Fault}
+use Rattle.fault_pages.proofs.near_faults.edits_to_faults.Goals as goal
+
+pub loop-fault-preserved : goal.loop-fault-preserved
+loop-fault-preserved c =
+    c.in_ok-push.ensures.items
+    ∙ ap₂ (λ (xs : List ℕ) (x : ℕ). xs ++ x ∷ []) c.loop-fault.invariant
+    (c.in_ok-edits.ensures ∙ ap (edits c.args.name.now) (c.as_bytes.ensures.value ∙ c.name.ensures))
+    ∙ sym (map_more (λ (fault : Fault). edits c.args.name.now (name_of fault)) _ _ _ c.loop-fault-test.true)

@@ -1,0 +1,73 @@
+-- What the command `backward` prints.
+use Rattle.std.specs.Prelude.{ℕ, Bool, true, false, List, [], ◌∷◌, ◌++◌, Option, Some, None, Result, length, decimal, codes}
+use Rattle.aig_graph.specs.Circuits.{Netlist}
+use Rattle.counted_io.specs.Line.{numbered_lines}
+use Rattle.counted_io.specs.Output.{Output}
+use Rattle.backward_moves.specs.declared.frame.FrameCounts.{FrameCounts}
+use Rattle.circuit_counts.specs.Counts.{counts}
+use Rattle.circuit_counts.specs.declared.statistics.Counts.{Counts}
+use Rattle.serde_json.specs.Data.{Data, boolean, null, string, object, member, no_members}
+use Rattle.reports.specs.Retimings.{change}
+use Rattle.json_reports.specs.Counts.{circuit_data}
+use Rattle.json_reports.specs.Members.{array_of, count}
+use Rattle.stream_paths.specs.declared.target.Target.{Target}
+use Rattle.command_line.specs.declared.task.Moving.{Moving}
+use Rattle.circuit_files.specs.declared.outcome.Outcome.{Outcome}
+use Rattle.circuit_files.specs.declared.outcome.Outcome.TheVariants.{Done}
+use Rattle.circuit_files.specs.declared.outcome.Failure.{Failure}
+use Rattle.command_endings.specs.Objects.{EndsPrintingObject}
+use Rattle.command_endings.specs.Printing.{EndsPrinting}
+use Rattle.map_commands.specs.declared.answering.Answer.{Answer}
+
+-- the line of the frame with this number
+abbrev pub frame_line : ℕ → FrameCounts → List ℕ
+frame_line number frame = codes "frame " ++ decimal number ++ codes ": " ++ change frame.before frame.after
+
+-- a line for each frame, which are numbered from 1 on
+abbrev pub backward_frame_lines : List FrameCounts → List ℕ
+backward_frame_lines frames = numbered_lines frame_line 1 frames
+
+-- a line that the judge refused what was found, where it did
+abbrev pub shown_line : Bool → List ℕ
+shown_line true = []
+shown_line false = codes "not shown: OUT is IN" ++ 10 ∷ []
+
+-- a line for each frame, the numbers of all latches that were read and that are left, and whether OUT is IN since nothing was shown
+abbrev pub moves_text : Answer → List ℕ
+moves_text answer =
+    backward_frame_lines answer.moved.frames.items ++ codes "latches " ++ change answer.before.latches (length answer.moved.circuit.aig.latches) ++ shown_line answer.moved.is_shown
+
+-- the latches that take part before and after a frame, the variables that have two latches, and the gates that moved
+abbrev pub backward_frame_data : FrameCounts → Data
+backward_frame_data f =
+    object (member (codes "after") (count f.after) (member (codes "before") (count f.before) (member (codes "doubled") (count f.doubled) (member (codes "gates") (count f.gates) no_members))))
+
+-- how many constraints and gates a map has
+abbrev pub map_circuit_data : Netlist → Data
+map_circuit_data m = object (member (codes "constraints") (count (length m.props.constraints)) (member (codes "gates") (count (length m.aig.gates)) no_members))
+
+-- the same where one is written
+abbrev pub map_data_for : Option Target → Netlist → Data
+map_data_for None m = null
+map_data_for (Some target) m = map_circuit_data m
+
+-- what the written circuit has and what the one had that was read, each frame, what the map has, and whether nothing was found that the judge refused
+abbrev pub moves_data : Moving → Answer → Counts → Data
+moves_data task answer after =
+    object (member (codes "after") (circuit_data after)
+    (member (codes "before") (circuit_data answer.before)
+    (member (codes "command") (string (codes "backward"))
+    (member (codes "frames") (array_of backward_frame_data answer.moved.frames.items)
+    (member (codes "map") (map_data_for task.map answer.moved.map)
+    (member (codes "shown") (boolean answer.moved.is_shown)
+    (member (codes "status") (count 0) no_members)))))))
+
+-- how printing it ends, as an object of JSON where that is asked for, else in lines
+abbrev pub EndsPrintingMoves : Bool → Moving → Answer → Output → Output → Result Outcome Failure → Type 0
+EndsPrintingMoves true task answer old new result = EndsPrintingObject Done (moves_data task answer (counts answer.moved.circuit)) old new result
+EndsPrintingMoves false task answer old new result = EndsPrinting Done (moves_text answer) old new result
+
+-- so it was printed where nobody asks how that ended
+pub record SaysMoves (task : Moving) (answer : Answer) (old new : Output) : Type 0 where
+  pub ended : Result Outcome Failure
+  pub prints : EndsPrintingMoves task.json task answer old new ended

@@ -1,0 +1,10 @@
+use Rattle.variable_tables.proofs.MarkingLaws.{Marks-all, Marks-more}
+use Rattle.pictures.specs.Near.{names_variable}
+use Rattle.pictures.proofs.named.mark_variables_named.Goals as goal
+
+pub loop-symbol-preserved : goal.loop-symbol-preserved
+loop-symbol-preserved c =
+    Marks-more (names_variable c.args.first c.args.name.now) c.args.symbols.now c.loop-symbol.symbol-index c.symbol-item.result 0 _ _ _ c.loop-symbol-test.true c.symbol-item.is c.loop-symbol.invariant c.mark_variable_named.ensures
+
+pub returns : goal.returns
+returns c = Marks-all (names_variable c.args.first c.args.name.now) _ c.loop-symbol.symbol-index 0 _ _ c.loop-symbol-test.false c.loop-symbol.invariant
