@@ -1,14 +1,11 @@
 //! The route of the first worked circuit, and the certificate that it makes.
 ghost use Rattle.pulse.specs.Conditions.{IsMaxPreflow};
 
-use crate::circuits::TWO_LATCHES;
-use aag_text::read_aag;
 use aig_graph::{Circuit, Keep, NoMemory, Sequence};
 use cut_cert::{Certificate, Routes, Verdict, check, network, routes};
 use frame_net::Net;
 use pulse::{Crew, MaxPreflow, OpenGate, run_to_end};
 use std::alloc::Global;
-use std::test::*;
 use std::thread::Threads;
 
 /// What the worked certificate claims: the gate of the latches, the one latch after a move over it, and these routes.
@@ -75,7 +72,7 @@ fn certified_at_end<R: Threads + Sync>(
     }
 }
 
-fn has_certificate<R: Threads + Sync>(rt: &R, alloc: Global, circuit: &Circuit) -> bool {
+pub(crate) fn has_certificate<R: Threads + Sync>(rt: &R, alloc: Global, circuit: &Circuit) -> bool {
     let keep = Keep::none();
     match network(alloc, circuit, &keep) {
         Ok(net) => {
@@ -85,15 +82,4 @@ fn has_certificate<R: Threads + Sync>(rt: &R, alloc: Global, circuit: &Circuit) 
         }
         Err(_) => false,
     }
-}
-
-#[test]
-fn the_certificate_of_one_route_passes(rt: HostRuntime) {
-    let circuit = read_aag(rt.alloc(), TWO_LATCHES);
-    let holds = match &circuit {
-        Ok(circuit) => has_certificate(&rt, rt.alloc(), circuit),
-        Err(_) => false,
-    };
-    drop(circuit);
-    assert!(rt; holds);
 }

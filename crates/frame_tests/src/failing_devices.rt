@@ -36,12 +36,12 @@ fn is_unread<R: Threads + Sync>(rt: &R, alloc: Global, options: &Options, calls:
 
 fn is_unread_by_each<R: Threads + Sync>(rt: &R, alloc: Global) -> bool {
     let options = options(alloc, 1 << 28);
+    let mut unread = true;
     for calls in 0..=CHAINS.len() {
-        if !is_unread(rt, alloc, &options, calls) {
-            return false;
-        }
+        unread = unread & is_unread(rt, alloc, &options, calls);
     }
-    true
+    drop(options);
+    unread
 }
 
 /// How the retiming to a device that takes one byte a call, and fails from a number of calls on, ends, and what it took.
@@ -67,23 +67,27 @@ fn is_beginning<R: Threads + Sync>(
     failure: Failure,
 ) -> bool {
     let (ended, taken) = written(rt, alloc, options, calls, failure);
-    ended == Some(BytesError::Write(WriteError::Device))
-        && taken.len() == calls
-        && TEXT.starts_with(taken.as_slice())
+    let right = (ended == Some(BytesError::Write(WriteError::Device)))
+        & (taken.len() == calls)
+        & TEXT.starts_with(taken.as_slice());
+    drop(taken);
+    right
 }
 
 /// Whether that is so of each call, and the whole text is written where none fails.
 fn is_written_up_to_each<R: Threads + Sync>(rt: &R, alloc: Global) -> bool {
     let options = options(alloc, 1 << 28);
+    let mut written_up = true;
     for calls in 0..TEXT.len() {
-        if !is_beginning(rt, alloc, &options, calls, Failure::Error)
-            || !is_beginning(rt, alloc, &options, calls, Failure::Nothing)
-        {
-            return false;
-        }
+        written_up = written_up
+            & is_beginning(rt, alloc, &options, calls, Failure::Error)
+            & is_beginning(rt, alloc, &options, calls, Failure::Nothing);
     }
     let (ended, taken) = written(rt, alloc, &options, TEXT.len(), Failure::Error);
-    ended.is_none() && taken.as_slice() == TEXT
+    drop(options);
+    let whole = ended.is_none() & (taken.as_slice() == TEXT);
+    drop(taken);
+    written_up & whole
 }
 
 #[test]

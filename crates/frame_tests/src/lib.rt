@@ -6,8 +6,6 @@
 #[cfg(test)]
 mod arcs;
 #[cfg(test)]
-mod batch_counter;
-#[cfg(test)]
 mod batch_drawing;
 #[cfg(test)]
 mod batch_files;
@@ -16,7 +14,7 @@ mod batch_outcomes;
 #[cfg(test)]
 mod between_pulses;
 #[cfg(test)]
-mod bounds;
+mod calls;
 #[cfg(test)]
 mod certificate_texts;
 #[cfg(test)]
@@ -25,6 +23,8 @@ mod certified;
 mod circuits;
 #[cfg(test)]
 mod cleaned;
+#[cfg(test)]
+mod counting_gate;
 #[cfg(test)]
 mod cuts;
 #[cfg(test)]
@@ -36,8 +36,6 @@ mod failing_devices;
 #[cfg(test)]
 mod graphs;
 #[cfg(test)]
-mod greatest_sets;
-#[cfg(test)]
 mod held;
 #[cfg(test)]
 mod lanes;
@@ -48,15 +46,11 @@ mod meeting_gates;
 #[cfg(test)]
 mod moves;
 #[cfg(test)]
-mod names;
-#[cfg(test)]
 mod nets;
 #[cfg(test)]
 mod phase_gates;
 #[cfg(test)]
 mod pool_gate;
-#[cfg(test)]
-mod records;
 #[cfg(test)]
 mod retiming;
 #[cfg(test)]
@@ -65,8 +59,6 @@ mod runs;
 mod starts;
 #[cfg(test)]
 mod tables;
-#[cfg(test)]
-mod unit_crews;
 #[cfg(test)]
 mod unit_parts;
 #[cfg(test)]
@@ -78,8 +70,8 @@ mod wide_circuits;
 #[cfg(test)]
 mod wide_runs;
 #[cfg(test)]
+mod worked_circuits;
+#[cfg(test)]
 mod worked_networks;
 #[cfg(test)]
 mod worked_pulses;
-#[cfg(test)]
-mod workers;

@@ -1,13 +1,15 @@
 //! A frame that is cut: workers that own whole components are at work at once, a crew shares the pulses of a large one, and the flow that they find is
-//! the same for every number of workers. So is that of a frame that isn't cut, whose pulses a crew shares.
+//! the same for every number of workers. So is that of a frame that isn't cut, whose pulses a crew shares: two workers are in a phase at the same moment
+//! in the first pulse of a small circuit, and in one of many active nodes.
 ghost use Rattle.std.specs.Prelude.{◌<◌, ◌≤◌};
 
+use crate::circuits::TWO_LATCHES;
 use crate::meeting_gates::MeetingGate;
-use crate::wide_circuits::{text_of_blocks, text_of_races, text_of_two_chains};
-use aag_text::read_aag;
+use crate::wide_circuits::Wide;
+use aag_text::{ReadError, read_aag};
 use aig_graph::{Choice, Circuit, Keep};
 use pulse::{Crew, OpenGate, PhaseGate};
-use std::alloc::{AllocError, Global};
+use std::alloc::Global;
 use std::test::*;
 use std::thread::Threads;
 use unit_components::{Sizes, chosen_by_sizes};
@@ -68,37 +70,35 @@ fn shown_gates<R: Threads + Sync, G: PhaseGate>(
     }
 }
 
-/// Whether two workers meet in a phase, and show a set of so many gates.
+/// Whether two workers meet in the first and the last of these phases, of the first two, and show a set of so many gates.
 fn meet<R: Threads + Sync>(
     rt: &R,
     alloc: Global,
     circuit: &Circuit,
     sizes: Sizes,
-    phase: u64,
+    phases: [u64; 2],
     gates: usize,
 ) -> bool {
     let crew = Crew::new(2, MeetingGate::new());
     let mut flow = UnitFlow::none(alloc);
     let shown = shown_gates(rt, alloc, circuit, &crew, sizes, &mut flow);
     drop(flow);
-    (shown == Some(gates)) & crew.gate().saw_both(phase)
+    let [first, last] = phases;
+    (shown == Some(gates)) & crew.gate().saw_both(first) & crew.gate().saw_both(last)
 }
 
-/// Whether they do on the circuit of a text, if that was made.
+/// Whether they do on a circuit, if there was memory for it.
 fn meet_in<R: Threads + Sync>(
     rt: &R,
     alloc: Global,
-    text: &Result<Vec<u8>, AllocError>,
+    circuit: Result<Circuit, ReadError>,
     sizes: Sizes,
-    phase: u64,
+    phases: [u64; 2],
     gates: usize,
 ) -> bool {
-    let Ok(text) = text else {
-        return false;
-    };
-    match read_aag(alloc, text.as_slice()) {
+    match circuit {
         Ok(circuit) => {
-            let holds = meet(rt, alloc, &circuit, sizes, phase, gates);
+            let holds = meet(rt, alloc, &circuit, sizes, phases, gates);
             drop(circuit);
             holds
         }
@@ -146,18 +146,15 @@ fn find_the_same<R: Threads + Sync>(
     (shown == Some(gates)) & same
 }
 
-/// Whether they do so on the circuit of a text, if that was made.
+/// Whether they do so on a circuit, if there was memory for it.
 fn find_the_same_in<R: Threads + Sync>(
     rt: &R,
     alloc: Global,
-    text: &Result<Vec<u8>, AllocError>,
+    circuit: Result<Circuit, ReadError>,
     sizes: Sizes,
     gates: usize,
 ) -> bool {
-    let Ok(text) = text else {
-        return false;
-    };
-    match read_aag(alloc, text.as_slice()) {
+    match circuit {
         Ok(circuit) => {
             let same = find_the_same(rt, alloc, &circuit, sizes, gates);
             drop(circuit);
@@ -168,37 +165,42 @@ fn find_the_same_in<R: Threads + Sync>(
 }
 
 #[test]
+fn two_workers_meet_in_the_first_pulse_of_a_small_circuit(rt: HostRuntime) {
+    let circuit = read_aag(rt.alloc(), TWO_LATCHES);
+    assert!(rt; meet_in(&rt, rt.alloc(), circuit, Sizes::OF_RUN, [0, 1], 1));
+}
+
+// So many blocks leave as many active nodes as a pulse is shared out for.
+#[test]
+fn two_workers_meet_in_a_pulse_of_many_active_nodes(rt: HostRuntime) {
+    let circuit = Wide::Blocks(4096).circuit(rt.alloc());
+    assert!(rt; meet_in(&rt, rt.alloc(), circuit, Sizes::OF_RUN, [0, 1], 12_288));
+}
+
+#[test]
 fn two_workers_own_components_at_the_same_moment(rt: HostRuntime) {
-    let text = text_of_blocks(rt.alloc(), 64);
-    let meet = meet_in(&rt, rt.alloc(), &text, SHARED, 0, 192);
-    drop(text);
-    assert!(rt; meet);
+    let circuit = Wide::Blocks(64).circuit(rt.alloc());
+    assert!(rt; meet_in(&rt, rt.alloc(), circuit, SHARED, [0, 0], 192));
 }
 
 #[test]
 fn two_workers_share_the_pulses_of_a_large_component(rt: HostRuntime) {
-    let text = text_of_two_chains(rt.alloc(), 4096);
-    let meet = meet_in(&rt, rt.alloc(), &text, SMALL, 1, 24_576);
-    drop(text);
-    assert!(rt; meet);
+    let circuit = Wide::TwoChains(4096).circuit(rt.alloc());
+    assert!(rt; meet_in(&rt, rt.alloc(), circuit, SMALL, [1, 1], 24_576));
 }
 
 #[test]
 fn parts_have_the_same_flow_for_every_number_of_workers(rt: HostRuntime) {
-    let text = text_of_blocks(rt.alloc(), 64);
-    let same = find_the_same_in(&rt, rt.alloc(), &text, SHARED, 192);
-    drop(text);
-    assert!(rt; same);
+    let circuit = Wide::Blocks(64).circuit(rt.alloc());
+    assert!(rt; find_the_same_in(&rt, rt.alloc(), circuit, SHARED, 192));
 }
 
 // In the fourth pulse two units are before the third gate of each of 2048 races, and one is before the sixth. So 4096 nodes are active, and the pulse is
 // shared out. The third gate keeps a unit, and the sixth pushes there. It has to see the label of before, in whichever range that is.
 #[test]
 fn pulses_leave_the_same_flow_for_every_number_of_workers(rt: HostRuntime) {
-    let text = text_of_races(rt.alloc(), 2048);
-    let same = find_the_same_in(&rt, rt.alloc(), &text, WHOLE, 16_384);
-    drop(text);
-    assert!(rt; same);
+    let circuit = Wide::Races(2048).circuit(rt.alloc());
+    assert!(rt; find_the_same_in(&rt, rt.alloc(), circuit, WHOLE, 16_384));
 }
 
 // A gate takes the unit of its second latch where both wait. With the marks of another pair it does so where that latch is an output. Then the first
@@ -207,12 +209,7 @@ fn pulses_leave_the_same_flow_for_every_number_of_workers(rt: HostRuntime) {
 #[test]
 fn each_part_has_marks_of_its_own(rt: HostRuntime) {
     let circuit = read_aag(rt.alloc(), SIX_PAIRS);
-    let holds = match &circuit {
-        Ok(circuit) => meet(&rt, rt.alloc(), circuit, EACH, 0, 6),
-        Err(_) => false,
-    };
-    drop(circuit);
-    assert!(rt; holds);
+    assert!(rt; meet_in(&rt, rt.alloc(), circuit, EACH, [0, 0], 6));
 }
 
 // As the head of `chosen_least_in_parts` says. A circuit of 2^19 latches and gates is cut into parts of 2^13, and a part of over 2^16 is large. A size

@@ -1,164 +1,149 @@
-//! Texts of wide circuits: many blocks of three latches and three gates each, side by side, or joined so that they are two components. Also many
-//! races of three units for one gate.
-use std::alloc::{AllocError, Global};
+//! Wide circuits: many pairs of latches, or many blocks of three latches and three gates each, side by side, or joined so that they are two
+//! components. Also many races of three units for one gate.
+use aag_text::{Counted, CountedWrite, ReadError, read_aag};
+use aig_graph::Circuit;
+use counted_io::Buffered;
+use std::alloc::Global;
+
+/// So many parts of a kind.
+#[derive(Clone, Copy)]
+pub(crate) enum Wide {
+    /// Two latches, each at an input, and their gate, which is an output.
+    Pairs(u32),
+    /// Blocks, beside each other, whose gates are outputs. A start brings two of the three units of a block to the sink, so that one is left in each.
+    Blocks(u32),
+    /// Twice so many blocks. Each half of them is joined by a gate of each two that come one after the other: an output, so it isn't in a least set.
+    TwoChains(u32),
+    /// Races of seven latches and eight gates, the first five of which are outputs. A start takes the units of the second and the fourth latch
+    /// through the first two gates. It takes that of the fifth up the last three, which lead nowhere. Then three are left that could all come to
+    /// before the third gate, and one of them can go through. The start from the sink down brings that one, but loses one at the fourth and fifth
+    /// gate.
+    Races(u32),
+}
+
+impl Wide {
+    /// The circuit.
+    pub(crate) fn circuit(self, alloc: Global) -> Result<Circuit, ReadError> {
+        let mut text = Counted::new(Vec::new(alloc));
+        self.put(&mut text);
+        let bytes = text.into_inner();
+        let circuit = read_aag(alloc, bytes.as_slice());
+        drop(bytes);
+        circuit
+    }
+
+    /// Puts its text. Where memory is refused, an end of it is missing.
+    fn put<W: CountedWrite>(self, text: &mut W) {
+        let mut out = Buffered::new(text);
+        match self {
+            Wide::Pairs(pairs) => put_pairs(&mut out, pairs),
+            Wide::Blocks(blocks) => put_beside(&mut out, blocks),
+            Wide::TwoChains(blocks) => put_two_chains(&mut out, blocks),
+            Wide::Races(races) => put_races(&mut out, races),
+        }
+        let _ = out.flush();
+    }
+}
 
 /// The literal of the variable with a number, from 0.
-pub(crate) fn literal(number: u32) -> u32 {
-    number.saturating_add(1).saturating_mul(2)
+fn literal(number: u32) -> u64 {
+    u64::from(number.saturating_add(1)).saturating_mul(2)
 }
 
-/// Puts a line of one, two or three literals.
-pub(crate) fn put_line(
-    alloc: Global,
-    text: &mut Vec<u8>,
-    literals: &[u32],
-) -> Result<(), AllocError> {
-    let mut before = "";
-    for literal in literals {
-        let word = format!(in alloc; "{before}{literal}")?;
-        text.extend_from_slice(word.as_bytes())?;
-        before = " ";
-    }
-    text.extend_from_slice(b"\n")
-}
-
-/// Puts so many latches, the inputs that they read, and an output for each of so many gates.
-fn put_latches(
-    alloc: Global,
-    text: &mut Vec<u8>,
-    latches: u32,
-    gates: u32,
-) -> Result<(), AllocError> {
-    for latch in 0..latches {
-        put_line(alloc, text, &[literal(latch)])?;
-    }
-    for latch in 0..latches {
-        let own = latch.saturating_add(latches);
-        put_line(alloc, text, &[literal(own), literal(latch)])?;
-    }
-    for gate in 0..gates {
-        let own = gate.saturating_add(latches.saturating_mul(2));
-        put_line(alloc, text, &[literal(own)])?;
-    }
-    Ok(())
-}
-
-/// Puts the gates of a block: that of its first and its third latch, that of its second latch and this gate, and that of its second and its third
-/// latch. Its first latch and its first gate have these variables.
-fn put_gates(alloc: Global, text: &mut Vec<u8>, latch: u32, gate: u32) -> Result<(), AllocError> {
-    let (first, second, third) = (
-        literal(latch),
-        literal(latch.saturating_add(1)),
-        literal(latch.saturating_add(2)),
-    );
-    put_line(alloc, text, &[literal(gate), third, first])?;
-    put_line(
-        alloc,
-        text,
-        &[literal(gate.saturating_add(1)), literal(gate), second],
-    )?;
-    put_line(
-        alloc,
-        text,
-        &[literal(gate.saturating_add(2)), third, second],
-    )
-}
-
-/// Puts a gate of the last gates of two blocks, the second of which comes next after the first.
-fn put_join(alloc: Global, text: &mut Vec<u8>, gate: u32, last: u32) -> Result<(), AllocError> {
-    put_line(
-        alloc,
-        text,
-        &[
-            literal(gate),
-            literal(last.saturating_add(3)),
-            literal(last),
-        ],
-    )
-}
-
-/// Puts the head of a file: so many latches, as many inputs, and so many gates, which are the outputs.
-fn put_head(alloc: Global, text: &mut Vec<u8>, latches: u32, gates: u32) -> Result<(), AllocError> {
+/// Puts the head of a file: so many latches, as many inputs, so many outputs and so many gates.
+fn put_head<W: CountedWrite>(out: &mut Buffered<'_, W>, latches: u32, outputs: u32, gates: u32) {
     let variables = latches.saturating_mul(2).saturating_add(gates);
-    let head = format!(in alloc; "aag {variables} {latches} {latches} {gates} {gates}\n")?;
-    text.extend_from_slice(head.as_bytes())
+    out.put(b"aag ");
+    out.put_line(&[
+        u64::from(variables),
+        u64::from(latches),
+        u64::from(latches),
+        u64::from(outputs),
+        u64::from(gates),
+    ]);
 }
 
-/// Puts the head, the inputs, the latches and the outputs of a file in which all gates are outputs.
-pub(crate) fn put_beginning(
-    alloc: Global,
-    text: &mut Vec<u8>,
+/// Puts the head, the inputs, the latches, each of which reads its input, and the outputs, which are the first gates.
+fn put_beginning<W: CountedWrite>(
+    out: &mut Buffered<'_, W>,
     latches: u32,
+    outputs: u32,
     gates: u32,
-) -> Result<(), AllocError> {
-    put_head(alloc, text, latches, gates)?;
-    put_latches(alloc, text, latches, gates)
+) {
+    put_head(out, latches, outputs, gates);
+    for latch in 0..latches {
+        out.put_line(&[literal(latch)]);
+    }
+    for latch in 0..latches {
+        out.put_line(&[literal(latch.saturating_add(latches)), literal(latch)]);
+    }
+    let first = latches.saturating_mul(2);
+    for gate in 0..outputs {
+        out.put_line(&[literal(first.saturating_add(gate))]);
+    }
 }
 
-/// Puts so many blocks, beside each other. A start brings two of the three units of a block to the sink, so that one is left in each.
-fn put_blocks(alloc: Global, text: &mut Vec<u8>, blocks: u32) -> Result<(), AllocError> {
+/// Puts a gate and its fan-ins, the larger one first, each by the number of its variable.
+fn put_gate<W: CountedWrite>(out: &mut Buffered<'_, W>, gate: u32, larger: u32, smaller: u32) {
+    out.put_line(&[literal(gate), literal(larger), literal(smaller)]);
+}
+
+fn put_pairs<W: CountedWrite>(out: &mut Buffered<'_, W>, pairs: u32) {
+    let latches = pairs.saturating_mul(2);
+    put_beginning(out, latches, pairs, pairs);
+    for pair in 0..pairs {
+        let first = latches.saturating_add(pair.saturating_mul(2));
+        let gate = latches.saturating_mul(2).saturating_add(pair);
+        put_gate(out, gate, first.saturating_add(1), first);
+    }
+}
+
+/// Puts the gates of so many blocks. Those of a block are that of its first and its third latch, that of its second latch and this gate, and that
+/// of its second and its third latch.
+fn put_blocks<W: CountedWrite>(out: &mut Buffered<'_, W>, blocks: u32) {
     let latches = blocks.saturating_mul(3);
     for block in 0..blocks {
-        let latch = latches.saturating_add(block.saturating_mul(3));
-        put_gates(alloc, text, latch, latch.saturating_add(latches))?;
+        let first = latches.saturating_add(block.saturating_mul(3));
+        let (second, third) = (first.saturating_add(1), first.saturating_add(2));
+        let gate = first.saturating_add(latches);
+        put_gate(out, gate, third, first);
+        put_gate(out, gate.saturating_add(1), gate, second);
+        put_gate(out, gate.saturating_add(2), third, second);
     }
-    Ok(())
 }
 
-/// So many blocks, beside each other.
-pub(crate) fn text_of_blocks(alloc: Global, blocks: u32) -> Result<Vec<u8>, AllocError> {
+fn put_beside<W: CountedWrite>(out: &mut Buffered<'_, W>, blocks: u32) {
     let latches = blocks.saturating_mul(3);
-    let mut text = Vec::new(alloc);
-    put_beginning(alloc, &mut text, latches, latches)?;
-    put_blocks(alloc, &mut text, blocks)?;
-    Ok(text)
+    put_beginning(out, latches, latches, latches);
+    put_blocks(out, blocks);
 }
 
-/// Puts the gates that join each half of twice so many blocks.
-fn put_joins(alloc: Global, text: &mut Vec<u8>, blocks: u32) -> Result<(), AllocError> {
+/// Puts the gates that join each half of twice so many blocks: each is that of the last gates of two blocks, one after the other.
+fn put_joins<W: CountedWrite>(out: &mut Buffered<'_, W>, blocks: u32) {
     let all = blocks.saturating_mul(2);
     let first = all.saturating_mul(6);
     let mut next = all.saturating_mul(9);
     for block in 1..all {
         if block != blocks {
-            let last = first
-                .saturating_add(block.saturating_mul(3))
-                .saturating_sub(1);
-            put_join(alloc, text, next, last)?;
+            let second = first.saturating_add(block.saturating_mul(3));
+            put_gate(
+                out,
+                next,
+                second.saturating_add(2),
+                second.saturating_sub(1),
+            );
             next = next.saturating_add(1);
         }
     }
-    Ok(())
 }
 
-/// Twice so many blocks. Each half of them is joined by a gate of each two that come one after the other: an output, so it isn't in a least set.
-pub(crate) fn text_of_two_chains(alloc: Global, blocks: u32) -> Result<Vec<u8>, AllocError> {
+fn put_two_chains<W: CountedWrite>(out: &mut Buffered<'_, W>, blocks: u32) {
     let all = blocks.saturating_mul(2);
     let latches = all.saturating_mul(3);
     let gates = latches.saturating_add(all).saturating_sub(2);
-    let mut text = Vec::new(alloc);
-    put_beginning(alloc, &mut text, latches, gates)?;
-    put_blocks(alloc, &mut text, all)?;
-    put_joins(alloc, &mut text, blocks)?;
-    Ok(text)
-}
-
-/// Puts the gates of a kind, one for each race: the larger and the smaller fan-in, a latch of the race or the gate of an earlier kind.
-fn put_kind(
-    alloc: Global,
-    text: &mut Vec<u8>,
-    races: u32,
-    kind: u32,
-    fan_ins: [FanIn; 2],
-) -> Result<(), AllocError> {
-    for race in 0..races {
-        let own = races.saturating_mul(kind.saturating_add(14));
-        let gate = literal(own.saturating_add(race));
-        let [larger, smaller] = fan_ins;
-        let line = &[gate, larger.of(races, race), smaller.of(races, race)];
-        put_line(alloc, text, line)?;
-    }
-    Ok(())
+    put_beginning(out, latches, gates, gates);
+    put_blocks(out, all);
+    put_joins(out, blocks);
 }
 
 /// A fan-in of a race's gate: a latch of the race, or its gate of a kind.
@@ -169,9 +154,9 @@ enum FanIn {
 }
 
 impl FanIn {
-    /// Its literal in one of so many races.
+    /// The number of its variable in one of so many races.
     fn of(self, races: u32, race: u32) -> u32 {
-        let number = match self {
+        match self {
             FanIn::Latch(latch) => races
                 .saturating_add(race)
                 .saturating_mul(7)
@@ -179,13 +164,27 @@ impl FanIn {
             FanIn::Kind(kind) => races
                 .saturating_mul(kind.saturating_add(14))
                 .saturating_add(race),
-        };
-        literal(number)
+        }
     }
 }
 
-/// Puts the gates of so many races, kind by kind.
-fn put_races(alloc: Global, text: &mut Vec<u8>, races: u32) -> Result<(), AllocError> {
+/// Puts the gates of a kind, one for each race, of this larger and this smaller fan-in.
+fn put_kind<W: CountedWrite>(
+    out: &mut Buffered<'_, W>,
+    races: u32,
+    kind: FanIn,
+    larger: FanIn,
+    smaller: FanIn,
+) {
+    for race in 0..races {
+        let (larger, smaller) = (larger.of(races, race), smaller.of(races, race));
+        put_gate(out, kind.of(races, race), larger, smaller);
+    }
+}
+
+fn put_races<W: CountedWrite>(out: &mut Buffered<'_, W>, races: u32) {
+    let (latches, gates) = (races.saturating_mul(7), races.saturating_mul(8));
+    put_beginning(out, latches, races.saturating_mul(5), gates);
     let kinds = [
         [FanIn::Latch(1), FanIn::Latch(0)],
         [FanIn::Latch(3), FanIn::Latch(2)],
@@ -197,24 +196,8 @@ fn put_races(alloc: Global, text: &mut Vec<u8>, races: u32) -> Result<(), AllocE
         [FanIn::Kind(6), FanIn::Latch(4)],
     ];
     let mut kind = 0u32;
-    for fan_ins in kinds {
-        put_kind(alloc, text, races, kind, fan_ins)?;
+    for [larger, smaller] in kinds {
+        put_kind(out, races, FanIn::Kind(kind), larger, smaller);
         kind = kind.saturating_add(1);
     }
-    Ok(())
-}
-
-/// So many races of seven latches and eight gates, the first five of which are outputs. A start takes the units of the second and the fourth latch
-/// through the first two gates. It takes that of the fifth up the last three, which lead nowhere. Then three are left that could all come to before
-/// the third gate, and one of them can go through. The start from the sink down brings that one, but loses one at the fourth and fifth gate.
-pub(crate) fn text_of_races(alloc: Global, races: u32) -> Result<Vec<u8>, AllocError> {
-    let latches = races.saturating_mul(7);
-    let (gates, outputs) = (races.saturating_mul(8), races.saturating_mul(5));
-    let variables = latches.saturating_mul(2).saturating_add(gates);
-    let mut text = Vec::new(alloc);
-    let head = format!(in alloc; "aag {variables} {latches} {latches} {outputs} {gates}\n")?;
-    text.extend_from_slice(head.as_bytes())?;
-    put_latches(alloc, &mut text, latches, outputs)?;
-    put_races(alloc, &mut text, races)?;
-    Ok(text)
 }

@@ -2,6 +2,7 @@
 ghost use Rattle.std.specs.Prelude.{◌≡◌, OnOk, false};
 ghost use Rattle.pulse.specs.Conditions.{ArePushesOf, IsBetween, IsFlowOf};
 
+use crate::arcs::is_at as is_in;
 use crate::starts::start;
 use frame_net::Net;
 use pulse::{
@@ -74,15 +75,14 @@ fn is_at(net: &Net, flow: &Flow, state: &State) -> bool
     requires flow { IsFlowOf net.now flow.now }
     requires unspent { flow.now.spent ≡ false }
 {
+    let mut same = true;
     for v in 0..net.nodes() {
-        if state.labels.get(v as usize).copied() != Some(flow.label(v)) {
-            return false;
-        }
-        if v > 0 && state.excess.get(v as usize - 1).copied() != Some(flow.excess(v)) {
-            return false;
-        }
+        same = same & is_in(state.labels, v as usize, flow.label(v));
     }
-    true
+    for v in 1..net.nodes() {
+        same = same & is_in(state.excess, v as usize - 1, flow.excess(v));
+    }
+    same
 }
 
 /// Whether the flow is in this state, and still is after the read phase of a pulse, which walks the rows of active nodes. Makes that
@@ -105,9 +105,9 @@ fn pulses_from<R: Threads + Sync>(
 {
     let before = is_at(net, flow, state);
     read_phase(rt, alloc, net, flow, pushes, crew)?;
-    let between = is_at(net, flow, state) && pushes.walked() == state.active;
+    let between = is_at(net, flow, state) & (pushes.walked() == state.active);
     deliver_phase(rt, alloc, net, flow, pushes, crew)?;
-    Ok(before && between)
+    Ok(before & between)
 }
 
 /// A pulse by both phases.
