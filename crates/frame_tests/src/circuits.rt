@@ -1,5 +1,6 @@
-//! Circuits that several tests read, a set of one gate, and how circuits are retimed.
-use aig_graph::ClosedSet;
+//! Circuits that several tests read, their texts, sets of gates, and how circuits are retimed.
+use aag_text::{Counted, write_aag};
+use aig_graph::{Circuit, ClosedSet, NoMemory};
 use frames::Options;
 use std::alloc::Global;
 
@@ -8,6 +9,22 @@ pub(crate) const TWO_LATCHES: &[u8] = b"aag 5 2 2 1 1\n2\n4\n6 2\n8 4\n10\n10 8 
 
 /// Two latches in a row after each of two inputs, and the gate of the last ones, which is the output.
 pub(crate) const CHAINS: &[u8] = b"aag 7 2 4 1 1\n2\n4\n6 2\n8 6\n10 4\n12 10\n14\n14 8 12\n";
+
+/// Whether this is the circuit's text.
+pub(crate) fn is_text(alloc: Global, circuit: &Circuit, text: &[u8]) -> bool {
+    let mut out = Counted::new(Vec::new(alloc));
+    let written = write_aag(circuit, &mut out).is_ok();
+    let bytes = out.into_inner();
+    written & (bytes.as_slice() == text)
+}
+
+/// Whether a set was found, and has these gates.
+pub(crate) fn is_set(found: Result<ClosedSet, NoMemory>, gates: &[u32]) -> bool {
+    match found {
+        Ok(set) => set.vars() == gates,
+        Err(_) => false,
+    }
+}
 
 /// The set of one gate.
 pub(crate) fn set_of(alloc: Global, gate: u32) -> Option<ClosedSet> {

@@ -1,35 +1,23 @@
 //! A circuit with free latches that is cleaned.
+use crate::circuits::is_text;
 use aag_text::read_aag;
-use aig_graph::{Circuit, Keep, Latch, Lit, Reset};
-use clean::{Cleaned, clean};
+use aig_graph::{Circuit, Keep};
+use clean::clean;
 use std::alloc::Global;
 use std::test::*;
 
 /// An input, and three free latches: the first two read it, the third reads the first and is the output.
 const FREE_LATCHES: &[u8] = b"aag 4 1 3 1 0\n2\n4 2 4\n6 2 6\n8 4 8\n8\n";
 
-/// A free latch.
-fn free_latch(next: Lit) -> Latch {
-    Latch {
-        next,
-        reset: Reset::Free,
-    }
-}
-
-/// Whether the first and the third latch are left, and the third is the output.
-fn are_first_and_third(cleaned: &Cleaned) -> bool {
-    let first = free_latch(Lit::new(1, false));
-    let third = free_latch(Lit::new(2, false));
-    (cleaned.circuit.aig().latches() == [first, third].as_slice())
-        & (cleaned.circuit.props().outputs.as_slice() == [Lit::new(3, false)].as_slice())
-        & (cleaned.kept_free.as_slice() == [0, 2].as_slice())
-}
+/// The same without the second.
+const FIRST_AND_THIRD: &[u8] = b"aag 3 1 2 1 0\n2\n4 2 4\n6 4 6\n6\n";
 
 /// Whether this is what is left of the circuit, no latch held.
 fn cleans_to_two_free_latches(alloc: Global, circuit: &Circuit) -> bool {
     match clean(alloc, circuit, &Keep::none()) {
         Ok(cleaned) => {
-            let are_left = are_first_and_third(&cleaned);
+            let are_left = is_text(alloc, &cleaned.circuit, FIRST_AND_THIRD)
+                & (cleaned.kept_free.as_slice() == [0, 2].as_slice());
             drop(cleaned);
             are_left
         }
@@ -37,13 +25,19 @@ fn cleans_to_two_free_latches(alloc: Global, circuit: &Circuit) -> bool {
     }
 }
 
+/// Whether it is so of the circuit's text.
+fn keeps_first_and_third(alloc: Global) -> bool {
+    match read_aag(alloc, FREE_LATCHES) {
+        Ok(circuit) => {
+            let keeps = cleans_to_two_free_latches(alloc, &circuit);
+            drop(circuit);
+            keeps
+        }
+        Err(_) => false,
+    }
+}
+
 #[test]
 fn tells_which_free_latches_stay(rt: HostRuntime) {
-    let circuit = read_aag(rt.alloc(), FREE_LATCHES);
-    let holds = match &circuit {
-        Ok(circuit) => cleans_to_two_free_latches(rt.alloc(), circuit),
-        Err(_) => false,
-    };
-    drop(circuit);
-    assert!(rt; holds);
+    assert!(rt; keeps_first_and_third(rt.alloc()));
 }

@@ -2,8 +2,8 @@
 ghost use Rattle.std.specs.Prelude.{IfOk};
 ghost use Rattle.pulse.specs.Conditions.{IsMaxPreflow};
 
+use crate::circuits::is_set;
 use crate::nets::net_of_text;
-use aig_graph::{ClosedSet, NoMemory};
 use cut_cert::{greatest_cut, maximum_preflow, near_cut, routes};
 use frame_net::Net;
 use pulse::{Crew, MaxPreflow, OpenGate, run_to_end};
@@ -16,23 +16,16 @@ use std::thread::Threads;
 const TWO_LEAST_SETS: &[u8] =
     b"aag 8 3 3 2 2\n2\n4\n6\n8 2\n10 4\n12 6\n16\n12\n14 10 8\n16 14 12\n";
 
-/// Whether a set was found, and has these gates.
-fn is_set(found: Result<ClosedSet, NoMemory>, gates: &[u32]) -> bool {
-    match found {
-        Ok(set) => set.vars() == gates,
-        Err(_) => false,
-    }
-}
-
-/// Whether the smallest has the first gate alone.
-fn is_smallest_first_gate(alloc: Global, net: &Net, end: &MaxPreflow) -> bool
+/// Whether there are two routes, by which the smallest has the first gate alone.
+fn is_smallest_by_routes(alloc: Global, net: &Net, end: &MaxPreflow) -> bool
     requires { IsMaxPreflow net.now end.now }
 {
     match routes(alloc, net, end) {
         Ok(found) => {
+            let two = found.len() == 2;
             let set = near_cut(alloc, net, &found);
             drop(found);
-            is_set(set, &[7])
+            two & is_set(set, &[7])
         }
         Err(_) => false,
     }
@@ -45,7 +38,7 @@ fn are_both<E: Copy>(alloc: Global, net: &Net, ended: Result<MaxPreflow, E>) -> 
     match ended {
         Ok(end) => {
             let greatest = greatest_cut(alloc, net, &end);
-            let smallest = is_smallest_first_gate(alloc, net, &end);
+            let smallest = is_smallest_by_routes(alloc, net, &end);
             drop(end);
             smallest & is_set(greatest, &[7, 8])
         }
@@ -60,13 +53,19 @@ fn are_both_at_each_end<R: Threads + Sync>(rt: &R, alloc: Global, net: &Net) -> 
     plain & are_both(alloc, net, maximum_preflow(rt, alloc, net, &crew))
 }
 
+/// Whether they are of the circuit's text.
+fn are_both_of_text<R: Threads + Sync>(rt: &R, alloc: Global) -> bool {
+    match net_of_text(alloc, TWO_LEAST_SETS) {
+        Ok(net) => {
+            let both = are_both_at_each_end(rt, alloc, &net);
+            drop(net);
+            both
+        }
+        Err(_) => false,
+    }
+}
+
 #[test]
 fn smallest_has_the_first_gate_and_greatest_has_both(rt: HostRuntime) {
-    let net = net_of_text(rt.alloc(), TWO_LEAST_SETS);
-    let holds = match &net {
-        Ok(net) => are_both_at_each_end(&rt, rt.alloc(), net),
-        Err(_) => false,
-    };
-    drop(net);
-    assert!(rt; holds);
+    assert!(rt; are_both_of_text(&rt, rt.alloc()));
 }

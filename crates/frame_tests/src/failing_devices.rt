@@ -34,13 +34,11 @@ fn is_unread<R: Threads + Sync>(rt: &R, alloc: Global, options: &Options, calls:
     (fault == Some(BytesError::Read(ReadError::Device))) & is_empty
 }
 
-fn is_unread_by_each<R: Threads + Sync>(rt: &R, alloc: Global) -> bool {
-    let options = options(alloc, 1 << 28);
+fn is_unread_by_each<R: Threads + Sync>(rt: &R, alloc: Global, options: &Options) -> bool {
     let mut unread = true;
     for calls in 0..=CHAINS.len() {
-        unread = unread & is_unread(rt, alloc, &options, calls);
+        unread = unread & is_unread(rt, alloc, options, calls);
     }
-    drop(options);
     unread
 }
 
@@ -74,24 +72,35 @@ fn is_beginning<R: Threads + Sync>(
     right
 }
 
-/// Whether that is so of each call, and the whole text is written where none fails.
-fn is_written_up_to_each<R: Threads + Sync>(rt: &R, alloc: Global) -> bool {
-    let options = options(alloc, 1 << 28);
-    let mut written_up = true;
+/// Whether that is so of each call.
+fn is_written_up_to_each<R: Threads + Sync>(rt: &R, alloc: Global, options: &Options) -> bool {
+    let mut written = true;
     for calls in 0..TEXT.len() {
-        written_up = written_up
-            & is_beginning(rt, alloc, &options, calls, Failure::Error)
-            & is_beginning(rt, alloc, &options, calls, Failure::Nothing);
+        written = written
+            & is_beginning(rt, alloc, options, calls, Failure::Error)
+            & is_beginning(rt, alloc, options, calls, Failure::Nothing);
     }
-    let (ended, taken) = written(rt, alloc, &options, TEXT.len(), Failure::Error);
-    drop(options);
+    written
+}
+
+/// Whether the whole text is written where none fails.
+fn is_written<R: Threads + Sync>(rt: &R, alloc: Global, options: &Options) -> bool {
+    let (ended, taken) = written(rt, alloc, options, TEXT.len(), Failure::Error);
     let whole = ended.is_none() & (taken.as_slice() == TEXT);
     drop(taken);
-    written_up & whole
+    whole
+}
+
+fn stops_at_each<R: Threads + Sync>(rt: &R, alloc: Global) -> bool {
+    let options = options(alloc, 1 << 28);
+    let stops = is_unread_by_each(rt, alloc, &options)
+        & is_written_up_to_each(rt, alloc, &options)
+        & is_written(rt, alloc, &options);
+    drop(options);
+    stops
 }
 
 #[test]
 fn writes_nothing_after_a_failed_read_and_stops_at_a_failed_write(rt: HostRuntime) {
-    let unread = is_unread_by_each(&rt, rt.alloc());
-    assert!(rt; unread & is_written_up_to_each(&rt, rt.alloc()));
+    assert!(rt; stops_at_each(&rt, rt.alloc()));
 }

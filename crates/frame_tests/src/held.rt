@@ -1,33 +1,18 @@
-//! Latches that are held by their names and by their positions: where they stand when they are looked up, after cleaning, which passes over them,
-//! and after a run.
-use crate::circuits::options;
+//! Latches that are held by their names and by their positions, and that cleaning passes over. `tests/cases/keep` has others, and where they stand
+//! after a run `tests/cases/dot`.
+use crate::circuits::is_text;
 use aag_text::read_aag;
-use aig_graph::{Circuit, HoldError, Latch, Lit, Reset, hold, keep_of};
-use clean::{Cleaned, clean};
-use frames::{NoWatcher, Options, run_watched};
-use pulse::{Crew, OpenGate};
+use aig_graph::{Circuit, HoldError, hold, keep_of};
+use clean::clean;
 use std::alloc::Global;
-use std::mem;
+use std::slice;
 use std::test::*;
-use std::thread::Threads;
 
 /// An input, two latches that read it, and one that reads itself; the second is the output, and it and the third have names.
 const HELD_LATCHES: &[u8] = b"aag 4 1 3 1 0\n2\n4 2\n6 2\n8 8\n6\nl1 twin\nl2 stuck\n";
 
-/// Whether the twin and the stuck latch are left, and the twin is the output.
-fn are_twin_and_stuck(cleaned: &Cleaned) -> bool {
-    let twin = Latch {
-        next: Lit::new(1, false),
-        reset: Reset::Zero,
-    };
-    let stuck = Latch {
-        next: Lit::new(3, false),
-        reset: Reset::Zero,
-    };
-    (cleaned.circuit.aig().latches() == [twin, stuck].as_slice())
-        & (cleaned.circuit.props().outputs.as_slice() == [Lit::new(2, false)].as_slice())
-        & (cleaned.circuit.symbols().latches.len() == 2)
-}
+/// The same without the first.
+const TWIN_AND_STUCK: &[u8] = b"aag 3 1 2 1 0\n2\n4 2\n6 6\n4\nl0 twin\nl1 stuck\n";
 
 /// Whether both are held, the twin by its name and the stuck latch by its position, and left when the circuit is cleaned.
 fn cleans_past(alloc: Global, circuit: &Circuit, twin: &[Vec<u8>]) -> bool {
@@ -38,63 +23,43 @@ fn cleans_past(alloc: Global, circuit: &Circuit, twin: &[Vec<u8>]) -> bool {
     let cleaned = clean(alloc, circuit, &keep);
     drop(keep);
     let are_left = match &cleaned {
-        Ok(cleaned) => are_twin_and_stuck(cleaned),
+        Ok(cleaned) => is_text(alloc, &cleaned.circuit, TWIN_AND_STUCK),
         Err(_) => false,
     };
     drop(cleaned);
     both & are_left
 }
 
-/// Whether that is so; and no latch is held where none is asked for, nor at a position past the last latch, which is refused.
-fn holds_both(alloc: Global, circuit: &Circuit) -> bool {
+/// Whether no latch is held where none is asked for, nor at a position past the last latch, which is refused.
+fn holds_no_other(alloc: Global, circuit: &Circuit) -> bool {
     let past = hold(alloc, circuit, &[], &[0, 3]).err() == Some(HoldError::NoSuchLatch(1));
-    let none = match keep_of(alloc, circuit, &[]) {
-        Ok(keep) => keep.positions().is_empty(),
+    match keep_of(alloc, circuit, &[]) {
+        Ok(keep) => past & keep.positions().is_empty(),
         Err(_) => false,
-    };
-    let both = match Vec::from_slice(alloc, b"twin") {
-        Ok(twin) => cleans_past(alloc, circuit, &[twin]),
-        Err(_) => false,
-    };
-    past & none & both
+    }
 }
 
-/// Whether the held latches are the first two after a run by these options.
-fn are_first<R: Threads + Sync>(
-    rt: &R,
-    alloc: Global,
-    circuit: &Circuit,
-    options: &Options,
-) -> bool {
-    let crew = Crew::new(1, OpenGate);
-    let run = run_watched(rt, alloc, circuit, options, &crew, &mut NoWatcher);
-    let first = match &run {
-        Ok(run) => run.keep.positions() == [0, 1].as_slice(),
+/// Whether both are so of the circuit's text and a name.
+fn holds_both(alloc: Global, twin: &[Vec<u8>]) -> bool {
+    match read_aag(alloc, HELD_LATCHES) {
+        Ok(circuit) => {
+            let holds = holds_no_other(alloc, &circuit) & cleans_past(alloc, &circuit, twin);
+            drop(circuit);
+            holds
+        }
         Err(_) => false,
-    };
-    drop(run);
-    first
+    }
 }
 
-/// Whether they are where those at these positions are held.
-fn stand_first<R: Threads + Sync>(rt: &R, alloc: Global, circuit: &Circuit) -> bool {
-    let Ok(held) = Vec::from_array(alloc, [1, 2]) else {
-        return false;
-    };
-    let mut options = options(alloc, 1);
-    drop(mem::replace(&mut options.keep_latches, held));
-    let stand = are_first(rt, alloc, circuit, &options);
-    drop(options);
-    stand
+/// Whether they are so of the name of the twin.
+fn holds_twin(alloc: Global) -> bool {
+    match Vec::from_slice(alloc, b"twin") {
+        Ok(twin) => holds_both(alloc, slice::from_ref(&twin)),
+        Err(_) => false,
+    }
 }
 
 #[test]
-fn holds_latches_by_name_and_by_position_in_cleaning_and_in_a_run(rt: HostRuntime) {
-    let circuit = read_aag(rt.alloc(), HELD_LATCHES);
-    let holds = match &circuit {
-        Ok(circuit) => { holds_both(rt.alloc(), circuit) & stand_first(&rt, rt.alloc(), circuit) }
-        Err(_) => false,
-    };
-    drop(circuit);
-    assert!(rt; holds);
+fn holds_latches_by_name_and_by_position_and_cleans_past_them(rt: HostRuntime) {
+    assert!(rt; holds_twin(rt.alloc()));
 }

@@ -18,8 +18,6 @@ mod calls;
 #[cfg(test)]
 mod certificate_texts;
 #[cfg(test)]
-mod certified;
-#[cfg(test)]
 mod circuits;
 #[cfg(test)]
 mod cleaned;
@@ -69,8 +67,6 @@ mod watched;
 mod wide_circuits;
 #[cfg(test)]
 mod wide_runs;
-#[cfg(test)]
-mod worked_circuits;
 #[cfg(test)]
 mod worked_networks;
 #[cfg(test)]

@@ -3,11 +3,9 @@ ghost use Rattle.std.specs.Prelude.{◌+◌, ◌≤◌, IsTrue, length};
 ghost use Rattle.aig_graph.specs.declared.literal.TheConstants.{MAX_VARIABLES};
 ghost use Rattle.aig_graph.specs.Graph.{first_latch, free_latches};
 
-use crate::circuits::set_of;
+use crate::circuits::{is_text, set_of};
 use aag_text::read_aag;
-use aig_graph::{
-    Aig, Circuit, ClosedSet, Gate, Keep, Latch, Lit, MAX_VARIABLES, Reset, count, is_closed,
-};
+use aig_graph::{Aig, Circuit, ClosedSet, Keep, MAX_VARIABLES, Reset, count, is_closed};
 use rebuild::{moved, resets};
 use std::alloc::Global;
 use std::test::*;
@@ -24,21 +22,8 @@ fn has_room(aig: &Aig, others: u32) -> bool
         <= MAX_VARIABLES
 }
 
-/// Whether the one latch starts at 1 and reads the gate's copy, which reads the inputs, larger literal first; and the output
-/// reads the latch.
-fn is_moved_nor(circuit: &Circuit) -> bool {
-    let latch = Latch {
-        next: Lit::new(4, false),
-        reset: Reset::One,
-    };
-    let gate = Gate {
-        rhs0: Lit::new(2, true),
-        rhs1: Lit::new(1, true),
-    };
-    (circuit.aig().latches() == [latch].as_slice())
-        & (circuit.aig().gates() == [gate].as_slice())
-        & (circuit.props().outputs.as_slice() == [Lit::new(3, false)].as_slice())
-}
+/// The one latch starts at 1 and reads the gate's copy, which reads the inputs; and the output reads the latch.
+const MOVED: &[u8] = b"aag 4 2 1 1 1\n2\n4\n6 8 1\n6\n8 5 3\n";
 
 /// Whether the set is closed, its border is one latch, and the circuit moved over it is as it was worked by hand.
 fn moves_over(alloc: Global, circuit: &Circuit, set: &ClosedSet) -> bool {
@@ -54,7 +39,7 @@ fn moves_over(alloc: Global, circuit: &Circuit, set: &ClosedSet) -> bool {
     }
     match moved(alloc, circuit, set, &keep) {
         Ok(moved) => {
-            let is_moved = is_moved_nor(&moved);
+            let is_moved = is_text(alloc, &moved, MOVED);
             drop(moved);
             is_moved & (border == 1)
         }
@@ -78,14 +63,20 @@ fn starts_at(alloc: Global, aig: &Aig, reset: Reset) -> bool {
     }
 }
 
+/// Whether both are so of the circuit's text.
+fn starts_at_1_and_moves(alloc: Global) -> bool {
+    match read_aag(alloc, NEGATED_LATCHES) {
+        Ok(circuit) => {
+            let holds = starts_at(alloc, circuit.aig(), Reset::One)
+                & moves_to_one_latch(alloc, &circuit);
+            drop(circuit);
+            holds
+        }
+        Err(_) => false,
+    }
+}
+
 #[test]
 fn moves_over_a_gate_that_starts_at_1(rt: HostRuntime) {
-    let circuit = read_aag(rt.alloc(), NEGATED_LATCHES);
-    let holds = match &circuit {
-        Ok(circuit) => starts_at(rt.alloc(), circuit.aig(), Reset::One)
-            & moves_to_one_latch(rt.alloc(), circuit),
-        Err(_) => false,
-    };
-    drop(circuit);
-    assert!(rt; holds);
+    assert!(rt; starts_at_1_and_moves(rt.alloc()));
 }

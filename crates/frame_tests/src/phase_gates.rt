@@ -3,7 +3,7 @@
 use crate::counting_gate::CountingGate;
 use crate::meeting_gates::MeetingGate;
 use crate::starts::start;
-use crate::worked_pulses::{pulse, pulse_by_ranges};
+use crate::worked_pulses::pulses_after_ranges;
 use frame_net::Net;
 use pulse::{Crew, PhaseGate, run_to_end, run_with_global_relabeling};
 use std::alloc::Global;
@@ -26,7 +26,7 @@ fn pulses_of<R: Threads + Sync, G: PhaseGate>(
     }
 }
 
-/// Whether a crew makes a pulse after one by ranges.
+/// Whether a crew makes a pulse after one by ranges, from the start.
 fn makes_a_pulse_after_ranges<R: Threads + Sync, G: PhaseGate>(
     rt: &R,
     alloc: Global,
@@ -35,8 +35,7 @@ fn makes_a_pulse_after_ranges<R: Threads + Sync, G: PhaseGate>(
 ) -> bool {
     match start(alloc, net) {
         Ok((mut flow, mut pushes)) => {
-            pulse_by_ranges(net, &mut flow, &mut pushes);
-            let made = pulse(rt, alloc, net, &mut flow, &mut pushes, crew).is_ok();
+            let made = pulses_after_ranges(rt, alloc, net, &mut flow, &mut pushes, crew);
             drop(flow);
             drop(pushes);
             made

@@ -1,12 +1,14 @@
 //! The frames of two chains of latches, and that the set of a frame doesn't rest on what is known of the last flow.
-use crate::circuits::options;
+use crate::circuits::{CHAINS, is_set, options};
 use crate::meeting_gates::MeetingGate;
+use aag_text::read_aag;
 use aig_graph::{Choice, Circuit, Keep};
 use chosen_cuts::{Records, chosen_least_along};
 use frames::{FrameReport, Retimed, retime};
 use pulse::{Crew, OpenGate};
 use std::alloc::Global;
 use std::mem;
+use std::test::*;
 use std::thread::Threads;
 use unit_flows::GateFlow;
 
@@ -28,11 +30,7 @@ fn has_two_latches(retimed: &Retimed) -> bool {
 }
 
 /// Whether two frames are taken where no more help, by two workers that are at work at once in each phase of the first pulse.
-pub(crate) fn takes_two_frames<R: Threads + Sync>(
-    rt: &R,
-    alloc: Global,
-    circuit: &Circuit,
-) -> bool {
+fn takes_two_frames<R: Threads + Sync>(rt: &R, alloc: Global, circuit: &Circuit) -> bool {
     let options = options(alloc, 1 << 28);
     let crew = Crew::new(2, MeetingGate::new());
     let retimed = retime(rt, alloc, circuit, &options, &crew);
@@ -56,17 +54,13 @@ fn flow_of(number: u32) -> GateFlow {
     }
 }
 
-/// Whether the gate is the greatest least set, where this is known of so many gates.
+/// Whether the gate is the greatest least set, where these are the flows that are known.
 fn finds_gate<R: Threads + Sync>(
     rt: &R,
     alloc: Global,
     circuit: &Circuit,
-    flow: GateFlow,
-    count: usize,
+    flows: Vec<GateFlow>,
 ) -> bool {
-    let Ok(flows) = vec![in alloc; flow; count] else {
-        return false;
-    };
     let mut records = Records::new(alloc, false);
     drop(mem::replace(&mut records.flows, flows));
     let crew = Crew::new(1, OpenGate);
@@ -74,21 +68,50 @@ fn finds_gate<R: Threads + Sync>(
     let greatest = Choice::Greatest;
     let set = chosen_least_along(rt, alloc, circuit, &keep, greatest, &crew, &mut records);
     drop(records);
-    match set {
-        Ok(set) => set.vars() == [7].as_slice(),
+    is_set(set, &[7])
+}
+
+/// Whether it is where the flow of a number is that of so many gates.
+fn finds_gate_along<R: Threads + Sync>(
+    rt: &R,
+    alloc: Global,
+    circuit: &Circuit,
+    number: u32,
+    count: usize,
+) -> bool {
+    match vec![in alloc; flow_of(number); count] {
+        Ok(flows) => finds_gate(rt, alloc, circuit, flows),
         Err(_) => false,
     }
 }
 
 /// Whether it is for many flows, of too few gates, of the one that there is, and of too many.
-pub(crate) fn finds_gate_whatever_is_known<R: Threads + Sync>(
+fn finds_gate_whatever_is_known<R: Threads + Sync>(
     rt: &R,
     alloc: Global,
     circuit: &Circuit,
 ) -> bool {
-    let mut finds = finds_gate(rt, alloc, circuit, flow_of(u32::MAX), 1);
+    let mut finds = finds_gate_along(rt, alloc, circuit, u32::MAX, 1);
     for number in 0..128u32 {
-        finds = finds & finds_gate(rt, alloc, circuit, flow_of(number), number as usize % 3);
+        finds = finds & finds_gate_along(rt, alloc, circuit, number, number as usize % 3);
     }
     finds
+}
+
+/// Whether both are so of the chains.
+fn chains_are_as_worked<R: Threads + Sync>(rt: &R, alloc: Global) -> bool {
+    match read_aag(alloc, CHAINS) {
+        Ok(circuit) => {
+            let holds = takes_two_frames(rt, alloc, &circuit)
+                & finds_gate_whatever_is_known(rt, alloc, &circuit);
+            drop(circuit);
+            holds
+        }
+        Err(_) => false,
+    }
+}
+
+#[test]
+fn chains_take_two_frames_by_two_workers_and_the_same_set_whatever_is_known(rt: HostRuntime) {
+    assert!(rt; chains_are_as_worked(&rt, rt.alloc()));
 }

@@ -7,7 +7,7 @@ use crate::circuits::TWO_LATCHES;
 use crate::meeting_gates::MeetingGate;
 use crate::wide_circuits::Wide;
 use aag_text::{ReadError, read_aag};
-use aig_graph::{Choice, Circuit, Keep};
+use aig_graph::{Choice, Circuit, ClosedSet, Keep, NoMemory};
 use pulse::{Crew, OpenGate, PhaseGate};
 use std::alloc::Global;
 use std::test::*;
@@ -47,6 +47,15 @@ const EACH: Sizes = Sizes {
 const SIX_PAIRS: &[u8] =
     b"aag 30 12 12 9 6\n2\n4\n6\n8\n10\n12\n14\n16\n18\n20\n22\n24\n26 2\n28 4\n30 6\n32 8\n34 10\n36 12\n38 14\n40 16\n42 18\n44 20\n46 22\n48 24\n50\n52\n54\n56\n58\n60\n32\n40\n48\n50 28 26\n52 32 30\n54 36 34\n56 40 38\n58 44 42\n60 48 46\n";
 
+/// How many gates a set has, if there is one.
+fn gates_of(shown: Result<Option<ClosedSet>, NoMemory>) -> Option<usize> {
+    match shown {
+        Ok(Some(set)) => Some(set.vars().len()),
+        Ok(None) => None,
+        Err(_) => None,
+    }
+}
+
 /// How many gates the greatest least set has that a crew shows, or none.
 fn shown_gates<R: Threads + Sync, G: PhaseGate>(
     rt: &R,
@@ -57,15 +66,13 @@ fn shown_gates<R: Threads + Sync, G: PhaseGate>(
     flow: &mut UnitFlow,
 ) -> Option<usize> {
     let keep = Keep::none();
-    let Ok(frame) = Frame::new(alloc, circuit, &keep) else {
-        return None;
-    };
     let greatest = Choice::Greatest;
-    let shown = chosen_by_sizes(rt, alloc, &frame, greatest, crew, sizes, flow);
-    drop(frame);
-    match shown {
-        Ok(Some(set)) => Some(set.vars().len()),
-        Ok(None) => None,
+    match Frame::new(alloc, circuit, &keep) {
+        Ok(frame) => {
+            let shown = chosen_by_sizes(rt, alloc, &frame, greatest, crew, sizes, flow);
+            drop(frame);
+            gates_of(shown)
+        }
         Err(_) => None,
     }
 }

@@ -1,4 +1,5 @@
 //! That a flow of units shows the chosen least set by itself, with a certificate and without. A gate counts that no phase of a maximum flow is made.
+use crate::circuits::is_set;
 use crate::counting_gate::CountingGate;
 use aag_text::read_aag;
 use aig_graph::{Choice, Circuit, Keep};
@@ -26,11 +27,7 @@ fn is_of_both<R: Threads + Sync>(
     let set = chosen_least_along(rt, alloc, circuit, &keep, choice, crew, &mut records);
     let certificates = records.certificates.as_slice().len();
     drop(records);
-    let are_gates = match set {
-        Ok(set) => set.vars() == [5, 6].as_slice(),
-        Err(_) => false,
-    };
-    are_gates & (certificates == usize::from(certify))
+    is_set(set, &[5, 6]) & (certificates == usize::from(certify))
 }
 
 /// Whether it is so for both choices, with a certificate and without, and no phase is made for any. One latch is left where both gates move. If the
@@ -55,13 +52,19 @@ fn are_shown_by_starts<R: Threads + Sync>(rt: &R, alloc: Global, circuit: &Circu
     }
 }
 
+/// Whether they are of the circuit's text.
+fn are_shown<R: Threads + Sync>(rt: &R, alloc: Global) -> bool {
+    match read_aag(alloc, READ_AGAIN) {
+        Ok(circuit) => {
+            let shown = are_shown_by_starts(rt, alloc, &circuit);
+            drop(circuit);
+            shown
+        }
+        Err(_) => false,
+    }
+}
+
 #[test]
 fn no_phase_is_made_where_a_start_shows_the_set(rt: HostRuntime) {
-    let circuit = read_aag(rt.alloc(), READ_AGAIN);
-    let holds = match &circuit {
-        Ok(circuit) => are_shown_by_starts(&rt, rt.alloc(), circuit),
-        Err(_) => false,
-    };
-    drop(circuit);
-    assert!(rt; holds);
+    assert!(rt; are_shown(&rt, rt.alloc()));
 }

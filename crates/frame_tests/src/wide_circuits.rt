@@ -172,32 +172,25 @@ impl FanIn {
 fn put_kind<W: CountedWrite>(
     out: &mut Buffered<'_, W>,
     races: u32,
-    kind: FanIn,
+    kind: u32,
     larger: FanIn,
     smaller: FanIn,
 ) {
     for race in 0..races {
         let (larger, smaller) = (larger.of(races, race), smaller.of(races, race));
-        put_gate(out, kind.of(races, race), larger, smaller);
+        put_gate(out, FanIn::Kind(kind).of(races, race), larger, smaller);
     }
 }
 
 fn put_races<W: CountedWrite>(out: &mut Buffered<'_, W>, races: u32) {
     let (latches, gates) = (races.saturating_mul(7), races.saturating_mul(8));
     put_beginning(out, latches, races.saturating_mul(5), gates);
-    let kinds = [
-        [FanIn::Latch(1), FanIn::Latch(0)],
-        [FanIn::Latch(3), FanIn::Latch(2)],
-        [FanIn::Latch(3), FanIn::Latch(1)],
-        [FanIn::Latch(5), FanIn::Latch(5)],
-        [FanIn::Latch(6), FanIn::Latch(5)],
-        [FanIn::Kind(2), FanIn::Latch(4)],
-        [FanIn::Kind(5), FanIn::Latch(4)],
-        [FanIn::Kind(6), FanIn::Latch(4)],
-    ];
-    let mut kind = 0u32;
-    for [larger, smaller] in kinds {
-        put_kind(out, races, FanIn::Kind(kind), larger, smaller);
-        kind = kind.saturating_add(1);
-    }
+    put_kind(out, races, 0, FanIn::Latch(1), FanIn::Latch(0));
+    put_kind(out, races, 1, FanIn::Latch(3), FanIn::Latch(2));
+    put_kind(out, races, 2, FanIn::Latch(3), FanIn::Latch(1));
+    put_kind(out, races, 3, FanIn::Latch(5), FanIn::Latch(5));
+    put_kind(out, races, 4, FanIn::Latch(6), FanIn::Latch(5));
+    put_kind(out, races, 5, FanIn::Kind(2), FanIn::Latch(4));
+    put_kind(out, races, 6, FanIn::Kind(5), FanIn::Latch(4));
+    put_kind(out, races, 7, FanIn::Kind(6), FanIn::Latch(4));
 }

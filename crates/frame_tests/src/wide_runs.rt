@@ -26,13 +26,19 @@ fn own_at_once<R: Threads + Sync>(rt: &R, alloc: Global, circuit: &Circuit) -> b
     (left == PAIRS as usize) & crew.gate().saw_both(0)
 }
 
+/// Whether they are on the circuit of so many pairs.
+fn own_pairs_at_once<R: Threads + Sync>(rt: &R, alloc: Global) -> bool {
+    match Wide::Pairs(PAIRS).circuit(alloc) {
+        Ok(circuit) => {
+            let own = own_at_once(rt, alloc, &circuit);
+            drop(circuit);
+            own
+        }
+        Err(_) => false,
+    }
+}
+
 #[test]
 fn two_workers_own_the_components_of_a_large_frame(rt: HostRuntime) {
-    let circuit = Wide::Pairs(PAIRS).circuit(rt.alloc());
-    let holds = match &circuit {
-        Ok(circuit) => own_at_once(&rt, rt.alloc(), circuit),
-        Err(_) => false,
-    };
-    drop(circuit);
-    assert!(rt; holds);
+    assert!(rt; own_pairs_at_once(&rt, rt.alloc()));
 }
