@@ -1,4 +1,4 @@
-//! The texts of errors, and a number of each kind. Contracts say all numbers.
+//! The texts of errors. Contracts say their numbers.
 use aag_text::{ReadError, WriteError};
 use aig_graph::{BuildError, HoldError, KeepError, NoMemory};
 use batch_lists::ListError;
@@ -72,20 +72,8 @@ fn are_of_files(alloc: Global) -> bool {
         & is_spelt(alloc, &BytesError::Write(WriteError::Device), "device")
 }
 
-fn are_numbered() -> bool {
-    (NoMemory.code() == 1)
-        & (BuildError::TooLarge.code() == 2)
-        & (KeepError::NoMemory.code() == 2)
-        & (StimError::NoMemory.code() == 4)
-        & (SimError::NoMemory.code() == 2)
-        & (PulseError::NoMemory.code() == 1)
-        & (RetimeError::NoSuchLatch(0).code() == 3)
-        & (BytesError::Write(WriteError::Device).code() == 3)
-}
-
 #[test]
-fn spells_and_numbers_errors(rt: HostRuntime) {
+fn spells_errors(rt: HostRuntime) {
     let alloc = rt.alloc();
-    let spelt = are_without_memory(alloc) & are_of_circuits(alloc) & are_of_files(alloc);
-    assert!(rt; spelt & are_numbered());
+    assert!(rt; are_without_memory(alloc) & are_of_circuits(alloc) & are_of_files(alloc));
 }

@@ -1,6 +1,6 @@
-//! Tests of the public calls on tables by variable, rows of words, graphs and whole circuits: cleaning, moving over a set of gates, the network of a
-//! frame, exact labels, pulses and runs by crews of several sizes, cuts, routes, certificates and their files, frames by crews, from bytes to bytes,
-//! many files at once, and checks of maps of states. They stand in a crate of their own, since a crate with tests is proved twice.
+//! Tests of the public calls on graphs and whole circuits: latches that are held, moving over a set of gates, the network of a frame, exact labels,
+//! pulses and runs by crews of several sizes, cuts, routes, files of certificates, frames by crews, from bytes to bytes, and many files at once. They
+//! stand in a crate of their own, since a crate with tests is proved twice.
 #![tactic(auto)]
 
 #[cfg(test)]
@@ -20,8 +20,6 @@ mod certificate_texts;
 #[cfg(test)]
 mod circuits;
 #[cfg(test)]
-mod cleaned;
-#[cfg(test)]
 mod counting_gate;
 #[cfg(test)]
 mod cuts;
@@ -35,10 +33,6 @@ mod failing_devices;
 mod graphs;
 #[cfg(test)]
 mod held;
-#[cfg(test)]
-mod lanes;
-#[cfg(test)]
-mod map_checking;
 #[cfg(test)]
 mod meeting_gates;
 #[cfg(test)]
@@ -55,8 +49,6 @@ mod retiming;
 mod runs;
 #[cfg(test)]
 mod starts;
-#[cfg(test)]
-mod tables;
 #[cfg(test)]
 mod unit_parts;
 #[cfg(test)]

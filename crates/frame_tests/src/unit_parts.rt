@@ -5,8 +5,8 @@ ghost use Rattle.std.specs.Prelude.{◌<◌, ◌≤◌};
 
 use crate::circuits::TWO_LATCHES;
 use crate::meeting_gates::MeetingGate;
-use crate::wide_circuits::Wide;
-use aag_text::{ReadError, read_aag};
+use crate::wide_circuits::{BLOCK, FanIn, RACE, Units};
+use aag_text::read_aag;
 use aig_graph::{Choice, Circuit, ClosedSet, Keep, NoMemory};
 use pulse::{Crew, OpenGate, PhaseGate};
 use std::alloc::Global;
@@ -41,6 +41,41 @@ const EACH: Sizes = Sizes {
     circuit: 1,
     part: 3,
     large: 64,
+};
+
+/// Blocks, beside each other.
+const BLOCKS: Units = Units {
+    count: 64,
+    latches: 3,
+    kinds: BLOCK,
+    outputs: 3,
+    joined: None,
+};
+
+/// So many blocks leave as many active nodes as a pulse is shared out for.
+const MANY_BLOCKS: Units = Units {
+    count: 4096,
+    latches: 3,
+    kinds: BLOCK,
+    outputs: 3,
+    joined: None,
+};
+
+/// Blocks that are joined by their last gates.
+const TWO_CHAINS: Units = Units {
+    count: 8192,
+    latches: 3,
+    kinds: BLOCK,
+    outputs: 3,
+    joined: Some(FanIn::Kind(2)),
+};
+
+const RACES: Units = Units {
+    count: 2048,
+    latches: 7,
+    kinds: RACE,
+    outputs: 5,
+    joined: None,
 };
 
 /// Six pairs of latches, and the gate of each pair, which is an output. So is the second latch of each second pair.
@@ -94,16 +129,35 @@ fn meet<R: Threads + Sync>(
     (shown == Some(gates)) & crew.gate().saw_both(first) & crew.gate().saw_both(last)
 }
 
-/// Whether they do on a circuit, if there was memory for it.
+/// Whether they do on the circuit of a text.
 fn meet_in<R: Threads + Sync>(
     rt: &R,
     alloc: Global,
-    circuit: Result<Circuit, ReadError>,
+    text: &[u8],
     sizes: Sizes,
     phases: [u64; 2],
     gates: usize,
 ) -> bool {
-    match circuit {
+    match read_aag(alloc, text) {
+        Ok(circuit) => {
+            let holds = meet(rt, alloc, &circuit, sizes, phases, gates);
+            drop(circuit);
+            holds
+        }
+        Err(_) => false,
+    }
+}
+
+/// Whether they do on the circuit of units.
+fn meet_on<R: Threads + Sync>(
+    rt: &R,
+    alloc: Global,
+    units: &Units,
+    sizes: Sizes,
+    phases: [u64; 2],
+    gates: usize,
+) -> bool {
+    match units.circuit(alloc) {
         Ok(circuit) => {
             let holds = meet(rt, alloc, &circuit, sizes, phases, gates);
             drop(circuit);
@@ -153,15 +207,15 @@ fn find_the_same<R: Threads + Sync>(
     (shown == Some(gates)) & same
 }
 
-/// Whether they do so on a circuit, if there was memory for it.
-fn find_the_same_in<R: Threads + Sync>(
+/// Whether they do so on the circuit of units.
+fn find_the_same_on<R: Threads + Sync>(
     rt: &R,
     alloc: Global,
-    circuit: Result<Circuit, ReadError>,
+    units: &Units,
     sizes: Sizes,
     gates: usize,
 ) -> bool {
-    match circuit {
+    match units.circuit(alloc) {
         Ok(circuit) => {
             let same = find_the_same(rt, alloc, &circuit, sizes, gates);
             drop(circuit);
@@ -173,41 +227,34 @@ fn find_the_same_in<R: Threads + Sync>(
 
 #[test]
 fn two_workers_meet_in_the_first_pulse_of_a_small_circuit(rt: HostRuntime) {
-    let circuit = read_aag(rt.alloc(), TWO_LATCHES);
-    assert!(rt; meet_in(&rt, rt.alloc(), circuit, Sizes::OF_RUN, [0, 1], 1));
+    assert!(rt; meet_in(&rt, rt.alloc(), TWO_LATCHES, Sizes::OF_RUN, [0, 1], 1));
 }
 
-// So many blocks leave as many active nodes as a pulse is shared out for.
 #[test]
 fn two_workers_meet_in_a_pulse_of_many_active_nodes(rt: HostRuntime) {
-    let circuit = Wide::Blocks(4096).circuit(rt.alloc());
-    assert!(rt; meet_in(&rt, rt.alloc(), circuit, Sizes::OF_RUN, [0, 1], 12_288));
+    assert!(rt; meet_on(&rt, rt.alloc(), &MANY_BLOCKS, Sizes::OF_RUN, [0, 1], 12_288));
 }
 
 #[test]
 fn two_workers_own_components_at_the_same_moment(rt: HostRuntime) {
-    let circuit = Wide::Blocks(64).circuit(rt.alloc());
-    assert!(rt; meet_in(&rt, rt.alloc(), circuit, SHARED, [0, 0], 192));
+    assert!(rt; meet_on(&rt, rt.alloc(), &BLOCKS, SHARED, [0, 0], 192));
 }
 
 #[test]
 fn two_workers_share_the_pulses_of_a_large_component(rt: HostRuntime) {
-    let circuit = Wide::TwoChains(4096).circuit(rt.alloc());
-    assert!(rt; meet_in(&rt, rt.alloc(), circuit, SMALL, [1, 1], 24_576));
+    assert!(rt; meet_on(&rt, rt.alloc(), &TWO_CHAINS, SMALL, [1, 1], 24_576));
 }
 
 #[test]
 fn parts_have_the_same_flow_for_every_number_of_workers(rt: HostRuntime) {
-    let circuit = Wide::Blocks(64).circuit(rt.alloc());
-    assert!(rt; find_the_same_in(&rt, rt.alloc(), circuit, SHARED, 192));
+    assert!(rt; find_the_same_on(&rt, rt.alloc(), &BLOCKS, SHARED, 192));
 }
 
 // In the fourth pulse two units are before the third gate of each of 2048 races, and one is before the sixth. So 4096 nodes are active, and the pulse is
 // shared out. The third gate keeps a unit, and the sixth pushes there. It has to see the label of before, in whichever range that is.
 #[test]
 fn pulses_leave_the_same_flow_for_every_number_of_workers(rt: HostRuntime) {
-    let circuit = Wide::Races(2048).circuit(rt.alloc());
-    assert!(rt; find_the_same_in(&rt, rt.alloc(), circuit, WHOLE, 16_384));
+    assert!(rt; find_the_same_on(&rt, rt.alloc(), &RACES, WHOLE, 16_384));
 }
 
 // A gate takes the unit of its second latch where both wait. With the marks of another pair it does so where that latch is an output. Then the first
@@ -215,14 +262,17 @@ fn pulses_leave_the_same_flow_for_every_number_of_workers(rt: HostRuntime) {
 // In all, six leave at gates and three at latches. As many latches are left where all gates move, so the greatest least set has these.
 #[test]
 fn each_part_has_marks_of_its_own(rt: HostRuntime) {
-    let circuit = read_aag(rt.alloc(), SIX_PAIRS);
-    assert!(rt; meet_in(&rt, rt.alloc(), circuit, EACH, [0, 0], 6));
+    assert!(rt; meet_in(&rt, rt.alloc(), SIX_PAIRS, EACH, [0, 0], 6));
 }
 
 // As the head of `chosen_least_in_parts` says. A circuit of 2^19 latches and gates is cut into parts of 2^13, and a part of over 2^16 is large. A size
 // that nothing reaches would change no set.
 #[test]
 fn a_run_cuts_from_the_sizes_that_are_told(rt: HostRuntime) {
-    let sizes = Sizes::OF_RUN;
-    assert!(rt; sizes.circuit == 524_288 && sizes.part == 8192 && sizes.large == 65_536);
+    let Sizes {
+        circuit,
+        part,
+        large,
+    } = Sizes::OF_RUN;
+    assert!(rt; (circuit == 524_288) & (part == 8192) & (large == 65_536));
 }

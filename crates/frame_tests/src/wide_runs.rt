@@ -1,7 +1,7 @@
 //! That two workers own the components of a frame that is large enough to be cut, both at the same moment.
 use crate::circuits::options;
 use crate::meeting_gates::MeetingGate;
-use crate::wide_circuits::Wide;
+use crate::wide_circuits::{PAIR, Units};
 use aig_graph::Circuit;
 use frames::retime;
 use pulse::Crew;
@@ -10,7 +10,15 @@ use std::test::*;
 use std::thread::Threads;
 
 /// So many pairs of latches and their gates are the least number that is cut, and one place more.
-const PAIRS: u32 = 174_763;
+const PAIRS: usize = 174_763;
+
+const ALL_PAIRS: Units = Units {
+    count: PAIRS as u64,
+    latches: 2,
+    kinds: PAIR,
+    outputs: 1,
+    joined: None,
+};
 
 /// Whether two workers are at work at once, and leave a latch of each pair.
 fn own_at_once<R: Threads + Sync>(rt: &R, alloc: Global, circuit: &Circuit) -> bool {
@@ -23,12 +31,12 @@ fn own_at_once<R: Threads + Sync>(rt: &R, alloc: Global, circuit: &Circuit) -> b
         Err(_) => 0,
     };
     drop(retimed);
-    (left == PAIRS as usize) & crew.gate().saw_both(0)
+    (left == PAIRS) & crew.gate().saw_both(0)
 }
 
-/// Whether they are on the circuit of so many pairs.
+/// Whether they are on the circuit of the pairs.
 fn own_pairs_at_once<R: Threads + Sync>(rt: &R, alloc: Global) -> bool {
-    match Wide::Pairs(PAIRS).circuit(alloc) {
+    match ALL_PAIRS.circuit(alloc) {
         Ok(circuit) => {
             let own = own_at_once(rt, alloc, &circuit);
             drop(circuit);

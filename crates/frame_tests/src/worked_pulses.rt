@@ -216,38 +216,9 @@ pub(crate) fn pulses_after_ranges<R: Threads + Sync, G: PhaseGate>(
     pulses_from(rt, alloc, net, flow, pushes, crew, &UNSEEN) == Ok(true)
 }
 
-/// Whether the pulses by ranges go through the states.
-fn goes_through_by_ranges(net: &Net, flow: &mut Flow, pushes: &mut Pushes) -> bool
-    requires flow { IsBetween net.now flow.old }
-    requires pushes { ArePushesOf net.now pushes.old }
-    requires usable { pushes.old.spent ≡ false }
-{
-    for state in &STATES {
-        if !is_at(net, flow, state) {
-            return false;
-        }
-        pulse_by_ranges(net, flow, pushes);
-    }
-    true
-}
-
-/// Whether they do from the start.
-fn follows_states_by_ranges(alloc: Global, net: &Net) -> bool {
-    match start(alloc, net) {
-        Ok((mut flow, mut pushes)) => {
-            let follows = goes_through_by_ranges(net, &mut flow, &mut pushes);
-            drop(flow);
-            drop(pushes);
-            follows
-        }
-        Err(_) => false,
-    }
-}
-
-/// Whether the pulses of the first network go through its states, by every crew and by ranges.
+/// Whether the pulses of the first network go through its states, by every crew.
 pub(crate) fn follow_states<R: Threads + Sync>(rt: &R, alloc: Global, net: &Net) -> bool {
-    let by_ranges = follows_states_by_ranges(alloc, net);
-    by_ranges & all_follow(rt, alloc, net, &STATES)
+    all_follow(rt, alloc, net, &STATES)
 }
 
 /// Whether the second network's flow is in its state after eleven pulses of every crew.
