@@ -1,6 +1,9 @@
-//! Files of certificates of both versions, and a number of their faults and of objections to certificates. Contracts say all numbers.
-use aag_text::Counted;
-use cut_cert::{CertError, CertFile, Objection, read_cert, write_cert};
+//! Files of certificates of both versions, one that shows its set, and a number of their faults and of objections to certificates. Contracts say
+//! all numbers.
+use crate::circuits::TWO_LATCHES;
+use aag_text::{Counted, read_aag};
+use aig_graph::{Circuit, Keep};
+use cut_cert::{CertError, CertFile, Objection, Verdict, check, read_cert, write_cert};
 use std::alloc::Global;
 use std::test::*;
 
@@ -40,4 +43,42 @@ fn reads_and_writes_both_versions_and_numbers_faults_and_objections(rt: HostRunt
     let no_frame = is_read(alloc, NO_FRAME, NO_FRAME);
     let numbers = (Objection::CountDiffers.code() == 4) & (CertError::NoMemory.code() == 5);
     assert!(rt; first & second & no_frame & numbers);
+}
+
+/// The set of the gate of two latches, along the first.
+const ONE_GATE: &[u8] = b"fretime-cert 1\nframe 1 1 1\ng 5\nr 3+ 5- 5+\n";
+
+/// Whether the first certificate of the file passes all tests, no latch held.
+fn passes(alloc: Global, circuit: &Circuit, file: &CertFile) -> bool {
+    let blocks = file.blocks.as_slice();
+    !blocks.is_empty() && check(alloc, circuit, &blocks[0], &Keep::none()) == Ok(Verdict::Yes)
+}
+
+/// Whether it does where the file is read.
+fn passes_as_read(alloc: Global, circuit: &Circuit) -> bool {
+    match read_cert(alloc, ONE_GATE) {
+        Ok(file) => {
+            let passes = passes(alloc, circuit, &file);
+            drop(file);
+            passes
+        }
+        Err(_) => false,
+    }
+}
+
+/// Whether it does of the circuit's text.
+fn passes_of_text(alloc: Global) -> bool {
+    match read_aag(alloc, TWO_LATCHES) {
+        Ok(circuit) => {
+            let passes = passes_as_read(alloc, &circuit);
+            drop(circuit);
+            passes
+        }
+        Err(_) => false,
+    }
+}
+
+#[test]
+fn a_certificate_of_one_gate_passes(rt: HostRuntime) {
+    assert!(rt; passes_of_text(rt.alloc()));
 }

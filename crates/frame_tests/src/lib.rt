@@ -1,10 +1,12 @@
-//! Tests of the public calls on graphs and whole circuits: latches that are held, moving over a set of gates, the network of a frame, exact labels,
+//! Tests of the public calls on graphs and whole circuits: cleaning, latches that are held, passable gates, moving over a set of gates, the network of a frame, exact labels,
 //! pulses and runs by crews of several sizes, cuts, routes, files of certificates, frames by crews, from bytes to bytes, and many files at once. They
 //! stand in a crate of their own, since a crate with tests is proved twice.
 #![tactic(auto)]
 
 #[cfg(test)]
 mod arcs;
+#[cfg(test)]
+mod batch_counter;
 #[cfg(test)]
 mod batch_drawing;
 #[cfg(test)]
@@ -20,6 +22,8 @@ mod certificate_texts;
 #[cfg(test)]
 mod circuits;
 #[cfg(test)]
+mod cleaned;
+#[cfg(test)]
 mod counting_gate;
 #[cfg(test)]
 mod cuts;
@@ -33,6 +37,8 @@ mod failing_devices;
 mod graphs;
 #[cfg(test)]
 mod held;
+#[cfg(test)]
+mod lanes;
 #[cfg(test)]
 mod meeting_gates;
 #[cfg(test)]
