@@ -2,8 +2,6 @@
 #![tactic(auto)]
 
 #[cfg(test)]
-mod lifts;
-#[cfg(test)]
 mod rows;
 #[cfg(test)]
 mod wrong_drafts;

@@ -1,5 +1,5 @@
-//! Tests of the public calls that read and write circuits in both spellings, of the parts that their readers are made of, and of buffered
-//! writing and devices that fail. They stand in a crate of their own, since a crate with tests is proved twice.
+//! Tests of the public calls that read and write circuits in both spellings, of the order that gates take, and of buffered writing and devices
+//! that fail. They stand in a crate of their own, since a crate with tests is proved twice.
 #![tactic(auto)]
 
 #[cfg(test)]
@@ -9,14 +9,8 @@ mod devices;
 #[cfg(test)]
 mod faults;
 #[cfg(test)]
-mod names_and_properties;
-#[cfg(test)]
-mod parts;
+mod order;
 #[cfg(test)]
 mod pieces;
-#[cfg(test)]
-mod sections_of_ascii;
-#[cfg(test)]
-mod sections_of_binary;
 #[cfg(test)]
 mod writing;

@@ -45,14 +45,13 @@ fn is_stopped(
 
 /// Whether the text is written whole, and up to each call that fails.
 fn is_written(alloc: Global, circuit: &Circuit, form: Spelling, text: &[u8]) -> bool {
+    let mut written = is_spelt(alloc, circuit, form, text);
     for calls in 0..text.len() {
-        if !is_stopped(alloc, circuit, form, text, calls, Failure::Error)
-            || !is_stopped(alloc, circuit, form, text, calls, Failure::Nothing)
-        {
-            return false;
-        }
+        written = written
+            & is_stopped(alloc, circuit, form, text, calls, Failure::Error)
+            & is_stopped(alloc, circuit, form, text, calls, Failure::Nothing);
     }
-    is_spelt(alloc, circuit, form, text)
+    written
 }
 
 #[test]

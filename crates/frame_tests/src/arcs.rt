@@ -1,10 +1,5 @@
-//! The passable gates of the first worked circuit, and the arcs and rows of its network.
-use crate::circuits::TWO_LATCHES;
-use aag_text::read_aag;
-use aig_graph::{Circuit, Keep};
-use frame_net::{Net, Point, passable};
-use std::alloc::Global;
-use std::test::*;
+//! The arcs and rows of the network of the first worked circuit.
+use frame_net::{Net, Point};
 
 const HEADS: [u32; 12] = [2, 3, 5, 0, 4, 0, 4, 2, 3, 5, 1, 4];
 
@@ -12,54 +7,35 @@ const MATES: [u32; 12] = [3, 5, 10, 0, 7, 1, 8, 4, 6, 11, 2, 9];
 
 const CAPS: [u32; 12] = [1, 1, 0, 0, 3, 0, 3, 0, 0, 1, 3, 0];
 
+/// Whether a table has this value at a place.
+pub(crate) fn is_at(values: &[u32], place: usize, value: u32) -> bool {
+    place < values.len() && values[place] == value
+}
+
 fn has_arcs(net: &Net, heads: &[u32], mates: &[u32], caps: &[u32]) -> bool {
     net.known_capacities();
+    let mut same = heads.len() == net.arcs();
     for k in 0..net.arcs() {
         let arc = k as u32;
-        if heads.get(k).copied() != Some(net.head(arc))
-            || mates.get(k).copied() != Some(net.mate(arc))
-            || caps.get(k).copied() != Some(net.cap(arc))
-        {
-            return false;
-        }
+        same = same
+            & is_at(heads, k, net.head(arc))
+            & is_at(mates, k, net.mate(arc))
+            & is_at(caps, k, net.cap(arc));
     }
-    heads.len() == net.arcs()
+    same
 }
 
 /// The rows begin at these arcs, and each gives its heads and mates.
 fn has_rows(net: &Net, starts: &[u32]) -> bool {
+    let mut same = starts.len() == net.nodes() as usize;
     for v in 0..net.nodes() {
         let row = net.row(v);
-        let begins = starts.get(v as usize).copied() == Some(row.start)
-            && net.start(v) == row.start as usize;
-        if !begins || net.heads(v).len() != net.mates(v).len() {
-            return false;
-        }
+        same = same
+            & is_at(starts, v as usize, row.start)
+            & (net.start(v) == row.start as usize)
+            & (net.heads(v).len() == net.mates(v).len());
     }
-    starts.len() == net.nodes() as usize
-}
-
-/// Whether the gate alone is passable.
-fn passes_gate(alloc: Global, circuit: &Circuit) -> bool {
-    match passable(alloc, circuit.aig(), &Keep::none()) {
-        Ok(pass) => {
-            let passes = pass.has(5) & !pass.has(4) & (pass.count() == 1);
-            drop(pass);
-            passes
-        }
-        Err(_) => false,
-    }
-}
-
-#[test]
-fn tells_passable_gates(rt: HostRuntime) {
-    let circuit = read_aag(rt.alloc(), TWO_LATCHES);
-    let passes = match &circuit {
-        Ok(circuit) => passes_gate(rt.alloc(), circuit),
-        Err(_) => false,
-    };
-    drop(circuit);
-    assert!(rt; passes);
+    same
 }
 
 /// The point of node 4, if there is one.
@@ -74,6 +50,6 @@ pub(crate) fn are_as_worked(net: &Net) -> bool {
         behind: false,
     };
     has_arcs(net, &HEADS, &MATES, &CAPS)
-        && has_rows(net, &[0, 2, 3, 5, 7, 10])
-        && fourth_point(net) == Some(before)
+        & has_rows(net, &[0, 2, 3, 5, 7, 10])
+        & (fourth_point(net) == Some(before))
 }

@@ -12,12 +12,11 @@ use std::alloc::Global;
 fn is_between(net: &Net, flow: &Flow, pushes: &Pushes) -> bool
     requires { IsFlowOf net.now flow.now }
 {
+    let mut between = !flow.is_spent() & !pushes.is_spent();
     for v in 0..net.nodes() {
-        if flow.is_delivered(v) {
-            return false;
-        }
+        between = between & !flow.is_delivered(v);
     }
-    !flow.is_spent() && !pushes.is_spent()
+    between
 }
 
 /// How many units the pushes send over all arcs.

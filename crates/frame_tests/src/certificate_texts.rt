@@ -1,6 +1,9 @@
-//! Files of certificates, and the numbers of their faults and of objections to certificates.
-use aag_text::Counted;
-use cut_cert::{CertError, CertFile, Objection, read_cert, write_cert};
+//! Files of certificates of both versions, one that shows its set, and a number of their faults and of objections to certificates. Contracts say
+//! all numbers.
+use crate::circuits::TWO_LATCHES;
+use aag_text::{Counted, read_aag};
+use aig_graph::{Circuit, Keep};
+use cut_cert::{CertError, CertFile, Objection, Verdict, check, read_cert, write_cert};
 use std::alloc::Global;
 use std::test::*;
 
@@ -33,24 +36,49 @@ fn is_read(alloc: Global, bytes: &[u8], text: &[u8]) -> bool {
 }
 
 #[test]
-fn reads_writes_and_numbers_faults_and_objections(rt: HostRuntime) {
+fn reads_and_writes_both_versions_and_numbers_faults_and_objections(rt: HostRuntime) {
     let alloc = rt.alloc();
     let first = is_read(alloc, FIRST_VERSION, SECOND_VERSION);
     let second = is_read(alloc, SECOND_VERSION, SECOND_VERSION);
     let no_frame = is_read(alloc, NO_FRAME, NO_FRAME);
-    assert!(rt; first & second & no_frame);
-    let of_objections = [
-        Objection::NotClosed.code(),
-        Objection::BadRoute.code(),
-        Objection::UsedTwice.code(),
-        Objection::CountDiffers.code(),
-    ];
-    let of_faults = [
-        CertError::BadHeader(0).code(),
-        CertError::BadLine(0).code(),
-        CertError::TooLarge(0).code(),
-        CertError::Truncated(0).code(),
-        CertError::NoMemory.code(),
-    ];
-    assert!(rt; (of_objections == [1, 2, 3, 4]) & (of_faults == [1, 2, 3, 4, 5]));
+    let numbers = (Objection::CountDiffers.code() == 4) & (CertError::NoMemory.code() == 5);
+    assert!(rt; first & second & no_frame & numbers);
+}
+
+/// The set of the gate of two latches, along the first.
+const ONE_GATE: &[u8] = b"fretime-cert 1\nframe 1 1 1\ng 5\nr 3+ 5- 5+\n";
+
+/// Whether the first certificate of the file passes all tests, no latch held.
+fn passes(alloc: Global, circuit: &Circuit, file: &CertFile) -> bool {
+    let blocks = file.blocks.as_slice();
+    !blocks.is_empty() && check(alloc, circuit, &blocks[0], &Keep::none()) == Ok(Verdict::Yes)
+}
+
+/// Whether it does where the file is read.
+fn passes_as_read(alloc: Global, circuit: &Circuit) -> bool {
+    match read_cert(alloc, ONE_GATE) {
+        Ok(file) => {
+            let passes = passes(alloc, circuit, &file);
+            drop(file);
+            passes
+        }
+        Err(_) => false,
+    }
+}
+
+/// Whether it does of the circuit's text.
+fn passes_of_text(alloc: Global) -> bool {
+    match read_aag(alloc, TWO_LATCHES) {
+        Ok(circuit) => {
+            let passes = passes_as_read(alloc, &circuit);
+            drop(circuit);
+            passes
+        }
+        Err(_) => false,
+    }
+}
+
+#[test]
+fn a_certificate_of_one_gate_passes(rt: HostRuntime) {
+    assert!(rt; passes_of_text(rt.alloc()));
 }

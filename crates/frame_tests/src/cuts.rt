@@ -1,82 +1,71 @@
-//! The greatest least sets of worked circuits, at the end of both runs.
+//! The greatest and the smallest least set of a circuit that has two, at the end of both runs. `tests/cases/retime` has others.
 ghost use Rattle.std.specs.Prelude.{IfOk};
 ghost use Rattle.pulse.specs.Conditions.{IsMaxPreflow};
 
-use crate::circuits::{CHAINS, TWO_LATCHES};
+use crate::circuits::is_set;
 use crate::nets::net_of_text;
-use aig_graph::{ClosedSet, NoMemory};
-use cut_cert::{greatest_cut, maximum_preflow};
+use cut_cert::{greatest_cut, maximum_preflow, near_cut, routes};
 use frame_net::Net;
 use pulse::{Crew, MaxPreflow, OpenGate, run_to_end};
 use std::alloc::Global;
 use std::test::*;
 use std::thread::Threads;
 
-/// The two latches, the first of them free, so that no latch can move over their gate.
-const FREE_LATCH: &[u8] = b"aag 5 2 2 1 1\n2\n4\n6 2 6\n8 4\n10\n10 6 8\n";
+/// Three latches, the gate of the first two, which is variable 7, and the gate of that one and the third, which is variable 8 and an
+/// output as the third latch is: two latches are left after a move over the first gate, and as many after one over both.
+const TWO_LEAST_SETS: &[u8] =
+    b"aag 8 3 3 2 2\n2\n4\n6\n8 2\n10 4\n12 6\n16\n12\n14 10 8\n16 14 12\n";
 
-/// Four inputs, a latch at each, and the gates 9 of the first two, 10 of that one and the third, 11 of 9 and the fourth, 12 of 10 and
-/// 11. The first two latches, 9 and 12 are the outputs: a move over some of the gates leaves five latches, one over all four, as many
-/// as there are.
-const EQUAL_COUNTS: &[u8] =
-    b"aag 12 4 4 4 4\n2\n4\n6\n8\n10 2\n12 4\n14 6\n16 8\n10\n12\n18\n24\n18 12 10\n20 18 14\n22 18 16\n24 22 20\n";
-
-/// The two latches, the first of them an output too: as many are left after a move over their gate.
-const READ_LATCH: &[u8] = b"aag 5 2 2 2 1\n2\n4\n6 2\n8 4\n10\n6\n10 6 8\n";
-
-/// Whether a set was found, and has these gates.
-pub(crate) fn is_set(found: Result<ClosedSet, NoMemory>, gates: &[u32]) -> bool {
-    match found {
-        Ok(set) => set.vars() == gates,
+/// Whether there are two routes, by which the smallest has the first gate alone.
+fn is_smallest_by_routes(alloc: Global, net: &Net, end: &MaxPreflow) -> bool
+    requires { IsMaxPreflow net.now end.now }
+{
+    match routes(alloc, net, end) {
+        Ok(found) => {
+            let two = found.len() == 2;
+            let set = near_cut(alloc, net, &found);
+            drop(found);
+            two & is_set(set, &[7])
+        }
         Err(_) => false,
     }
 }
 
-/// Whether these are the gates of the greatest least set at the end of a run, if it has one.
-fn is_cut<E: Copy>(alloc: Global, net: &Net, ended: Result<MaxPreflow, E>, gates: &[u32]) -> bool
+/// Whether the greatest has both gates and the smallest the first, at the end of a run, if it has one.
+fn are_both<E: Copy>(alloc: Global, net: &Net, ended: Result<MaxPreflow, E>) -> bool
     requires { IfOk ended (IsMaxPreflow net.now) }
 {
     match ended {
         Ok(end) => {
-            let set = greatest_cut(alloc, net, &end);
+            let greatest = greatest_cut(alloc, net, &end);
+            let smallest = is_smallest_by_routes(alloc, net, &end);
             drop(end);
-            is_set(set, gates)
+            smallest & is_set(greatest, &[7, 8])
         }
         Err(_) => false,
     }
 }
 
 /// Whether they are so at the end of the plain run, and of the one with global relabeling.
-fn is_greatest_at_end<R: Threads + Sync>(rt: &R, alloc: Global, net: &Net, gates: &[u32]) -> bool {
+fn are_both_at_each_end<R: Threads + Sync>(rt: &R, alloc: Global, net: &Net) -> bool {
     let crew = Crew::new(1, OpenGate);
-    let plain = is_cut(alloc, net, run_to_end(rt, alloc, net, &crew), gates);
-    plain & is_cut(alloc, net, maximum_preflow(rt, alloc, net, &crew), gates)
+    let plain = are_both(alloc, net, run_to_end(rt, alloc, net, &crew));
+    plain & are_both(alloc, net, maximum_preflow(rt, alloc, net, &crew))
 }
 
-/// Whether they are of a circuit.
-pub(crate) fn is_greatest<R: Threads + Sync>(
-    rt: &R,
-    alloc: Global,
-    text: &[u8],
-    gates: &[u32],
-) -> bool {
-    match net_of_text(alloc, text) {
+/// Whether they are of the circuit's text.
+fn are_both_of_text<R: Threads + Sync>(rt: &R, alloc: Global) -> bool {
+    match net_of_text(alloc, TWO_LEAST_SETS) {
         Ok(net) => {
-            let greatest = is_greatest_at_end(rt, alloc, &net, gates);
+            let both = are_both_at_each_end(rt, alloc, &net);
             drop(net);
-            greatest
+            both
         }
         Err(_) => false,
     }
 }
 
 #[test]
-fn finds_the_greatest_least_sets(rt: HostRuntime) {
-    let alloc = rt.alloc();
-    let of_latches = is_greatest(&rt, alloc, TWO_LATCHES, &[5]);
-    let of_free = is_greatest(&rt, alloc, FREE_LATCH, &[]);
-    let of_chains = is_greatest(&rt, alloc, CHAINS, &[7]);
-    let of_equal = is_greatest(&rt, alloc, EQUAL_COUNTS, &[9, 10, 11, 12]);
-    let of_read = is_greatest(&rt, alloc, READ_LATCH, &[5]);
-    assert!(rt; of_latches & of_free & of_chains & of_equal & of_read);
+fn smallest_has_the_first_gate_and_greatest_has_both(rt: HostRuntime) {
+    assert!(rt; are_both_of_text(&rt, rt.alloc()));
 }

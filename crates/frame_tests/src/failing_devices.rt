@@ -34,14 +34,12 @@ fn is_unread<R: Threads + Sync>(rt: &R, alloc: Global, options: &Options, calls:
     (fault == Some(BytesError::Read(ReadError::Device))) & is_empty
 }
 
-fn is_unread_by_each<R: Threads + Sync>(rt: &R, alloc: Global) -> bool {
-    let options = options(alloc, 1 << 28);
+fn is_unread_by_each<R: Threads + Sync>(rt: &R, alloc: Global, options: &Options) -> bool {
+    let mut unread = true;
     for calls in 0..=CHAINS.len() {
-        if !is_unread(rt, alloc, &options, calls) {
-            return false;
-        }
+        unread = unread & is_unread(rt, alloc, options, calls);
     }
-    true
+    unread
 }
 
 /// How the retiming to a device that takes one byte a call, and fails from a number of calls on, ends, and what it took.
@@ -67,27 +65,42 @@ fn is_beginning<R: Threads + Sync>(
     failure: Failure,
 ) -> bool {
     let (ended, taken) = written(rt, alloc, options, calls, failure);
-    ended == Some(BytesError::Write(WriteError::Device))
-        && taken.len() == calls
-        && TEXT.starts_with(taken.as_slice())
+    let right = (ended == Some(BytesError::Write(WriteError::Device)))
+        & (taken.len() == calls)
+        & TEXT.starts_with(taken.as_slice());
+    drop(taken);
+    right
 }
 
-/// Whether that is so of each call, and the whole text is written where none fails.
-fn is_written_up_to_each<R: Threads + Sync>(rt: &R, alloc: Global) -> bool {
-    let options = options(alloc, 1 << 28);
+/// Whether that is so of each call.
+fn is_written_up_to_each<R: Threads + Sync>(rt: &R, alloc: Global, options: &Options) -> bool {
+    let mut written = true;
     for calls in 0..TEXT.len() {
-        if !is_beginning(rt, alloc, &options, calls, Failure::Error)
-            || !is_beginning(rt, alloc, &options, calls, Failure::Nothing)
-        {
-            return false;
-        }
+        written = written
+            & is_beginning(rt, alloc, options, calls, Failure::Error)
+            & is_beginning(rt, alloc, options, calls, Failure::Nothing);
     }
-    let (ended, taken) = written(rt, alloc, &options, TEXT.len(), Failure::Error);
-    ended.is_none() && taken.as_slice() == TEXT
+    written
+}
+
+/// Whether the whole text is written where none fails.
+fn is_written<R: Threads + Sync>(rt: &R, alloc: Global, options: &Options) -> bool {
+    let (ended, taken) = written(rt, alloc, options, TEXT.len(), Failure::Error);
+    let whole = ended.is_none() & (taken.as_slice() == TEXT);
+    drop(taken);
+    whole
+}
+
+fn stops_at_each<R: Threads + Sync>(rt: &R, alloc: Global) -> bool {
+    let options = options(alloc, 1 << 28);
+    let stops = is_unread_by_each(rt, alloc, &options)
+        & is_written_up_to_each(rt, alloc, &options)
+        & is_written(rt, alloc, &options);
+    drop(options);
+    stops
 }
 
 #[test]
 fn writes_nothing_after_a_failed_read_and_stops_at_a_failed_write(rt: HostRuntime) {
-    let unread = is_unread_by_each(&rt, rt.alloc());
-    assert!(rt; unread & is_written_up_to_each(&rt, rt.alloc()));
+    assert!(rt; stops_at_each(&rt, rt.alloc()));
 }

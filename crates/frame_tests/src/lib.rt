@@ -1,6 +1,6 @@
-//! Tests of the public calls on tables by variable, rows of words, graphs and whole circuits: cleaning, moving over a set of gates, the network of a
-//! frame, exact labels, pulses and runs by crews of several sizes, cuts, routes, certificates and their files, frames by crews, from bytes to bytes,
-//! many files at once, and checks of maps of states. They stand in a crate of their own, since a crate with tests is proved twice.
+//! Tests of the public calls on graphs and whole circuits: cleaning, latches that are held, passable gates, moving over a set of gates, the network of a frame, exact labels,
+//! pulses and runs by crews of several sizes, cuts, routes, files of certificates, frames by crews, from bytes to bytes, and many files at once. They
+//! stand in a crate of their own, since a crate with tests is proved twice.
 #![tactic(auto)]
 
 #[cfg(test)]
@@ -16,15 +16,15 @@ mod batch_outcomes;
 #[cfg(test)]
 mod between_pulses;
 #[cfg(test)]
-mod bounds;
+mod calls;
 #[cfg(test)]
 mod certificate_texts;
-#[cfg(test)]
-mod certified;
 #[cfg(test)]
 mod circuits;
 #[cfg(test)]
 mod cleaned;
+#[cfg(test)]
+mod counting_gate;
 #[cfg(test)]
 mod cuts;
 #[cfg(test)]
@@ -36,19 +36,13 @@ mod failing_devices;
 #[cfg(test)]
 mod graphs;
 #[cfg(test)]
-mod greatest_sets;
-#[cfg(test)]
 mod held;
 #[cfg(test)]
 mod lanes;
 #[cfg(test)]
-mod map_checking;
-#[cfg(test)]
 mod meeting_gates;
 #[cfg(test)]
 mod moves;
-#[cfg(test)]
-mod names;
 #[cfg(test)]
 mod nets;
 #[cfg(test)]
@@ -56,17 +50,11 @@ mod phase_gates;
 #[cfg(test)]
 mod pool_gate;
 #[cfg(test)]
-mod records;
-#[cfg(test)]
 mod retiming;
 #[cfg(test)]
 mod runs;
 #[cfg(test)]
 mod starts;
-#[cfg(test)]
-mod tables;
-#[cfg(test)]
-mod unit_crews;
 #[cfg(test)]
 mod unit_parts;
 #[cfg(test)]
@@ -81,5 +69,3 @@ mod wide_runs;
 mod worked_networks;
 #[cfg(test)]
 mod worked_pulses;
-#[cfg(test)]
-mod workers;

@@ -1,16 +1,17 @@
-//! The gate of two latches' negations: the circuit moved over it, and its reset; and the reset of a gate on a free latch.
+//! The gate of two latches' negations: its border, its reset, and the circuit moved over it.
 ghost use Rattle.std.specs.Prelude.{◌+◌, ◌≤◌, IsTrue, length};
 ghost use Rattle.aig_graph.specs.declared.literal.TheConstants.{MAX_VARIABLES};
 ghost use Rattle.aig_graph.specs.Graph.{first_latch, free_latches};
 
-use crate::circuits::{FREE_LATCH, NEGATED_LATCHES};
+use crate::circuits::{is_text, set_of};
 use aag_text::read_aag;
-use aig_graph::{
-    Aig, Circuit, ClosedSet, Gate, Keep, Latch, Lit, MAX_VARIABLES, Reset, count, is_closed,
-};
+use aig_graph::{Aig, Circuit, ClosedSet, Keep, MAX_VARIABLES, Reset, count, is_closed};
 use rebuild::{moved, resets};
 use std::alloc::Global;
 use std::test::*;
+
+/// Two inputs, a latch at each, and the gate of the latches' negations.
+const NEGATED_LATCHES: &[u8] = b"aag 5 2 2 1 1\n2\n4\n6 2\n8 4\n10\n10 9 7\n";
 
 /// Whether there is room for the free latches and so many others beside the gates.
 fn has_room(aig: &Aig, others: u32) -> bool
@@ -21,50 +22,35 @@ fn has_room(aig: &Aig, others: u32) -> bool
         <= MAX_VARIABLES
 }
 
-/// The circuit moved over the set, where that is closed and there is room.
-fn moved_over(alloc: Global, circuit: &Circuit, set: &ClosedSet) -> Option<Circuit> {
+/// The one latch starts at 1 and reads the gate's copy, which reads the inputs; and the output reads the latch.
+const MOVED: &[u8] = b"aag 4 2 1 1 1\n2\n4\n6 8 1\n6\n8 5 3\n";
+
+/// Whether the set is closed, its border is one latch, and the circuit moved over it is as it was worked by hand.
+fn moves_over(alloc: Global, circuit: &Circuit, set: &ClosedSet) -> bool {
     let keep = Keep::none();
     if !is_closed(circuit.aig(), set, &keep) {
-        return None;
+        return false;
     }
-    let border = count(alloc, circuit, set, &keep).ok()?;
-    if has_room(circuit.aig(), border) {
-        moved(alloc, circuit, set, &keep).ok()
-    } else {
-        None
+    let Ok(border) = count(alloc, circuit, set, &keep) else {
+        return false;
+    };
+    if !has_room(circuit.aig(), border) {
+        return false;
     }
-}
-
-/// The circuit moved over the gate alone.
-fn moved_over_gate(alloc: Global, circuit: &Circuit) -> Option<Circuit> {
-    let set = ClosedSet::new(Vec::from_array(alloc, [5]).ok()?)?;
-    moved_over(alloc, circuit, &set)
-}
-
-/// Whether the one latch starts at 1 and reads the gate's copy, which reads the inputs, larger literal first; and the output
-/// reads the latch.
-fn is_moved_nor(circuit: &Circuit) -> bool {
-    let latch = Latch {
-        next: Lit::new(4, false),
-        reset: Reset::One,
-    };
-    let gate = Gate {
-        rhs0: Lit::new(2, true),
-        rhs1: Lit::new(1, true),
-    };
-    gate.rhs0.is_negated()
-        && circuit.aig().latches() == [latch].as_slice()
-        && circuit.aig().gates() == [gate].as_slice()
-        && circuit.props().outputs.as_slice() == [Lit::new(3, false)].as_slice()
-}
-
-fn moves_to_one_latch(alloc: Global, circuit: &Circuit) -> bool {
-    match moved_over_gate(alloc, circuit) {
-        Some(moved) => {
-            let is_moved = is_moved_nor(&moved);
+    match moved(alloc, circuit, set, &keep) {
+        Ok(moved) => {
+            let is_moved = is_text(alloc, &moved, MOVED);
             drop(moved);
-            is_moved
+            is_moved & (border == 1)
         }
+        Err(_) => false,
+    }
+}
+
+/// Whether it is so of the gate alone.
+fn moves_to_one_latch(alloc: Global, circuit: &Circuit) -> bool {
+    match set_of(alloc, 5) {
+        Some(set) => moves_over(alloc, circuit, &set),
         None => false,
     }
 }
@@ -77,25 +63,20 @@ fn starts_at(alloc: Global, aig: &Aig, reset: Reset) -> bool {
     }
 }
 
-#[test]
-fn moves_over_a_gate_that_starts_at_1(rt: HostRuntime) {
-    let circuit = read_aag(rt.alloc(), NEGATED_LATCHES);
-    let holds = match &circuit {
-        Ok(circuit) => starts_at(rt.alloc(), circuit.aig(), Reset::One)
-            & moves_to_one_latch(rt.alloc(), circuit),
+/// Whether both are so of the circuit's text.
+fn starts_at_1_and_moves(alloc: Global) -> bool {
+    match read_aag(alloc, NEGATED_LATCHES) {
+        Ok(circuit) => {
+            let holds = starts_at(alloc, circuit.aig(), Reset::One)
+                & moves_to_one_latch(alloc, &circuit);
+            drop(circuit);
+            holds
+        }
         Err(_) => false,
-    };
-    drop(circuit);
-    assert!(rt; holds);
+    }
 }
 
 #[test]
-fn resets_no_gate_on_a_free_latch(rt: HostRuntime) {
-    let circuit = read_aag(rt.alloc(), FREE_LATCH);
-    let holds = match &circuit {
-        Ok(circuit) => starts_at(rt.alloc(), circuit.aig(), Reset::Free),
-        Err(_) => false,
-    };
-    drop(circuit);
-    assert!(rt; holds);
+fn moves_over_a_gate_that_starts_at_1(rt: HostRuntime) {
+    assert!(rt; starts_at_1_and_moves(rt.alloc()));
 }

@@ -1,21 +1,16 @@
-//! The retimed circuit of two chains of latches, in one frame and in two, and a name that no latch has.
-use crate::circuits::{CHAINS, options};
-use crate::names::list_of;
+//! The frames of two chains of latches, and that the set of a frame doesn't rest on what is known of the last flow.
+use crate::circuits::{CHAINS, is_set, options};
+use crate::meeting_gates::MeetingGate;
 use aag_text::read_aag;
-use aig_graph::{Circuit, Gate, Latch, Lit, Reset};
-use frames::{FrameReport, RetimeError, Retimed, retime};
+use aig_graph::{Choice, Circuit, Keep};
+use chosen_cuts::{Records, chosen_least_along};
+use frames::{FrameReport, Retimed, retime};
 use pulse::{Crew, OpenGate};
 use std::alloc::Global;
 use std::mem;
 use std::test::*;
 use std::thread::Threads;
-
-fn latch(next: Lit) -> Latch {
-    Latch {
-        next,
-        reset: Reset::Zero,
-    }
-}
+use unit_flows::GateFlow;
 
 /// What is told of a frame over one gate.
 fn over_one_gate(before: u32) -> FrameReport {
@@ -26,75 +21,97 @@ fn over_one_gate(before: u32) -> FrameReport {
     }
 }
 
-/// Whether two latches in a row are left, after the gate of the inputs, and the last one is the output: after two frames.
+/// Whether two latches are left, after two frames. `tests/cases/frames` has the text.
 fn has_two_latches(retimed: &Retimed) -> bool {
-    let gate = Gate::of(Lit::new(1, false), Lit::new(2, false));
-    let aig = retimed.circuit.aig();
-    aig.inputs() == 2
-        && aig.latches() == [latch(Lit::new(4, false)), latch(Lit::new(5, false))].as_slice()
-        && aig.gates() == [gate].as_slice()
-        && retimed.circuit.props().outputs.as_slice() == [Lit::new(3, false)].as_slice()
-        && retimed.frames.as_slice() == [over_one_gate(4), over_one_gate(3)].as_slice()
-        && retimed.read_latches == 4
-        && retimed.kept_free.is_empty()
+    (retimed.frames.as_slice() == [over_one_gate(4), over_one_gate(3)].as_slice())
+        & (retimed.circuit.aig().latches().len() == 2)
+        & (retimed.read_latches == 4)
+        & retimed.kept_free.is_empty()
 }
 
-/// Whether one frame was taken.
-fn has_stopped_after_one(retimed: &Retimed) -> bool {
-    retimed.frames.as_slice() == [over_one_gate(4)].as_slice()
-}
-
-/// Whether one frame is taken where that is the limit, and two where more may be, by one worker, no latch held.
-fn takes_frames<R: Threads + Sync>(
-    rt: &R,
-    alloc: Global,
-    circuit: &Circuit,
-    max_frames: u32,
-) -> bool {
-    let options = options(alloc, max_frames);
-    let retimed = retime(rt, alloc, circuit, &options, &Crew::new(1, OpenGate));
+/// Whether two frames are taken where no more help, by two workers that are at work at once in each phase of the first pulse.
+fn takes_two_frames<R: Threads + Sync>(rt: &R, alloc: Global, circuit: &Circuit) -> bool {
+    let options = options(alloc, 1 << 28);
+    let crew = Crew::new(2, MeetingGate::new());
+    let retimed = retime(rt, alloc, circuit, &options, &crew);
     drop(options);
     let right = match &retimed {
-        Ok(retimed) if max_frames == 1 => has_stopped_after_one(retimed),
         Ok(retimed) => has_two_latches(retimed),
         Err(_) => false,
     };
     drop(retimed);
-    right
+    right & crew.gate().saw_both(0) & crew.gate().saw_both(1)
 }
 
-/// Whether there is no latch with the name.
-fn refuses_name<R: Threads + Sync>(
+/// The flow of a gate that a number spells, bit by bit.
+fn flow_of(number: u32) -> GateFlow {
+    GateFlow {
+        first_up: number % 2 == 1,
+        second_up: number / 2 % 2 == 1,
+        through: number / 4 % 2 == 1,
+        first_down: number / 8 % 4,
+        second_down: number / 32,
+    }
+}
+
+/// Whether the gate is the greatest least set, where these are the flows that are known.
+fn finds_gate<R: Threads + Sync>(
     rt: &R,
     alloc: Global,
     circuit: &Circuit,
-    keep: Vec<Vec<u8>>,
+    flows: Vec<GateFlow>,
 ) -> bool {
-    let mut options = options(alloc, 1);
-    drop(mem::replace(&mut options.keep, keep));
-    let refused = retime(rt, alloc, circuit, &options, &Crew::new(1, OpenGate)).err();
-    refused == Some(RetimeError::NoSuchName(0))
+    let mut records = Records::new(alloc, false);
+    drop(mem::replace(&mut records.flows, flows));
+    let crew = Crew::new(1, OpenGate);
+    let keep = Keep::none();
+    let greatest = Choice::Greatest;
+    let set = chosen_least_along(rt, alloc, circuit, &keep, greatest, &crew, &mut records);
+    drop(records);
+    is_set(set, &[7])
 }
 
-/// Whether the chains end as they should.
-fn ends_as_worked<R: Threads + Sync>(rt: &R, alloc: Global, circuit: &Circuit) -> bool {
-    let refused = match list_of(alloc, &[b"b"]) {
-        Ok(names) => refuses_name(rt, alloc, circuit, names),
+/// Whether it is where the flow of a number is that of so many gates.
+fn finds_gate_along<R: Threads + Sync>(
+    rt: &R,
+    alloc: Global,
+    circuit: &Circuit,
+    number: u32,
+    count: usize,
+) -> bool {
+    match vec![in alloc; flow_of(number); count] {
+        Ok(flows) => finds_gate(rt, alloc, circuit, flows),
         Err(_) => false,
-    };
-    let two = takes_frames(rt, alloc, circuit, 1 << 28);
-    refused & two & takes_frames(rt, alloc, circuit, 1)
+    }
+}
+
+/// Whether it is for many flows, of too few gates, of the one that there is, and of too many.
+fn finds_gate_whatever_is_known<R: Threads + Sync>(
+    rt: &R,
+    alloc: Global,
+    circuit: &Circuit,
+) -> bool {
+    let mut finds = finds_gate_along(rt, alloc, circuit, u32::MAX, 1);
+    for number in 0..128u32 {
+        finds = finds & finds_gate_along(rt, alloc, circuit, number, number as usize % 3);
+    }
+    finds
+}
+
+/// Whether both are so of the chains.
+fn chains_are_as_worked<R: Threads + Sync>(rt: &R, alloc: Global) -> bool {
+    match read_aag(alloc, CHAINS) {
+        Ok(circuit) => {
+            let holds = takes_two_frames(rt, alloc, &circuit)
+                & finds_gate_whatever_is_known(rt, alloc, &circuit);
+            drop(circuit);
+            holds
+        }
+        Err(_) => false,
+    }
 }
 
 #[test]
-fn takes_one_frame_after_another_up_to_the_limit_and_refuses_a_name_that_no_latch_has(
-    rt: HostRuntime,
-) {
-    let circuit = read_aag(rt.alloc(), CHAINS);
-    let holds = match &circuit {
-        Ok(circuit) => ends_as_worked(&rt, rt.alloc(), circuit),
-        Err(_) => false,
-    };
-    drop(circuit);
-    assert!(rt; holds);
+fn chains_take_two_frames_by_two_workers_and_the_same_set_whatever_is_known(rt: HostRuntime) {
+    assert!(rt; chains_are_as_worked(&rt, rt.alloc()));
 }

@@ -2,6 +2,7 @@
 ghost use Rattle.std.specs.Prelude.{IfOk};
 ghost use Rattle.pulse.specs.Conditions.{IsMaxPreflow};
 
+use crate::arcs::is_at;
 use frame_net::Net;
 use pulse::{Crew, MaxPreflow, OpenGate, PulseError, run_to_end, run_with_global_relabeling};
 use std::alloc::Global;
@@ -10,12 +11,11 @@ use std::thread::Threads;
 fn has_labels(net: &Net, end: &MaxPreflow, labels: &[u32]) -> bool
     requires { IsMaxPreflow net.now end.now }
 {
+    let mut same = true;
     for v in 0..net.nodes() {
-        if labels.get(v as usize).copied() != Some(end.label(v)) {
-            return false;
-        }
+        same = same & is_at(labels, v as usize, end.label(v));
     }
-    true
+    same
 }
 
 /// Whether a run ended after so many pulses, and left the labels that were worked by hand.

@@ -1,13 +1,15 @@
 //! A frame that is cut: workers that own whole components are at work at once, a crew shares the pulses of a large one, and the flow that they find is
-//! the same for every number of workers. So is that of a frame that isn't cut, whose pulses a crew shares.
+//! the same for every number of workers. So is that of a frame that isn't cut, whose pulses a crew shares: two workers are in a phase at the same moment
+//! in the first pulse of a small circuit, and in one of many active nodes.
 ghost use Rattle.std.specs.Prelude.{◌<◌, ◌≤◌};
 
+use crate::circuits::TWO_LATCHES;
 use crate::meeting_gates::MeetingGate;
-use crate::wide_circuits::{text_of_blocks, text_of_races, text_of_two_chains};
+use crate::wide_circuits::{BLOCK, FanIn, RACE, Units};
 use aag_text::read_aag;
-use aig_graph::{Choice, Circuit, Keep};
+use aig_graph::{Choice, Circuit, ClosedSet, Keep, NoMemory};
 use pulse::{Crew, OpenGate, PhaseGate};
-use std::alloc::{AllocError, Global};
+use std::alloc::Global;
 use std::test::*;
 use std::thread::Threads;
 use unit_components::{Sizes, chosen_by_sizes};
@@ -41,9 +43,53 @@ const EACH: Sizes = Sizes {
     large: 64,
 };
 
+/// Blocks, beside each other.
+const BLOCKS: Units = Units {
+    count: 64,
+    latches: 3,
+    kinds: BLOCK,
+    outputs: 3,
+    joined: None,
+};
+
+/// So many blocks leave as many active nodes as a pulse is shared out for.
+const MANY_BLOCKS: Units = Units {
+    count: 4096,
+    latches: 3,
+    kinds: BLOCK,
+    outputs: 3,
+    joined: None,
+};
+
+/// Blocks that are joined by their last gates.
+const TWO_CHAINS: Units = Units {
+    count: 8192,
+    latches: 3,
+    kinds: BLOCK,
+    outputs: 3,
+    joined: Some(FanIn::Kind(2)),
+};
+
+const RACES: Units = Units {
+    count: 2048,
+    latches: 7,
+    kinds: RACE,
+    outputs: 5,
+    joined: None,
+};
+
 /// Six pairs of latches, and the gate of each pair, which is an output. So is the second latch of each second pair.
 const SIX_PAIRS: &[u8] =
     b"aag 30 12 12 9 6\n2\n4\n6\n8\n10\n12\n14\n16\n18\n20\n22\n24\n26 2\n28 4\n30 6\n32 8\n34 10\n36 12\n38 14\n40 16\n42 18\n44 20\n46 22\n48 24\n50\n52\n54\n56\n58\n60\n32\n40\n48\n50 28 26\n52 32 30\n54 36 34\n56 40 38\n58 44 42\n60 48 46\n";
+
+/// How many gates a set has, if there is one.
+fn gates_of(shown: Result<Option<ClosedSet>, NoMemory>) -> Option<usize> {
+    match shown {
+        Ok(Some(set)) => Some(set.vars().len()),
+        Ok(None) => None,
+        Err(_) => None,
+    }
+}
 
 /// How many gates the greatest least set has that a crew shows, or none.
 fn shown_gates<R: Threads + Sync, G: PhaseGate>(
@@ -55,50 +101,65 @@ fn shown_gates<R: Threads + Sync, G: PhaseGate>(
     flow: &mut UnitFlow,
 ) -> Option<usize> {
     let keep = Keep::none();
-    let Ok(frame) = Frame::new(alloc, circuit, &keep) else {
-        return None;
-    };
     let greatest = Choice::Greatest;
-    let shown = chosen_by_sizes(rt, alloc, &frame, greatest, crew, sizes, flow);
-    drop(frame);
-    match shown {
-        Ok(Some(set)) => Some(set.vars().len()),
-        Ok(None) => None,
+    match Frame::new(alloc, circuit, &keep) {
+        Ok(frame) => {
+            let shown = chosen_by_sizes(rt, alloc, &frame, greatest, crew, sizes, flow);
+            drop(frame);
+            gates_of(shown)
+        }
         Err(_) => None,
     }
 }
 
-/// Whether two workers meet in a phase, and show a set of so many gates.
+/// Whether two workers meet in the first and the last of these phases, of the first two, and show a set of so many gates.
 fn meet<R: Threads + Sync>(
     rt: &R,
     alloc: Global,
     circuit: &Circuit,
     sizes: Sizes,
-    phase: u64,
+    phases: [u64; 2],
     gates: usize,
 ) -> bool {
     let crew = Crew::new(2, MeetingGate::new());
     let mut flow = UnitFlow::none(alloc);
     let shown = shown_gates(rt, alloc, circuit, &crew, sizes, &mut flow);
     drop(flow);
-    (shown == Some(gates)) & crew.gate().saw_both(phase)
+    let [first, last] = phases;
+    (shown == Some(gates)) & crew.gate().saw_both(first) & crew.gate().saw_both(last)
 }
 
-/// Whether they do on the circuit of a text, if that was made.
+/// Whether they do on the circuit of a text.
 fn meet_in<R: Threads + Sync>(
     rt: &R,
     alloc: Global,
-    text: &Result<Vec<u8>, AllocError>,
+    text: &[u8],
     sizes: Sizes,
-    phase: u64,
+    phases: [u64; 2],
     gates: usize,
 ) -> bool {
-    let Ok(text) = text else {
-        return false;
-    };
-    match read_aag(alloc, text.as_slice()) {
+    match read_aag(alloc, text) {
         Ok(circuit) => {
-            let holds = meet(rt, alloc, &circuit, sizes, phase, gates);
+            let holds = meet(rt, alloc, &circuit, sizes, phases, gates);
+            drop(circuit);
+            holds
+        }
+        Err(_) => false,
+    }
+}
+
+/// Whether they do on the circuit of units.
+fn meet_on<R: Threads + Sync>(
+    rt: &R,
+    alloc: Global,
+    units: &Units,
+    sizes: Sizes,
+    phases: [u64; 2],
+    gates: usize,
+) -> bool {
+    match units.circuit(alloc) {
+        Ok(circuit) => {
+            let holds = meet(rt, alloc, &circuit, sizes, phases, gates);
             drop(circuit);
             holds
         }
@@ -146,18 +207,15 @@ fn find_the_same<R: Threads + Sync>(
     (shown == Some(gates)) & same
 }
 
-/// Whether they do so on the circuit of a text, if that was made.
-fn find_the_same_in<R: Threads + Sync>(
+/// Whether they do so on the circuit of units.
+fn find_the_same_on<R: Threads + Sync>(
     rt: &R,
     alloc: Global,
-    text: &Result<Vec<u8>, AllocError>,
+    units: &Units,
     sizes: Sizes,
     gates: usize,
 ) -> bool {
-    let Ok(text) = text else {
-        return false;
-    };
-    match read_aag(alloc, text.as_slice()) {
+    match units.circuit(alloc) {
         Ok(circuit) => {
             let same = find_the_same(rt, alloc, &circuit, sizes, gates);
             drop(circuit);
@@ -168,37 +226,35 @@ fn find_the_same_in<R: Threads + Sync>(
 }
 
 #[test]
+fn two_workers_meet_in_the_first_pulse_of_a_small_circuit(rt: HostRuntime) {
+    assert!(rt; meet_in(&rt, rt.alloc(), TWO_LATCHES, Sizes::OF_RUN, [0, 1], 1));
+}
+
+#[test]
+fn two_workers_meet_in_a_pulse_of_many_active_nodes(rt: HostRuntime) {
+    assert!(rt; meet_on(&rt, rt.alloc(), &MANY_BLOCKS, Sizes::OF_RUN, [0, 1], 12_288));
+}
+
+#[test]
 fn two_workers_own_components_at_the_same_moment(rt: HostRuntime) {
-    let text = text_of_blocks(rt.alloc(), 64);
-    let meet = meet_in(&rt, rt.alloc(), &text, SHARED, 0, 192);
-    drop(text);
-    assert!(rt; meet);
+    assert!(rt; meet_on(&rt, rt.alloc(), &BLOCKS, SHARED, [0, 0], 192));
 }
 
 #[test]
 fn two_workers_share_the_pulses_of_a_large_component(rt: HostRuntime) {
-    let text = text_of_two_chains(rt.alloc(), 4096);
-    let meet = meet_in(&rt, rt.alloc(), &text, SMALL, 1, 24_576);
-    drop(text);
-    assert!(rt; meet);
+    assert!(rt; meet_on(&rt, rt.alloc(), &TWO_CHAINS, SMALL, [1, 1], 24_576));
 }
 
 #[test]
 fn parts_have_the_same_flow_for_every_number_of_workers(rt: HostRuntime) {
-    let text = text_of_blocks(rt.alloc(), 64);
-    let same = find_the_same_in(&rt, rt.alloc(), &text, SHARED, 192);
-    drop(text);
-    assert!(rt; same);
+    assert!(rt; find_the_same_on(&rt, rt.alloc(), &BLOCKS, SHARED, 192));
 }
 
 // In the fourth pulse two units are before the third gate of each of 2048 races, and one is before the sixth. So 4096 nodes are active, and the pulse is
 // shared out. The third gate keeps a unit, and the sixth pushes there. It has to see the label of before, in whichever range that is.
 #[test]
 fn pulses_leave_the_same_flow_for_every_number_of_workers(rt: HostRuntime) {
-    let text = text_of_races(rt.alloc(), 2048);
-    let same = find_the_same_in(&rt, rt.alloc(), &text, WHOLE, 16_384);
-    drop(text);
-    assert!(rt; same);
+    assert!(rt; find_the_same_on(&rt, rt.alloc(), &RACES, WHOLE, 16_384));
 }
 
 // A gate takes the unit of its second latch where both wait. With the marks of another pair it does so where that latch is an output. Then the first
@@ -206,19 +262,17 @@ fn pulses_leave_the_same_flow_for_every_number_of_workers(rt: HostRuntime) {
 // In all, six leave at gates and three at latches. As many latches are left where all gates move, so the greatest least set has these.
 #[test]
 fn each_part_has_marks_of_its_own(rt: HostRuntime) {
-    let circuit = read_aag(rt.alloc(), SIX_PAIRS);
-    let holds = match &circuit {
-        Ok(circuit) => meet(&rt, rt.alloc(), circuit, EACH, 0, 6),
-        Err(_) => false,
-    };
-    drop(circuit);
-    assert!(rt; holds);
+    assert!(rt; meet_in(&rt, rt.alloc(), SIX_PAIRS, EACH, [0, 0], 6));
 }
 
 // As the head of `chosen_least_in_parts` says. A circuit of 2^19 latches and gates is cut into parts of 2^13, and a part of over 2^16 is large. A size
 // that nothing reaches would change no set.
 #[test]
 fn a_run_cuts_from_the_sizes_that_are_told(rt: HostRuntime) {
-    let sizes = Sizes::OF_RUN;
-    assert!(rt; sizes.circuit == 524_288 && sizes.part == 8192 && sizes.large == 65_536);
+    let Sizes {
+        circuit,
+        part,
+        large,
+    } = Sizes::OF_RUN;
+    assert!(rt; (circuit == 524_288) & (part == 8192) & (large == 65_536));
 }

@@ -1,10 +1,11 @@
 //! That a flow of units shows the chosen least set by itself, with a certificate and without. A gate counts that no phase of a maximum flow is made.
+use crate::circuits::is_set;
+use crate::counting_gate::CountingGate;
 use aag_text::read_aag;
 use aig_graph::{Choice, Circuit, Keep};
 use chosen_cuts::{Records, chosen_least_along};
-use pulse::{Crew, PhaseGate};
+use pulse::Crew;
 use std::alloc::Global;
-use std::sync::atomic::{AtomicU64, Ordering};
 use std::test::*;
 use std::thread::Threads;
 
@@ -12,65 +13,58 @@ use std::thread::Threads;
 /// nothing.
 const READ_AGAIN: &[u8] = b"aag 6 2 2 1 2\n2\n4\n6 2\n8 4\n10\n10 8 6\n12 10 8\n";
 
-/// How often a worker passed.
-#[derive(Drop)]
-struct PassedGate {
-    passed: AtomicU64,
-}
-
-impl PhaseGate for PassedGate {
-    fn pass(&self, _phase: u64, _worker: u32) {
-        self.passed.fetch_add(1, Ordering::SeqCst);
-    }
-
-    fn leave(&self, _phase: u64, _worker: u32) {}
-}
-
-/// Whether the chosen least set has both gates, and no phase is made for it.
-///
-/// A start brings the unit of the second latch through the first gate, after which it leaves, though the second gate reads on. No more go through, so
-/// that of the first latch can't leave, and no pulse is made. A maximum flow of the network begins with both units at the latches, and makes a
-/// pulse at least.
-fn is_shown_by_start<R: Threads + Sync>(
+/// Whether the chosen least set has both gates.
+fn is_of_both<R: Threads + Sync>(
     rt: &R,
     alloc: Global,
     circuit: &Circuit,
     choice: Choice,
     certify: bool,
+    crew: &Crew<CountingGate>,
 ) -> bool {
-    let gate = PassedGate {
-        passed: AtomicU64::new(0),
-    };
-    let crew = Crew::new(1, gate);
     let keep = Keep::none();
     let mut records = Records::new(alloc, certify);
-    let set = chosen_least_along(rt, alloc, circuit, &keep, choice, &crew, &mut records);
+    let set = chosen_least_along(rt, alloc, circuit, &keep, choice, crew, &mut records);
     let certificates = records.certificates.as_slice().len();
     drop(records);
-    let are_gates = match set {
-        Ok(set) => set.vars() == [5, 6].as_slice(),
-        Err(_) => false,
-    };
-    let passed = crew.gate().passed.load(Ordering::SeqCst);
-    are_gates & (certificates == usize::from(certify)) & (passed == 0)
+    is_set(set, &[5, 6]) & (certificates == usize::from(certify))
 }
 
-/// Whether it is so for both choices, with a certificate and without. One latch is left where both gates move. If the second doesn't, the second latch
-/// stays for it, so this is the one least set.
+/// Whether it is so for both choices, with a certificate and without, and no phase is made for any. One latch is left where both gates move. If the
+/// second doesn't, the second latch stays for it, so this is the one least set.
+///
+/// A start brings the unit of the second latch through the first gate, after which it leaves, though the second gate reads on. No more go through, so
+/// that of the first latch can't leave, and no pulse is made. A maximum flow of the network begins with both units at the latches, and makes a
+/// pulse at least.
 fn are_shown_by_starts<R: Threads + Sync>(rt: &R, alloc: Global, circuit: &Circuit) -> bool {
-    is_shown_by_start(rt, alloc, circuit, Choice::Greatest, false)
-        & is_shown_by_start(rt, alloc, circuit, Choice::Smallest, false)
-        & is_shown_by_start(rt, alloc, circuit, Choice::Greatest, true)
-        & is_shown_by_start(rt, alloc, circuit, Choice::Smallest, true)
+    match CountingGate::from(alloc, 1, 0) {
+        Ok(gate) => {
+            let crew = Crew::new(1, gate);
+            let shown = is_of_both(rt, alloc, circuit, Choice::Greatest, false, &crew)
+                & is_of_both(rt, alloc, circuit, Choice::Smallest, false, &crew)
+                & is_of_both(rt, alloc, circuit, Choice::Greatest, true, &crew)
+                & is_of_both(rt, alloc, circuit, Choice::Smallest, true, &crew);
+            let none_passed = crew.gate().saw_all(0);
+            drop(crew);
+            shown & none_passed
+        }
+        Err(_) => false,
+    }
+}
+
+/// Whether they are of the circuit's text.
+fn are_shown<R: Threads + Sync>(rt: &R, alloc: Global) -> bool {
+    match read_aag(alloc, READ_AGAIN) {
+        Ok(circuit) => {
+            let shown = are_shown_by_starts(rt, alloc, &circuit);
+            drop(circuit);
+            shown
+        }
+        Err(_) => false,
+    }
 }
 
 #[test]
 fn no_phase_is_made_where_a_start_shows_the_set(rt: HostRuntime) {
-    let circuit = read_aag(rt.alloc(), READ_AGAIN);
-    let holds = match &circuit {
-        Ok(circuit) => are_shown_by_starts(&rt, rt.alloc(), circuit),
-        Err(_) => false,
-    };
-    drop(circuit);
-    assert!(rt; holds);
+    assert!(rt; are_shown(&rt, rt.alloc()));
 }

@@ -9,82 +9,58 @@ use std::alloc::Global;
 use std::test::*;
 use std::thread::Threads;
 
-/// A stage, and of a look for a set how many frames were taken, and how many known latches and gates there are.
-#[derive(Clone, Copy, PartialEq, Eq)]
-enum Notification {
-    Cleaning,
-    Looking(usize, u32, usize),
-    Moving,
-    Writing,
-}
-
-impl Notification {
-    fn of(stage: Stage<'_>) -> Notification {
-        match stage {
-            Stage::Cleaning => Notification::Cleaning,
-            Stage::Looking { taken, aig } => {
-                Notification::Looking(taken, aig.known_latches(), aig.gates().len())
-            }
-            Stage::Moving => Notification::Moving,
-            Stage::Writing => Notification::Writing,
-        }
-    }
-}
-
-/// The stages of a run so far. Where there was no room for one, they lack it.
+/// How many stages of a run there were so far, and whether each was the one of the chains' two frames.
 #[derive(Drop)]
 struct Stages {
-    notified: Vec<Notification>,
+    count: u32,
+    are_wanted: bool,
+}
+
+/// Whether a stage of the chains' run is the one with this number. A look for a set is told how many frames were taken, and how many known latches
+/// and gates there are.
+fn is_stage(number: u32, stage: Stage<'_>) -> bool {
+    match stage {
+        Stage::Cleaning => number == 0,
+        Stage::Looking { taken, aig } => {
+            let latches = aig.known_latches() as usize;
+            let in_turn = number as usize == taken.saturating_mul(2).saturating_add(1);
+            in_turn & (latches.saturating_add(taken) == 4) & (aig.gates().len() == 1)
+        }
+        Stage::Moving => (number == 2) | (number == 4),
+        Stage::Writing => number == 6,
+    }
 }
 
 impl FrameWatcher for Stages {
     ghost was_notified = { λ _ _. ⊤ };
 
     fn enter(&mut self, stage: Stage<'_>) {
-        let _ = self.notified.push(Notification::of(stage));
+        self.are_wanted = self.are_wanted & is_stage(self.count, stage);
+        self.count = self.count.wrapping_add(1);
     }
 }
 
-/// The stages of the bytes' retiming by one worker, in so many frames at most.
-fn stages_of<R: Threads + Sync>(
-    rt: &R,
-    alloc: Global,
-    bytes: &[u8],
-    max_frames: u32,
-) -> Vec<Notification> {
-    let options = options(alloc, max_frames);
+/// Whether a watcher of the chains is notified of each stage of both frames.
+fn tells_each_stage<R: Threads + Sync>(rt: &R, alloc: Global) -> bool {
+    let options = options(alloc, 8);
     let crew = Crew::new(1, OpenGate);
-    let mut reader = Counted::new(bytes);
     let mut writer = Counted::new(Vec::new(alloc));
     let mut stages = Stages {
-        notified: Vec::new(alloc),
+        count: 0,
+        are_wanted: true,
     };
     let ended = retime_bytes_watched(
         rt,
         alloc,
-        &mut reader,
+        &mut Counted::new(CHAINS),
         &mut writer,
         &options,
         &crew,
         &mut stages,
     );
+    let has_ended = ended.is_ok();
     drop(ended);
-    stages.notified
-}
-
-/// Whether a watcher of the chains is notified of each stage of both frames.
-fn tells_each_stage<R: Threads + Sync>(rt: &R, alloc: Global) -> bool {
-    let wanted = [
-        Notification::Cleaning,
-        Notification::Looking(0, 4, 1),
-        Notification::Moving,
-        Notification::Looking(1, 3, 1),
-        Notification::Moving,
-        Notification::Looking(2, 2, 1),
-        Notification::Writing,
-    ];
-    let notified = stages_of(rt, alloc, CHAINS, 8);
-    notified.as_slice() == wanted.as_slice()
+    has_ended & stages.are_wanted & (stages.count == 7)
 }
 
 #[test]

@@ -21,27 +21,33 @@ fn is_first_as_worked<R: Threads + Sync>(rt: &R, alloc: Global, net: &Net) -> bo
     arcs & distances & pulses & phases & end_as_worked(rt, alloc, net)
 }
 
+/// Whether the second network relabels after delivery, and its second pulse is handed out.
+fn is_second_as_worked<R: Threads + Sync>(rt: &R, alloc: Global, net: &Net) -> bool {
+    follow_after_eleven(rt, alloc, net) & second_pulse_is_shared(rt, alloc, net)
+}
+
+/// Whether the network of a circuit is as worked: that of the first, or of the second.
+fn is_as_worked<R: Threads + Sync>(rt: &R, alloc: Global, text: &[u8], is_first: bool) -> bool {
+    match net_of_text(alloc, text) {
+        Ok(net) => {
+            let worked = if is_first {
+                is_first_as_worked(rt, alloc, &net)
+            } else {
+                is_second_as_worked(rt, alloc, &net)
+            };
+            drop(net);
+            worked
+        }
+        Err(_) => false,
+    }
+}
+
 #[test]
 fn goes_through_the_first_network_as_worked(rt: HostRuntime) {
-    let net = net_of_text(rt.alloc(), TWO_LATCHES);
-    let holds = match &net {
-        Ok(net) => is_first_as_worked(&rt, rt.alloc(), net),
-        Err(_) => false,
-    };
-    drop(net);
-    assert!(rt; holds);
+    assert!(rt; is_as_worked(&rt, rt.alloc(), TWO_LATCHES, true));
 }
 
 #[test]
 fn relabels_after_delivery_and_hands_out_the_second_pulse_of_the_second(rt: HostRuntime) {
-    let net = net_of_text(rt.alloc(), FOUR_LATCHES);
-    let holds = match &net {
-        Ok(net) => {
-            let relabels = follow_after_eleven(&rt, rt.alloc(), net);
-            relabels & second_pulse_is_shared(&rt, rt.alloc(), net)
-        }
-        Err(_) => false,
-    };
-    drop(net);
-    assert!(rt; holds);
+    assert!(rt; is_as_worked(&rt, rt.alloc(), FOUR_LATCHES, false));
 }

@@ -2,6 +2,7 @@
 ghost use Rattle.std.specs.Prelude.{◌≡◌, OnOk, false};
 ghost use Rattle.pulse.specs.Conditions.{ArePushesOf, IsBetween, IsFlowOf};
 
+use crate::arcs::is_at as is_in;
 use crate::starts::start;
 use frame_net::Net;
 use pulse::{
@@ -61,6 +62,13 @@ const STATES: [State; 7] = [
     },
 ];
 
+/// A state that isn't looked at.
+const UNSEEN: State = State {
+    labels: &[],
+    excess: &[],
+    active: 0,
+};
+
 /// The second network after eleven pulses. In the eleventh the node after the first gate delivers to the node before it, which keeps
 /// its own unit and relabels.
 const AFTER_ELEVEN: State = State {
@@ -69,31 +77,45 @@ const AFTER_ELEVEN: State = State {
     active: 2,
 };
 
+const LATER_STATES: [State; 12] = [
+    UNSEEN,
+    UNSEEN,
+    UNSEEN,
+    UNSEEN,
+    UNSEEN,
+    UNSEEN,
+    UNSEEN,
+    UNSEEN,
+    UNSEEN,
+    UNSEEN,
+    UNSEEN,
+    AFTER_ELEVEN,
+];
+
 /// Whether the flow is in this state.
 fn is_at(net: &Net, flow: &Flow, state: &State) -> bool
     requires flow { IsFlowOf net.now flow.now }
     requires unspent { flow.now.spent ≡ false }
 {
+    let mut same = true;
     for v in 0..net.nodes() {
-        if state.labels.get(v as usize).copied() != Some(flow.label(v)) {
-            return false;
-        }
-        if v > 0 && state.excess.get(v as usize - 1).copied() != Some(flow.excess(v)) {
-            return false;
-        }
+        same = same & is_in(state.labels, v as usize, flow.label(v));
     }
-    true
+    for v in 1..net.nodes() {
+        same = same & is_in(state.excess, v as usize - 1, flow.excess(v));
+    }
+    same
 }
 
-/// Whether the flow is in this state, and still is after the read phase of a pulse, which walks the rows of active nodes. Makes that
-/// pulse.
-fn pulses_from<R: Threads + Sync>(
+/// Whether the flow is in this state, if it is looked at, and still is after the read phase of a pulse, which walks the rows of active
+/// nodes. Makes that pulse by both phases.
+fn pulses_from<R: Threads + Sync, G: PhaseGate>(
     rt: &R,
     alloc: Global,
     net: &Net,
     flow: &mut Flow,
     pushes: &mut Pushes,
-    crew: &Crew<OpenGate>,
+    crew: &Crew<G>,
     state: &State,
 ) -> Result<bool, PulseError>
     requires flow { IsBetween net.now flow.old }
@@ -105,53 +127,9 @@ fn pulses_from<R: Threads + Sync>(
 {
     let before = is_at(net, flow, state);
     read_phase(rt, alloc, net, flow, pushes, crew)?;
-    let between = is_at(net, flow, state) && pushes.walked() == state.active;
+    let between = is_at(net, flow, state) & (pushes.walked() == state.active);
     deliver_phase(rt, alloc, net, flow, pushes, crew)?;
-    Ok(before && between)
-}
-
-/// A pulse by both phases.
-pub(crate) fn pulse<R: Threads + Sync, G: PhaseGate>(
-    rt: &R,
-    alloc: Global,
-    net: &Net,
-    flow: &mut Flow,
-    pushes: &mut Pushes,
-    crew: &Crew<G>,
-) -> Result<(), PulseError>
-    requires flow { IsBetween net.now flow.old }
-    requires pushes { ArePushesOf net.now pushes.old }
-    requires usable { pushes.old.spent ≡ false }
-    ensures flow { OnOk result (IsBetween net.now flow.new) }
-    ensures pushes { OnOk result (ArePushesOf net.now pushes.new) }
-    ensures usable { OnOk result (pushes.new.spent ≡ false) }
-{
-    read_phase(rt, alloc, net, flow, pushes, crew)?;
-    deliver_phase(rt, alloc, net, flow, pushes, crew)?;
-    Ok(())
-}
-
-/// Makes so many pulses of a crew.
-fn pulse_times<R: Threads + Sync>(
-    rt: &R,
-    alloc: Global,
-    net: &Net,
-    flow: &mut Flow,
-    pushes: &mut Pushes,
-    crew: &Crew<OpenGate>,
-    times: u32,
-) -> Result<(), PulseError>
-    requires flow { IsBetween net.now flow.old }
-    requires pushes { ArePushesOf net.now pushes.old }
-    requires usable { pushes.old.spent ≡ false }
-    ensures flow { OnOk result (IsBetween net.now flow.new) }
-    ensures pushes { OnOk result (ArePushesOf net.now pushes.new) }
-    ensures usable { OnOk result (pushes.new.spent ≡ false) }
-{
-    for _ in 0..times {
-        pulse(rt, alloc, net, flow, pushes, crew)?;
-    }
-    Ok(())
+    Ok((before & between) | state.labels.is_empty())
 }
 
 /// Whether the pulses of a crew go through the states.
@@ -176,21 +154,17 @@ fn goes_through<R: Threads + Sync>(
     Ok(true)
 }
 
-/// Whether they do after so many pulses from the start.
+/// Whether they do from the start.
 fn follows<R: Threads + Sync>(
     rt: &R,
     alloc: Global,
     net: &Net,
     crew: &Crew<OpenGate>,
-    before: u32,
     states: &[State],
 ) -> bool {
     match start(alloc, net) {
         Ok((mut flow, mut pushes)) => {
-            let follows = match pulse_times(rt, alloc, net, &mut flow, &mut pushes, crew, before) {
-                Ok(()) => goes_through(rt, alloc, net, &mut flow, &mut pushes, crew, states),
-                Err(error) => Err(error),
-            };
+            let follows = goes_through(rt, alloc, net, &mut flow, &mut pushes, crew, states);
             drop(flow);
             drop(pushes);
             follows == Ok(true)
@@ -200,20 +174,13 @@ fn follows<R: Threads + Sync>(
 }
 
 /// Whether the pulses of every crew do.
-fn all_follow<R: Threads + Sync>(
-    rt: &R,
-    alloc: Global,
-    net: &Net,
-    before: u32,
-    states: &[State],
-) -> bool {
+fn all_follow<R: Threads + Sync>(rt: &R, alloc: Global, net: &Net, states: &[State]) -> bool {
+    let mut all = true;
     for workers in CREWS {
         let crew = Crew::new(workers.clamp(1, 64), OpenGate);
-        if !follows(rt, alloc, net, &crew, before, states) {
-            return false;
-        }
+        all = all & follows(rt, alloc, net, &crew, states);
     }
-    true
+    all
 }
 
 /// A pulse by the ranges of all nodes.
@@ -232,41 +199,29 @@ pub(crate) fn pulse_by_ranges(net: &Net, flow: &mut Flow, pushes: &mut Pushes)
     flow.turn();
 }
 
-/// Whether the pulses by ranges go through the states.
-fn goes_through_by_ranges(net: &Net, flow: &mut Flow, pushes: &mut Pushes) -> bool
+/// Whether a crew makes a pulse after one by ranges.
+pub(crate) fn pulses_after_ranges<R: Threads + Sync, G: PhaseGate>(
+    rt: &R,
+    alloc: Global,
+    net: &Net,
+    flow: &mut Flow,
+    pushes: &mut Pushes,
+    crew: &Crew<G>,
+) -> bool
     requires flow { IsBetween net.now flow.old }
     requires pushes { ArePushesOf net.now pushes.old }
     requires usable { pushes.old.spent ≡ false }
 {
-    for state in &STATES {
-        if !is_at(net, flow, state) {
-            return false;
-        }
-        pulse_by_ranges(net, flow, pushes);
-    }
-    true
+    pulse_by_ranges(net, flow, pushes);
+    pulses_from(rt, alloc, net, flow, pushes, crew, &UNSEEN) == Ok(true)
 }
 
-/// Whether they do from the start.
-fn follows_states_by_ranges(alloc: Global, net: &Net) -> bool {
-    match start(alloc, net) {
-        Ok((mut flow, mut pushes)) => {
-            let follows = goes_through_by_ranges(net, &mut flow, &mut pushes);
-            drop(flow);
-            drop(pushes);
-            follows
-        }
-        Err(_) => false,
-    }
-}
-
-/// Whether the pulses of the first network go through its states, by every crew and by ranges.
+/// Whether the pulses of the first network go through its states, by every crew.
 pub(crate) fn follow_states<R: Threads + Sync>(rt: &R, alloc: Global, net: &Net) -> bool {
-    let by_ranges = follows_states_by_ranges(alloc, net);
-    by_ranges & all_follow(rt, alloc, net, 0, &STATES)
+    all_follow(rt, alloc, net, &STATES)
 }
 
 /// Whether the second network's flow is in its state after eleven pulses of every crew.
 pub(crate) fn follow_after_eleven<R: Threads + Sync>(rt: &R, alloc: Global, net: &Net) -> bool {
-    all_follow(rt, alloc, net, 11, &[AFTER_ELEVEN])
+    all_follow(rt, alloc, net, &LATER_STATES)
 }
