@@ -3,8 +3,9 @@
 
 use crate::copies::{VERSIONS, Version, copy_of, need_of, set_copy};
 use backward_sets::{
-    Bordered, Draft, DraftLatch, DraftReset, Literal, Memory, Wish, entry, set_entry, wish_of,
+    Bordered, Draft, DraftLatch, DraftReset, Literal, Wish, entry, set_entry, wish_of,
 };
+use variable_tables::Memory;
 
 /// What becomes of a latch that doesn't take part. One that becomes the latch of a copy of what it reads has the number of that version.
 const STAYS: u32 = VERSIONS;

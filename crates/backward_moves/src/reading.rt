@@ -2,9 +2,8 @@
 
 use crate::copies::{literal_at, set_literal};
 use aig_graph::{Aig, Circuit, Gate, Keep, Latch, Lit, Reset};
-use backward_sets::{
-    Draft, DraftLatch, DraftReset, Literal, Memory, Pair, entry, number, set_entry,
-};
+use backward_sets::{Draft, DraftLatch, DraftReset, Literal, Pair, entry, number, set_entry};
+use variable_tables::Memory;
 
 /// The inputs that something reads, rising.
 #[derive(Drop)]

@@ -1,9 +1,9 @@
 //! A set of gates, and its border: what the set's gates read from outside of it, and what latches that take part read.
 
 use crate::drafts::Draft;
-use crate::memory::Memory;
 use crate::starts::{Wish, wish_of};
 use crate::tables::{has_mark, number, set_mark};
+use variable_tables::Memory;
 
 /// A set of gates and its border, by variable.
 #[derive(Drop)]

@@ -4,10 +4,10 @@
 use crate::border::Bordered;
 use crate::drafts::{Draft, Pair};
 use crate::literals::Literal;
-use crate::memory::Memory;
 use crate::starts::{Wish, wish_of};
 use crate::tables::{has_mark, set_mark};
 use crate::wishes::Wishes;
+use variable_tables::Memory;
 
 /// A latch's wish has more weight than those of all gates.
 const LATCH_WEIGHT: u32 = 1 << 20;

@@ -1,8 +1,8 @@
 //! Arcs with room for units, each beside the arc that leads back. The least cut of a network is where the flow of units along its arcs can't
 //! grow any more.
 
-use crate::memory::Memory;
 use crate::tables::{entry, number, set_entry};
+use variable_tables::Memory;
 
 /// More units than ever come to a node.
 pub const UNBOUNDED: u32 = 1 << 30;

@@ -4,8 +4,8 @@
 
 use crate::drafts::Draft;
 use crate::literals::Literal;
-use crate::memory::Memory;
 use crate::tables::{entry, number, set_mark};
+use variable_tables::Memory;
 
 /// How many steps are made.
 const STEPS: u32 = 4;

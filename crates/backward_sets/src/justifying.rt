@@ -5,10 +5,10 @@
 use crate::border::Bordered;
 use crate::drafts::{Draft, Pair};
 use crate::literals::Literal;
-use crate::memory::Memory;
 use crate::starts::Wish;
 use crate::tables::has_mark;
 use crate::values::Values;
+use variable_tables::Memory;
 
 /// How often the search goes back at most.
 const MOST_BACK: u32 = 1000;

@@ -2,8 +2,8 @@
 //! too. One pass from the last gate down.
 
 use crate::drafts::Draft;
-use crate::memory::Memory;
 use crate::tables::{has_mark, number, set_mark};
+use variable_tables::Memory;
 
 /// Marks a variable as read, and takes its other mark where what reads it stays.
 fn mark_fan_in(may: &mut [bool], read: &mut [bool], var: u32, moves: bool) {

@@ -5,10 +5,10 @@
 
 use crate::drafts::Draft;
 use crate::flow::{Flow, UNBOUNDED};
-use crate::memory::Memory;
 use crate::search::Search;
 use crate::starts::{Wish, wish_of};
 use crate::tables::{has_mark, number, set_mark};
+use variable_tables::Memory;
 
 /// The node before a variable.
 fn before(var: u32) -> u32 {

@@ -2,8 +2,8 @@
 //! ways are short, as they are between latches and the gates before them.
 
 use crate::flow::{Flow, NO_ARC};
-use crate::memory::Memory;
 use crate::tables::{entry, has_mark, set_entry, set_mark};
+use variable_tables::Memory;
 
 /// What a step of a search does.
 #[derive(Clone, Copy)]

@@ -3,10 +3,10 @@
 use crate::border::Bordered;
 use crate::drafts::{Draft, Pair};
 use crate::literals::Literal;
-use crate::memory::Memory;
 use crate::readers::Readers;
 use crate::starts::{Wish, set_wish, wish_of};
 use crate::tables::{entry, set_entry, set_mark};
+use variable_tables::Memory;
 
 /// Values, and the variables that have one in the order in which they got it.
 #[derive(Drop)]

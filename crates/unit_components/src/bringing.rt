@@ -3,7 +3,6 @@
 
 use crate::cut::Cut;
 use crate::gathering::{PartFlow, gathered};
-use crate::memory::Memory;
 use crate::part_flows::Part;
 use pulse::{Crew, OpenGate, PhaseGate};
 use std::alloc::{AllocError, Global};
@@ -12,6 +11,7 @@ use std::thread;
 use std::thread::Threads;
 use unit_flows::GateFlow;
 use unit_starts::narrow;
+use variable_tables::Memory;
 
 /// The flows of parts, and the memory for them.
 #[derive(Drop)]
@@ -54,7 +54,7 @@ impl Found {
         let parts = cut.parts.count();
         for _ in 0..parts {
             let part = next.fetch_add(1, Ordering::SeqCst) as usize;
-            if (part >= parts) | self.memory.refused {
+            if (part >= parts) | self.memory.is_refused() {
                 return;
             }
             if !cut.is_large(part) {
@@ -66,13 +66,13 @@ impl Found {
     /// Takes what a worker found.
     fn take(&mut self, found: &mut Found) {
         let is_taken = self.flows.append(&mut found.flows).is_ok();
-        self.memory.refused |= found.memory.refused | !is_taken;
+        self.memory.refuse_if(found.memory.is_refused() | !is_taken);
     }
 
     /// Takes what all workers found.
     fn take_all(&mut self, lists: Result<Vec<Found>, AllocError>) {
         let Ok(mut lists) = lists else {
-            self.memory.refused = true;
+            self.memory.refuse();
             return;
         };
         for k in 0..lists.len() {
@@ -82,7 +82,7 @@ impl Found {
 
     /// Brings the units of the parts that workers draw, each in one thread. A worker passes the gate of the crew as it begins, and leaves it as it ends.
     fn bring_drawn<R: Threads + Sync, G: PhaseGate>(&mut self, rt: &R, cut: &Cut, crew: &Crew<G>) {
-        let alloc = self.memory.alloc;
+        let alloc = self.memory.alloc();
         let gate = crew.gate();
         let alone = Crew::new(1, OpenGate);
         let next = AtomicU64::new(0);
@@ -99,7 +99,7 @@ impl Found {
     /// Brings the units of the large parts, one part after another, by pulses of the crew, until memory is refused.
     fn bring_large<R: Threads + Sync, G: PhaseGate>(&mut self, rt: &R, cut: &Cut, crew: &Crew<G>) {
         for part in 0..cut.parts.count() {
-            if cut.is_large(part) & !self.memory.refused {
+            if cut.is_large(part) & !self.memory.is_refused() {
                 self.find(rt, cut, part, crew);
             }
         }
@@ -113,10 +113,10 @@ pub(crate) fn flow_of_parts<R: Threads + Sync, G: PhaseGate>(
     cut: &Cut,
     crew: &Crew<G>,
 ) -> Vec<GateFlow> {
-    let mut found = Found::none(memory.alloc);
+    let mut found = Found::none(memory.alloc());
     found.bring_drawn(rt, cut, crew);
     found.bring_large(rt, cut, crew);
-    memory.refused |= found.memory.refused;
+    memory.refuse_if(found.memory.is_refused());
     let workers = crew.workers() as usize;
     let flows = gathered(rt, memory, cut, found.flows.as_slice(), workers);
     drop(found);

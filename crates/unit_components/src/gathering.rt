@@ -1,11 +1,11 @@
 //! The flows of parts put in the place of each gate, by workers that each have a range of gates.
 
 use crate::cut::Cut;
-use crate::memory::Memory;
 use crate::ranges::{border, count_before, entries};
 use std::thread;
 use std::thread::Threads;
 use unit_flows::GateFlow;
+use variable_tables::Memory;
 
 /// The flow at the gates of a part, in order.
 #[derive(Drop)]

@@ -3,12 +3,12 @@
 //! Each worker makes the part of the forest over a range of places. It joins the gates there with those fan-ins that are there too, and lists the
 //! others; the calling thread then joins these. Most gates read what stands a little before them, so the lists are short.
 
-use crate::memory::Memory;
 use crate::ranges::border;
 use std::alloc::{AllocError, Global};
 use std::thread::Threads;
 use std::{mem, thread};
 use unit_starts::{Region, narrow};
+use variable_tables::Memory;
 
 /// Two places that hang together.
 #[derive(Clone, Copy)]
@@ -118,11 +118,11 @@ impl Stretch {
 
     /// Appends what is here to the forest of all places before it. The first stretch is that forest.
     fn append_to(&mut self, memory: &mut Memory, forest: &mut Vec<u32>) {
-        memory.refused |= self.memory.refused;
+        memory.refuse_if(self.memory.is_refused());
         if forest.is_empty() {
             mem::swap(forest, &mut self.above);
         } else if forest.append(&mut self.above).is_err() {
-            memory.refused = true;
+            memory.refuse();
         }
         for k in 0..self.before.len() {
             let pair = self.before[k];
@@ -136,7 +136,7 @@ fn joined(memory: &mut Memory, stretches: Result<Vec<Stretch>, AllocError>) -> V
     let Ok(mut stretches) = stretches else {
         return memory.refused_list();
     };
-    let mut forest = Vec::new(memory.alloc);
+    let mut forest = memory.nothing();
     for k in 0..stretches.len() {
         stretches[k].append_to(memory, &mut forest);
     }
@@ -151,7 +151,7 @@ pub(crate) fn forest_of<R: Threads + Sync>(
     region: &Region,
     workers: usize,
 ) -> Vec<u32> {
-    let alloc = memory.alloc;
+    let alloc = memory.alloc();
     let work = |worker: usize| -> Stretch { Stretch::of_worker(alloc, region, worker, workers) };
     joined(memory, thread::map_indices(rt, alloc, workers, &work))
 }

@@ -4,7 +4,6 @@ ghost use Rattle.aig_graph.specs.Chosen.{IsChosen};
 
 use crate::bringing::flow_of_parts;
 use crate::cut::Cut;
-use crate::memory::Memory;
 use crate::parts::Parts;
 use crate::sizes::Sizes;
 use aig_graph::{Choice, Circuit, ClosedSet, Keep, NoMemory};
@@ -14,6 +13,7 @@ use std::thread::Threads;
 use unit_flows::{Frame, GateFlow, UnitFlow, shown_chosen};
 use unit_pulses::chosen_least_brought;
 use unit_starts::Region;
+use variable_tables::Memory;
 
 /// Whether parts are worth the work of cutting: where one of them has nearly all places, the others hardly help.
 fn are_worth(parts: &Parts) -> bool {
@@ -30,7 +30,7 @@ fn flow_by_parts<R: Threads + Sync, G: PhaseGate>(
 ) -> Option<Vec<GateFlow>> {
     let workers = crew.workers();
     let parts = Parts::of(rt, memory, &region, sizes.part, workers as usize);
-    let flow = if !memory.refused & are_worth(&parts) {
+    let flow = if !memory.is_refused() & are_worth(&parts) {
         let cut = Cut::of(region, &parts, workers, sizes);
         Some(flow_of_parts(rt, memory, &cut, crew))
     } else {
@@ -53,7 +53,7 @@ fn cut_flow<R: Threads + Sync, G: PhaseGate>(
     }
     let mut memory = Memory::of(alloc);
     let flow = flow_by_parts(rt, &mut memory, region, crew, sizes);
-    if memory.refused {
+    if memory.is_refused() {
         Err(NoMemory)
     } else {
         Ok(flow)

@@ -14,7 +14,6 @@ mod cut;
 mod gathering;
 mod joining;
 mod least_set;
-mod memory;
 mod part_flows;
 mod parts;
 mod ranges;

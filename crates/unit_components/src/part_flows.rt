@@ -1,7 +1,6 @@
 //! The flow of a part, which is a region of its own: its known latches and its passable gates, with variables from 0 on in the order of their places.
 
 use crate::cut::Cut;
-use crate::memory::Memory;
 use crate::ranges::count_before;
 use aig_graph::{Gate, Latch, Lit, Reset};
 use pulse::{Crew, PhaseGate};
@@ -9,6 +8,7 @@ use std::thread::Threads;
 use unit_flows::GateFlow;
 use unit_pulses::first_flow;
 use unit_starts::Region;
+use variable_tables::Memory;
 
 /// A known latch, wherever its next literal leads: what reads it from outside the gates is in the marks of what leaves.
 const KNOWN: Latch = Latch {
@@ -66,8 +66,8 @@ impl Part {
         memory: &mut Memory,
         crew: &Crew<G>,
     ) -> Vec<GateFlow> {
-        if memory.refused {
-            return Vec::new(memory.alloc);
+        if memory.is_refused() {
+            return memory.nothing();
         }
         let own = Region {
             first: 0,
@@ -76,7 +76,7 @@ impl Part {
             passes: self.passes.as_slice(),
             leaving: self.leaving.as_slice(),
         };
-        match first_flow(rt, memory.alloc, &own, crew) {
+        match first_flow(rt, memory.alloc(), &own, crew) {
             Ok(flows) => flows,
             Err(_) => memory.refused_list(),
         }

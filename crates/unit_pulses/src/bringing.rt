@@ -1,7 +1,6 @@
 //! Rounds of new labels and pulses, until no unit that is left can come to the sink.
 
 use crate::active::list_actives;
-use crate::memory::Memory;
 use crate::nodes::Nodes;
 use crate::phases::{Passage, pulse_alone, pulse_by_crew};
 use crate::search::{Search, leave_out};
@@ -13,6 +12,7 @@ use std::mem;
 use std::thread::Threads;
 use unit_flows::{GateFlow, NodeMarks};
 use unit_starts::Region;
+use variable_tables::Memory;
 
 /// After so many rounds what is left is left to the network.
 const MOST_ROUNDS: u32 = 1024;

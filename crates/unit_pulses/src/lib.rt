@@ -13,7 +13,6 @@ mod extending;
 mod fan_ins;
 mod labels;
 mod least_set;
-mod memory;
 mod nodes;
 mod parts;
 mod phases;

@@ -3,9 +3,9 @@
 //! In the read phase it lists what its active nodes push, and writes nothing else. In the delivery phase it goes through the lists of all workers, and
 //! writes what they change at its places. So what a pulse leaves depends on no order of nodes, and on no number of workers.
 
-use crate::memory::Memory;
 use crate::nodes::Nodes;
 use unit_flows::GateFlow;
+use variable_tables::Memory;
 
 /// An arc that units go over, between a gate's nodes, or between one of them and a node of its second or first fan-in.
 #[derive(Clone, Copy)]

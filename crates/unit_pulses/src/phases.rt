@@ -4,7 +4,6 @@
 //! workers. A pulse of few active nodes is made by the calling thread, as worker 0, over all places.
 
 use crate::delivering::{Ground, Owned, owned_by_ranges};
-use crate::memory::Memory;
 use crate::nodes::Nodes;
 use crate::parts::{Delivery, Kept, Part};
 use crate::search::Search;
@@ -13,6 +12,7 @@ use crate::spots::{FAR, Labels};
 use pulse::PhaseGate;
 use std::thread::Threads;
 use std::{mem, thread};
+use variable_tables::Memory;
 
 /// The gate that each worker passes and leaves, and the number of the pulse, from 0.
 #[derive(Drop)]
@@ -48,7 +48,7 @@ fn read_by_crew<R: Threads + Sync, G: PhaseGate>(
     let taken = mem::replace(parts, memory.nothing());
     match thread::map_vec(rt, taken, &work) {
         Ok(made) => drop(mem::replace(parts, made)),
-        Err(_) => memory.refuse_if(true),
+        Err(_) => memory.refuse(),
     }
 }
 
@@ -94,7 +94,7 @@ fn deliver_by_crew<R: Threads + Sync, G: PhaseGate>(
     let owned = owned_by_ranges(memory, latches, all, parts, taken);
     match thread::map_vec(rt, owned, &work) {
         Ok(made) => drop(mem::replace(&mut shared.deliveries, made)),
-        Err(_) => memory.refuse_if(true),
+        Err(_) => memory.refuse(),
     }
 }
 

@@ -1,12 +1,12 @@
 //! The tables of a flow of units by place: what the flow does at each gate, what stands at each place, and which gates read it.
 
 use crate::fan_ins::FanIns;
-use crate::memory::Memory;
 use crate::nodes::Nodes;
 use crate::readers::Readers;
 use crate::spots::{Labels, Spot, label_before};
 use unit_flows::GateFlow;
 use unit_starts::{Region, narrow};
+use variable_tables::Memory;
 
 /// The node before a gate, as a pulse finds it: what the flow does at the gate, and the label that the node pushes to.
 #[derive(Clone, Copy)]

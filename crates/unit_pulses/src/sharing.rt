@@ -2,10 +2,10 @@
 //! the sources of a tiny circuit, so that the smallest ones are worked on by two workers at once, too. What that costs is the start of two threads,
 //! a tenth of such a run; by all of a crew it would be more than half, and on a circuit of some hundred places as much for nothing.
 
-use crate::memory::Memory;
 use crate::nodes::Nodes;
 use crate::parts::{Delivery, Part};
 use pulse::{Crew, PhaseGate};
+use variable_tables::Memory;
 
 /// So many active nodes make a pulse worth its two forks.
 const MANY_ACTIVE: usize = 4096;

@@ -4,10 +4,12 @@
 
 mod marks;
 mod memory;
+mod noted;
 mod numbering;
 mod tables;
 
 pub use marks::{mark_at, mark_variable, mark_variables, marks_of};
 pub use memory::NoMemory;
+pub use noted::Memory;
 pub use numbering::{count_marks, marked_variables, number_marks, renumber};
 pub use tables::entry;
