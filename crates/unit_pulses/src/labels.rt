@@ -12,23 +12,26 @@ use unit_starts::{Region, narrow};
 /// More sweeps than these are never made. Nodes without a label are left to the network.
 const MOST_ROUNDS: u32 = 65_536;
 
-/// A label where an arc leads there, else none.
-fn label_if(leads: bool, label: u32) -> u32 {
-    if leads { label } else { FAR }
-}
-
-/// Ways to the sink from the nodes before and after a place, where labels are found. Whether one is the first of its node.
-fn lower(labels: &mut [Labels], place: u32, found: Labels) -> bool {
+/// A way to the sink from the node before a place. Whether it is the first.
+fn lower_before(labels: &mut [Labels], place: u32, label: u32) -> bool {
     let place = place as usize;
     if place >= labels.len() {
         return false;
     }
-    let Labels { before, after } = labels[place];
-    labels[place] = Labels {
-        before: before.min(found.before),
-        after: after.min(found.after),
-    };
-    ((before == FAR) & (found.before < FAR)) | ((after == FAR) & (found.after < FAR))
+    let known = labels[place].before;
+    labels[place].before = known.min(label);
+    known == FAR
+}
+
+/// A way to the sink from the node after a place. Whether it is the first.
+fn lower_after(labels: &mut [Labels], place: u32, label: u32) -> bool {
+    let place = place as usize;
+    if place >= labels.len() {
+        return false;
+    }
+    let known = labels[place].after;
+    labels[place].after = known.min(label);
+    known == FAR
 }
 
 /// The label before a gate, by those of the nodes to which an arc leads from there.
@@ -36,12 +39,16 @@ fn found_before(labels: &[Labels], place: u32, fan_ins: &FanIns, flow: &GateFlow
     let own = labels_at(labels, place);
     let smaller = labels_at(labels, fan_ins.smaller);
     let larger = labels_at(labels, fan_ins.larger);
-    let least = smaller
-        .before
-        .min(larger.before)
-        .min(label_if(!flow.through, own.after))
-        .min(label_if(flow.first_up, smaller.after))
-        .min(label_if(flow.second_up, larger.after));
+    let mut least = smaller.before.min(larger.before);
+    if !flow.through {
+        least = least.min(own.after);
+    }
+    if flow.first_up {
+        least = least.min(smaller.after);
+    }
+    if flow.second_up {
+        least = least.min(larger.after);
+    }
     own.before.min(least.saturating_add(1))
 }
 
@@ -52,21 +59,19 @@ fn see(labels: &mut [Labels], place: u32, fan_ins: &FanIns, flow: &GateFlow) -> 
         return false;
     }
     let next = before.saturating_add(1);
-    let own = Labels {
-        before,
-        after: label_if(flow.through, next),
-    };
-    let smaller = Labels {
-        before: label_if(flow.first_down > 0, next),
-        after: next,
-    };
-    let larger = Labels {
-        before: label_if(flow.second_down > 0, next),
-        after: next,
-    };
-    lower(labels, place, own)
-        | lower(labels, fan_ins.smaller, smaller)
-        | lower(labels, fan_ins.larger, larger)
+    let mut is_new = lower_before(labels, place, before);
+    is_new |= lower_after(labels, fan_ins.smaller, next);
+    is_new |= lower_after(labels, fan_ins.larger, next);
+    if flow.through {
+        is_new |= lower_after(labels, place, next);
+    }
+    if flow.first_down > 0 {
+        is_new |= lower_before(labels, fan_ins.smaller, next);
+    }
+    if flow.second_down > 0 {
+        is_new |= lower_before(labels, fan_ins.larger, next);
+    }
+    is_new
 }
 
 /// Sees the gate at a place, if the sweep does: one that sees all from before which units could come to the sink, or those of them alone that have
@@ -108,7 +113,7 @@ fn begin(labels: &mut [Labels], spots: &mut [Spot]) {
         if k < labels.len() {
             labels[k] = Labels {
                 before: FAR,
-                after: label_if(spot.is_observed, 1),
+                after: if spot.is_observed { 1 } else { FAR },
             };
         }
     }

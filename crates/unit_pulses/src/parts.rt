@@ -29,26 +29,17 @@ pub(crate) enum Arc {
 impl Arc {
     /// Whether it leads from after a place.
     pub fn is_from_after(self) -> bool {
-        match self {
-            Arc::Back | Arc::Up | Arc::Out => true,
-            Arc::Through | Arc::Home | Arc::Down | Arc::Lift => false,
-        }
+        matches!(self, Arc::Back | Arc::Up | Arc::Out)
     }
 
     /// Whether it leads to after a place.
     pub fn is_to_after(self) -> bool {
-        match self {
-            Arc::Through | Arc::Home => true,
-            Arc::Back | Arc::Up | Arc::Down | Arc::Lift | Arc::Out => false,
-        }
+        matches!(self, Arc::Through | Arc::Home)
     }
 
     /// Whether it leads from a node of a fan-in to before a gate.
     fn is_from_fan_in(self) -> bool {
-        match self {
-            Arc::Up | Arc::Lift => true,
-            Arc::Through | Arc::Back | Arc::Home | Arc::Down | Arc::Out => false,
-        }
+        matches!(self, Arc::Up | Arc::Lift)
     }
 }
 
