@@ -3,7 +3,7 @@
 use crate::active::list_actives;
 use crate::nodes::Nodes;
 use crate::phases::{Passage, pulse_alone, pulse_by_crew};
-use crate::search::{Search, leave_out};
+use crate::search::Search;
 use crate::sharing::{Parts, Sharing};
 use aig_graph::NoMemory;
 use pulse::PhaseGate;
@@ -122,7 +122,7 @@ fn bring_in<R: Threads + Sync, G: PhaseGate>(
     drop(pulses);
 }
 
-/// The flow that pulses make of one. No unit can come to the sink from before the gates that have no mark, if there are marks.
+/// The flow that pulses make of one. Where there are marks, they have each node from which units can come to the sink.
 fn brought<R: Threads + Sync, G: PhaseGate>(
     rt: &R,
     memory: &mut Memory,
@@ -131,10 +131,10 @@ fn brought<R: Threads + Sync, G: PhaseGate>(
     sharing: Sharing<G>,
     known: Vec<GateFlow>,
 ) -> Vec<GateFlow> {
-    let mut search = Search::new(memory, region, known);
-    if let Some(marks) = &marks {
-        leave_out(search.spots.as_mut_slice(), marks.before.as_slice());
-    }
+    let mut search = match &marks {
+        Some(marks) => Search::new(memory, region, marks.before.as_slice(), known),
+        None => Search::new(memory, region, &[], known),
+    };
     drop(marks);
     bring_in(rt, memory, sharing, &mut search);
     search.into_flows()

@@ -4,7 +4,7 @@
 
 use crate::fan_ins::FanIns;
 use crate::search::Search;
-use crate::spots::{FAR, Labels, Spot, label_before, labels_at};
+use crate::spots::{FAR, Labels, Spot};
 use aig_graph::Gate;
 use unit_flows::GateFlow;
 use unit_starts::{Region, narrow};
@@ -12,33 +12,15 @@ use unit_starts::{Region, narrow};
 /// More sweeps than these are never made. Nodes without a label are left to the network.
 const MOST_ROUNDS: u32 = 65_536;
 
-/// A way to the sink from the node before a place. Whether it is the first.
-fn lower_before(labels: &mut [Labels], place: u32, label: u32) -> bool {
-    let place = place as usize;
-    if place >= labels.len() {
-        return false;
-    }
-    let known = labels[place].before;
-    labels[place].before = known.min(label);
-    known == FAR
-}
-
-/// A way to the sink from the node after a place. Whether it is the first.
-fn lower_after(labels: &mut [Labels], place: u32, label: u32) -> bool {
-    let place = place as usize;
-    if place >= labels.len() {
-        return false;
-    }
-    let known = labels[place].after;
-    labels[place].after = known.min(label);
-    known == FAR
+/// A way to the sink from a node. Whether it is the first.
+fn lower(known: &mut u32, label: u32) -> bool {
+    let is_first = *known == FAR;
+    *known = (*known).min(label);
+    is_first
 }
 
 /// The label before a gate, by those of the nodes to which an arc leads from there.
-fn found_before(labels: &[Labels], place: u32, fan_ins: &FanIns, flow: &GateFlow) -> u32 {
-    let own = labels_at(labels, place);
-    let smaller = labels_at(labels, fan_ins.smaller);
-    let larger = labels_at(labels, fan_ins.larger);
+fn found_before(own: Labels, smaller: Labels, larger: Labels, flow: &GateFlow) -> u32 {
     let mut least = smaller.before.min(larger.before);
     if !flow.through {
         least = least.min(own.after);
@@ -52,26 +34,32 @@ fn found_before(labels: &[Labels], place: u32, fan_ins: &FanIns, flow: &GateFlow
     own.before.min(least.saturating_add(1))
 }
 
-/// Labels the node before a gate, and those from which an arc leads there. Whether one had no label.
-fn see(labels: &mut [Labels], place: u32, fan_ins: &FanIns, flow: &GateFlow) -> bool {
-    let before = found_before(labels, place, fan_ins, flow);
+/// Labels the node before a gate, if units could come to the sink from there, and those from which an arc leads there. Then whether one had no
+/// label. The fan-ins of a passable gate are latches and gates, so all three places are there.
+fn see(labels: &mut [Labels], place: u32, fan_ins: &FanIns, flow: &GateFlow) -> Option<bool> {
+    let own = place as usize;
+    let (smaller, larger) = (fan_ins.smaller as usize, fan_ins.larger as usize);
+    if own >= labels.len() || smaller >= labels.len() || larger >= labels.len() {
+        return None;
+    }
+    let before = found_before(labels[own], labels[smaller], labels[larger], flow);
     if before == FAR {
-        return false;
+        return None;
     }
     let next = before.saturating_add(1);
-    let mut is_new = lower_before(labels, place, before);
-    is_new |= lower_after(labels, fan_ins.smaller, next);
-    is_new |= lower_after(labels, fan_ins.larger, next);
+    let mut is_new = lower(&mut labels[own].before, before);
+    is_new |= lower(&mut labels[smaller].after, next);
+    is_new |= lower(&mut labels[larger].after, next);
     if flow.through {
-        is_new |= lower_after(labels, place, next);
+        is_new |= lower(&mut labels[own].after, next);
     }
     if flow.first_down > 0 {
-        is_new |= lower_before(labels, fan_ins.smaller, next);
+        is_new |= lower(&mut labels[smaller].before, next);
     }
     if flow.second_down > 0 {
-        is_new |= lower_before(labels, fan_ins.larger, next);
+        is_new |= lower(&mut labels[larger].before, next);
     }
-    is_new
+    Some(is_new)
 }
 
 /// Sees the gate at a place, if the sweep does: one that sees all from before which units could come to the sink, or those of them alone that have
@@ -94,9 +82,13 @@ fn look(
     if !(spot.is_open | (spot.reaches & sees_all)) {
         return false;
     }
-    let is_new = see(labels, place, &FanIns::of(gate, first), flow);
-    spots[at].is_open = label_before(labels, place) == FAR;
-    is_new
+    match see(labels, place, &FanIns::of(gate, first), flow) {
+        Some(is_new) => {
+            spots[at].is_open = false;
+            is_new
+        }
+        None => false,
+    }
 }
 
 /// The nodes from which an arc leads to the sink have the first label, no other has one, and all are open from which units could come to the
@@ -105,11 +97,8 @@ fn begin(labels: &mut [Labels], spots: &mut [Spot]) {
     for k in 0..spots.len() {
         let spot = spots[k];
         let reaches = spot.reaches & !spot.is_open;
-        spots[k] = Spot {
-            reaches,
-            is_open: reaches,
-            ..spot
-        };
+        spots[k].reaches = reaches;
+        spots[k].is_open = reaches;
         if k < labels.len() {
             labels[k] = Labels {
                 before: FAR,

@@ -70,32 +70,40 @@ impl<'a> Search<'a> {
         }
         let head = node.fan_ins.at(second);
         let at = labels_at(self.labels.as_slice(), head);
-        let room = self.most.saturating_sub(node.flow.down(second));
-        let down = Push {
+        let push = Push {
             arc: Arc::Down,
             second,
             tail: node.place,
             head,
-            units: if at.before == node.below { room } else { 0 },
+            units: self.most.saturating_sub(node.flow.down(second)),
         };
-        let home = Push {
-            arc: Arc::Home,
-            units: u32::from(node.flow.up(second) & (at.after == node.below)),
-            ..down
-        };
-        let left = part.list_most(down, units);
-        part.list_most(home, left)
+        let mut left = units;
+        if at.before == node.below {
+            left = part.list_most(push, left);
+        }
+        if node.flow.up(second) & (at.after == node.below) {
+            let home = Push {
+                arc: Arc::Home,
+                units: 1,
+                ..push
+            };
+            left = part.list_most(home, left);
+        }
+        left
     }
 
     /// One of these units goes through the gate, if none does. How many stay.
     fn push_through(&self, node: &Before, units: u32, part: &mut Part) -> u32 {
         let label = label_after(self.labels.as_slice(), node.place);
+        if node.flow.through | (label != node.below) {
+            return units;
+        }
         let through = Push {
             arc: Arc::Through,
             second: false,
             tail: node.place,
             head: node.place,
-            units: u32::from(!node.flow.through & (label == node.below)),
+            units: 1,
         };
         part.list_most(through, units)
     }

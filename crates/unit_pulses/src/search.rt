@@ -4,6 +4,7 @@ use crate::fan_ins::FanIns;
 use crate::nodes::Nodes;
 use crate::readers::Readers;
 use crate::spots::{Labels, Spot, label_before};
+use aig_graph::Gate;
 use unit_flows::GateFlow;
 use unit_starts::{Region, narrow};
 use variable_tables::Memory;
@@ -46,10 +47,15 @@ impl<'a> Drop for Search<'a> {
 }
 
 impl<'a> Search<'a> {
-    /// The tables of a flow.
-    pub fn new(memory: &mut Memory, region: &Region<'a>, flows: Vec<GateFlow>) -> Search<'a> {
+    /// The tables of a flow. Where there are marks, they are by place whether units could come to the sink from before it.
+    pub fn new(
+        memory: &mut Memory,
+        region: &Region<'a>,
+        marks: &[bool],
+        flows: Vec<GateFlow>,
+    ) -> Search<'a> {
         let mut spots = memory.table(Spot::NONE, region.places());
-        set_spots(spots.as_mut_slice(), region);
+        set_spots(spots.as_mut_slice(), region, marks);
         note_all(spots.as_mut_slice(), region, flows.as_slice());
         Search {
             region: *region,
@@ -126,15 +132,6 @@ impl<'a> Search<'a> {
     }
 }
 
-/// From before the gates that have no mark no unit can come to the sink.
-pub(crate) fn leave_out(spots: &mut [Spot], marks: &[bool]) {
-    for place in 0..spots.len() {
-        if place < marks.len() {
-            spots[place].reaches = spots[place].reaches & marks[place];
-        }
-    }
-}
-
 /// What a flow does at the gate with a number.
 fn flow_at(flows: &[GateFlow], number: usize) -> GateFlow {
     if number < flows.len() {
@@ -145,14 +142,14 @@ fn flow_at(flows: &[GateFlow], number: usize) -> GateFlow {
 }
 
 /// What stands at each place where no gate has done anything: a unit has come after each known latch, and it waits where no arc leads to the
-/// sink.
-fn set_spots(spots: &mut [Spot], region: &Region) {
+/// sink. From before it units could come there, unless its mark says that they can't.
+fn set_spots(spots: &mut [Spot], region: &Region, marks: &[bool]) {
     for place in 0..spots.len() {
         let holds = region.is_passable(place) | region.is_known_latch(place);
         let is_observed = holds & region.leaves(place);
         spots[place] = Spot {
             excess: 0,
-            reaches: holds,
+            reaches: holds & (place >= marks.len() || marks[place]),
             is_observed,
             waits: holds & !is_observed,
             is_open: false,
@@ -189,24 +186,33 @@ fn note_going(spots: &mut [Spot], place: u32, flow: &GateFlow) {
         .saturating_add(flow.second_down);
     let place = place as usize;
     if place < spots.len() {
-        let spot = spots[place];
-        spots[place] = Spot {
-            excess: spot.excess.saturating_sub(goes),
-            waits: spot.waits & flow.through,
-            ..spot
-        };
+        spots[place].excess = spots[place].excess.saturating_sub(goes);
+        spots[place].waits = spots[place].waits & flow.through;
     }
+}
+
+/// Notes what a flow does at the gate at a place.
+#[inline(always)]
+fn note(spots: &mut [Spot], place: u32, gate: &Gate, first: u32, flow: &GateFlow) {
+    if flow.is_none() {
+        let place = place as usize;
+        if place < spots.len() {
+            spots[place].waits = false;
+        }
+        return;
+    }
+    let FanIns { smaller, larger } = FanIns::of(gate, first);
+    note_fan_in(spots, place, smaller, flow.first_up, flow.first_down);
+    note_fan_in(spots, place, larger, flow.second_up, flow.second_down);
+    note_going(spots, place, flow);
 }
 
 /// Notes what a flow does at all gates, from the last to the first: so all gates that read one are noted before it.
 fn note_all(spots: &mut [Spot], region: &Region, flows: &[GateFlow]) {
-    let (gates, latches) = (region.gates, region.latches.len());
+    let (gates, first) = (region.gates, region.first);
+    let mut place = narrow(region.places());
     for k in (0..gates.len()).rev() {
-        let place = narrow(latches.wrapping_add(k));
-        let flow = flow_at(flows, k);
-        let FanIns { smaller, larger } = FanIns::of(&gates[k], region.first);
-        note_fan_in(spots, place, smaller, flow.first_up, flow.first_down);
-        note_fan_in(spots, place, larger, flow.second_up, flow.second_down);
-        note_going(spots, place, &flow);
+        place = place.wrapping_sub(1);
+        note(spots, place, &gates[k], first, &flow_at(flows, k));
     }
 }

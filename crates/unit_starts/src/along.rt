@@ -11,32 +11,26 @@ use unit_flows::{GateFlow, UnitFlow, filled};
 /// Stands for no gate.
 const NOBODY: u32 = u32::MAX;
 
-/// Notes that a gate takes the unit after what a literal reads, if it took one, where no gate before it does.
-fn note_taker(takers: &mut [u32], place: u32, took: bool, gate: u32) {
+/// Notes that a gate takes the unit after a place, where no gate before it does.
+fn note_taker(takers: &mut [u32], place: u32, gate: u32) {
     let place = place as usize;
-    if place < takers.len() && took & (takers[place] == NOBODY) {
+    if place < takers.len() && takers[place] == NOBODY {
         takers[place] = gate;
     }
 }
 
-/// Notes where all gates took units.
+/// Notes where all gates took units. Not inlined, so that the loop has the registers for itself.
+#[inline(never)]
 fn note_takers(takers: &mut [u32], region: &Region, known: &[GateFlow]) {
     let gates = region.gates;
     for k in 0..gates.len() {
         if k < known.len() {
-            let (literals, flow) = (&gates[k], known[k]);
-            note_taker(
-                takers,
-                region.place(literals.rhs1),
-                flow.first_up,
-                narrow(k),
-            );
-            note_taker(
-                takers,
-                region.place(literals.rhs0),
-                flow.second_up,
-                narrow(k),
-            );
+            if known[k].first_up {
+                note_taker(takers, region.place(gates[k].rhs1), narrow(k));
+            }
+            if known[k].second_up {
+                note_taker(takers, region.place(gates[k].rhs0), narrow(k));
+            }
         }
     }
 }
@@ -120,11 +114,11 @@ fn comes_to(
     place: usize,
     taker: usize,
 ) -> bool {
-    if taker >= region.gates.len() || taker >= flows.len() {
+    if taker >= region.gates.len() || taker >= flows.len() || taker >= known.len() {
         return false;
     }
     let is_first = region.place(region.gates[taker].rhs1) as usize == place;
-    flows[taker].note_up(!(is_first & known_at(known, taker).first_up));
+    flows[taker].note_up(!(is_first & known[taker].first_up));
     true
 }
 
@@ -147,7 +141,7 @@ fn send(
             return left.push(place, false);
         }
         let (gate, goes_on) = goes_through(region, known, flows, taker);
-        place = region.latches.len().saturating_add(gate);
+        place = region.latches.len().wrapping_add(gate);
         if !goes_on {
             return left.push(place, true);
         }
@@ -155,6 +149,7 @@ fn send(
 }
 
 /// Sends the units after all known latches as far as they are known to go. Where they are left.
+#[inline(never)]
 fn send_all(
     alloc: Global,
     region: &Region,

@@ -14,7 +14,7 @@ use aig_graph::NoMemory;
 use std::alloc::Global;
 use unit_flows::GateFlow;
 
-/// The places of a passable gate's own variable and of its two fan-ins, from the first latch on, the smaller fan-in first.
+/// The places of a gate's own variable and of its two fan-ins, from the first latch on, the smaller fan-in first.
 #[derive(Clone, Copy)]
 struct GatePlaces {
     own: usize,
@@ -23,22 +23,21 @@ struct GatePlaces {
 }
 
 impl GatePlaces {
-    /// What stands where there is no passable gate.
+    /// What stands where there is no gate.
     const NONE: GatePlaces = GatePlaces {
         own: usize::MAX,
         smaller: usize::MAX,
         larger: usize::MAX,
     };
 
-    /// The places of the gate with this number, where it is passable.
+    /// Those of the gate with this number.
     fn of(region: &Region, gate: usize) -> GatePlaces {
-        let own = region.latches.len().saturating_add(gate);
         let gates = region.gates;
-        if gate >= gates.len() || !region.is_passable(own) {
+        if gate >= gates.len() {
             return GatePlaces::NONE;
         }
         GatePlaces {
-            own,
+            own: region.latches.len().wrapping_add(gate),
             smaller: region.place(gates[gate].rhs1) as usize,
             larger: region.place(gates[gate].rhs0) as usize,
         }
@@ -54,28 +53,30 @@ fn takes(start: &mut Start, gate: usize, places: &GatePlaces, fan_in: FanIn) -> 
     start.takes_from(gate, places.own, fan_in, place)
 }
 
-/// A gate that has taken nothing takes a unit that waits after one of its fan-ins: this one before the other.
+/// A passable gate that has taken nothing takes a unit that waits after one of its fan-ins: this one before the other.
+#[inline(always)]
 fn take_waiting(region: &Region, start: &mut Start, gate: usize, first: FanIn, second: FanIn) {
-    if start.taken(gate).is_some() {
+    let places = GatePlaces::of(region, gate);
+    if start.taken(gate).is_some() || !region.is_passable(places.own) {
         return;
     }
-    let places = GatePlaces::of(region, gate);
     if !takes(start, gate, &places, first) {
         takes(start, gate, &places, second);
     }
 }
 
-/// In one pass up the gates each that has taken nothing takes a unit that waits after a fan-in: this one before the other.
+/// In one pass up the gates each passable one that has taken nothing takes a unit that waits after a fan-in: this one before the other.
+#[inline(always)]
 fn take_all_waiting(region: &Region, start: &mut Start, first: FanIn, second: FanIn) {
     for gate in 0..region.gates.len() {
         take_waiting(region, start, gate, first, second);
     }
 }
 
-/// A gate whose unit is asked for asks a fan-in that nobody has asked, the smaller first.
+/// A passable gate whose unit is asked for asks a fan-in that nobody has asked, the smaller first.
 fn ask(region: &Region, start: &mut Start, gate: usize) {
     let places = GatePlaces::of(region, gate);
-    if !start.is_asked(places.own) {
+    if !region.is_passable(places.own) || !start.is_asked(places.own) {
         return;
     }
     if start.asks(places.smaller) {
