@@ -106,20 +106,24 @@ fn taker_of(takers: &[u32], place: usize) -> usize {
     taker as usize
 }
 
-/// A gate, if there is one with this number, takes the unit after a place. Whether it does.
+/// A gate, if there is one with this number, takes the unit after a place. Then whether it goes through at once.
 fn comes_to(
     region: &Region,
     known: &[GateFlow],
     flows: &mut [GateFlow],
     place: usize,
     taker: usize,
-) -> bool {
+) -> Option<bool> {
     if taker >= region.gates.len() || taker >= flows.len() || taker >= known.len() {
-        return false;
+        return None;
     }
     let is_first = region.place(region.gates[taker].rhs1) as usize == place;
     flows[taker].note_up(!(is_first & known[taker].first_up));
-    true
+    let goes = known[taker].through & !flows[taker].through;
+    if goes {
+        flows[taker].through = true;
+    }
+    Some(goes)
 }
 
 /// Sends the unit after a latch as far as it is known to go, and notes where it is left.
@@ -131,19 +135,23 @@ fn send(
     left: &mut LeftUnits,
     latch: usize,
 ) {
+    let latches = region.latches.len();
     let mut place = latch;
     for _ in 0..region.places() {
         if !region.is_inside(place) {
             return;
         }
         let taker = taker_of(takers, place);
-        if !comes_to(region, known, flows, place, taker) {
-            return left.push(place, false);
-        }
-        let (gate, goes_on) = goes_through(region, known, flows, taker);
-        place = region.latches.len().wrapping_add(gate);
-        if !goes_on {
-            return left.push(place, true);
+        match comes_to(region, known, flows, place, taker) {
+            Some(true) => place = latches.wrapping_add(taker),
+            Some(false) => {
+                let (gate, goes_on) = goes_through(region, known, flows, taker);
+                place = latches.wrapping_add(gate);
+                if !goes_on {
+                    return left.push(place, true);
+                }
+            }
+            None => return left.push(place, false),
         }
     }
 }
