@@ -1,7 +1,7 @@
 -- Parts that are made one after another, as long as what they read is known.
-use Rattle.std.proofs.Common.{ℕ, ◌+◌, ◌<◌, ◌≤◌, ◌≡◌, length, List, [], ◌∷◌, ◌++◌, map, take, Some, None, Ok, Err, refl, Bool, true, false, cond, ap, sym, ◌∙◌, get_or}
+use Rattle.std.proofs.Common.{ℕ, ◌+◌, ◌<◌, ◌≤◌, ◌≡◌, length, List, [], ◌∷◌, ◌++◌, map, take, Some, None, Ok, Err, refl, Bool, true, false, cond, ap, sym, ◌∙◌, get_or, arith}
 use Rattle.std.proofs.lemmas.Bool.{cond-true, cond-false, and_from}
-use Rattle.std.proofs.lemmas.List.{take_more, take_all, map-append}
+use Rattle.std.proofs.lemmas.List.{take_more, take_all, map-append, length-map, length-take-le}
 use Rattle.std.proofs.lemmas.List.Folds.{list_all_more, list_all_at}
 use Rattle.std.specs.List.{list_all}
 use Rattle.file_words.specs.declared.fault.ReadError.TheVariants.{Undefined}
@@ -58,6 +58,11 @@ module _ {X Y : Type 0} (known : X → Bool) (make : X → Y) (items : List X) w
 pub mapped_more : {X Y : Type 0} (f : X → Y) (xs : List X) (i : ℕ) (d : X) (y : Y) (found more : List Y) → i < length xs → found ≡ map f (take i xs) → y ≡ f (get_or xs i d) → more ≡ found ++ y ∷ [] → more ≡ map f (take (i + 1) xs)
 mapped_more f xs i d y found more within before here same =
     same ∙ ap (λ z. found ++ z ∷ []) here ∙ ap (λ ys. ys ++ f (get_or xs i d) ∷ []) before ∙ sym (map-append f (take i xs) (get_or xs i d ∷ [])) ∙ ap (map f) (sym (take_more xs i d within))
+
+-- where there is room for all items, there is room for what one more gives
+pub has_room : {X Y : Type 0} (f : X → Y) (xs : List X) (i room : ℕ) (found : List Y) → i < length xs → length xs ≤ room → found ≡ map f (take i xs) → length found < room
+has_room f xs i room found within enough same =
+    omega (arith, within, enough, ap (λ ys. length ys) same, length-map (take i xs) f, length-take-le i xs (omega (arith, within)))
 
 -- a latch whose next literal has no place
 pub latch_unknown : (places : Places) (count : ℕ) (raws : List RawLatch) (i : ℕ) (d : RawLatch) (z : List Latch) → i < length raws → None ≡ cond (is_placed places count (get_or raws i d).next) (Some (placed places (get_or raws i d).next)) None

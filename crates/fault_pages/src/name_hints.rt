@@ -91,14 +91,26 @@ fn push_names<'a>(symbols: &'a [Symbol], names: &mut Vec<&'a [u8]>) -> Result<()
     Ok(())
 }
 
-/// Appends the names of what isn't a latch.
-fn push_others<'a>(symbols: &'a Symbols, names: &mut Vec<&'a [u8]>) -> Result<(), AllocError> {
-    push_names(symbols.inputs.as_slice(), names)?;
-    push_names(symbols.outputs.as_slice(), names)?;
-    push_names(symbols.bad.as_slice(), names)?;
-    push_names(symbols.constraints.as_slice(), names)?;
-    push_names(symbols.justice.as_slice(), names)?;
-    push_names(symbols.fairness.as_slice(), names)
+/// Appends the names of the latches, or of all that has one.
+fn push_names_of<'a>(
+    symbols: &'a Symbols,
+    of_all: bool,
+    names: &mut Vec<&'a [u8]>,
+) -> Result<(), AllocError> {
+    let kinds = [
+        symbols.latches.as_slice(),
+        symbols.inputs.as_slice(),
+        symbols.outputs.as_slice(),
+        symbols.bad.as_slice(),
+        symbols.constraints.as_slice(),
+        symbols.justice.as_slice(),
+        symbols.fairness.as_slice(),
+    ];
+    let wanted = if of_all { kinds.len() } else { 1 };
+    for kind in &kinds[..wanted] {
+        push_names(*kind, names)?;
+    }
+    Ok(())
 }
 
 /// Puts the name of a latch, or of anything, that has this one as a word, else the nearest one, if one is near.
@@ -110,10 +122,7 @@ fn put_nearest<W: CountedWrite>(
     out: &mut Buffered<'_, W>,
 ) -> Result<(), AllocError> {
     let mut names = Vec::new(alloc);
-    push_names(circuit.symbols().latches.as_slice(), &mut names)?;
-    if of_all {
-        push_others(circuit.symbols(), &mut names)?;
-    }
+    push_names_of(circuit.symbols(), of_all, &mut names)?;
     let near = match with_word(names.as_slice(), name.as_bytes()) {
         Some(place) => Some(place),
         None => nearest(alloc, name.as_bytes(), names.as_slice())?,

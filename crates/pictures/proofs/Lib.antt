@@ -4,3 +4,4 @@ pub mod TextLaws
 pub mod LookLaws
 pub mod MarkLaws
 pub mod ViewLaws
+pub mod SearchLaws

@@ -34,7 +34,6 @@ fn put_marked<W: CountedWrite>(out: &mut Buffered<'_, W>, marks: &[bool])
 }
 
 /// Puts what is in the middle, where there is one.
-#[tactic(auto, unfolding(crate::specs::Pictures::centre_lines))]
 pub(crate) fn put_centre<W: CountedWrite>(out: &mut Buffered<'_, W>, view: &View)
     ensures { Puts W.output out.old out.new (centre_lines view.now.centre) }
 {

@@ -20,7 +20,12 @@ fn is_called(symbol: &Symbol, name: &[u8]) -> bool
 fn is_among(symbols: &[Symbol], name: &[u8]) -> bool
     ensures { result ≡ has_name symbols.now name.now }
 {
-    symbols.iter().any(|symbol| name == symbol.name.as_slice())
+    for symbol in symbols {
+        if name == symbol.name.as_slice() {
+            return true;
+        }
+    }
+    false
 }
 
 /// Whether an input, a latch or a property of the circuit has the name.

@@ -38,13 +38,6 @@ pub(crate) fn put_node<W: CountedWrite>(out: &mut Buffered<'_, W>, node: Node)
     }
 }
 
-/// Puts the dot of a negation.
-fn put_dot<W: CountedWrite>(out: &mut Buffered<'_, W>, lit: Lit)
-    ensures { Puts W.output out.old out.new (only_if (lit % 2 == 1) (codes " [arrowhead=odot]")) }
-{
-    put_if(out, lit.is_negated(), b" [arrowhead=odot]");
-}
-
 /// Puts an edge, also from a variable that isn't drawn: it shows that something is read there.
 fn put_edge<W: CountedWrite>(out: &mut Buffered<'_, W>, view: &View, to: Node, lit: Lit)
     ensures { Puts W.output out.old out.new (edge_line (drawn_in view.now) to lit) }
@@ -53,7 +46,7 @@ fn put_edge<W: CountedWrite>(out: &mut Buffered<'_, W>, view: &View, to: Node, l
     put_node(out, Node::Variable(from));
     out.put(b" -> ");
     put_node(out, to);
-    put_dot(out, lit);
+    put_if(out, lit.is_negated(), b" [arrowhead=odot]");
     put_if(out, !view.draws(from), b" [style=dashed]");
     out.put(b";\n");
 }

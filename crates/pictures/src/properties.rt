@@ -5,7 +5,7 @@ ghost use Rattle.std.specs.Str.{byte};
 ghost use Rattle.counted_io.specs.Buffered.{Puts};
 ghost use Rattle.counted_io.specs.Line.{numbered_lines};
 ghost use Rattle.pictures.specs.Nodes.{property_line};
-ghost use Rattle.pictures.specs.Pictures.{all_properties, are_drawn, property_lines, single_lines, single_property};
+ghost use Rattle.pictures.specs.Pictures.{all_properties, are_drawn, property_lines, single_lines};
 ghost use Rattle.pictures.specs.Views.{drawn_in, look_in};
 
 use crate::look::View;
@@ -17,7 +17,12 @@ use counted_io::{Buffered, CountedWrite};
 pub(crate) fn are_drawn(view: &View, lits: &[Lit]) -> bool
     ensures { result ≡ are_drawn (look_in view.now) (drawn_in view.now) lits.now }
 {
-    lits.iter().all(|lit| view.draws(lit.var()))
+    for lit in lits {
+        if !view.draws(lit.var()) {
+            return false;
+        }
+    }
+    true
 }
 
 fn put_property_node<W: CountedWrite>(out: &mut Buffered<'_, W>, node: Node)
@@ -44,26 +49,13 @@ fn put_property<W: CountedWrite>(
     }
 }
 
-fn put_single<W: CountedWrite>(
-    out: &mut Buffered<'_, W>,
-    view: &View,
-    letter: u8,
-    position: usize,
-    lit: Lit,
-)
-    ensures { Puts W.output out.old out.new (single_property (look_in view.now)
-        (drawn_in view.now) letter position lit) }
-{
-    put_property(out, view, letter, position, &[lit]);
-}
-
 /// Puts properties of one literal each.
 fn put_singles<W: CountedWrite>(out: &mut Buffered<'_, W>, view: &View, letter: u8, lits: &[Lit])
     ensures { Puts W.output out.old out.new (single_lines (look_in view.now)
         (drawn_in view.now) letter lits.now) }
 {
     for (position, lit) in lits.iter().enumerate() {
-        put_single(out, view, letter, position, *lit);
+        put_property(out, view, letter, position, &[*lit]);
     }
 }
 

@@ -34,9 +34,11 @@ fn looks_alone(alloc: Global, aig: &Aig, keep: &Keep, pass: &PassSet) -> Result<
 {
     let first = aig.first_latch();
     let entries = aig.latches_and_gates();
-    let mut looks = Vec::with_capacity(alloc, entries)?;
+    let Ok(mut looks) = Vec::with_capacity(alloc, entries) else {
+        return Err(NoMemory);
+    };
     for k in 0..entries {
-        looks.push(look_alone(aig, keep, pass, first + k as u32))?;
+        looks.push_reserved(look_alone(aig, keep, pass, first + k as u32));
     }
     Ok(looks)
 }
@@ -90,9 +92,11 @@ fn looks_with(
 {
     let first = aig.first_latch();
     let entries = aig.latches_and_gates();
-    let mut looks = Vec::with_capacity(alloc, entries)?;
+    let Ok(mut looks) = Vec::with_capacity(alloc, entries) else {
+        return Err(NoMemory);
+    };
     for k in 0..entries {
-        looks.push(look_with(aig, keep, pass, set, read, first + k as u32))?;
+        looks.push_reserved(look_with(aig, keep, pass, set, read, first + k as u32));
     }
     Ok(looks)
 }
@@ -108,8 +112,12 @@ fn read_from_outside(
 {
     let aig = circuit.aig();
     let entries = aig.latches_and_gates();
-    let inside = marks_of(alloc, aig.first_latch(), entries, set.vars())?;
-    let mut read = vec![in alloc; false; entries]?;
+    let Ok(inside) = marks_of(alloc, aig.first_latch(), entries, set.vars()) else {
+        return Err(NoMemory);
+    };
+    let Ok(mut read) = vec![in alloc; false; entries] else {
+        return Err(NoMemory);
+    };
     mark_read(read.as_mut_slice(), aig, circuit.props(), inside.as_slice());
     Ok(read)
 }
@@ -119,7 +127,9 @@ fn looks_of_circuit(alloc: Global, circuit: &Circuit, keep: &Keep) -> Result<Vec
         (look_of circuit.now keep.now None)) }
 {
     let aig = circuit.aig();
-    let pass = passable(alloc, aig, keep)?;
+    let Ok(pass) = passable(alloc, aig, keep) else {
+        return Err(NoMemory);
+    };
     looks_alone(alloc, aig, keep, &pass)
 }
 
@@ -133,8 +143,12 @@ fn looks_of_set(
         (look_of circuit.now keep.now (Some set.now))) }
 {
     let aig = circuit.aig();
-    let read = read_from_outside(alloc, circuit, set)?;
-    let pass = passable(alloc, aig, keep)?;
+    let Ok(read) = read_from_outside(alloc, circuit, set) else {
+        return Err(NoMemory);
+    };
+    let Ok(pass) = passable(alloc, aig, keep) else {
+        return Err(NoMemory);
+    };
     looks_with(alloc, aig, keep, &pass, set, read.as_slice())
 }
 
@@ -172,7 +186,9 @@ impl View {
         ensures { IfOk result (IsViewOf circuit.now keep.now
             (option_map (λ s. s.now) set.entry) everything None) }
     {
-        let looks = looks(alloc, circuit, keep, set)?;
+        let Ok(looks) = looks(alloc, circuit, keep, set) else {
+            return Err(NoMemory);
+        };
         Ok(View::of_looks(circuit.aig().first_latch(), looks))
     }
 
@@ -193,9 +209,15 @@ impl View {
         ensures { IfOk result (IsViewOf circuit.now keep.now (option_map (λ s. s.now) set.entry)
             (is_near circuit.now name.now depth) (Some (is_centre circuit.now name.now))) }
     {
-        let centre = centre(alloc, circuit, name)?;
-        let marks = near(alloc, circuit, name, depth)?;
-        let looks = looks(alloc, circuit, keep, set)?;
+        let Ok(centre) = centre(alloc, circuit, name) else {
+            return Err(NoMemory);
+        };
+        let Ok(marks) = near(alloc, circuit, name, depth) else {
+            return Err(NoMemory);
+        };
+        let Ok(looks) = looks(alloc, circuit, keep, set) else {
+            return Err(NoMemory);
+        };
         let first = circuit.aig().first_latch();
         Ok(View::of_marked(first, looks, marks, centre))
     }

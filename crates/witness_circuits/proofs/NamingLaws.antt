@@ -1,12 +1,14 @@
 -- The places that names say, name by name.
-use Rattle.std.proofs.Common.{inl, inr, ◌⊎◌, ℕ, suc, zero, ◌+◌, ◌*◌, ◌<◌, ◌≡◌, Bool, true, false, List, [], ◌∷◌, length, map, replicate, set, get_or, slice_get, Option, Some, None, refl, arith, ap, sym, ◌∙◌, subst}
+use Rattle.std.proofs.Common.{inl, inr, ◌⊎◌, ℕ, suc, zero, ◌+◌, ◌*◌, ◌<◌, ◌≡◌, Bool, true, false, List, [], ◌∷◌, length, map, replicate, set, get_or, slice_get, Option, Some, None, refl, arith, ap, sym, ◌∙◌, subst, ◌++◌, codes, drop}
 use Rattle.std.specs.List.Sorted.{IsStrictlyIncreasing}
 use Rattle.std.proofs.lemmas.Bool.{cases_eq, cases_lt, false≢true}
 use Rattle.std.proofs.lemmas.List.{get_or-map, get_or-replicate, length-map, length-replicate, length-set}
 use Rattle.std.proofs.lemmas.List.Kept.{AllPairs-from_increasing}
 use Rattle.std.proofs.lemmas.Option.{get_or_from_slice_get, none-some, same_Some, slice_get-get_or, slice_get_past, slice_get_within}
 use Rattle.aig_graph.specs.declared.properties.Symbol.{Symbol}
-use Rattle.witness_circuits.specs.Naming.{AreNamed, IsSaid, IsSaying, Says, Takes}
+use Rattle.aig_graph.specs.Circuits.{AreNamesBelow}
+use Rattle.file_words.specs.Numbers.{number_of}
+use Rattle.witness_circuits.specs.Naming.{AreNamed, IsRefused, IsSaid, IsSaying, Says, Takes}
 
 -- an element that is set, and the others
 set-same : {A : Type 0} (xs : List A) (i : ℕ) (v : A) → i < length xs → slice_get (set xs i v) i ≡ Some v
@@ -193,3 +195,26 @@ taken-all first count names many n places taken end p = record {
   each = λ j name is saying. p.each j name (omega (arith, slice_get_within names j name is, end)) is saying;
   once = p.once;
 }
+
+-- names of places below n, wherever these names and that number are read
+pub names-below : (n m : ℕ) (names now : List Symbol) → m ≡ n → now ≡ names → AreNamesBelow n names → AreNamesBelow m now
+names-below n m names now many same below =
+    subst (λ (ns : List Symbol). AreNamesBelow m ns) (sym same) (subst (λ (k : ℕ). AreNamesBelow k names) (sym many) below)
+
+-- a name that begins with `= ` is refused where no place that is left is the one that its digits say
+pub refused-where : (first : ℕ) (name : Symbol) (digits : List ℕ) (taken : List Bool) → name.name ≡ codes "= " ++ digits
+    → ((place : ℕ) → slice_get taken place ≡ Some false → number_of digits ≡ Some (2 * (first + place)) → ⊥) → IsRefused first name taken
+refused-where first name digits taken begins none = (
+  (digits, begins),
+  λ place free says.
+      let same : digits ≡ says.0 = ap (drop 2) (sym begins ∙ says.1) in
+      none place free (ap number_of same ∙ says.2),
+)
+
+-- the same where it is marked
+pub refused-taken : (first : ℕ) (name : Symbol) (digits : List ℕ) (taken : List Bool) (place : ℕ) (mark : Bool) → name.name ≡ codes "= " ++ digits → number_of digits ≡ Some (2 * (first + place))
+    → mark ≡ get_or taken place mark → mark ≡ true → IsRefused first name taken
+refused-taken first name digits taken place mark begins number there is = refused-where first name digits taken begins (λ other free said.
+    let same : place ≡ other = omega (arith, same_Some (2 * (first + place)) (2 * (first + other)) (sym number ∙ said)) in
+    let left : get_or taken place mark ≡ false = subst (λ (q : ℕ). get_or taken q mark ≡ false) (sym same) (get_or_from_slice_get taken other false mark free) in
+    false≢true (sym left ∙ sym there ∙ is))

@@ -6,9 +6,11 @@ use Rattle.std.proofs.lemmas.List.{get_or_append_left, get_or-append-add, get_or
 use Rattle.std.proofs.lemmas.List.Elements.{All-append, All-head, All-map, All-nil, All-cons}
 use Rattle.variable_tables.proofs.ListLaws.{map-map, map-same}
 use Rattle.aig_graph.specs.declared.properties.Props.{Props}
+use Rattle.aig_graph.specs.declared.graph.Latch.{Latch}
 use Rattle.aig_graph.specs.Circuits.{AreLiteralsOf, IsNetlist, Netlist}
-use Rattle.aig_graph.specs.Graph.{Graph, IsGraph, IsLiteralOf, variable}
+use Rattle.aig_graph.specs.Graph.{Graph, IsGraph, IsLiteralOf, variable, variables_end}
 use Rattle.aig_graph.specs.Value.{value_within}
+use Rattle.aig_graph.proofs.GraphLaws.{all_from_slice_get}
 use Rattle.aig_graph.proofs.SignLaws.{signed-odd, value_signed_as, variable-signed_as}
 use Rattle.state_maps.specs.States.{Digits, IsAllowed, State}
 use Rattle.state_maps.specs.MapCircuits.{is_kept}
@@ -176,3 +178,14 @@ parts-grow h i c m w k p more parts = record {
   map = view-grows h i m.aig (λ z u. value_within m.aig u (λ j. false)) p.map more parts.map;
   witness = view-grows h i w.aig (in_witness c m w k) p.witness more parts.witness;
 }
+
+-- the variables of a graph's literals lie below the number of its variables, wherever these literals and that number are read
+pub literals-below : (g : Graph) (n : ℕ) (lits now : List ℕ) → n ≡ variables_end g → now ≡ lits → AreLiteralsOf g lits → All (λ lit. variable lit < n) now
+literals-below g n lits now many same within =
+    subst (λ (ls : List ℕ). All (λ lit. variable lit < n) ls) (sym same) (subst (λ (m : ℕ). All (λ lit. variable lit < m) lits) (sym many) within)
+
+-- the same of the next literals of its latches
+pub nexts-below : (g : Graph) (n : ℕ) (now : List Latch) → n ≡ variables_end g → now ≡ g.latches → IsGraph g → All (λ latch. variable latch.next < n) now
+nexts-below g n now many same valid =
+    subst (λ (ls : List Latch). All (λ latch. variable latch.next < n) ls) (sym same)
+    (subst (λ (m : ℕ). All (λ latch. variable latch.next < m) g.latches) (sym many) (all_from_slice_get (λ (latch : Latch). variable latch.next < variables_end g) g.latches valid.latches))

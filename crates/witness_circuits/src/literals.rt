@@ -22,7 +22,7 @@ pub fn numbered(alloc: Global, first: u32, count: usize) -> Result<Vec<Lit>, NoM
 {
     let mut lits = Vec::with_capacity(alloc, count)?;
     for place in 0..count {
-        lits.push(Lit::new(first + place as u32, false))?;
+        lits.push_reserved(Lit::new(first + place as u32, false));
     }
     Ok(lits)
 }
@@ -81,7 +81,7 @@ pub(crate) fn sources(
     let mut lits = Vec::with_capacity(alloc, places.len())?;
     let mut next = own;
     for place in places {
-        lits.push(source(shared, place, next))?;
+        lits.push_reserved(source(shared, place, next));
         next += one_if_own(place);
     }
     Ok(lits)

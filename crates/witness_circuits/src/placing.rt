@@ -26,7 +26,7 @@ pub fn first_places(alloc: Global, many: u32, count: usize) -> Result<Vec<Option
 {
     let mut places = Vec::with_capacity(alloc, many as usize)?;
     for place in 0..many {
-        places.push(place_below(place, count))?;
+        places.push_reserved(place_below(place, count));
     }
     Ok(places)
 }

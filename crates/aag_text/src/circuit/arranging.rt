@@ -32,7 +32,7 @@ pub(crate) fn literals(
 {
     let mut codes = Vec::with_capacity(alloc, lits.len())?;
     for lit in lits {
-        codes.push(literal(first, ranks, *lit).code())?;
+        codes.push_reserved(literal(first, ranks, *lit).code());
     }
     Ok(codes)
 }
@@ -50,10 +50,10 @@ pub(crate) fn latches(
 {
     let mut found = Vec::with_capacity(alloc, latches.len())?;
     for latch in latches {
-        found.push(Latch {
+        found.push_reserved(Latch {
             next: literal(first, ranks, latch.next),
             reset: latch.reset,
-        })?;
+        });
     }
     Ok(found)
 }
@@ -75,10 +75,10 @@ pub(crate) fn gates(
     let mut found = Vec::with_capacity(alloc, order.len())?;
     for place in order {
         let gate = gates[*place as usize];
-        found.push(Gate::of(
+        found.push_reserved(Gate::of(
             literal(first, ranks, gate.rhs0),
             literal(first, ranks, gate.rhs1),
-        ))?;
+        ));
     }
     Ok(found)
 }

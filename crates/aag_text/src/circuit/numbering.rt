@@ -41,7 +41,7 @@ pub(crate) fn literals(
         let Some(literal) = literal(places, count, *lit) else {
             return Err(ReadError::Undefined);
         };
-        found.push(literal)?;
+        found.push_reserved(literal);
     }
     Ok(found)
 }
@@ -72,10 +72,10 @@ pub(crate) fn latches(
         let Some(next) = literal(places, count, latch.next) else {
             return Err(ReadError::Undefined);
         };
-        found.push(Latch {
+        found.push_reserved(Latch {
             next,
             reset: reset_of(latch.reset),
-        })?;
+        });
     }
     Ok(found)
 }
@@ -106,7 +106,7 @@ pub(crate) fn gates(
         let Some(gate) = gate(places, count, raw) else {
             return Err(ReadError::Undefined);
         };
-        found.push(gate)?;
+        found.push_reserved(gate);
     }
     Ok(found)
 }

@@ -28,10 +28,10 @@ fn reads_of(alloc: Global, first: u32, gates: &[Gate]) -> Result<Vec<Reads>, NoM
 {
     let mut reads = Vec::with_capacity(alloc, gates.len())?;
     for gate in gates {
-        reads.push(Reads {
+        reads.push_reserved(Reads {
             first: gate_place(first, gate.rhs0),
             second: gate_place(first, gate.rhs1),
-        })?;
+        });
     }
     Ok(reads)
 }

@@ -1,5 +1,5 @@
-use Rattle.std.proofs.Common.{ℕ, List, [], ◌∷◌, ◌++◌, ◌∙◌, ap, ap₂, sym}
-use Rattle.std.proofs.lemmas.List.{map_more}
+use Rattle.std.proofs.Common.{ℕ, List, [], ◌∷◌, ◌++◌, ◌∙◌, ap, ap₂, map, sym}
+use Rattle.std.proofs.lemmas.List.{map_more, take_all}
 use Rattle.fault_pages.specs.Faults.{name_of}
 use Rattle.fault_pages.specs.Nearest.{edits}
 use Rattle.fault_pages.specs.declared.fault.Fault.{Fault}
@@ -11,3 +11,6 @@ loop-fault-preserved c =
     ∙ ap₂ (λ (xs : List ℕ) (x : ℕ). xs ++ x ∷ []) c.loop-fault.invariant
     (c.in_ok-edits.ensures ∙ ap (edits c.args.name.now) (c.as_bytes.ensures.value ∙ c.name.ensures))
     ∙ sym (map_more (λ (fault : Fault). edits c.args.name.now (name_of fault)) _ _ _ c.loop-fault-test.true)
+
+pub returns : goal.returns
+returns c = c.loop-fault.invariant ∙ ap (map (λ (fault : Fault). edits c.args.name.now (name_of fault))) (take_all _ _ c.loop-fault-test.false)

@@ -1,5 +1,5 @@
-use Rattle.std.proofs.Common.{ℕ, List, [], ◌∷◌, ◌++◌, ◌∙◌, ap, ap₂, append_assoc, sym}
-use Rattle.std.proofs.lemmas.List.{map_more}
+use Rattle.std.proofs.Common.{ℕ, List, [], ◌∷◌, ◌++◌, ◌∙◌, ap, ap₂, append_assoc, map, sym}
+use Rattle.std.proofs.lemmas.List.{map_more, take_all}
 use Rattle.fault_pages.specs.Lines.{printable}
 use Rattle.fault_pages.proofs.showing.put_printable.Goals as goal
 
@@ -7,3 +7,6 @@ pub loop-byte-preserved : goal.loop-byte-preserved
 loop-byte-preserved c =
     c.in_ok-push.ensures.items ∙ ap₂ (λ (xs : List ℕ) (x : ℕ). xs ++ x ∷ []) c.loop-byte.invariant c.printable.ensures
     ∙ append_assoc c.args.text.now.items _ _ ∙ ap (λ (xs : List ℕ). c.args.text.now.items ++ xs) (sym (map_more printable _ _ _ c.loop-byte-test.true))
+
+pub returns : goal.returns
+returns c = c.loop-byte.invariant ∙ ap (λ (xs : List ℕ). c.args.text.now.items ++ map printable xs) (take_all _ _ c.loop-byte-test.false)

@@ -1,17 +1,22 @@
-use Rattle.std.proofs.Common.{◌+◌, ◌∙◌, ap, sym, arith}
-use Rattle.variable_tables.proofs.TableLaws.{entry, table-none, table-end}
+use Rattle.std.proofs.Common.{◌+◌, ◌∙◌, ap, sym, arith, length}
+use Rattle.variable_tables.proofs.TableLaws.{entry, length-table, table-none, table-end}
 use Rattle.aig_graph.specs.Graph.{first_latch, latches_and_gates}
 use Rattle.pictures.specs.Looks.{look_alone}
 use Rattle.pictures.proofs.view.looks_alone.Goals as goal
 
 pub loop-k-init : goal.loop-k-init
-loop-k-init c = record { filled = c.in_ok-looks.ensures.items ∙ sym (table-none _ _) }
+loop-k-init c = record { room = omega (arith, c.in-Ok.ensures.exact, c.latches_and_gates-entries.ensures.value); filled = c.in-Ok.ensures.items ∙ sym (table-none _ _) }
+
+pub push_reserved-requires : goal.push_reserved-requires
+push_reserved-requires c =
+    omega (arith, c.loop-k-test.true, c.latches_and_gates-entries.ensures.value, c.loop-k.invariant.room, ap length c.loop-k.invariant.filled, length-table (first_latch c.args.aig.now) c.loop-k.k (look_alone c.args.aig.now c.args.keep.now c.args.pass.now))
 
 pub loop-k-preserved : goal.loop-k-preserved
 loop-k-preserved c =
     let look = look_alone c.args.aig.now c.args.keep.now c.args.pass.now in
     record {
-      filled = entry (first_latch c.args.aig.now) c.loop-k.k look _ _ _ c.loop-k.invariant.filled c.in_ok-push.ensures.items
+      room = omega (arith, c.loop-k.invariant.room, c.push_reserved.ensures.capacity);
+      filled = entry (first_latch c.args.aig.now) c.loop-k.k look _ _ _ c.loop-k.invariant.filled c.push_reserved.ensures.items
           (c.look_alone.ensures ∙ ap (λ first. look (first + c.loop-k.k)) c.first_latch-first.ensures.value);
     }
 

@@ -110,3 +110,15 @@ returns c =
     let same : c.set_nexts.new.gates ≡ ended = c.set_nexts.ensures.is ∙ ap (λ (ns : List ℕ). record h { latches = with_nexts ns h.latches }) nexts in
     let last : IsGraph ended = subst (λ (b : Graph). IsGraph b) same c.set_nexts.ensures.graph in
     subst (λ (b : Graph). IsFilled b a m w k c.in_ok-props.props) (sym same) (is-filled g h a m w k p own c.in_ok-props.props c.known.ensures.graph c.known-3.ensures.graph c.requires.fits.shares.latches c.requires.own inputs latches more.graph parts c.in_ok-props.ensures.props last)
+
+pub add_parts-requires-clause-graph : goal.add_parts-requires-clause-graph
+add_parts-requires-clause-graph c = c.requires.graph
+
+pub add_parts-requires-clause-fits : goal.add_parts-requires-clause-fits
+add_parts-requires-clause-fits c = c.requires.fits
+
+pub add_props-requires-clause-graph : goal.add_props-requires-clause-graph
+add_props-requires-clause-graph c = c.in_ok-parts.ensures.extends.graph
+
+pub add_props-requires-clause-parts : goal.add_props-requires-clause-parts
+add_props-requires-clause-parts c = c.in_ok-parts.ensures.parts

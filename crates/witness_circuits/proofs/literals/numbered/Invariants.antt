@@ -1,6 +1,6 @@
-use Rattle.std.proofs.Common.{◌≡◌, ◌+◌, ◌*◌}
+use Rattle.std.proofs.Common.{◌≡◌, ◌+◌, ◌*◌, ◌≤◌, vec_capacity}
 use Rattle.variable_tables.specs.Tables.{table}
 use Rattle.witness_circuits.proofs.literals.numbered.Given as goal
 
 abbrev pub invariant-loop-place : goal.invariant-loop-place
-invariant-loop-place l = l.lits.items ≡ table 0 l.place (λ k. 2 * (l.first + k))
+invariant-loop-place l = record { room : l.count ≤ vec_capacity l.lits; filled : l.lits.items ≡ table 0 l.place (λ k. 2 * (l.first + k)) }

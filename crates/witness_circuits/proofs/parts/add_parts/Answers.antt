@@ -89,3 +89,15 @@ returns-clause-parts c =
     subst (λ (a : Graph). IsView h3 a (in_shared h2 lits first.aig a k) p.witness) c.aig-2.ensures.value
     (subst (λ (a : Graph). IsView h3 c.aig-2.result.now (in_shared h2 lits a c.aig-2.result.now k) p.witness) c.aig-circuit.ensures.value c.in_ok-of_witness.ensures.view) in
     all-parts h1 h2 h3 first m w k p lits c.known.ensures.netlist c.in_ok-of_map.ensures.extends c.in_ok-of_witness.ensures.extends one two (c.as_slice-lits.ensures.value ∙ c.in_ok-outputs.ensures) three
+
+pub add_first-requires-clause-graph : goal.add_first-requires-clause-graph
+add_first-requires-clause-graph c = c.requires.graph
+
+pub add_first-requires-clause-at : goal.add_first-requires-clause-at
+add_first-requires-clause-at c = c.requires.at
+
+pub add_map-requires-clause-graph : goal.add_map-requires-clause-graph
+add_map-requires-clause-graph c = c.in_ok-of_first.ensures.extends.graph
+
+pub add_witness-requires-clause-graph : goal.add_witness-requires-clause-graph
+add_witness-requires-clause-graph c = c.in_ok-of_map.ensures.extends.graph

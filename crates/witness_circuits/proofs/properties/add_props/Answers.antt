@@ -29,3 +29,18 @@ returns-clause-props c =
     let all : AreAll i (demands m w p) c.in_ok-good.good = subst (λ (ls : List ℕ). AreAll i ls c.in_ok-good.good) (c.as_slice.ensures.value ∙ c.in_ok-demands.ensures) c.in_ok-good.ensures.all in
     lifted-props i a m w k p more.graph parts c.known.ensures.netlist c.known-2.ensures.netlist c.known-3.ensures.netlist c.in_ok-good.good c.signed_as.result c.in_ok-constraints.constraints.items c.in_ok-props.props all c.signed_as.ensures
     c.in_ok-constraints.ensures c.in_ok-props.ensures
+
+pub demands_of-requires-clause-map : goal.demands_of-requires-clause-map
+demands_of-requires-clause-map c = c.requires.parts.map.many
+
+pub demands_of-requires-clause-witness : goal.demands_of-requires-clause-witness
+demands_of-requires-clause-witness c = c.requires.parts.witness.many
+
+pub constraints_of-requires : goal.constraints_of-requires
+constraints_of-requires c = c.requires.parts.first.many
+
+pub add_conjunction_of-requires-clause-graph : goal.add_conjunction_of-requires-clause-graph
+add_conjunction_of-requires-clause-graph c = c.requires.graph
+
+pub returns-clause-extends : goal.returns-clause-extends
+returns-clause-extends c = c.in_ok-good.ensures.extends

@@ -1,6 +1,6 @@
 use Rattle.std.proofs.Common.{ap, sym}
 use Rattle.fault_pages.specs.Pages.{meaning_of, rule_of, advice_of}
-use Rattle.fault_pages.proofs.fault.Fault.page.Goals as goal
+use Rattle.fault_pages.proofs.pages.page_of.Goals as goal
 
 pub returns-in-BadHeader : goal.returns-in-BadHeader
 returns-in-BadHeader c = record { meaning = sym (ap meaning_of c.in-BadHeader.is); rule = sym (ap rule_of c.in-BadHeader.is); advice = sym (ap advice_of c.in-BadHeader.is) }

@@ -1,0 +1,13 @@
+use Rattle.std.proofs.Common.{arith, length, refl}
+use Rattle.std.proofs.lemmas.Option.{slice_get_past, slice_get_read}
+use Rattle.variable_tables.proofs.MarkingLaws.{Marks-none}
+use Rattle.pictures.proofs.named.mark_justice.Goals as goal
+
+pub returns-in-Some : goal.returns-in-Some
+returns-in-Some c =
+    let found = c.in-Some.ensures.lookup in
+    let there = slice_get_read c.args.justice.now (length c.args.justice.now) c.args.position c.in-Some.lits.now refl found.3.0 found.1 in
+    rw there (rw c.as_slice.ensures at c.mark_literals.ensures)
+
+pub returns-in_default : goal.returns-in_default
+returns-in_default c = rw (slice_get_past c.args.justice.now c.args.position (omega (arith, c.in_default.ensures.lookup.3))) (Marks-none 0 _)
