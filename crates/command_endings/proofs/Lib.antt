@@ -3,3 +3,4 @@ pub mod EndingLaws
 pub mod RefusalLaws
 pub mod NameFileLaws
 pub mod LapLaws
+pub mod PushLaws

@@ -56,8 +56,9 @@ pub fn read_name_files<'a, R: Files, I: CountedRead>(
     let mut files = Vec::new(alloc);
     for source in sources {
         let file = name_file_at(rt, alloc, *source, stdin)?;
-        if files.push(file).is_err() {
-            return Err(Failure::Memory);
+        match files.push(file) {
+            Ok(()) => {}
+            Err(_) => return Err(Failure::Memory),
         }
     }
     Ok(files)

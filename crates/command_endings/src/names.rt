@@ -46,11 +46,12 @@ fn failure_of_holding<'a>(
 ) -> Failure<'a>
     ensures { IsFailureOfHolding input.entry options.now error result }
 {
-    let (names, positions) = (options.keep.as_slice(), options.keep_latches.as_slice());
     match error {
         HoldError::NoMemory => Failure::Memory,
-        HoldError::NoSuchName(place) => missing_name(input.name(), names, place),
-        HoldError::NoSuchLatch(number) => missing_latch(input.name(), positions, number),
+        HoldError::NoSuchName(place) => missing_name(input.name(), options.keep.as_slice(), place),
+        HoldError::NoSuchLatch(number) => {
+            missing_latch(input.name(), options.keep_latches.as_slice(), number)
+        }
     }
 }
 

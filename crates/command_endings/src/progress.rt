@@ -89,9 +89,13 @@ impl<'a, R: Clock, E: CountedWrite> Progress<'a, R, E> {
 
     /// The whole seconds since the run began.
     fn seconds(&self) -> Option<u64> {
-        let began = self.began?;
-        let elapsed = began.elapsed(self.clock).ok()?;
-        Some(elapsed.as_secs())
+        match self.began {
+            Some(began) => match began.elapsed(self.clock) {
+                Ok(elapsed) => Some(elapsed.as_secs()),
+                Err(_) => None,
+            },
+            None => None,
+        }
     }
 
     /// What the run does in this stage; it moves over the set of the frame that was looked for last.
@@ -117,12 +121,6 @@ impl<'a, R: Clock, E: CountedWrite> Progress<'a, R, E> {
         }
     }
 
-    /// Writes the line of a frame that is looked for.
-    fn write_frame(&mut self, frame: Frame) {
-        let seconds = self.seconds();
-        let _ = write_line(frame, seconds, self.err);
-    }
-
     /// Clears the line in its place, where there is one.
     fn clear(&mut self) {
         if self.on_line {
@@ -140,13 +138,13 @@ impl<'a, R: Clock, E: CountedWrite> Progress<'a, R, E> {
         }
     }
 
-    /// Shows what the run does from now on.
+    /// Shows what the run does from now on: by a line of its own for each frame that is looked for, or in one line.
     fn show_state(&mut self, state: State) {
         match self.show {
             Show::Nothing => {}
             Show::EachFrame => {
                 if let State::Looking(frame) = state {
-                    self.write_frame(frame);
+                    let _ = write_line(frame, self.seconds(), self.err);
                 }
             }
             Show::InPlace => self.write_over(state),

@@ -1,2 +1,3 @@
+pub mod AskingLaws
 pub mod ClashLaws
 pub mod OutputLaws

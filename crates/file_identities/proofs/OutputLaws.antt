@@ -1,11 +1,11 @@
 -- The files that a list writes, one after another: one is that of an earlier line exactly if its number is taken.
-use Rattle.std.proofs.Common.{ℕ, zero, suc, ◌+◌, ◌<◌, ◌≡◌, ◌&&◌, ◌||◌, Bool, true, false, not, cond, List, [], ◌∷◌, take, map, length, get_or, Option, Some, None, All, MatchOption, refl, arith, ap, ap₂, sym, ◌∙◌, subst}
+use Rattle.std.proofs.Common.{ℕ, suc, ◌+◌, ◌<◌, ◌≡◌, ◌&&◌, ◌||◌, Bool, true, false, not, cond, List, [], ◌∷◌, take, map, length, get_or, Option, Some, None, All, MatchOption, refl, arith, ap, ap₂, sym, ◌∙◌, subst}
 use Rattle.std.specs.List.{list_any}
 use Rattle.std.proofs.lemmas.List.{get_or-map, length-map}
 use Rattle.std.proofs.lemmas.List.Elements.{All-map}
 use Rattle.std.proofs.lemmas.List.Folds.{list_any_more, list_any_none}
 use Rattle.batch_lists.specs.declared.entry.Entry.{Entry}
-use Rattle.file_identities.specs.Clashes.{clash, clash_at, is_same, is_stream_place, is_written, loses, replaces}
+use Rattle.file_identities.specs.Clashes.{clash, clash_at, is_same, is_written, loses, replaces}
 use Rattle.file_identities.specs.Outputs.{AreOwnBelow, AreWrittenBy, HaveOwnFiles, IsFirstRepeat, IsOutput, IsSameAt, has_number, is_exclusive, is_repeat, output_use, takes_number}
 use Rattle.file_identities.specs.declared.file_use.FileUse.{FileUse}
 use Rattle.file_identities.specs.declared.identity.Asked.{Asked}

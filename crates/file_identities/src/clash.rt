@@ -4,10 +4,12 @@ ghost use Rattle.file_identities.specs.Clashes as wanted;
 
 use crate::file_use::FileUse;
 use crate::identity::{Asked, Keeping};
+use std::fmt;
+use std::fmt::{Debug, Display, Formatter};
 use thiserror::Error;
 
 /// Why a command line is refused: two of its files are one, and something would be lost.
-#[derive(Clone, Copy, Debug, Error)]
+#[derive(Clone, Copy, Error)]
 pub enum FileClash<'a> {
     /// Both are written.
     #[error("{0} and {1} are one file: each thing that is written has a file of its own")]
@@ -15,6 +17,13 @@ pub enum FileClash<'a> {
     /// The first is written, and the second read.
     #[error("{0} and {1} are one file: it would be written over what is read")]
     WrittenOver(FileUse<'a>, FileUse<'a>),
+}
+
+// its message: derived, each part of both files has arms with steps of its own
+impl Debug for FileClash<'_> {
+    fn fmt<W: fmt::Write>(&self, f: &mut Formatter<W>) -> fmt::Result {
+        Display::fmt(self, f)
+    }
 }
 
 /// Whether something is lost where the first of two, which is written, and the second are one file.

@@ -6,7 +6,7 @@ use std::fmt;
 use std::fmt::{Display, Formatter};
 
 /// What a file is named by.
-#[derive(Clone, Copy, Debug)]
+#[derive(Clone, Copy)]
 pub enum Argument {
     /// The circuit that is read.
     In,
@@ -64,7 +64,7 @@ impl Argument {
 }
 
 /// What a file is there for.
-#[derive(Clone, Copy, Debug)]
+#[derive(Clone, Copy)]
 pub enum Role {
     /// It is read, and the circuit that is made of it may take its place.
     Original,
@@ -98,7 +98,7 @@ impl Role {
 }
 
 /// Where a file is.
-#[derive(Clone, Copy, Debug)]
+#[derive(Clone, Copy)]
 pub enum Place<'a> {
     /// Standard input.
     Stdin,
@@ -137,7 +137,7 @@ impl<'a> Place<'a> {
 }
 
 /// A file that a command line names.
-#[derive(Clone, Copy, Debug)]
+#[derive(Clone, Copy)]
 pub struct FileUse<'a> {
     /// The argument that names it.
     pub argument: Argument,
@@ -149,9 +149,6 @@ pub struct FileUse<'a> {
 
 impl Display for FileUse<'_> {
     fn fmt<W: fmt::Write>(&self, f: &mut Formatter<W>) -> fmt::Result {
-        f.write_str(self.argument.name())?;
-        f.write_str(" '")?;
-        f.write_str(self.place.word())?;
-        f.write_str("'")
+        write!(f, "{} '{}'", self.argument.name(), self.place.word())
     }
 }

@@ -1,6 +1,5 @@
 //! The files that a task reads and writes, each asked for.
-ghost use Rattle.std.specs.Prelude.{◌≡◌, ◌++◌, [], ◌∷◌, IfOk, None, OnOk, Some, map};
-ghost use Rattle.std.specs.Option.{option_to_list};
+ghost use Rattle.std.specs.Prelude.{◌≡◌, ◌++◌, [], ◌∷◌, IfOk, None, OnOk, Some, if◌then◌else◌, map};
 ghost use Rattle.file_identities.specs.FileUses.{given, name_file};
 ghost use Rattle.file_identities.specs.FileUses as wanted;
 
@@ -94,26 +93,11 @@ fn printed<'a>() -> FileUse<'a>
     }
 }
 
-/// The lines of a retiming, unless they go to standard error.
-fn printed_by<'a>(retiming: &Retiming<'_>) -> Option<FileUse<'a>>
-    ensures { result ≡ wanted.printed_by retiming.now }
+/// The lines of a run, unless they go to standard error.
+fn printed_unless<'a>(is_aside: bool) -> Option<FileUse<'a>>
+    ensures { result ≡ (if is_aside then None else Some wanted.printed_use) }
 {
-    if retiming.takes_stdout() {
-        None
-    } else {
-        Some(printed())
-    }
-}
-
-/// The lines of a move backward, unless they go to standard error.
-fn printed_by_moving<'a>(moving: &Moving<'_>) -> Option<FileUse<'a>>
-    ensures { result ≡ wanted.printed_by_moving moving.now }
-{
-    if moving.takes_stdout() {
-        None
-    } else {
-        Some(printed())
-    }
+    if is_aside { None } else { Some(printed()) }
 }
 
 /// A stimulus, where one is read.
@@ -135,22 +119,12 @@ pub(crate) fn push<'a, R: Files>(
     ensures { OnOk result (map (λ asked. asked.file) files.new.items
         ≡ map (λ asked. asked.file) files.old.items ++ file.entry ∷ []) }
 {
-    files.push(ask(rt, alloc, file)?)?;
-    Ok(())
-}
-
-fn push_if_given<'a, R: Files>(
-    rt: &R,
-    alloc: Global,
-    file: Option<FileUse<'a>>,
-    files: &mut Vec<Asked<'a>>,
-) -> Result<(), AllocError>
-    ensures { OnOk result (map (λ asked. asked.file) files.new.items
-        ≡ map (λ asked. asked.file) files.old.items ++ option_to_list file.entry) }
-{
-    match file {
-        Some(file) => push(rt, alloc, file, files),
-        None => Ok(()),
+    match ask(rt, alloc, file) {
+        Ok(asked) => {
+            files.push(asked)?;
+            Ok(())
+        }
+        Err(error) => Err(error),
     }
 }
 
@@ -164,7 +138,9 @@ fn ask_all<'a, R: Files>(
 {
     let mut files = Vec::new(alloc);
     for file in uses {
-        push_if_given(rt, alloc, *file, &mut files)?;
+        if let Some(file) = file {
+            push(rt, alloc, *file, &mut files)?;
+        }
     }
     Ok(files)
 }
@@ -212,7 +188,7 @@ fn written_by_retiming<'a>(retiming: &Retiming<'a>) -> [Option<FileUse<'a>>; 4]
         Some(remade(Argument::Out, retiming.output)),
         writing_if_asked(Argument::MapOption, retiming.map),
         writing_if_asked(Argument::Cert, retiming.certificates),
-        printed_by(retiming),
+        printed_unless(retiming.takes_stdout()),
     ]
 }
 
@@ -222,7 +198,7 @@ fn written_by_moving<'a>(moving: &Moving<'a>) -> [Option<FileUse<'a>>; 4]
     [
         Some(remade(Argument::Out, moving.output)),
         writing_if_asked(Argument::MapOption, moving.map),
-        printed_by_moving(moving),
+        printed_unless(moving.takes_stdout()),
         None,
     ]
 }
@@ -302,18 +278,6 @@ fn uses_read<'a>(task: &Task<'a>) -> [Option<FileUse<'a>>; 4]
     }
 }
 
-/// What a task reads that writes a file, beside files of names.
-fn others_read_by<'a, R: Files>(
-    rt: &R,
-    alloc: Global,
-    task: &Task<'a>,
-) -> Result<Vec<Asked<'a>>, AllocError>
-    ensures { IfOk result (λ files. map (λ asked. asked.file) files.items
-        ≡ wanted.others_read_by task.now) }
-{
-    ask_all(rt, alloc, &uses_read(task))
-}
-
 fn push_name_files<'a, R: Files>(
     rt: &R,
     alloc: Global,
@@ -338,7 +302,7 @@ pub(crate) fn read_by<'a, R: Files>(
     ensures { IfOk result (λ files. map (λ asked. asked.file) files.items
         ≡ wanted.files_read_by task.now) }
 {
-    let mut files = others_read_by(rt, alloc, task)?;
+    let mut files = ask_all(rt, alloc, &uses_read(task))?;
     match push_name_files(rt, alloc, task.name_files(), &mut files) {
         Ok(()) => Ok(files),
         Err(error) => {

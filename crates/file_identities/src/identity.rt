@@ -91,17 +91,23 @@ fn identity_of(alloc: Global, metadata: &Metadata) -> Option<Identity> {
     }
 }
 
+/// The path that a link at this path leads to.
+fn joined(alloc: Global, path: Path<'_>, target: Path<'_>) -> Result<PathBuf, AllocError> {
+    path.parent().unwrap_or(Path::new("")).join(alloc, target)
+}
+
 /// What a link at this path leads to, where it is one.
 fn link_at<R: Files>(rt: &R, alloc: Global, path: Path<'_>) -> Result<Option<PathBuf>, AllocError> {
     match rt.read_link(alloc, path.as_str()) {
         Ok(target) => {
-            let folder = path.parent().unwrap_or(Path::new(""));
-            let joined = folder.join(alloc, target.as_path());
+            let joined = joined(alloc, path, target.as_path());
             drop(target);
             Ok(Some(joined?))
         }
-        Err(error) if error.kind() == io::ErrorKind::OutOfMemory => Err(AllocError),
-        Err(_) => Ok(None),
+        Err(error) => match error.kind() {
+            io::ErrorKind::OutOfMemory => Err(AllocError),
+            _ => Ok(None),
+        },
     }
 }
 
@@ -117,20 +123,14 @@ fn end_of_links<R: Files>(rt: &R, alloc: Global, path: &str) -> Result<PathBuf, 
     Ok(end)
 }
 
-/// The identity of a file that would be made at this path, by its folder and its name in it.
+/// The identity of a file that would be made by this name in a folder.
 fn identity_in_folder<R: Files>(
     rt: &R,
     alloc: Global,
-    path: Path<'_>,
+    folder: &str,
+    name: &str,
 ) -> Result<Option<Identity>, AllocError> {
-    let (Some(name), Some(folder)) = (path.file_name(), path.parent()) else {
-        return Ok(None);
-    };
-    let folder = if folder.as_str().is_empty() {
-        "."
-    } else {
-        folder.as_str()
-    };
+    let folder = if folder.is_empty() { "." } else { folder };
     match fs::metadata(rt, folder) {
         Ok(metadata) => Ok(Some(Identity {
             device: metadata.dev(),
@@ -142,6 +142,18 @@ fn identity_in_folder<R: Files>(
     }
 }
 
+/// The same at this path, where it has a folder and a name in it.
+fn identity_made_at<R: Files>(
+    rt: &R,
+    alloc: Global,
+    path: Path<'_>,
+) -> Result<Option<Identity>, AllocError> {
+    match (path.file_name(), path.parent()) {
+        (Some(name), Some(folder)) => identity_in_folder(rt, alloc, folder.as_str(), name),
+        _ => Ok(None),
+    }
+}
+
 /// The same of a path at which nothing is.
 fn identity_to_be<R: Files>(
     rt: &R,
@@ -149,7 +161,7 @@ fn identity_to_be<R: Files>(
     path: &str,
 ) -> Result<Option<Identity>, AllocError> {
     let end = end_of_links(rt, alloc, path)?;
-    let identity = identity_in_folder(rt, alloc, end.as_path());
+    let identity = identity_made_at(rt, alloc, end.as_path());
     drop(end);
     identity
 }

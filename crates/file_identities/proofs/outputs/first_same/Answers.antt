@@ -1,4 +1,4 @@
-use Rattle.std.proofs.Common.{List, ℕ, Option, sym, subst}
+use Rattle.std.proofs.Common.{List, sym, subst}
 use Rattle.std.proofs.lemmas.Result.{IfOk-weaker}
 use Rattle.file_identities.specs.Outputs.{AreWrittenBy}
 use Rattle.file_identities.specs.declared.identity.Asked.{Asked}
