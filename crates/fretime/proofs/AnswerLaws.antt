@@ -1,7 +1,7 @@
 -- The files of a batch, one after another: their outcomes beside their outputs, and that each circuit was written.
-use Rattle.std.proofs.Common.{ℕ, ◌+◌, ◌<◌, ◌≡◌, Bool, List, [], ◌∷◌, All, Option, Result, Ok, Err, length, map, take, get_or, refl, ap, ◌∙◌, subst}
+use Rattle.std.proofs.Common.{ℕ, ◌+◌, ◌<◌, ◌≤◌, ◌≡◌, Bool, List, [], ◌∷◌, ◌++◌, All, Option, Result, Ok, Err, length, map, take, get_or, refl, sym, ap, ap₂, ◌∙◌, subst, arith}
 use Rattle.std.specs.Prelude.{IfOk, OnOk}
-use Rattle.std.proofs.lemmas.List.{get_or_default}
+use Rattle.std.proofs.lemmas.List.{get_or_default, map-append, map_more, take_all, take_more}
 use Rattle.std.proofs.lemmas.List.Elements.{All-map, All-more}
 use Rattle.counted_io.specs.Output.{Output}
 use Rattle.batch_lists.specs.declared.entry.Entry.{Entry}
@@ -40,3 +40,30 @@ pub written_of : {F : Type 0} (contents : F → Option (List ℕ)) (entries : Li
 written_of contents entries outcomes answers (Ok ended) are written =
     subst (λ (os : List JobOutcome). All (IsWritten contents) os) are.outcomes_are (All-map (IsWritten contents) (λ (a : Answer). a.outcome.now) answers written)
 written_of contents entries outcomes answers (Err failure) are written = tt
+
+-- the report of one file more
+pub one_more_report : (answers : List Answer) (k : ℕ) (a : Answer) (old new : List JobReport) (r : JobReport) → k < length answers → a ≡ get_or answers k a → r ≡ report_at a
+    → old ≡ map report_at (take k answers) → new ≡ old ++ r ∷ [] → new ≡ map report_at (take (k + 1) answers)
+one_more_report answers k a old new r within there is before pushed =
+    pushed ∙ ap₂ (λ (xs : List JobReport) (x : JobReport). xs ++ x ∷ []) before (is ∙ ap report_at there) ∙ sym (map_more report_at answers k a within)
+
+-- one outcome more, beside the output of its entry
+pub one_more_answer : (entries : List Entry) (outcomes : List JobOutcome) (k : ℕ) (d : Entry) (o : JobOutcome) (a : Answer) (old new : List Answer)
+    → k < length entries → k < length outcomes → o ≡ get_or outcomes k o → a.output.now ≡ (get_or entries k d).output.now → a.outcome.now ≡ o
+    → AreAnswersOf (take k entries) (take k outcomes) old → new ≡ old ++ a ∷ [] → AreAnswersOf (take (k + 1) entries) (take (k + 1) outcomes) new
+one_more_answer entries outcomes k d o a old new listed within is named of before pushed = record {
+  outputs =
+      ap (map (λ (x : Answer). x.output.now)) pushed ∙ map-append (λ (x : Answer). x.output.now) old (a ∷ [])
+      ∙ ap₂ (λ (xs : List (List ℕ)) (x : List ℕ). xs ++ x ∷ []) before.outputs named ∙ sym (map_more (λ (x : Entry). x.output.now) entries k d listed);
+  outcomes_are =
+      ap (map (λ (x : Answer). x.outcome.now)) pushed ∙ map-append (λ (x : Answer). x.outcome.now) old (a ∷ [])
+      ∙ ap₂ (λ (xs : List JobOutcome) (x : JobOutcome). xs ++ x ∷ []) before.outcomes_are (of ∙ is) ∙ sym (take_more outcomes k o within);
+}
+
+-- those of all entries
+pub all_answers : (entries : List Entry) (outcomes : List JobOutcome) (k : ℕ) (answers : List Answer) → length outcomes ≤ k → length outcomes ≡ length entries
+    → AreAnswersOf (take k entries) (take k outcomes) answers → AreAnswersOf entries outcomes answers
+all_answers entries outcomes k answers end each are = record {
+  outputs = are.outputs ∙ ap (map (λ (x : Entry). x.output.now)) (take_all k entries (omega (arith, end, each)));
+  outcomes_are = are.outcomes_are ∙ take_all k outcomes end;
+}

@@ -28,10 +28,10 @@ pub fn answers_of<'a>(
     requires { length outcomes.now ≡ length entries.now }
     ensures { IfOk result (λ answers. AreAnswersOf entries.now outcomes.now answers.items) }
 {
-    let mut answers = Vec::new(alloc);
+    let mut answers = Vec::with_capacity(alloc, outcomes.len())?;
     for (k, outcome) in outcomes.iter().enumerate() {
         let output = entries[k].output;
-        answers.push(Answer { output, outcome })?;
+        answers.push_reserved(Answer { output, outcome });
     }
     Ok(answers)
 }
@@ -51,10 +51,17 @@ fn write_file<'a, R: Files>(rt: &R, path: &'a str, bytes: &[u8]) -> Result<(), F
     ensures given { OnOk result (IsGiven R.File.contents bytes.now) }
     ensures err { IfErr result (FailsAt path.now) }
 {
-    let mut writer = Counted::new(created(rt, path)?);
-    match write_all(&mut writer, bytes) {
-        Ok(()) => Ok(()),
-        Err(_) => Err(Failure::Device(path)),
+    match created(rt, path) {
+        Ok(file) => {
+            let mut writer = Counted::new(file);
+            let written = write_all(&mut writer, bytes);
+            drop(writer);
+            match written {
+                Ok(()) => Ok(()),
+                Err(_) => Err(Failure::Device(path)),
+            }
+        }
+        Err(failure) => Err(failure),
     }
 }
 

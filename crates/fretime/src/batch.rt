@@ -157,10 +157,16 @@ fn finish_job<'a, R: Files, O: CountedWrite>(
     ensures quiet { IfErr result (λ failure. (O.output out.new ≡ O.output out.old)
         ⊎ FailsAt (codes "stdout") failure) }
 {
-    write_answer(rt, answer)?;
-    let report = report_of(answer.outcome);
-    print_report(number, report, out)?;
-    Ok(report)
+    match write_answer(rt, answer) {
+        Ok(()) => {
+            let report = report_of(answer.outcome);
+            match print_report(number, report, out) {
+                Ok(()) => Ok(report),
+                Err(failure) => Err(failure),
+            }
+        }
+        Err(failure) => Err(failure),
+    }
 }
 
 /// How a batch ends after one more job.

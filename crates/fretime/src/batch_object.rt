@@ -19,9 +19,9 @@ use std::rt::Files;
 fn reports_of(alloc: Global, answers: &[Answer<'_>]) -> Result<Vec<JobReport>, AllocError>
     ensures { IfOk result (λ reports. reports.items ≡ map report_at answers.now) }
 {
-    let mut reports = Vec::new(alloc);
+    let mut reports = Vec::with_capacity(alloc, answers.len())?;
     for answer in answers {
-        reports.push(report_of(answer.outcome))?;
+        reports.push_reserved(report_of(answer.outcome));
     }
     Ok(reports)
 }
@@ -66,13 +66,15 @@ pub fn finish_as_object<'a, R: Files, O: CountedWrite>(
     ensures err { IfErr result (λ failure. (outcome_of failure ≡ Device)
         ⊎ ((outcome_of failure ≡ Memory) × (O.output out.new ≡ O.output out.old))) }
 {
-    write_answers(rt, answers)?;
-    match reports_of(alloc, answers) {
-        Ok(reports) => {
-            let printed = print_files(alloc, reports.as_slice(), out);
-            drop(reports);
-            printed
-        }
-        Err(_) => Err(Failure::Memory),
+    match write_answers(rt, answers) {
+        Ok(()) => match reports_of(alloc, answers) {
+            Ok(reports) => {
+                let printed = print_files(alloc, reports.as_slice(), out);
+                drop(reports);
+                printed
+            }
+            Err(_) => Err(Failure::Memory),
+        },
+        Err(failure) => Err(failure),
     }
 }

@@ -145,31 +145,29 @@ pub fn report_unreadable_arguments<E: CountedWrite>(error: &io::Error, err: &mut
     Outcome::CommandLine.status()
 }
 
-/// Does a task, reports why it failed, and returns how the run ends.
+/// Does a task, unless the names that it holds couldn't be had, reports why it failed, and returns how the run ends.
 fn finish_task<
     'a,
     R: Files + Threads + Sync + Clock,
     I: CountedRead,
     O: CountedWrite,
     E: CountedWrite,
->(rt: &R, alloc: Global, task: &Task<'a>, streams: &mut Streams<I, O, E>) -> Outcome
-    ensures { MayPrint result (O.output streams.old.out) (O.output streams.new.out) }
-{
-    let ended = run_task(rt, alloc, task, streams);
-    reported(rt, alloc, task, ended, streams)
-}
-
-/// Reports why the names that a task holds can't be read, and returns how the run ends.
-fn report_without_names<'a, R: Files, I, O: CountedWrite, E: CountedWrite>(
+>(
     rt: &R,
     alloc: Global,
     task: &Task<'a>,
-    failure: Failure<'a>,
+    held: Result<(), Failure<'a>>,
     streams: &mut Streams<I, O, E>,
 ) -> Outcome
     ensures { MayPrint result (O.output streams.old.out) (O.output streams.new.out) }
 {
-    reported(rt, alloc, task, Err(failure), streams)
+    match held {
+        Ok(()) => {
+            let ended = run_task(rt, alloc, task, streams);
+            reported(rt, alloc, task, ended, streams)
+        }
+        Err(failure) => reported(rt, alloc, task, Err(failure), streams),
+    }
 }
 
 /// A task with the names of these files held too, or why it can't hold them.
@@ -194,16 +192,13 @@ fn run_with_names<
     match read_name_files(rt, alloc, task.name_files(), &mut streams.stdin) {
         Ok(files) => {
             let (named, held) = with_names(files.as_slice(), task);
-            let outcome = match held {
-                Ok(()) => finish_task(rt, alloc, &named, streams),
-                Err(failure) => { report_without_names(rt, alloc, &named, failure, streams) }
-            };
+            let outcome = finish_task(rt, alloc, &named, held, streams);
             drop(named);
             drop(files);
             outcome
         }
         Err(failure) => {
-            let outcome = report_without_names(rt, alloc, &task, failure, streams);
+            let outcome = finish_task(rt, alloc, &task, Err(failure), streams);
             drop(task);
             outcome
         }
@@ -230,9 +225,11 @@ fn run_apart<R: Files + Threads + Sync + Clock, I: CountedRead, O: CountedWrite,
 
 /// The words, but for a flag that asks for the help of `help`, which is that of the program.
 fn without_flag_of_help(words: &[String]) -> &[String] {
-    let is_flag = words.len() == 3
-        && words[1].as_str() == "help"
-        && (words[2].as_str() == "--help" || words[2].as_str() == "-h");
+    if words.len() != 3 {
+        return words;
+    }
+    let flag = words[2].as_str();
+    let is_flag = (words[1].as_str() == "help") & ((flag == "--help") | (flag == "-h"));
     if is_flag { &words[..2] } else { words }
 }
 

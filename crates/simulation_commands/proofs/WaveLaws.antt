@@ -1,6 +1,8 @@
 -- What is printed of a trace and of waves, by how the run ends.
 use Rattle.std.proofs.Common.{ℕ, ◌≡◌, true, false, List, Some, IfOk, Result, Ok, Err, refl, sym, subst}
 use Rattle.std.proofs.lemmas.Result.{IfOk-weaker}
+use Rattle.aig_graph.specs.Circuits.{Netlist}
+use Rattle.aig_binary.specs.declared.reading.SpeltCircuit.{SpeltCircuit}
 use Rattle.counted_io.specs.Input.{Input}
 use Rattle.counted_io.specs.Output.{Output, WritesAll}
 use Rattle.counted_io.proofs.OutputLaws.{all-then}
@@ -12,9 +14,10 @@ use Rattle.circuit_files.specs.declared.outcome.Outcome.{Outcome}
 use Rattle.circuit_files.specs.declared.outcome.Outcome.TheVariants.{Done}
 use Rattle.circuit_files.specs.declared.outcome.Failure.{Failure}
 use Rattle.command_endings.specs.Printing.{EndsPrinting, EndsWith, Prints, ending}
+use Rattle.command_endings.specs.Sources.{IsCircuitAt}
 use Rattle.command_endings.proofs.PrintingLaws.{of_device}
 use Rattle.simulation_commands.specs.Dumping.{dump_of}
-use Rattle.simulation_commands.specs.Simulating.{IsCaseOf, PrintsTrace, lines_of, printed}
+use Rattle.simulation_commands.specs.Simulating.{IsCaseOf, IsCaseWith, PrintsTrace, lines_of, printed}
 use Rattle.simulation_commands.specs.declared.simulation.Case.{Case}
 
 -- the lines come after the dump, where that went to standard output, and else alone
@@ -37,3 +40,10 @@ pub prints_trace : (task : Simulation) (given : Case) (before after : Input) (ol
     → IsCaseOf task before after given → IfOk result (EndsWith Done (printed task.waves (dump_of given) (lines_of given)) old new)
     → IfOk result (PrintsTrace task before after old new)
 prints_trace task given before after old new result is p = IfOk-weaker result _ _ (λ ended prints. record { given = given; is = is; prints = prints }) p
+
+-- a circuit that was read, and what it is simulated under
+pub case_of : (c : Netlist) (task : Simulation) (spelt : SpeltCircuit) (before between after : Input) (result : Result Case Failure)
+    → c ≡ spelt.circuit → IsCircuitAt task.input before between spelt → IfOk result (IsCaseWith c task.stimuli between after) → IfOk result (IsCaseOf task before after)
+case_of c task spelt before between after (Ok given) is read with =
+    record { spelt = spelt; between = between; read = read; is = subst (λ (n : Netlist). IsCaseWith n task.stimuli between after given) is with }
+case_of c task spelt before between after (Err failure) is read with = tt

@@ -6,9 +6,10 @@ ghost use Rattle.simulation_commands.specs.declared.kept.Shared.TheVariants.{Eac
 ghost use Rattle.command_endings.specs.Printing.{EndsPrinting, EndsWith, Prints, ending};
 
 use crate::kept::{Shared, shared_by};
+use crate::reading::read_circuit;
 use crate::stimuli::stimuli_for;
 use aig_graph::{Circuit, Sequence};
-use circuit_files::{Failure, Outcome, circuit_at};
+use circuit_files::{Failure, Outcome};
 use command_endings::ended;
 use command_line::Comparison;
 use counted_io::{CountedRead, CountedWrite};
@@ -94,7 +95,11 @@ fn compared_by<'a, R: Files + Threads + Sync, I: CountedRead>(
         (I.input stdin.old) (I.input stdin.new)) }
 {
     match stimuli_for(rt, alloc, task.stimuli, first, task.first, stdin) {
-        Ok(stimulus) => compare_shared(rt, alloc, first, second, shared, &stimulus),
+        Ok(stimulus) => {
+            let found = compare_shared(rt, alloc, first, second, shared, &stimulus);
+            drop(stimulus);
+            found
+        }
         Err(failure) => Err(failure),
     }
 }
@@ -132,9 +137,9 @@ fn compared_with<'a, R: Files + Threads + Sync, I: CountedRead>(
     ensures { IfOk result (IsFindingWith first.now task.now (I.input stdin.old)
         (I.input stdin.new)) }
 {
-    match circuit_at(rt, alloc, task.second, stdin) {
+    match read_circuit(rt, alloc, task.second, stdin) {
         Ok(second) => {
-            let found = compared_under(rt, alloc, first, &second.circuit, task, stdin);
+            let found = compared_under(rt, alloc, first, &second, task, stdin);
             drop(second);
             found
         }
@@ -150,9 +155,9 @@ fn compared<'a, R: Files + Threads + Sync, I: CountedRead>(
 ) -> Result<Finding, Failure<'a>>
     ensures { IfOk result (IsFindingOf task.now (I.input stdin.old) (I.input stdin.new)) }
 {
-    match circuit_at(rt, alloc, task.first, stdin) {
+    match read_circuit(rt, alloc, task.first, stdin) {
         Ok(first) => {
-            let found = compared_with(rt, alloc, &first.circuit, task, stdin);
+            let found = compared_with(rt, alloc, &first, task, stdin);
             drop(first);
             found
         }
@@ -218,6 +223,8 @@ pub fn print_comparison<'a, R: Files + Threads + Sync, I: CountedRead, O: Counte
         (O.output out.old) (O.output out.new)) }
     ensures prints { Prints (ending result) (O.output out.old) (O.output out.new) }
 {
-    let found = compared(rt, alloc, task, stdin)?;
-    print_finding_as(alloc, found, task.json, out)
+    match compared(rt, alloc, task, stdin) {
+        Ok(found) => print_finding_as(alloc, found, task.json, out),
+        Err(failure) => Err(failure),
+    }
 }

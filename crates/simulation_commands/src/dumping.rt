@@ -117,9 +117,14 @@ pub(crate) fn waves_of<'a>(
     ensures waves { IfOk result (AreWavesOf given.now) }
     ensures failed { IfErr result (IsFailureToShow task.now (probes.probed given.now.circuit)) }
 {
-    let names = names(alloc, &given.circuit)?;
-    match shown_of(alloc, given, task) {
-        Ok(shown) => Ok(Waves { names, shown }),
+    match names(alloc, &given.circuit) {
+        Ok(names) => match shown_of(alloc, given, task) {
+            Ok(shown) => Ok(Waves { names, shown }),
+            Err(failure) => {
+                drop(names);
+                Err(failure)
+            }
+        },
         Err(failure) => Err(failure),
     }
 }
@@ -162,7 +167,9 @@ pub(crate) fn write_dump<'a, R: Files, O: CountedWrite>(
         Target::Stdout => put_dump(given, waves, out),
         Target::File(path) => {
             let mut writer = Counted::new(LazyFile::new(rt, path));
-            put_dump(given, waves, &mut writer)
+            let put = put_dump(given, waves, &mut writer);
+            drop(writer);
+            put
         }
     };
     match written {

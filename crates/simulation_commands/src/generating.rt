@@ -30,7 +30,7 @@ fn digits(alloc: Global, seed: u64, count: usize) -> Result<Sequence<bool>, Allo
         if place % 64 == 0 {
             word = next_word(&mut generator);
         }
-        values.push((word >> (place % 64)) & 1 == 1)?;
+        values.push_reserved((word >> (place % 64)) & 1 == 1);
     }
     Ok(Sequence::from_vec(values))
 }
@@ -47,8 +47,7 @@ fn steps(
 {
     let mut rows = Vec::with_capacity(alloc, count)?;
     for _ in 0..count {
-        let row = digits(alloc, next_word(generator), inputs)?;
-        rows.push(row)?;
+        rows.push_reserved(digits(alloc, next_word(generator), inputs)?);
     }
     Ok(Sequence::from_vec(rows))
 }
@@ -88,8 +87,7 @@ pub fn random_stimulus(
     let mut generator = SplitMix64::seed_from_u64(seed);
     let mut made = Vec::with_capacity(alloc, sequences)?;
     for _ in 0..sequences {
-        let next = sequence(alloc, inputs, free, steps, next_word(&mut generator))?;
-        made.push(next)?;
+        made.push_reserved(sequence(alloc, inputs, free, steps, next_word(&mut generator))?);
     }
     Ok(Stimulus::new(made))
 }

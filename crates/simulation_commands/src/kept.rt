@@ -58,8 +58,14 @@ fn kept_at<'a, R: Files, I: CountedRead>(
     ensures named { IfErr result (IsAbout (source_name list.entry)) }
     ensures places { IfOk result (AreKept first.now second.now) }
 {
-    let bytes = bytes_at(rt, alloc, list, stdin)?;
-    kept_of(alloc, bytes.as_slice(), list.name(), first, second)
+    match bytes_at(rt, alloc, list, stdin) {
+        Ok(bytes) => {
+            let kept = kept_of(alloc, bytes.as_slice(), list.name(), first, second);
+            drop(bytes);
+            kept
+        }
+        Err(failure) => Err(failure),
+    }
 }
 
 /// The free latches of a list, where there is one, and each where there is none.
@@ -74,11 +80,11 @@ pub(crate) fn shared_by<'a, R: Files, I: CountedRead>(
     ensures { IfOk result (AreSharedAt list.entry first.now second.now (I.input stdin.old)
         (I.input stdin.new)) }
 {
-    let Some(list) = list else {
-        return Ok(Shared::Each);
-    };
-    match kept_at(rt, alloc, list, first, second, stdin) {
-        Ok(kept) => Ok(Shared::Kept(kept)),
-        Err(failure) => Err(failure),
+    match list {
+        Some(list) => match kept_at(rt, alloc, list, first, second, stdin) {
+            Ok(kept) => Ok(Shared::Kept(kept)),
+            Err(failure) => Err(failure),
+        },
+        None => Ok(Shared::Each),
     }
 }

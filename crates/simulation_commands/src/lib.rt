@@ -13,6 +13,7 @@ mod comparison;
 mod dumping;
 mod generating;
 mod kept;
+mod reading;
 mod room;
 mod simulation;
 mod stimuli;

@@ -9,10 +9,11 @@ ghost use Rattle.simulation_commands.specs.Dumping.{AreWavesOf, dump_of};
 ghost use Rattle.simulation_commands.specs.Simulating.{AreLinesFor, IsCaseOf, IsCaseWith, PrintsTrace, lines_of, printed};
 
 use crate::dumping::{Waves, waves_of, write_dump};
+use crate::reading::read_circuit;
 use crate::room::is_small;
 use crate::stimuli::stimuli_for;
 use aig_graph::Circuit;
-use circuit_files::{Failure, Outcome, circuit_at};
+use circuit_files::{Failure, Outcome};
 use command_endings::ended;
 use command_line::Simulation;
 use counted_io::{CountedRead, CountedWrite};
@@ -68,8 +69,8 @@ fn case_for<'a, R: Files, I: CountedRead>(
 ) -> Result<Case, Failure<'a>>
     ensures { IfOk result (IsCaseOf task.now (I.input stdin.old) (I.input stdin.new)) }
 {
-    match circuit_at(rt, alloc, task.input, stdin) {
-        Ok(spelt) => case_with(rt, alloc, spelt.circuit, task, stdin),
+    match read_circuit(rt, alloc, task.input, stdin) {
+        Ok(circuit) => case_with(rt, alloc, circuit, task, stdin),
         Err(failure) => Err(failure),
     }
 }
@@ -150,30 +151,6 @@ fn print_trace_of<'a, R: Threads + Sync, O: CountedWrite>(
     }
 }
 
-/// Writes waves, and then prints the trace.
-fn print_both<'a, R: Files, O: CountedWrite>(
-    rt: &R,
-    target: Target<'a>,
-    waves: &mut Waves,
-    given: &Case,
-    lines: Lines,
-    out: &mut O,
-) -> Result<Outcome, Failure<'a>>
-    requires lines { AreLinesFor given.now lines }
-    requires waves { AreWavesOf given.now waves.old }
-    ensures printed { IfOk result (EndsWith Done (printed (Some target.entry) (dump_of given.now)
-        (lines_of given.now)) (O.output out.old) (O.output out.new)) }
-    ensures prints { Prints (ending result) (O.output out.old) (O.output out.new) }
-{
-    match write_dump(rt, given, waves, target, out) {
-        Ok(()) => print_lines(given, lines, out),
-        Err(failure) => {
-            drop(lines);
-            Err(failure)
-        }
-    }
-}
-
 /// Writes waves once there is the trace of what is simulated, or room for it, and then prints that.
 fn print_with_waves<'a, R: Files + Threads + Sync, O: CountedWrite>(
     rt: &R,
@@ -189,7 +166,13 @@ fn print_with_waves<'a, R: Files + Threads + Sync, O: CountedWrite>(
     ensures prints { Prints (ending result) (O.output out.old) (O.output out.new) }
 {
     match lines_for(rt, alloc, given) {
-        Ok(lines) => print_both(rt, target, waves, given, lines, out),
+        Ok(lines) => match write_dump(rt, given, waves, target, out) {
+            Ok(()) => print_lines(given, lines, out),
+            Err(failure) => {
+                drop(lines);
+                Err(failure)
+            }
+        },
         Err(failure) => Err(failure),
     }
 }
@@ -249,8 +232,12 @@ pub fn print_simulation<'a, R: Files + Threads + Sync, I: CountedRead, O: Counte
         (O.output out.old) (O.output out.new)) }
     ensures prints { Prints (ending result) (O.output out.old) (O.output out.new) }
 {
-    let given = case_for(rt, alloc, task, stdin)?;
-    let ended = print_case(rt, alloc, &given, task, out);
-    drop(given);
-    ended
+    match case_for(rt, alloc, task, stdin) {
+        Ok(given) => {
+            let ended = print_case(rt, alloc, &given, task, out);
+            drop(given);
+            ended
+        }
+        Err(failure) => Err(failure),
+    }
 }

@@ -5,12 +5,11 @@ ghost use Rattle.witnesses.specs.Texts.{whole_text};
 ghost use Rattle.circuit_files.specs.declared.outcome.Outcome.TheVariants.{Done};
 ghost use Rattle.simulation_commands.specs.Verdicts.{AreKept, AreLeft, AreLeftFor, AreLeftMerged, AreMergeOptions, IsCaseOf, IsVerdict, IsJudged, PrintsVerdict, verdict_text, if_many, outcome_of_verdict};
 ghost use Rattle.simulation_commands.specs.Verdicts as wanted;
-ghost use Rattle.command_endings.specs.Sources.{IsCircuitAt};
-ghost use Rattle.aig_binary.specs.declared.reading.SpeltCircuit.{SpeltCircuit};
 ghost use Rattle.command_endings.specs.Printing.{EndsPrinting, Prints, ending};
 
+use crate::reading::read_circuit;
 use aig_graph::{Circuit, Keep, NoMemory, Sequence};
-use circuit_files::{Failure, Outcome, circuit_at, witness_at};
+use circuit_files::{Failure, Outcome, witness_at};
 use clean::{Cleaned, clean};
 use command_endings::ended;
 use command_line::Carrying;
@@ -155,7 +154,10 @@ fn kept_places<R: Threads + Sync>(
 {
     let free = retimed.aig().free_latches();
     if circuit.aig().free_latches() == free {
-        return Ok(Some(all_places(alloc, circuit.aig())?));
+        return match all_places(alloc, circuit.aig()) {
+            Ok(places) => Ok(Some(places)),
+            Err(error) => Err(error),
+        };
     }
     places_before(rt, alloc, circuit, free, merge)
 }
@@ -174,19 +176,19 @@ fn have_same_widths(circuit: &Circuit, retimed: &Circuit) -> bool
 }
 
 /// The verdict on a witness, where these free latches were kept.
-fn judged_with(
+fn judged_with<'a>(
     alloc: Global,
     circuit: &Circuit,
     retimed: &Circuit,
     kept: &[u32],
     witness: Witness,
-) -> Result<Verdict, NoMemory>
+) -> Result<Verdict, Failure<'a>>
     ensures { IfOk result (IsJudged circuit.now retimed.now kept.now witness) }
 {
     match confirm(alloc, circuit, retimed, kept, witness) {
         Ok(Ok(confirmed)) => Ok(Verdict::Confirmed(confirmed)),
         Ok(Err(objection)) => Ok(Verdict::Objected(objection)),
-        Err(error) => Err(error),
+        Err(_) => Err(Failure::Memory),
     }
 }
 
@@ -201,17 +203,23 @@ fn judged<'a, R: Threads + Sync>(
     ensures { IfOk result (IsVerdict merge circuit.now retimed.now witness) }
 {
     if !have_same_widths(circuit, retimed) {
+        drop(witness);
         return Ok(Verdict::ShapesDiffer);
     }
-    let Ok(places) = kept_places(rt, alloc, circuit, retimed, merge) else {
-        return Err(Failure::Memory);
-    };
-    let Some(kept) = places else {
-        return Ok(Verdict::ShapesDiffer);
-    };
-    match judged_with(alloc, circuit, retimed, kept.as_slice(), witness) {
-        Ok(verdict) => Ok(verdict),
-        Err(_) => Err(Failure::Memory),
+    match kept_places(rt, alloc, circuit, retimed, merge) {
+        Ok(Some(kept)) => {
+            let verdict = judged_with(alloc, circuit, retimed, kept.as_slice(), witness);
+            drop(kept);
+            verdict
+        }
+        Ok(None) => {
+            drop(witness);
+            Ok(Verdict::ShapesDiffer)
+        }
+        Err(_) => {
+            drop(witness);
+            Err(Failure::Memory)
+        }
     }
 }
 
@@ -235,22 +243,6 @@ fn verdict_of<'a, R: Threads + Sync>(
     verdict
 }
 
-/// The circuit that is read.
-fn read_circuit<'a, R: Files, I: CountedRead>(
-    rt: &R,
-    alloc: Global,
-    source: Source<'a>,
-    stdin: &mut I,
-) -> Result<Circuit, Failure<'a>>
-    ensures { IfOk result (λ circuit. (spelt : SpeltCircuit) × (circuit ≡ spelt.circuit)
-        × IsCircuitAt source.entry (I.input stdin.old) (I.input stdin.new) spelt) }
-{
-    match circuit_at(rt, alloc, source, stdin) {
-        Ok(spelt) => Ok(spelt.circuit),
-        Err(failure) => Err(failure),
-    }
-}
-
 /// Reads a circuit, the one that it was retimed to, and a witness for that one, in this order.
 fn case_for<'a, R: Files, I: CountedRead>(
     rt: &R,
@@ -260,24 +252,26 @@ fn case_for<'a, R: Files, I: CountedRead>(
 ) -> Result<Case, Failure<'a>>
     ensures { IfOk result (IsCaseOf task.now (I.input stdin.old) (I.input stdin.new)) }
 {
-    let circuit = read_circuit(rt, alloc, task.input, stdin)?;
-    match read_circuit(rt, alloc, task.retimed, stdin) {
-        Ok(retimed) => match witness_at(rt, alloc, task.witness, &retimed, stdin) {
-            Ok(witness) => Ok(Case {
-                circuit,
-                retimed,
-                witness,
-            }),
+    match read_circuit(rt, alloc, task.input, stdin) {
+        Ok(circuit) => match read_circuit(rt, alloc, task.retimed, stdin) {
+            Ok(retimed) => match witness_at(rt, alloc, task.witness, &retimed, stdin) {
+                Ok(witness) => Ok(Case {
+                    circuit,
+                    retimed,
+                    witness,
+                }),
+                Err(failure) => {
+                    drop(circuit);
+                    drop(retimed);
+                    Err(failure)
+                }
+            },
             Err(failure) => {
                 drop(circuit);
-                drop(retimed);
                 Err(failure)
             }
         },
-        Err(failure) => {
-            drop(circuit);
-            Err(failure)
-        }
+        Err(failure) => Err(failure),
     }
 }
 
@@ -321,9 +315,15 @@ pub fn print_witness_back<'a, R: Files + Threads + Sync, I: CountedRead, O: Coun
         (O.output out.old) (O.output out.new)) }
     ensures prints { Prints (ending result) (O.output out.old) (O.output out.new) }
 {
-    let given = case_for(rt, alloc, task, stdin)?;
-    let verdict = verdict_of(rt, alloc, given, task.merge)?;
-    let printed = print_verdict(&verdict, out);
-    drop(verdict);
-    printed
+    match case_for(rt, alloc, task, stdin) {
+        Ok(given) => match verdict_of(rt, alloc, given, task.merge) {
+            Ok(verdict) => {
+                let printed = print_verdict(&verdict, out);
+                drop(verdict);
+                printed
+            }
+            Err(failure) => Err(failure),
+        },
+        Err(failure) => Err(failure),
+    }
 }
