@@ -44,12 +44,16 @@ pub fn convert<'a, R: Files, I: CountedRead, O: CountedWrite>(
         input.entry output.entry (I.input stdin.old) (O.output out.old) (O.output out.new)) }
     ensures prints { Prints (ending result) (O.output out.old) (O.output out.new) }
 {
-    let spelt = circuit_at(rt, alloc, input, stdin)?;
-    let spelling = spelling_for(spelt.spelling, spelling);
-    let written = write_circuit(rt, &spelt.circuit, spelling, output, out);
-    drop(spelt);
-    match written {
-        Ok(()) => Ok(Outcome::Done),
+    match circuit_at(rt, alloc, input, stdin) {
+        Ok(spelt) => {
+            let spelling = spelling_for(spelt.spelling, spelling);
+            let written = write_circuit(rt, &spelt.circuit, spelling, output, out);
+            drop(spelt);
+            match written {
+                Ok(()) => Ok(Outcome::Done),
+                Err(failure) => Err(failure),
+            }
+        }
         Err(failure) => Err(failure),
     }
 }

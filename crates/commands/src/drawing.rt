@@ -144,12 +144,16 @@ pub fn write_picture<
     ensures file { is_stdout task.now.output ≡ false → O.output streams.new.out ≡ O.output streams.old.out }
     ensures prints { Prints (ending result) (O.output streams.old.out) (O.output streams.new.out) }
 {
-    let scene = scene_for(rt, alloc, task, &mut streams.stdin)?;
-    let drawn = draw_to(rt, alloc, &scene, task, &mut streams.out);
-    tell_no_frame(&scene, task, streams.is_terminal, &mut streams.err);
-    drop(scene);
-    match drawn {
-        Ok(()) => Ok(Outcome::Done),
+    match scene_for(rt, alloc, task, &mut streams.stdin) {
+        Ok(scene) => {
+            let drawn = draw_to(rt, alloc, &scene, task, &mut streams.out);
+            tell_no_frame(&scene, task, streams.is_terminal, &mut streams.err);
+            drop(scene);
+            match drawn {
+                Ok(()) => Ok(Outcome::Done),
+                Err(failure) => Err(failure),
+            }
+        }
         Err(failure) => Err(failure),
     }
 }

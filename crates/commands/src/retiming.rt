@@ -259,11 +259,19 @@ fn certified<
         &mut progress,
     );
     let times = progress.end();
-    let mut answer = ended?;
+    drop(progress);
+    let mut answer = match ended {
+        Ok(answer) => answer,
+        Err(failure) => {
+            drop(times);
+            return Err(failure);
+        }
+    };
     match write_beside(rt, alloc, task, &mut answer, &mut streams.out) {
         Ok(()) => Ok(with_times(answer, times)),
         Err(failure) => {
             drop(answer);
+            drop(times);
             Err(failure)
         }
     }

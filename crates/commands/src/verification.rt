@@ -234,7 +234,7 @@ fn print_file<'a, R: Files, I: CountedRead, O: CountedWrite, M: Write>(
         Ok(file) => {
             let blocks = file.blocks.as_slice();
             let printed = print_beside(rt, alloc, circuit, blocks, task, stdin, out);
-            if printed.is_ok() && file.blocks.is_empty() {
+            if printed.is_ok() & file.blocks.is_empty() {
                 tell_of_none(task, message);
             }
             drop(file);
