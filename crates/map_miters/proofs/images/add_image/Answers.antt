@@ -1,4 +1,6 @@
-use Rattle.std.proofs.Common.{ℕ, ◌≡◌, ◌∙◌, List, false, ap, get_or, map, sym, subst}
+use Rattle.map_circuits.proofs.GrowingLaws.{extends-transitive}
+use Rattle.aig_graph.specs.declared.graph.Latch.{Latch}
+use Rattle.std.proofs.Common.{ℕ, ◌≡◌, ◌∙◌, List, false, ap, get_or, map, sym, subst, arith, length}
 use Rattle.aig_graph.specs.declared.properties.Props.{Props}
 use Rattle.aig_graph.specs.Circuits.{AreLiteralsOf, Netlist}
 use Rattle.aig_graph.specs.Graph.{Graph, variables_end}
@@ -59,3 +61,23 @@ returns-clause-image c =
     subst (λ (a : Graph). IsView g a (λ z u. value_within a (s z u) (λ j. false)) part) c.aig.ensures.value view in
     image-is g h m s part (record { kept = c.in_ok-kept.kept; outputs = c.in_ok-outputs.outputs }) c.known.ensures.netlist c.in_ok-kept.ensures.extends over outputs
     (subst (λ (ls : List ℕ). AreAll h ls c.in_ok-kept.kept) lits c.in_ok-kept.ensures.all)
+
+pub add_over-requires-clause-graph : goal.add_over-requires-clause-graph
+add_over-requires-clause-graph c = c.requires.graph
+
+pub add_over-requires-clause-inputs : goal.add_over-requires-clause-inputs
+add_over-requires-clause-inputs c = c.requires.state
+
+pub add_over-requires-clause-long : goal.add_over-requires-clause-long
+add_over-requires-clause-long c =
+    ap (λ (ls : List ℕ). length ls) (c.as_slice.ensures.value ∙ c.new-none.ensures.items)
+    ∙ sym (ap (λ (ls : List Latch). length ls) (ap (λ (g : Graph). g.latches) c.aig.ensures.value ∙ c.requires.latches))
+
+pub add_over-requires-clause-latches : goal.add_over-requires-clause-latches
+add_over-requires-clause-latches c = λ k d less. absurd (omega (arith, less, ap (λ (ls : List ℕ). length ls) (c.as_slice.ensures.value ∙ c.new-none.ensures.items)))
+
+pub add_conjunction_of-requires-clause-graph : goal.add_conjunction_of-requires-clause-graph
+add_conjunction_of-requires-clause-graph c = c.in_ok-part.ensures.extends.graph
+
+pub returns-clause-extends : goal.returns-clause-extends
+returns-clause-extends c = extends-transitive c.args.gates.now c.add_over.new.gates c.add_conjunction_of.new.gates c.in_ok-part.ensures.extends c.in_ok-kept.ensures.extends
