@@ -1,4 +1,5 @@
-use Rattle.std.proofs.Common.{List, ap, arith, length}
+use Rattle.variable_tables.specs.Tables.{table}
+use Rattle.std.proofs.Common.{List, ap, arith, length, ℕ, ◌+◌, ◌*◌, ◌∙◌, ap₂}
 use Rattle.aig_graph.specs.declared.graph.Latch.{Latch}
 use Rattle.map_miters.proofs.begun.leaves_of.Goals as goal
 
@@ -17,3 +18,12 @@ overflow_add-first_latch c = omega (arith, c.first_latch-first_latch.ensures.val
 
 pub overflow_cast-own : goal.overflow_cast-own
 overflow_cast-own c = omega (arith, ap (λ (ls : List Latch). length ls) c.latches-own.ensures.value, c.requires)
+
+pub returns : goal.returns
+returns c = record {
+  inputs = c.in_ok-inputs.ensures ∙ ap (λ (n : ℕ). table 0 n (λ i. 2 * (1 + i))) c.inputs.ensures.value;
+  first = c.in_ok-of_first.ensures ∙ ap₂ (λ (n f : ℕ). table 0 n (λ j. 2 * (f + j))) (ap (λ (ls : List Latch). length ls) c.latches-own.ensures.value) c.first_latch-first_latch.ensures.value;
+  second = c.in_ok-of_second.ensures
+      ∙ ap₂ (λ (n f : ℕ). table 0 n (λ j. 2 * (f + j))) (ap (λ (ls : List Latch). length ls) c.latches.ensures.value)
+      (ap₂ (λ (f n : ℕ). f + n) c.first_latch-first_latch.ensures.value (ap (λ (ls : List Latch). length ls) c.latches-own.ensures.value));
+}

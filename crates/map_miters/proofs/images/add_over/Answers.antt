@@ -1,5 +1,7 @@
+use Rattle.std.proofs.lemmas.List.Elements.{All-append, All-cons}
+use Rattle.aig_graph.specs.Circuits.{AreLiteralsOf}
 use Rattle.std.proofs.Common.{ℕ, List, arith, sym, subst, ap, length, length-append}
-use Rattle.aig_graph.specs.Graph.{Graph}
+use Rattle.aig_graph.specs.Graph.{Graph, IsLiteralOf}
 use Rattle.aig_graph.specs.Value.{value_within}
 use Rattle.map_circuits.specs.Instances.{HaveValues}
 use Rattle.witness_circuits.proofs.ViewLaws.{instance-view, leaves-have}
@@ -26,3 +28,8 @@ add_instance-requires-clause-many c =
 
 pub returns-clause-extends : goal.returns-clause-extends
 returns-clause-extends c = c.in_ok-part.ensures.extends
+
+pub add_instance-requires-clause-within : goal.add_instance-requires-clause-within
+add_instance-requires-clause-within c =
+    subst (λ (ls : List ℕ). AreLiteralsOf c.args.gates.now ls) (sym c.in_ok-leaves.ensures)
+    (All-cons (IsLiteralOf c.args.gates.now) 0 _ (omega arith) (All-append (IsLiteralOf c.args.gates.now) c.args.inputs.now c.args.latches.now c.requires.inputs c.requires.latches))

@@ -191,3 +191,6 @@ add_conjunction-requires-clause-graph c = c.in_ok-equal.ensures.extends.graph
 
 pub add_conjunction-requires-clause-b : goal.add_conjunction-requires-clause-b
 add_conjunction-requires-clause-b c = c.in_ok-equal.ensures.equal.within
+
+pub add_each_equal-requires-clause-graph : goal.add_each_equal-requires-clause-graph
+add_each_equal-requires-clause-graph c = c.in_ok-image.ensures.extends.graph
