@@ -82,8 +82,7 @@ pub fn add_image(
         → IsImage gates.new map.now s image) }
 {
     map.known();
-    let none = Vec::new(alloc);
-    let part = add_over(alloc, gates, map.aig(), state, none.as_slice())?;
+    let part = add_over(alloc, gates, map.aig(), state, &[])?;
     let outputs = substitutes_of(alloc, &part, map.props().outputs.as_slice())?;
     let constraints = substitutes_of(alloc, &part, map.props().constraints.as_slice())?;
     let kept = add_conjunction_of(gates, constraints.as_slice())?;

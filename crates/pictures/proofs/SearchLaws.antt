@@ -1,5 +1,5 @@
 -- Searches of a list that end at what they find.
-use Rattle.std.proofs.Common.{ℕ, ◌+◌, ◌<◌, ◌≡◌, ◌||◌, ◌&&◌, Bool, true, false, suc, zero, List, [], ◌∷◌, length, take, get_or, arith, refl, ap, ap₂, sym, ◌∙◌}
+use Rattle.std.proofs.Common.{ℕ, ◌+◌, ◌<◌, ◌≡◌, ◌||◌, ◌&&◌, Bool, true, false, suc, zero, List, [], ◌∷◌, length, take, get_or, arith, ap, ap₂, sym, ◌∙◌}
 use Rattle.std.specs.List.{list_all, list_any}
 use Rattle.std.proofs.lemmas.Bool.{and_right, or_right}
 use Rattle.std.proofs.lemmas.List.Folds.{list_all_more, list_any_more}

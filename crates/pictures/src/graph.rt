@@ -5,7 +5,7 @@ ghost use Rattle.std.specs.List.{flat_map, range_with_len};
 ghost use Rattle.aig_graph.specs.declared.literal.TheConstants.{MAX_VARIABLES};
 ghost use Rattle.counted_io.specs.Buffered.{Puts};
 ghost use Rattle.counted_io.specs.Line.{numbered_lines};
-ghost use Rattle.pictures.specs.Nodes.{edges, gate_line, input_line, latch_line, reset_mark};
+ghost use Rattle.pictures.specs.Nodes.{edges, gate_line, latch_line, reset_mark};
 ghost use Rattle.pictures.specs.Pictures.{gate_lines, graph_lines, input_lines, latch_lines};
 ghost use Rattle.pictures.specs.Views.{drawn_in, look_in};
 ghost use Rattle.pictures.specs.declared.node.Node.TheVariants.{Variable};
@@ -15,21 +15,15 @@ use crate::node::{Node, put_edges, put_if, put_node};
 use aig_graph::{Aig, Gate, Latch, MAX_VARIABLES, Reset};
 use counted_io::{Buffered, CountedWrite};
 
-fn put_input<W: CountedWrite>(out: &mut Buffered<'_, W>, var: u32)
-    ensures { Puts W.output out.old out.new (input_line var) }
-{
-    put_node(out, Node::Variable(var));
-    out.put(b" [shape=cds,label=i");
-    out.put_number(u64::from(var.saturating_sub(1)));
-    out.put(b"];\n");
-}
-
 fn put_drawn_input<W: CountedWrite>(out: &mut Buffered<'_, W>, view: &View, var: u32)
     ensures { Puts W.output out.old out.new (input_lines (look_in view.now)
         (drawn_in view.now) var) }
 {
     if view.draws(var) {
-        put_input(out, var);
+        put_node(out, Node::Variable(var));
+        out.put(b" [shape=cds,label=i");
+        out.put_number(u64::from(var.saturating_sub(1)));
+        out.put(b"];\n");
     }
 }
 

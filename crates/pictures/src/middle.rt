@@ -2,25 +2,18 @@
 ghost use Rattle.std.specs.Prelude.{◌<◌, ◌*◌, ◌^◌};
 ghost use Rattle.counted_io.specs.Buffered.{Puts};
 ghost use Rattle.counted_io.specs.Line.{numbered_lines};
-ghost use Rattle.pictures.specs.Pictures.{centre_line, centre_lines, red_line};
+ghost use Rattle.pictures.specs.Pictures.{centre_line, centre_lines};
 
 use crate::look::View;
 use counted_io::{Buffered, CountedWrite};
-
-fn put_red<W: CountedWrite>(out: &mut Buffered<'_, W>, var: usize)
-    requires { 2 * var < 2 ^ 64 }
-    ensures { Puts W.output out.old out.new (red_line var) }
-{
-    out.put_number(2 * var as u64);
-    out.put(b" [color=red];\n");
-}
 
 fn put_line<W: CountedWrite>(out: &mut Buffered<'_, W>, var: usize, is_centre: bool)
     requires { 2 * var < 2 ^ 64 }
     ensures { Puts W.output out.old out.new (centre_line var is_centre) }
 {
     if is_centre {
-        put_red(out, var);
+        out.put_number(2 * var as u64);
+        out.put(b" [color=red];\n");
     }
 }
 

@@ -4,7 +4,6 @@ ghost use Rattle.std.specs.Prelude.{◌≡◌};
 ghost use Rattle.std.specs.Str.{byte};
 ghost use Rattle.counted_io.specs.Buffered.{Puts};
 ghost use Rattle.counted_io.specs.Line.{numbered_lines};
-ghost use Rattle.pictures.specs.Nodes.{property_line};
 ghost use Rattle.pictures.specs.Pictures.{all_properties, are_drawn, property_lines, single_lines};
 ghost use Rattle.pictures.specs.Views.{drawn_in, look_in};
 
@@ -25,13 +24,6 @@ pub(crate) fn are_drawn(view: &View, lits: &[Lit]) -> bool
     true
 }
 
-fn put_property_node<W: CountedWrite>(out: &mut Buffered<'_, W>, node: Node)
-    ensures { Puts W.output out.old out.new (property_line node) }
-{
-    put_node(out, node);
-    out.put(b" [shape=note];\n");
-}
-
 fn put_property<W: CountedWrite>(
     out: &mut Buffered<'_, W>,
     view: &View,
@@ -44,7 +36,8 @@ fn put_property<W: CountedWrite>(
 {
     if are_drawn(view, lits) {
         let node = Node::Property(letter, position);
-        put_property_node(out, node);
+        put_node(out, node);
+        out.put(b" [shape=note];\n");
         put_edges(out, view, node, lits);
     }
 }

@@ -39,7 +39,7 @@ fn names(alloc: Global, first: u32, count: u32) -> Result<Sequence<Symbol>, NoMe
 {
     let mut names = Vec::with_capacity(alloc, count as usize)?;
     for position in 0..count {
-        names.push(name(alloc, first, position)?)?;
+        names.push_reserved(name(alloc, first, position)?);
     }
     Ok(Sequence::from_vec(names))
 }

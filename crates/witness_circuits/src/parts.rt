@@ -43,8 +43,7 @@ fn map_leaves(alloc: Global, first_latch: u32, map: &Aig) -> Result<Instance, No
     ensures { IfOk result (λ leaves. leaves ≡ map_leaves first_latch map.now) }
 {
     let inputs = numbered(alloc, first_latch, map.inputs() as usize)?;
-    let none = Vec::new(alloc);
-    leaves(alloc, inputs.as_slice(), none.as_slice())
+    leaves(alloc, inputs.as_slice(), &[])
 }
 
 /// Where the inputs of the witness come from: inputs of the circuit, or its own after those.

@@ -48,3 +48,24 @@ returns-clause-says c =
     given-says m c.in_ok-image.image h i c.add_conjunction.new.gates c.args.given.now s t c.requires.long image
     (holds-grow g h c.args.given.now t c.in_ok-image.ensures.extends of_given)
     c.in_ok-equal.equal c.in_ok-both.both c.in_ok-equal.ensures.extends says c.in_ok-both.ensures.extends c.in_ok-both.ensures.is
+
+pub add_image-requires-clause-graph : goal.add_image-requires-clause-graph
+add_image-requires-clause-graph c = c.requires.graph
+
+pub add_image-requires-clause-wide : goal.add_image-requires-clause-wide
+add_image-requires-clause-wide c = c.requires.wide
+
+pub add_image-requires-clause-latches : goal.add_image-requires-clause-latches
+add_image-requires-clause-latches c = c.requires.latches
+
+pub add_image-requires-clause-state : goal.add_image-requires-clause-state
+add_image-requires-clause-state c = c.requires.state
+
+pub add_each_equal-requires-clause-graph : goal.add_each_equal-requires-clause-graph
+add_each_equal-requires-clause-graph c = c.in_ok-image.ensures.extends.graph
+
+pub add_conjunction-requires-clause-graph : goal.add_conjunction-requires-clause-graph
+add_conjunction-requires-clause-graph c = c.in_ok-equal.ensures.extends.graph
+
+pub add_conjunction-requires-clause-b : goal.add_conjunction-requires-clause-b
+add_conjunction-requires-clause-b c = c.in_ok-equal.ensures.equal.within

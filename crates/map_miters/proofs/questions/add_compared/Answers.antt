@@ -1,4 +1,5 @@
-use Rattle.std.proofs.Common.{ℕ, ◌≡◌, List, true, subst}
+use Rattle.aig_graph.specs.Circuits.{AreLiteralsOf}
+use Rattle.std.proofs.Common.{ℕ, ◌≡◌, List, true, subst, ◌∙◌, ap, length, sym}
 use Rattle.aig_graph.specs.Graph.{Graph}
 use Rattle.aig_graph.specs.Value.{value_within}
 use Rattle.map_circuits.proofs.GrowingLaws.{extends-itself, extends-transitive}
@@ -57,3 +58,54 @@ returns-clause-extends c =
     let h4 : Graph = c.add_failure-2.new.gates in
     let h5 : Graph = c.add_failure-3.new.gates in
     extends-transitive g h4 h5 (extends-transitive g h3 h4 (extends-transitive g h2 h3 (extends-transitive g h1 h2 c.in_ok-same_nexts.ensures.extends c.in_ok-same_props.ensures.extends) c.in_ok-keep.ensures.extends) c.in_ok-next.ensures.extends) c.in_ok-read.ensures.extends
+
+pub add_each_equal-requires-clause-graph : goal.add_each_equal-requires-clause-graph
+add_each_equal-requires-clause-graph c = c.requires.graph
+
+pub add_each_equal-requires-clause-long : goal.add_each_equal-requires-clause-long
+add_each_equal-requires-clause-long c = ap (λ (ls : List ℕ). length ls) c.as_slice.ensures.value ∙ c.requires.sides.nexts_long ∙ sym (ap (λ (ls : List ℕ). length ls) c.as_slice-nexts.ensures.value)
+
+pub add_each_equal-requires-clause-a : goal.add_each_equal-requires-clause-a
+add_each_equal-requires-clause-a c = subst (λ (ls : List ℕ). AreLiteralsOf c.args.gates.now ls) (sym c.as_slice.ensures.value) c.requires.sides.outputs
+
+pub add_each_equal-requires-clause-b : goal.add_each_equal-requires-clause-b
+add_each_equal-requires-clause-b c = subst (λ (ls : List ℕ). AreLiteralsOf c.args.gates.now ls) (sym c.as_slice-nexts.ensures.value) c.requires.sides.nexts
+
+pub add_each_equal-requires-2-clause-graph : goal.add_each_equal-requires-2-clause-graph
+add_each_equal-requires-2-clause-graph c = c.in_ok-same_nexts.ensures.extends.graph
+
+pub add_each_equal-requires-2-clause-long : goal.add_each_equal-requires-2-clause-long
+add_each_equal-requires-2-clause-long c = ap (λ (ls : List ℕ). length ls) c.as_slice-2.ensures.value ∙ c.requires.sides.props_long ∙ sym (ap (λ (ls : List ℕ). length ls) c.as_slice-props.ensures.value)
+
+pub add_each_equal-requires-2-clause-a : goal.add_each_equal-requires-2-clause-a
+add_each_equal-requires-2-clause-a c = subst (λ (ls : List ℕ). AreLiteralsOf c.add_each_equal.new.gates ls) (sym c.as_slice-2.ensures.value) (λ k d less. c.in_ok-same_nexts.ensures.extends.literals _ (c.requires.sides.props k d less))
+
+pub add_each_equal-requires-2-clause-b : goal.add_each_equal-requires-2-clause-b
+add_each_equal-requires-2-clause-b c = subst (λ (ls : List ℕ). AreLiteralsOf c.add_each_equal.new.gates ls) (sym c.as_slice-props.ensures.value) (λ k d less. c.in_ok-same_nexts.ensures.extends.literals _ (c.requires.sides.first_props k d less))
+
+pub add_failure-requires-clause-graph : goal.add_failure-requires-clause-graph
+add_failure-requires-clause-graph c = c.in_ok-same_props.ensures.extends.graph
+
+pub add_failure-requires-clause-given : goal.add_failure-requires-clause-given
+add_failure-requires-clause-given c = c.in_ok-same_props.ensures.extends.literals _ (c.in_ok-same_nexts.ensures.extends.literals _ c.requires.sides.image)
+
+pub add_failure-requires-clause-wanted : goal.add_failure-requires-clause-wanted
+add_failure-requires-clause-wanted c = c.in_ok-same_props.ensures.extends.literals _ (c.in_ok-same_nexts.ensures.extends.literals _ c.requires.sides.later)
+
+pub add_failure-requires-2-clause-graph : goal.add_failure-requires-2-clause-graph
+add_failure-requires-2-clause-graph c = c.in_ok-keep.ensures.extends.graph
+
+pub add_failure-requires-2-clause-given : goal.add_failure-requires-2-clause-given
+add_failure-requires-2-clause-given c = c.in_ok-keep.ensures.extends.literals _ (c.in_ok-same_props.ensures.extends.literals _ (c.in_ok-same_nexts.ensures.extends.literals _ c.requires.sides.image))
+
+pub add_failure-requires-2-clause-wanted : goal.add_failure-requires-2-clause-wanted
+add_failure-requires-2-clause-wanted c = c.in_ok-keep.ensures.extends.literals _ (c.in_ok-same_props.ensures.extends.literals _ c.in_ok-same_nexts.ensures.equal.within)
+
+pub add_failure-requires-3-clause-graph : goal.add_failure-requires-3-clause-graph
+add_failure-requires-3-clause-graph c = c.in_ok-next.ensures.extends.graph
+
+pub add_failure-requires-3-clause-given : goal.add_failure-requires-3-clause-given
+add_failure-requires-3-clause-given c = c.in_ok-next.ensures.extends.literals _ (c.in_ok-keep.ensures.extends.literals _ (c.in_ok-same_props.ensures.extends.literals _ (c.in_ok-same_nexts.ensures.extends.literals _ c.requires.sides.image)))
+
+pub add_failure-requires-3-clause-wanted : goal.add_failure-requires-3-clause-wanted
+add_failure-requires-3-clause-wanted c = c.in_ok-next.ensures.extends.literals _ (c.in_ok-keep.ensures.extends.literals _ c.in_ok-same_props.ensures.equal.within)

@@ -176,3 +176,21 @@ returns-clause-extends c =
     let h2 : Graph = c.add_each_equal.new.gates in
     let h3 : Graph = c.add_conjunction.new.gates in
     extends-transitive g h2 h3 (extends-transitive g h1 h2 c.in_ok-image.ensures.extends c.in_ok-equal.ensures.extends) c.in_ok-begins.ensures.extends
+
+pub add_image-requires-clause-graph : goal.add_image-requires-clause-graph
+add_image-requires-clause-graph c = c.requires.graph
+
+pub add_image-requires-clause-latches : goal.add_image-requires-clause-latches
+add_image-requires-clause-latches c = c.requires.askable.latches
+
+pub free_stay-requires : goal.free_stay-requires
+free_stay-requires c = c.requires.askable.outputs
+
+pub add_conjunction-requires-clause-graph : goal.add_conjunction-requires-clause-graph
+add_conjunction-requires-clause-graph c = c.in_ok-equal.ensures.extends.graph
+
+pub add_conjunction-requires-clause-b : goal.add_conjunction-requires-clause-b
+add_conjunction-requires-clause-b c = c.in_ok-equal.ensures.equal.within
+
+pub add_each_equal-requires-clause-graph : goal.add_each_equal-requires-clause-graph
+add_each_equal-requires-clause-graph c = c.in_ok-image.ensures.extends.graph

@@ -1,5 +1,5 @@
 use Rattle.std.proofs.Common.{ℕ, ◌∙◌, List, ap, length, sym, subst}
-use Rattle.aig_graph.specs.Circuits.{Netlist}
+use Rattle.aig_graph.specs.Circuits.{Netlist, AreLiteralsOf}
 use Rattle.aig_graph.specs.Graph.{Graph}
 use Rattle.state_maps.specs.MapCircuits.{mapped}
 use Rattle.state_maps.specs.States.{after_step}
@@ -135,3 +135,43 @@ returns-clause-extends c =
     let h3 : Graph = c.add_image-2.new.gates in
     let h4 : Graph = c.add_step-2.new.gates in
     extends-transitive g h3 h4 (extends-transitive g h2 h3 (extends-transitive g h1 h2 c.in_ok-before.ensures.extends c.in_ok-image.ensures.extends) c.in_ok-later.ensures.extends) c.in_ok-after.ensures.extends
+
+pub add_step-requires-clause-graph : goal.add_step-requires-clause-graph
+add_step-requires-clause-graph c = c.requires.graph
+
+pub add_step-requires-clause-wide : goal.add_step-requires-clause-wide
+add_step-requires-clause-wide c = ap (λ (ls : List ℕ). length ls) c.as_slice-inputs.ensures.value ∙ c.requires.leaves.wide
+
+pub add_step-requires-clause-long : goal.add_step-requires-clause-long
+add_step-requires-clause-long c = ap (λ (ls : List ℕ). length ls) c.as_slice-state.ensures.value ∙ c.requires.leaves.long
+
+pub add_step-requires-clause-inputs : goal.add_step-requires-clause-inputs
+add_step-requires-clause-inputs c = subst (λ (ls : List ℕ). AreLiteralsOf c.args.gates.now ls) (sym c.as_slice-inputs.ensures.value) c.requires.leaves.inputs.within
+
+pub add_step-requires-clause-state : goal.add_step-requires-clause-state
+add_step-requires-clause-state c = subst (λ (ls : List ℕ). AreLiteralsOf c.args.gates.now ls) (sym c.as_slice-state.ensures.value) c.requires.leaves.latches.within
+
+pub add_image-requires-clause-graph : goal.add_image-requires-clause-graph
+add_image-requires-clause-graph c = c.in_ok-before.ensures.extends.graph
+
+pub add_image-requires-clause-wide : goal.add_image-requires-clause-wide
+add_image-requires-clause-wide c = ap (λ (ls : List ℕ). length ls) c.as_slice-state.ensures.value ∙ c.requires.leaves.long ∙ sym c.requires.askable.inputs
+
+pub add_image-requires-clause-latches : goal.add_image-requires-clause-latches
+add_image-requires-clause-latches c = c.requires.askable.latches
+
+pub add_image-requires-clause-state : goal.add_image-requires-clause-state
+add_image-requires-clause-state c = subst (λ (ls : List ℕ). AreLiteralsOf c.add_step.new.gates ls) (sym c.as_slice-state.ensures.value) (λ k d less. c.in_ok-before.ensures.extends.literals _ (c.requires.leaves.latches.within k d less))
+
+pub add_image-requires-2-clause-graph : goal.add_image-requires-2-clause-graph
+add_image-requires-2-clause-graph c = c.in_ok-image.ensures.extends.graph
+
+pub add_image-requires-2-clause-latches : goal.add_image-requires-2-clause-latches
+add_image-requires-2-clause-latches c = c.requires.askable.latches
+
+pub add_step-requires-2-clause-graph : goal.add_step-requires-2-clause-graph
+add_step-requires-2-clause-graph c = c.in_ok-later.ensures.extends.graph
+
+pub add_step-requires-2-clause-inputs : goal.add_step-requires-2-clause-inputs
+add_step-requires-2-clause-inputs c =
+    subst (λ (ls : List ℕ). AreLiteralsOf c.add_image-2.new.gates ls) (sym c.as_slice-inputs.ensures.value) (λ k d less. c.in_ok-later.ensures.extends.literals _ (c.in_ok-image.ensures.extends.literals _ (c.in_ok-before.ensures.extends.literals _ (c.requires.leaves.inputs.within k d less))))

@@ -147,3 +147,12 @@ returns-clause-sides c =
       first = step-grows h i a beside_digits beside_first c.in_ok-of_first.of_first last first;
       second = second;
     }
+
+pub add_step-requires-clause-graph : goal.add_step-requires-clause-graph
+add_step-requires-clause-graph c = c.requires.graph
+
+pub add_step-requires-2-clause-graph : goal.add_step-requires-2-clause-graph
+add_step-requires-2-clause-graph c = c.in_ok-of_first.ensures.extends.graph
+
+pub returns-clause-extends : goal.returns-clause-extends
+returns-clause-extends c = extends-transitive c.args.gates.now c.add_step.new.gates c.add_step-2.new.gates c.in_ok-of_first.ensures.extends c.in_ok-of_second.ensures.extends

@@ -40,3 +40,15 @@ returns-clause-step c =
     subst (λ (a : Graph). IsView h a (λ z u. value_within a (x z u) (s z u)) part) c.aig.ensures.value (c.in_ok-part.ensures.view x s of_inputs of_state) in
     step-is h n x s part c.known.ensures.graph view (record { nexts = c.in_ok-nexts.nexts; props = c.in_ok-props.props }) (properties-within n c.known.ensures.netlist)
     (c.in_ok-nexts.ensures ∙ ap (λ (ls : List Latch). map (λ (l : Latch). substitute part l.next) ls) same) c.in_ok-props.ensures
+
+pub add_over-requires-clause-graph : goal.add_over-requires-clause-graph
+add_over-requires-clause-graph c = c.requires.graph
+
+pub add_over-requires-clause-inputs : goal.add_over-requires-clause-inputs
+add_over-requires-clause-inputs c = c.requires.inputs
+
+pub add_over-requires-clause-latches : goal.add_over-requires-clause-latches
+add_over-requires-clause-latches c = c.requires.state
+
+pub returns-clause-extends : goal.returns-clause-extends
+returns-clause-extends c = c.in_ok-part.ensures.extends

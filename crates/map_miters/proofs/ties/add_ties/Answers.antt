@@ -1,4 +1,5 @@
-use Rattle.std.proofs.Common.{ℕ, ◌<◌, ◌≡◌, ◌∙◌, ◌+◌, List, Some, arith, ap, get_or, length, refl, slice_get, subst, sym}
+use Rattle.map_miters.proofs.LeafLaws.{latches-stay}
+use Rattle.std.proofs.Common.{ℕ, ◌<◌, ◌≡◌, ◌∙◌, ◌+◌, List, Some, arith, ap, get_or, length, refl, slice_get, subst, sym, true}
 use Rattle.std.proofs.lemmas.Option.{slice_get_read}
 use Rattle.aig_graph.specs.declared.graph.Latch.{Latch}
 use Rattle.aig_graph.specs.declared.properties.Props.{Props}
@@ -75,3 +76,55 @@ loop-place-preserved c =
                 (subst (λ (i : Graph). AreTies i a d m (k + 1) c.loop-place.ties.items) (sym w.gates-is) kept);
           })
     ]
+
+pub bounds-latches-place : goal.bounds-latches-place
+bounds-latches-place c = c.loop-place-test.true
+
+pub bounds-outputs-place : goal.bounds-outputs-place
+bounds-outputs-place c =
+    let latches : List Latch = c.args.second.now.aig.latches in
+    let k : ℕ = c.loop-place.place in
+    let of_latches : c.latches-latches.result.now ≡ latches = c.latches-latches.ensures.value ∙ ap (λ (h : Graph). h.latches) c.aig.ensures.value in
+    let less : k < length latches = omega (arith, c.loop-place-test.true, ap (λ (ls : List Latch). length ls) of_latches) in
+    let outputs : List ℕ = c.args.map.now.props.outputs in
+    let of_outputs : c.as_slice-outputs.result.now ≡ outputs = c.as_slice-outputs.ensures ∙ ap (λ (p : Props). p.outputs) c.props.ensures.value in
+    let short : k < length c.as_slice-outputs.result.now = omega (arith, less, c.requires.askable.outputs, ap (λ (ls : List ℕ). length ls) of_outputs) in
+    short
+
+pub add_tie-requires-clause-graph : goal.add_tie-requires-clause-graph
+add_tie-requires-clause-graph c = c.loop-place.invariant.extends.graph
+
+pub add_tie-requires-clause-askable : goal.add_tie-requires-clause-askable
+add_tie-requires-clause-askable c = c.requires.askable
+
+pub add_tie-requires-clause-latches : goal.add_tie-requires-clause-latches
+add_tie-requires-clause-latches c =
+    latches-stay c.args.first.now.aig c.args.second.now.aig c.args.gates.now c.loop-place.gates true c.loop-place.invariant.extends c.requires.latches
+
+pub add_tie-requires-clause-place : goal.add_tie-requires-clause-place
+add_tie-requires-clause-place c =
+    let latches : List Latch = c.args.second.now.aig.latches in
+    let k : ℕ = c.loop-place.place in
+    let of_latches : c.latches-latches.result.now ≡ latches = c.latches-latches.ensures.value ∙ ap (λ (h : Graph). h.latches) c.aig.ensures.value in
+    let less : k < length latches = omega (arith, c.loop-place-test.true, ap (λ (ls : List Latch). length ls) of_latches) in
+    less
+
+pub add_tie-requires-clause-output : goal.add_tie-requires-clause-output
+add_tie-requires-clause-output c =
+    let latches : List Latch = c.args.second.now.aig.latches in
+    let k : ℕ = c.loop-place.place in
+    let of_latches : c.latches-latches.result.now ≡ latches = c.latches-latches.ensures.value ∙ ap (λ (h : Graph). h.latches) c.aig.ensures.value in
+    let less : k < length latches = omega (arith, c.loop-place-test.true, ap (λ (ls : List Latch). length ls) of_latches) in
+    let outputs : List ℕ = c.args.map.now.props.outputs in
+    let of_outputs : c.as_slice-outputs.result.now ≡ outputs = c.as_slice-outputs.ensures ∙ ap (λ (p : Props). p.outputs) c.props.ensures.value in
+    let short : k < length c.as_slice-outputs.result.now = omega (arith, less, c.requires.askable.outputs, ap (λ (ls : List ℕ). length ls) of_outputs) in
+    read-entry c.as_slice-outputs.result.now k c.index-outputs-place.result short c.index-outputs-place.is ∙ ap (λ (ls : List ℕ). get_or ls k 0) of_outputs
+
+pub returns-clause-extends : goal.returns-clause-extends
+returns-clause-extends c = c.loop-place.invariant.extends
+
+pub returns-clause-ties : goal.returns-clause-ties
+returns-clause-ties c =
+    let of_latches : c.latches-latches.result.now ≡ c.args.second.now.aig.latches = c.latches-latches.ensures.value ∙ ap (λ (h : Graph). h.latches) c.aig.ensures.value in
+    let end : c.loop-place.place ≡ length c.args.second.now.aig.latches = omega (arith, c.loop-place-test.false, c.loop-place.auto, ap (λ (ls : List Latch). length ls) of_latches) in
+    subst (λ (n : ℕ). AreTies c.loop-place.gates c.args.first.now c.args.second.now c.args.map.now n c.loop-place.ties.items) end c.loop-place.invariant.ties

@@ -1,4 +1,4 @@
-use Rattle.std.proofs.Common.{◌≡◌, ◌∙◌, Bool, false, List, ap, refl, subst, sym, bytes_eq}
+use Rattle.std.proofs.Common.{◌≡◌, ◌∙◌, false, List, ap, refl, subst, sym, bytes_eq}
 use Rattle.std.proofs.lemmas.List.{take_all}
 use Rattle.aig_graph.specs.declared.properties.Symbol.{Symbol}
 use Rattle.aig_graph.specs.Keep.{has_name}

@@ -1,4 +1,4 @@
-use Rattle.std.proofs.Common.{◌≡◌, ◌∙◌, ℕ, arith}
+use Rattle.std.proofs.Common.{◌≡◌, ◌∙◌, arith}
 use Rattle.pictures.proofs.MarkLaws.{near-none, near-more}
 use Rattle.pictures.proofs.near.near.Goals as goal
 
