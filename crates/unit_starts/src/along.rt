@@ -165,10 +165,12 @@ fn send_all(
     takers: &[u32],
     flows: &mut [GateFlow],
 ) -> LeftUnits {
+    // a copy of its own, so that the loop has the tables' places and lengths at hand
+    let region = *region;
     let mut left = LeftUnits::none(alloc);
     for place in 0..region.latches.len() {
         if region.is_known_latch(place) {
-            send(region, known, takers, flows, &mut left, place);
+            send(&region, known, takers, flows, &mut left, place);
         }
     }
     left
