@@ -12,10 +12,11 @@ import re
 
 TOP = pathlib.Path(__file__).resolve().parent.parent
 # What such a run never calls: other commands, binary files, objects of JSON, maps, merging, the smallest sets, pages of faults.
-OTHER_CRATES = set("""binary_reader json_reports map_circuits retiming_maps state_maps map_checks map_commands merged_latches
-    latch_merging batch_lists batch_pool lane_sim witnesses pictures certificate_audits simulation_commands fault_pages
-    map_miters waves backward_sets backward_moves backward_circuits backward_retiming backward_witnesses
-    witness_circuits""".split())
+OTHER_CRATES = set("""binary_file json_reports map_circuits retiming_maps state_maps map_checks map_commands latch_merging batch_pool lane_sim
+    witnesses pictures certificate_audits simulation_commands fault_pages map_miters waves backward_sets backward_moves
+    backward_circuits backward_retiming witness_circuits""".split())
+# The same of files of a crate that it calls: lists of files.
+OTHER_FILES = {'circuit_files': {'entry', 'read'}}
 OTHER_FUNCTIONS = set("""retime_list print_statistics convert print_simulation print_comparison print_verification write_picture
     print_witness_back print_moves write_lifted write_miter retime_spelt_mapped print_check explain print_object mapped_between mapped_answer map_written
     merge_latches chosen_smallest
@@ -170,10 +171,16 @@ class Tree:
         while queue:
             function = queue.popleft()
             for called in self.calls(function):
-                if called not in steps and called.crate not in OTHER_CRATES and called.name not in OTHER_FUNCTIONS:
+                if called not in steps and not is_other(called):
                     steps[called] = (steps[function][0] + 1, function)
                     queue.append(called)
         return steps
+
+
+def is_other(function):
+    """Whether such a run never calls the function."""
+    in_other_file = function.path.stem in OTHER_FILES.get(function.crate, ())
+    return in_other_file or function.crate in OTHER_CRATES or function.name in OTHER_FUNCTIONS
 
 
 def way_to_reading(steps):

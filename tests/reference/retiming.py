@@ -94,15 +94,16 @@ def arcs_of(c, held, bound):
 
 
 def path_to_sink(residual):
-    """The shortest augmenting path from the source to the sink, as arcs, or None."""
-    parent, queue = {'source': None}, ['source']
-    for node in queue:
+    """An augmenting path from the source to the sink, as arcs, or None."""
+    parent, stack = {'source': None}, ['source']
+    while stack:
+        node = stack.pop()
         for head, capacity in residual[node].items():
             if capacity and head not in parent:
                 parent[head] = node
-                queue.append(head)
-        if 'sink' in parent:
-            return arcs_to('sink', parent)
+                if head == 'sink':
+                    return arcs_to(head, parent)
+                stack.append(head)
     return None
 
 
@@ -117,8 +118,9 @@ def arcs_to(node, parent):
 
 def maximum_flow(c, held, bound):
     """By augmenting paths of one unit each: the units, and what room is left on each arc."""
-    residual = {tail: dict(heads) for tail, heads in arcs_of(c, held, bound).items()}
-    for tail, heads in arcs_of(c, held, bound).items():
+    arcs = arcs_of(c, held, bound)
+    residual = {tail: dict(heads) for tail, heads in arcs.items()}
+    for tail, heads in arcs.items():
         for head in heads:
             residual[head].setdefault(tail, 0)
     count, path = 0, path_to_sink(residual)

@@ -9,8 +9,8 @@ use Rattle.aig_graph.specs.declared.properties.Symbols.{Symbols}
 use Rattle.aig_graph.specs.Graph.{Graph, IsGraph, IsLiteralOf, variable}
 use Rattle.aig_graph.specs.Circuits.{Netlist, IsNetlist}
 use Rattle.aig_graph.specs.declared.properties.Props.{Props}
-use Rattle.gate_order.specs.Order.{IsOrder, ordered, AreReadsInFile, ReadsBelow}
-use Rattle.gate_order.proofs.OrderLaws.{ordered_law}
+use Rattle.ascii_file.specs.Order.{IsOrder, ordered, AreReadsInFile, ReadsBelow}
+use Rattle.ascii_file.proofs.GateOrderLaws.{ordered_law}
 use Rattle.ascii_file.specs.Meaning.{props_of}
 use Rattle.ascii_file.specs.declared.header.Header.{Header}
 use Rattle.reader_parts.specs.Parts.{AreNamesWithin}

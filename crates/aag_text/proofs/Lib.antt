@@ -1,3 +1,4 @@
+pub mod HeaderLaws
 pub mod TakingLaws
 pub mod FeedingLaws
 pub mod FinishingLaws

@@ -12,8 +12,8 @@ use Rattle.aig_graph.specs.declared.properties.Symbols.{Symbols}
 use Rattle.aig_graph.specs.Graph.{variable}
 use Rattle.aig_graph.specs.Building.{gate_of}
 use Rattle.aig_graph.specs.Circuits.{Netlist}
-use Rattle.gate_order.specs.declared.reads.Reads.{Reads}
-use Rattle.gate_order.specs.Order.{IsOrder, ordered}
+use Rattle.ascii_file.specs.declared.reads.Reads.{Reads}
+use Rattle.ascii_file.specs.Order.{IsOrder, ordered}
 use Rattle.file_words.specs.declared.fault.ReadError.{ReadError}
 use Rattle.file_words.specs.declared.fault.ReadError.TheVariants.{Undefined, Cycle, NoMemory}
 use Rattle.file_words.specs.Answering.{◌>>=◌, Fails}

@@ -4,7 +4,7 @@ use Rattle.aig_graph.specs.declared.graph.Gate.{Gate}
 use Rattle.aig_graph.specs.declared.graph.Latch.{Latch}
 use Rattle.aig_graph.specs.Graph.{Graph, variable}
 use Rattle.aig_graph.specs.Building.{gate_of}
-use Rattle.gate_order.specs.declared.reads.Reads.{Reads}
+use Rattle.ascii_file.specs.declared.reads.Reads.{Reads}
 use Rattle.file_words.specs.declared.fault.ReadError.{ReadError}
 use Rattle.file_words.specs.declared.fault.ReadError.TheVariants.{Cycle}
 

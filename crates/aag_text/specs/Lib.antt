@@ -1,3 +1,4 @@
+pub mod Header
 pub mod Lines
 pub mod Standing
 pub mod Beginning

@@ -3,8 +3,8 @@ use Rattle.std.specs.Prelude.{ℕ, ◌≡◌, ◌==◌, ◌+◌, ◌^◌, ◌≤
 use Rattle.std.specs.List.{sum}
 use Rattle.aig_graph.specs.declared.properties.Symbols.{Symbols}
 use Rattle.aig_graph.specs.Circuits.{Netlist}
-use Rattle.gate_order.specs.declared.reads.Reads.{Reads}
-use Rattle.gate_order.specs.Order.{IsOrder, ordered}
+use Rattle.ascii_file.specs.declared.reads.Reads.{Reads}
+use Rattle.ascii_file.specs.Order.{IsOrder, ordered}
 use Rattle.ascii_file.specs.declared.header.Header.{Header}
 use Rattle.ascii_file.specs.Meaning.{props_of}
 use Rattle.reader_parts.specs.Names.{AreNamesOf}

@@ -10,7 +10,7 @@ use Rattle.ascii_file.specs.Reading.{read_bytes}
 use Rattle.ascii_file.specs.Pieces.{fed}
 use Rattle.aag_text.specs.Standing.{HoldsOrFaults}
 use Rattle.binary_file.specs.Reading.{State, AtHeader, feed, read_binary}
-use Rattle.binary_reader.specs.Holding.{Answers}
+use Rattle.binary_file.specs.Holding.{Answers}
 use Rattle.file_words.specs.declared.spelling.Spelling.{Spelling}
 use Rattle.file_words.specs.declared.spelling.Spelling.TheVariants.{Ascii, Binary}
 use Rattle.aig_binary.specs.Spellings.{spelling_of, read_in_spelling, read_any}

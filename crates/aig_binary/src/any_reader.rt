@@ -7,7 +7,7 @@ use crate::letters::Letters;
 use aag_text::AagReader;
 use aig_graph::Circuit;
 use arrayvec::ArrayVec;
-use binary_reader::AigReader;
+use binary_file::AigReader;
 use file_words::{ReadError, Spelling};
 use std::alloc::Global;
 use std::mem;

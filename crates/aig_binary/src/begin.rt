@@ -10,7 +10,7 @@ use crate::any_reader::Phase;
 use crate::first_bytes::spelling;
 use crate::letters::{LETTERS, first_letters};
 use aag_text::AagReader;
-use binary_reader::AigReader;
+use binary_file::AigReader;
 use file_words::{ReadError, Spelling};
 use std::alloc::Global;
 

@@ -8,8 +8,8 @@ mod latches;
 
 use crate::binary_text::gates::put_gates;
 use crate::binary_text::latches::put_latches;
+use aag_text::{put_counts, put_properties, put_symbols};
 use aig_graph::Circuit;
-use ascii_writer::{put_counts, put_properties, put_symbols};
 use counted_io::{Buffered, CountedWrite, WriteError};
 
 /// Puts the whole text, section by section.

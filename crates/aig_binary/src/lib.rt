@@ -18,7 +18,7 @@ mod rest;
 mod writing;
 
 pub use any_reader::AnyReader;
-pub use binary_reader::{AigReader, read_aig};
+pub use binary_file::{AigReader, read_aig};
 pub use binary_text::write_aig;
 pub use file_words::Spelling;
 pub use first_bytes::spelling;

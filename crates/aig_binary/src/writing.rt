@@ -2,8 +2,8 @@ ghost use Rattle.counted_io.specs.Output.{Writes};
 ghost use Rattle.aig_binary.specs.Spellings.{text_in};
 
 use crate::binary_text::write_aig;
+use aag_text::write_aag;
 use aig_graph::Circuit;
-use ascii_writer::write_aag;
 use counted_io::{CountedWrite, WriteError};
 use file_words::Spelling;
 

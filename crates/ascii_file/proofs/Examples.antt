@@ -8,7 +8,7 @@ use Rattle.file_words.specs.Lines.{lines, pieces, numbers_of}
 use Rattle.file_words.specs.Text.{text, latch_row, gate_row, symbol_line}
 use Rattle.file_words.specs.Answering.{◌>>=◌}
 use Rattle.counted_io.specs.Line.{line, spaced}
-use Rattle.gate_order.specs.Order.{may_follow, first_below, order_from}
+use Rattle.ascii_file.specs.Order.{may_follow, first_below, order_from}
 use Rattle.ascii_file.specs.Headers.{header_of}
 use Rattle.ascii_file.specs.Items.{item_of, begins_comment}
 use Rattle.ascii_file.specs.Meaning.{props_of, symbols_of, circuit_of}

@@ -11,11 +11,11 @@ use Rattle.std.proofs.lemmas.List.Sums.{AllPass-from_list_all, list_all-from_All
 use Rattle.variable_tables.specs.Marking.{has}
 use Rattle.aig_graph.specs.Graph.{variable}
 use Rattle.aig_graph.specs.Circuits.{Netlist}
-use Rattle.gate_order.specs.declared.reads.Reads.{Reads}
-use Rattle.gate_order.specs.Order.{IsOrder, ReadsBelow, AreReadsInFile, ordered}
-use Rattle.gate_order.specs.Cycles.{HasCycle}
-use Rattle.gate_order.proofs.OrderLaws.{ordered_law}
-use Rattle.gate_order.proofs.CycleLaws.{exists_law}
+use Rattle.ascii_file.specs.declared.reads.Reads.{Reads}
+use Rattle.ascii_file.specs.Order.{IsOrder, ReadsBelow, AreReadsInFile, ordered}
+use Rattle.ascii_file.specs.Cycles.{HasCycle}
+use Rattle.ascii_file.proofs.GateOrderLaws.{ordered_law}
+use Rattle.ascii_file.proofs.CycleLaws.{exists_law}
 use Rattle.file_words.specs.declared.fault.ReadError.{ReadError}
 use Rattle.file_words.specs.declared.fault.ReadError.TheVariants.{Undefined, Truncated}
 use Rattle.file_words.specs.Lines.{lines}

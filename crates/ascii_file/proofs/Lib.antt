@@ -1,3 +1,9 @@
+pub mod FirstLaws
+pub mod GateOrderLaws
+pub mod CycleLaws
+pub mod ReaderLaws
+pub mod ReadyLaws
+pub mod OrderExamples
 pub mod Examples
 pub mod CheckLaws
 pub mod StepLaws

@@ -16,9 +16,9 @@ use Rattle.aig_graph.specs.declared.properties.Symbols.{Symbols}
 use Rattle.aig_graph.specs.Graph.{Graph, IsGraph, IsGateAt, IsLiteralOf, variable, first_latch, first_gate}
 use Rattle.aig_graph.specs.Building.{gate_of}
 use Rattle.aig_graph.specs.Circuits.{Netlist, IsNetlist}
-use Rattle.gate_order.specs.declared.reads.Reads.{Reads}
-use Rattle.gate_order.specs.Order.{IsOrder, IsInOrder, ReadsBelow}
-use Rattle.gate_order.proofs.OrderLaws.{at_most_one, keeps_order}
+use Rattle.ascii_file.specs.declared.reads.Reads.{Reads}
+use Rattle.ascii_file.specs.Order.{IsOrder, IsInOrder, ReadsBelow}
+use Rattle.ascii_file.proofs.GateOrderLaws.{at_most_one, keeps_order}
 use Rattle.ascii_file.proofs.RangeLaws.{range-literal, enumerated_at}
 use Rattle.ascii_file.specs.declared.raw.RawLatch.{RawLatch}
 use Rattle.ascii_file.specs.declared.raw.RawGate.{RawGate}

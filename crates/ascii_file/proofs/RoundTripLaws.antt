@@ -9,7 +9,7 @@ use Rattle.aig_graph.specs.declared.properties.Symbol.{Symbol}
 use Rattle.aig_graph.specs.declared.properties.Symbols.{Symbols}
 use Rattle.aig_graph.specs.Graph.{IsGraph, variables_end}
 use Rattle.aig_graph.specs.Circuits.{Netlist, IsNetlist}
-use Rattle.gate_order.proofs.CycleLaws.{exists_law}
+use Rattle.ascii_file.proofs.CycleLaws.{exists_law}
 use Rattle.file_words.specs.Lines.{numbers_of}
 use Rattle.file_words.specs.Text.{without_last_zeros, header_row, text}
 use Rattle.file_words.specs.Cuts.{lacks}

@@ -7,7 +7,7 @@ use Rattle.aig_graph.specs.Graph.{IsGraph}
 use Rattle.aig_graph.specs.Circuits.{Netlist, IsNetlist}
 use Rattle.file_words.specs.declared.fault.ReadError.{ReadError}
 use Rattle.file_words.specs.Text.{text}
-use Rattle.gate_order.specs.Order.{IsOrder}
+use Rattle.ascii_file.specs.Order.{IsOrder}
 use Rattle.ascii_file.specs.declared.header.Header.{Header}
 use Rattle.ascii_file.specs.Raw.{Raw}
 use Rattle.ascii_file.specs.Files.{IsAsciiFile}

@@ -1,3 +1,8 @@
+pub mod Order
+pub mod Cycles
+pub mod OrderLaws
+pub mod Readers
+pub mod Ready
 pub mod Raw
 pub mod Headers
 pub mod Items

@@ -10,8 +10,8 @@ use Rattle.aig_graph.specs.declared.properties.Symbols.{Symbols}
 use Rattle.aig_graph.specs.Graph.{variable}
 use Rattle.aig_graph.specs.Building.{gate_of}
 use Rattle.aig_graph.specs.Circuits.{Netlist}
-use Rattle.gate_order.specs.declared.reads.Reads.{Reads}
-use Rattle.gate_order.specs.Order.{ordered}
+use Rattle.ascii_file.specs.declared.reads.Reads.{Reads}
+use Rattle.ascii_file.specs.Order.{ordered}
 use Rattle.ascii_file.specs.declared.header.Header.{Header}
 use Rattle.ascii_file.specs.declared.raw.RawGate.{RawGate}
 use Rattle.ascii_file.specs.declared.raw.SymbolKind.{SymbolKind}

@@ -4,3 +4,13 @@ pub mod Reading
 pub mod Files
 pub mod Laws
 pub mod Deltas
+pub mod Header
+pub mod Cutting
+pub mod Opened
+pub mod Standing
+pub mod Stages
+pub mod Holding
+pub mod Contents
+pub mod Kept
+pub mod Taking
+pub mod ReaderItems

@@ -6,3 +6,10 @@ pub mod PartsLaws
 pub mod DistinctLaws
 pub mod RangeLaws
 pub mod Examples
+pub mod FormLaws
+pub mod WordLaws
+pub mod StepLaws
+pub mod FileLaws
+pub mod RoundTripLaws
+pub mod ReadLaws
+pub mod FileExamples

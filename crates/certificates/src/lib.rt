@@ -1,21 +1,39 @@
 //! Judges sets of gates by routes: where as many routes as the border of a closed set has variables go from known latches to what reads
 //! from outside, and no two of them pass after one variable, each closed set has a border variable of its own on each route. So
 //! none has a smaller border, whoever found set and routes.
+//!
+//! A file of certificates has the set of each frame, the size of its border, and the routes that show it to be least.
 #![tactic(auto)]
 
 ghost use Rattle.certificates.specs.Verdicts.{LeastLaw, YesLaw};
 
 mod apart;
+mod blocks;
 mod certificate;
+mod fault;
+mod file;
+mod filling;
+mod forms;
 mod judging;
+mod laws;
+mod lines;
+mod reading;
 mod routes;
 mod verdict;
 mod walk;
+mod words;
+mod writing;
 
+pub use aig_graph::Choice;
 pub use certificate::Certificate;
+pub use fault::CertError;
+pub use file::CertFile;
 pub use judging::{check, check_closed};
+pub use laws::{rereading_law, round_trip_law};
+pub use reading::read_cert;
 pub use routes::Routes;
 pub use verdict::{Objection, Verdict};
+pub use writing::write_cert;
 
 /// A closed set whose border has as many variables as there are routes apart from one another is least.
 pub fn least_law()

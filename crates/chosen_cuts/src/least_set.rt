@@ -9,6 +9,7 @@ ghost use Rattle.frame_net.specs.Cuts.{IsNetworkOf};
 ghost use Rattle.aig_graph.specs.Chosen.{IsChosen};
 ghost use Rattle.pulse.specs.Conditions.{IsMaxPreflow};
 
+use crate::chosen_least_in_parts;
 use crate::claiming::certify_by_units;
 use crate::records::Records;
 use aig_graph::{Choice, Circuit, ClosedSet, Keep, NoMemory};
@@ -18,7 +19,6 @@ use frame_net::Net;
 use pulse::{Crew, MaxPreflow, PhaseGate};
 use std::alloc::Global;
 use std::thread::Threads;
-use unit_components::chosen_least_in_parts;
 
 /// The set; its certificate is added, where certificates are wanted.
 fn recorded(

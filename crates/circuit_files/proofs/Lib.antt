@@ -1,2 +1,3 @@
+pub mod ListLaws
 pub mod NameLaws
 pub mod TargetLaws

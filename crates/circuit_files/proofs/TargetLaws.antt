@@ -3,9 +3,9 @@ use Rattle.std.proofs.Common.{ℕ, ◌≡◌, Bool, true, false, List, refl, sym
 use Rattle.std.specs.Borrow.{Bor}
 use Rattle.std.proofs.lemmas.Bool.{true≢false}
 use Rattle.counted_io.specs.Output.{Output, WritesAll}
-use Rattle.stream_paths.specs.Streams.{is_stdout}
-use Rattle.stream_paths.specs.declared.target.Target.{Target}
-use Rattle.stream_paths.specs.declared.target.Target.TheVariants as targets
+use Rattle.counted_io.specs.Streams.{is_stdout}
+use Rattle.counted_io.specs.declared.target.Target.{Target}
+use Rattle.counted_io.specs.declared.target.Target.TheVariants as targets
 use Rattle.circuit_files.specs.WrittenFiles.{IsTargetGiven}
 
 -- what it means that a file was given a text

@@ -1,3 +1,6 @@
+pub mod ListCodes
+pub mod Lists
+pub mod Entries
 pub mod Codes
 pub mod Outcomes
 pub mod Reading

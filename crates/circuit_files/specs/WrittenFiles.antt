@@ -4,8 +4,8 @@ use Rattle.std.specs.Option.{option_and_then}
 use Rattle.counted_io.specs.Counted.{counted_failures, counted_inner}
 use Rattle.counted_io.specs.declared.counted.Counted.{Counted}
 use Rattle.counted_io.specs.Output.{Output, WritesAll}
-use Rattle.stream_paths.specs.declared.target.Target.{Target}
-use Rattle.stream_paths.specs.declared.target.Target.TheVariants as targets
+use Rattle.counted_io.specs.declared.target.Target.{Target}
+use Rattle.counted_io.specs.declared.target.Target.TheVariants as targets
 use Rattle.circuit_files.specs.declared.lazy_file.LazyFile.{LazyFile}
 
 -- it is the file with this path that is written to

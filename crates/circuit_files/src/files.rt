@@ -5,19 +5,18 @@ ghost use Rattle.aig_binary.specs.Ending.{IsReadError, Spells};
 ghost use Rattle.circuit_files.specs.Reading.{AreCertificatesOf, IsBytesFailure, IsCircuitFailure, IsOfStdin, IsReadingOfStdin, IsStimulusOf, IsWitnessOf};
 ghost use Rattle.circuit_files.specs.Outcomes.{IsAbout};
 ghost use Rattle.circuit_files.specs.declared.outcome.Failure.TheVariants as fails;
-ghost use Rattle.stream_paths.specs.Streams.{is_stdin, source_name};
+ghost use Rattle.counted_io.specs.Streams.{is_stdin, source_name};
 
 use crate::outcome::Failure;
 use aig_binary::{AnyReader, CircuitReader, SpeltCircuit, read_circuit};
 use aig_graph::Circuit;
-use certificate_files::{CertFile, read_cert};
-use counted_io::{Counted, CountedRead, read_all};
+use certificates::{CertFile, read_cert};
+use counted_io::{Counted, CountedRead, Source, read_all};
 use file_words::ReadError;
 use lane_sim::{Stimulus, read_stimulus};
 use std::alloc::Global;
 use std::fs::File;
 use std::rt::Files;
-use stream_paths::Source;
 use witnesses::{Widths, Witness, read_witness};
 
 /// The circuit of a reader's bytes, by a reader of circuits that has been fed nothing yet.

@@ -22,8 +22,8 @@ use Rattle.cleaned_circuits.proofs.TrimmedLaws.{trimmed-first_latch, trimmed-fir
 use Rattle.cleaned_circuits.proofs.PassLaws.{IsCircuit, pass-streams, cleans-streams, IsCircuit-pass}
 use Rattle.cleaned_circuits.proofs.HeldLaws.{still-in_range}
 use Rattle.cleaned_circuits.proofs.UnchangedLaws.{count-full, map-fixed_all, pass-unchanged}
-use Rattle.normalised_circuits.specs.Normalised.{IsNormalised}
-use Rattle.normalised_circuits.proofs.PassLaws.{normalised-pass}
+use Rattle.clean.specs.Normalised.{IsNormalised}
+use Rattle.clean.proofs.PassLaws.{normalised-pass}
 use Rattle.clean.specs.Settled.{AreOwnLatches}
 use Rattle.clean.proofs.SettledLaws.{settled-normalised}
 

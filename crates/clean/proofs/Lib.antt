@@ -1,3 +1,15 @@
+pub mod ReachLaws
+pub mod WaveLaws
+pub mod SpotLaws
+pub mod GateLaws
+pub mod LatchLaws
+pub mod MovedLaws
+pub mod KeptPlacesLaws
+pub mod OwnLaws
+pub mod PassLaws
+pub mod CleanLaws
+pub mod FrameLaws
+pub mod GatherLaws
 pub mod MergeStepLaws
 pub mod SubstitutionLaws
 pub mod KeptLaws

@@ -11,8 +11,8 @@ use Rattle.aig_graph.specs.Value.{signed_as}
 use Rattle.aig_graph.proofs.SignLaws.{gate_of-ordered}
 use Rattle.cleaned_circuits.specs.Merged.{Merging, same_fan_ins, known_substitute, merge_gate, merge_gates, merging_start, replaced, replaced_gate, substitutes_of, with_substitute}
 use Rattle.cleaned_circuits.proofs.SubstituteLaws.{GateIn, IsBelow, below-merge_gate, gate_substitutes, gates-in, length-substitutes_of, merge-all, none-kept, pair-below, start-below, start-length, with_earlier, with_equal, with_false, with_opposite, with_true, same_fan_ins-self}
-use Rattle.normalised_circuits.specs.Normalised.{IsPlain}
-use Rattle.normalised_circuits.proofs.CleanLaws.{lookup-none, plain-none}
+use Rattle.clean.specs.Normalised.{IsPlain}
+use Rattle.clean.proofs.CleanLaws.{lookup-none, plain-none}
 
 -- one more entry changes nothing for what reads the entries before
 gate-push : (substitutes : List ℕ) (x : ℕ) (gate : Gate) → variable gate.rhs0 < length substitutes → variable gate.rhs1 < length substitutes → replaced_gate (substitutes ++ x ∷ []) gate ≡ replaced_gate substitutes gate

@@ -19,9 +19,9 @@ use Rattle.cleaned_circuits.proofs.MergedLaws.{from_gate, replaced-first_gate}
 use Rattle.cleaned_circuits.proofs.PassLaws.{IsCircuit, IsCircuit-merged}
 use Rattle.cleaned_circuits.proofs.TrimmedLaws.{GateFrom, LatchFrom, fan_ins-reached, gate_from, gate_in, latch_from, latch_in, new-from, new-less, new-rises, renumbered-variable, stays-low, stays-past, stays-reached, trimmed-first_gate, trimmed-first_latch}
 use Rattle.cleaned_circuits.proofs.UnchangedLaws.{reached-own}
-use Rattle.normalised_circuits.specs.Normalised.{IsPlain, IsNormalised}
-use Rattle.normalised_circuits.proofs.CleanLaws.{latches-moving, latches-single}
-use Rattle.normalised_circuits.proofs.SpotLaws.{pair-one, plain-of, same-rank}
+use Rattle.clean.specs.Normalised.{IsPlain, IsNormalised}
+use Rattle.clean.proofs.CleanLaws.{latches-moving, latches-single}
+use Rattle.clean.proofs.SpotLaws.{pair-one, plain-of, same-rank}
 use Rattle.clean.specs.Settled.{AreOwnLatches}
 use Rattle.clean.proofs.PlainLaws.{pairs-own, plain-own}
 

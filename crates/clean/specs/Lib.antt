@@ -1,3 +1,6 @@
+pub mod Normalised
+pub mod Laws
+pub mod Gathered
 pub mod Substitutions
 pub mod Firsts
 pub mod Kept

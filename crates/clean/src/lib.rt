@@ -1,5 +1,5 @@
 //! Structural cleaning of circuits: constant and duplicate latches, gates that say nothing new, and what no property rests on. What a pass is made
-//! of is lent to whatever merges latches by another rule.
+//! of is lent to whatever merges latches by another rule. A circuit is normalised where nothing is left to clean; laws say when a moved circuit is one.
 #![tactic(auto)]
 
 mod cleaning;
@@ -8,10 +8,14 @@ mod gates;
 mod held;
 mod kept;
 mod latches;
+mod laws;
+mod low;
 mod merged;
 mod named;
 mod names;
+mod pairs;
 mod pass;
+mod places;
 mod reached;
 mod substitutes;
 mod substitution;
@@ -23,7 +27,10 @@ pub use gates::{known_substitute, merge_gates};
 pub use held::Held;
 pub use kept::KeptGates;
 pub use latches::{constant_of, own_literal};
+pub use laws::{frame_law, normalised_laws};
+pub use low::are_low_normalised;
 pub use merged::replaced_circuit;
 pub use named::clean_by_names;
+pub use places::all_places;
 pub use substitution::Substitution;
 pub use tracing::{TracedPass, traced_pass};

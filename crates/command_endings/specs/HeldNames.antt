@@ -5,8 +5,8 @@ use Rattle.aig_graph.specs.Circuits.{Netlist}
 use Rattle.aig_graph.specs.Keep.{Holding, held_of}
 use Rattle.aig_graph.specs.declared.holding.HoldError.{HoldError}
 use Rattle.aig_graph.specs.declared.holding.HoldError.TheVariants.{NoMemory, NoSuchLatch, NoSuchName}
-use Rattle.stream_paths.specs.Streams.{source_name}
-use Rattle.stream_paths.specs.declared.source.Source.{Source}
+use Rattle.counted_io.specs.Streams.{source_name}
+use Rattle.counted_io.specs.declared.source.Source.{Source}
 use Rattle.command_line.specs.declared.options.RetimingOptions.{RetimingOptions}
 use Rattle.circuit_files.specs.declared.outcome.Failure.{Failure}
 use Rattle.circuit_files.specs.declared.outcome.Failure.TheVariants as fails

@@ -6,9 +6,9 @@ use Rattle.file_words.specs.Reading.{read_lines}
 use Rattle.command_line.specs.declared.task.Task.{Task}
 use Rattle.command_line.specs.declared.task.Task.TheVariants.{Retime, Backward, Verify, Dot}
 use Rattle.command_endings.specs.HeldNames.{texts_of}
-use Rattle.batch_lists.specs.Entries.{text_of}
-use Rattle.batch_lists.specs.declared.fault.ListError.{ListError}
-use Rattle.batch_lists.specs.declared.fault.ListError.TheVariants.{BadLine}
+use Rattle.circuit_files.specs.Entries.{text_of}
+use Rattle.circuit_files.specs.declared.fault.ListError.{ListError}
+use Rattle.circuit_files.specs.declared.fault.ListError.TheVariants.{BadLine}
 
 -- the names with one more, which is UTF-8
 abbrev pub with_name : ℕ → List (List ℕ) → Option (List ℕ) → Result (List (List ℕ)) ListError

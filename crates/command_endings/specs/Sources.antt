@@ -6,10 +6,10 @@ use Rattle.aig_graph.specs.Graph.{Graph}
 use Rattle.aig_binary.specs.Ending.{Spells}
 use Rattle.aig_binary.specs.declared.reading.SpeltCircuit.{SpeltCircuit}
 use Rattle.lane_sim.specs.declared.stimulus.InputSequence.{InputSequence}
-use Rattle.certificate_files.specs.declared.file.CertFile.{CertFile}
+use Rattle.certificates.specs.declared.file.CertFile.{CertFile}
 use Rattle.witnesses.specs.declared.witness.Witness.{Witness}
-use Rattle.stream_paths.specs.Streams.{is_stdin}
-use Rattle.stream_paths.specs.declared.source.Source.{Source}
+use Rattle.counted_io.specs.Streams.{is_stdin}
+use Rattle.counted_io.specs.declared.source.Source.{Source}
 use Rattle.circuit_files.specs.Reading.{AreCertificatesOf, IsReadingOfStdin, IsStimulusOf, IsWitnessOf}
 
 -- of standard input this is read; a file leaves standard input as it was

@@ -12,14 +12,12 @@ ghost use Rattle.command_endings.specs.Objects as wanted;
 
 use certificate_audits::Audit;
 use certificates::Certificate;
-use circuit_counts::{Remaining, Statistics};
 use circuit_files::{Failure, Outcome};
 use counted_io::CountedWrite;
 use json_reports::{MapCounts, PrintError, ReadLevels, Times};
 use lane_sim::Place;
-use merged_latches::MergeCounts;
-use reports::{Agreement, JobReport};
-use retimed_circuits::Retimed;
+use reports::{Agreement, JobReport, Remaining, Statistics};
+use retimed_circuits::{MergeCounts, Retimed};
 use std::alloc::Global;
 
 /// How a command ends that has printed an object, where there was room for it and standard output took all of it.

@@ -2,22 +2,20 @@
 ghost use Rattle.std.specs.Prelude.{◌≡◌, IfErr, IfOk, MatchResult, Ok, OnOk, map, option_map, true};
 ghost use Rattle.counted_io.specs.Input.{ReadsAll};
 ghost use Rattle.file_words.specs.Answering.{Gives};
-ghost use Rattle.stream_paths.specs.Streams.{is_stdin, source_name};
-ghost use Rattle.batch_lists.specs.Entries.{text_of};
-ghost use Rattle.batch_lists.specs.declared.fault.ListError.TheVariants.{NoMemory};
+ghost use Rattle.counted_io.specs.Streams.{is_stdin, source_name};
+ghost use Rattle.circuit_files.specs.Entries.{text_of};
+ghost use Rattle.circuit_files.specs.declared.fault.ListError.TheVariants.{NoMemory};
 ghost use Rattle.circuit_files.specs.Outcomes.{IsAbout};
 ghost use Rattle.command_endings.specs.HeldNames.{texts_of};
 ghost use Rattle.command_endings.specs.NameFiles as wanted;
 
-use batch_lists::ListError;
-use circuit_files::{Failure, bytes_at};
+use circuit_files::{Failure, ListError, bytes_at};
 use command_line::Task;
-use counted_io::CountedRead;
+use counted_io::{CountedRead, Source};
 use file_words::{Line, Lines};
 use std::alloc::Global;
 use std::rt::Files;
 use std::str;
-use stream_paths::Source;
 
 /// What a file of names has.
 #[derive(Drop)]

@@ -7,8 +7,8 @@ ghost use Rattle.command_endings.specs.HeldNames.{IsFailureOfHolding, held_by};
 use aig_graph::{Circuit, HoldError, Keep, hold};
 use circuit_files::Failure;
 use command_line::RetimingOptions;
+use counted_io::Source;
 use std::alloc::{AllocError, Global};
-use stream_paths::Source;
 
 /// The names, each as its bytes.
 pub(crate) fn bytes_of_names(alloc: Global, keep: &[&str]) -> Result<Vec<Vec<u8>>, AllocError>

@@ -2,7 +2,7 @@
 ghost use Rattle.std.specs.Prelude.{◌≡◌, true, false, IfErr, OnOk};
 ghost use Rattle.counted_io.specs.Output.{Writes};
 ghost use Rattle.aig_binary.specs.Spellings.{text_in};
-ghost use Rattle.stream_paths.specs.Streams.{is_stdout, target_name};
+ghost use Rattle.counted_io.specs.Streams.{is_stdout, target_name};
 ghost use Rattle.circuit_files.specs.Outcomes.{IsAbout, outcome_of};
 ghost use Rattle.circuit_files.specs.WrittenFiles.{IsFileGiven, IsTargetGiven};
 ghost use Rattle.circuit_files.specs.declared.outcome.Outcome.TheVariants.{Device};
@@ -10,9 +10,8 @@ ghost use Rattle.circuit_files.specs.declared.outcome.Outcome.TheVariants.{Devic
 use aig_binary::{Spelling, write};
 use aig_graph::Circuit;
 use circuit_files::{Failure, file_at};
-use counted_io::{CountedWrite, WriteError};
+use counted_io::{CountedWrite, Target, WriteError};
 use std::rt::Files;
-use stream_paths::Target;
 
 /// Writes the circuit to a file or to standard output.
 fn put_circuit<R: Files, O: CountedWrite>(

@@ -7,9 +7,9 @@ use Rattle.clap.specs.Words.{first_value, found_of, matched_of, one_text, raw_va
 use Rattle.clap.specs.declared.parser.matches.ArgMatches.{ArgMatches}
 use Rattle.file_words.specs.declared.spelling.Spelling.{Spelling}
 use Rattle.file_words.specs.declared.spelling.Spelling.TheVariants.{Ascii, Binary}
-use Rattle.stream_paths.specs.Streams.{source_of, target_of}
-use Rattle.stream_paths.specs.declared.source.Source.{Source}
-use Rattle.stream_paths.specs.declared.target.Target.{Target}
+use Rattle.counted_io.specs.Streams.{source_of, target_of}
+use Rattle.counted_io.specs.declared.source.Source.{Source}
+use Rattle.counted_io.specs.declared.target.Target.{Target}
 use Rattle.aig_graph.specs.declared.choice.Choice.{Choice}
 use Rattle.aig_graph.specs.declared.choice.Choice.TheVariants.{Greatest, Smallest}
 use Rattle.frames.specs.declared.bound.PathBound.{PathBound}

@@ -1,10 +1,10 @@
 -- How often a task uses each standard stream.
 use Rattle.std.specs.Prelude.{◌≤◌, ◌||◌, ◌++◌, Bool, false, List, [], ◌∷◌, Option, Some, None}
 use Rattle.std.specs.List.{count_by}
-use Rattle.stream_paths.specs.Streams.{is_stdin, is_stdout}
-use Rattle.stream_paths.specs.declared.source.Source.{Source}
-use Rattle.stream_paths.specs.declared.target.Target.{Target}
-use Rattle.stream_paths.specs.declared.target.Target.TheVariants as targets
+use Rattle.counted_io.specs.Streams.{is_stdin, is_stdout}
+use Rattle.counted_io.specs.declared.source.Source.{Source}
+use Rattle.counted_io.specs.declared.target.Target.{Target}
+use Rattle.counted_io.specs.declared.target.Target.TheVariants as targets
 use Rattle.command_line.specs.declared.task.Asking.{Asking}
 use Rattle.command_line.specs.declared.task.Comparison.{Comparison}
 use Rattle.command_line.specs.declared.task.Lifting.{Lifting}

@@ -5,10 +5,10 @@ ghost use Rattle.command_line.specs.Asking.{AreOptions};
 use crate::values::{bound, choice, frames, keep, keep_latches, merge, sources, spelling};
 use aig_graph::Choice;
 use clap::ArgMatches;
+use counted_io::Source;
 use file_words::Spelling;
 use frames::PathBound;
 use std::alloc::{AllocError, Global};
-use stream_paths::Source;
 
 /// How latches are moved. An option that a command doesn't have is as if it weren't given.
 #[derive(Drop)]

@@ -1,14 +1,14 @@
 //! Standard input is read once, and standard output written once.
 ghost use Rattle.std.specs.Prelude.{◌≡◌, ◌≤◌, IfNone};
 ghost use Rattle.std.specs.List.{count_by};
-ghost use Rattle.stream_paths.specs.Streams.{is_stdin, is_stdout};
+ghost use Rattle.counted_io.specs.Streams.{is_stdin, is_stdout};
 ghost use Rattle.command_line.specs.StreamUses.{UsesStreamsOnce, asking_targets, moving_targets, other_sources, retiming_targets, simulation_targets, sources_of, sources_of_comparison, sources_of_lifting, sources_of_simulation, sources_of_verification, targets_of};
 ghost use Rattle.command_line.specs.StreamUses as wanted;
 
 use crate::task::{
     Asking, Comparison, Lifting, Moving, Retiming, Simulation, Stimuli, Task, Verification,
 };
-use stream_paths::{Source, Target};
+use counted_io::{Source, Target};
 
 fn stdin_count(sources: &[Source<'_>]) -> usize
     ensures { result ≡ count_by is_stdin sources.now }

@@ -1,16 +1,16 @@
 //! The values of arguments, of which each has a function whose clause says which argument it comes from. That the command-line library
 //! matched the words as it should is only tested.
 ghost use Rattle.std.specs.Prelude.{◌≡◌, ◌^◌, IfOk, IfSome, codes, map};
-ghost use Rattle.stream_paths.specs.Streams.{source_of};
+ghost use Rattle.counted_io.specs.Streams.{source_of};
 ghost use Rattle.command_line.specs.Asking.{AreSources, IsBound, IsChoice, IsFlag, IsNumber, IsShown, IsSomeSource, IsSomeTarget, IsSource, IsSpelling, number_of, values_of};
 
 use crate::task::Shown;
 use aig_graph::Choice;
 use clap::ArgMatches;
+use counted_io::{Source, Target};
 use file_words::Spelling;
 use frames::PathBound;
 use std::alloc::{AllocError, Global};
-use stream_paths::{Source, Target};
 
 /// What the argument with this id, a path that is read, stands for.
 pub(crate) fn source<'a>(matches: &ArgMatches<'a>, id: &str) -> Option<Source<'a>>

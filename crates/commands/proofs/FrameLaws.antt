@@ -1,6 +1,6 @@
 -- How printing a retiming ends, by the form that is asked for.
 use Rattle.std.proofs.Common.{◌≡◌, ◌∙◌, ℕ, Bool, true, false, refl, List, Option, Result, length, nat_lt, sym, subst, ap}
-use Rattle.circuit_counts.specs.Remaining.{remaining}
+use Rattle.reports.specs.RemainingCounts.{remaining}
 use Rattle.counted_io.specs.Output.{Output}
 use Rattle.retimed_circuits.specs.declared.report.Retimed.{Retimed}
 use Rattle.json_reports.specs.Retimings.{retiming_data}
@@ -11,7 +11,7 @@ use Rattle.circuit_files.specs.declared.outcome.Outcome.{Outcome}
 use Rattle.circuit_files.specs.declared.outcome.Outcome.TheVariants.{Done}
 use Rattle.circuit_files.specs.declared.outcome.Failure.{Failure}
 use Rattle.command_endings.specs.Objects.{EndsPrintingObject}
-use Rattle.circuit_counts.specs.declared.remaining.Remaining.{Remaining}
+use Rattle.reports.specs.declared.remaining_counts.Remaining.{Remaining}
 use Rattle.command_line.specs.declared.task.Retiming.{Retiming}
 use Rattle.reports.specs.Retimings.{retiming_text}
 use Rattle.command_endings.specs.Printing.{EndsPrinting}

@@ -22,8 +22,8 @@ use Rattle.mapped_answers.specs.declared.mapped.Mapped.{Mapped}
 use Rattle.mapped_answers.specs.declared.mapped.SpeltMap.{SpeltMap}
 use Rattle.mapped_answers.specs.declared.errors.AnswerError.{AnswerError}
 use Rattle.mapped_answers.specs.declared.errors.AnswerError.TheVariants.{Bytes, MapTooLarge}
-use Rattle.stream_paths.specs.Streams.{is_stdout}
-use Rattle.stream_paths.specs.declared.target.Target.{Target}
+use Rattle.counted_io.specs.Streams.{is_stdout}
+use Rattle.counted_io.specs.declared.target.Target.{Target}
 use Rattle.command_line.specs.StreamUses.{takes_stdout, writes_stdout}
 use Rattle.command_line.specs.declared.task.Retiming.{Retiming}
 use Rattle.circuit_files.specs.Outcomes.{outcome_of}

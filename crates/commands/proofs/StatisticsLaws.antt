@@ -1,10 +1,10 @@
 -- What is printed of what a circuit has, in lines or as an object.
 use Rattle.std.proofs.Common.{◌≡◌, Bool, true, false, IfOk, Option, Result, sym, subst}
 use Rattle.aig_graph.specs.Circuits.{Netlist}
-use Rattle.circuit_counts.specs.Counts.{statistics}
-use Rattle.circuit_counts.specs.declared.statistics.Statistics.{Statistics}
+use Rattle.reports.specs.CircuitCounts.{statistics}
+use Rattle.reports.specs.declared.statistics.Statistics.{Statistics}
 use Rattle.counted_io.specs.Output.{Output}
-use Rattle.merged_latches.specs.declared.counts.MergeCounts.{MergeCounts}
+use Rattle.retimed_circuits.specs.declared.counts.MergeCounts.{MergeCounts}
 use Rattle.reports.specs.Counts.{counts_text}
 use Rattle.json_reports.specs.Counts.{statistics_data}
 use Rattle.circuit_files.specs.declared.outcome.Outcome.{Outcome}

@@ -6,7 +6,7 @@ use Rattle.aig_graph.specs.Circuits.{Netlist}
 use Rattle.aig_binary.specs.declared.reading.SpeltCircuit.{SpeltCircuit}
 use Rattle.counted_io.specs.Input.{Input}
 use Rattle.counted_io.specs.Output.{Output}
-use Rattle.stream_paths.specs.declared.source.Source.{Source}
+use Rattle.counted_io.specs.declared.source.Source.{Source}
 use Rattle.circuit_files.specs.WrittenFiles.{IsTargetGiven}
 use Rattle.circuit_files.specs.declared.outcome.Failure.{Failure}
 use Rattle.circuit_files.specs.declared.outcome.Failure.TheVariants as fails

@@ -13,13 +13,13 @@ use Rattle.frames.specs.Answering.{IsAnswer, IsAnswered, ReadsBack, text_for}
 use Rattle.frames.specs.Retiming.{IsRetimedHeld}
 use Rattle.frames.specs.declared.options.Options.{Options}
 use Rattle.mapped_answers.specs.declared.mapped.SpeltMap.{SpeltMap}
-use Rattle.stream_paths.specs.Streams.{is_stdin, is_stdout}
-use Rattle.stream_paths.specs.declared.source.Source.{Source}
-use Rattle.stream_paths.specs.declared.target.Target.{Target}
+use Rattle.counted_io.specs.Streams.{is_stdin, is_stdout}
+use Rattle.counted_io.specs.declared.source.Source.{Source}
+use Rattle.counted_io.specs.declared.target.Target.{Target}
 use Rattle.command_line.specs.StreamUses.{takes_stdout, writes_stdout}
 use Rattle.command_line.specs.declared.task.Retiming.{Retiming}
 use Rattle.commands.specs.OtherSpelling.{spelling_for}
-use Rattle.certificate_files.specs.Texts.{file_text as certificates_text}
+use Rattle.certificates.specs.Texts.{file_text as certificates_text}
 use Rattle.json_reports.specs.declared.times.Times.{Times}
 use Rattle.json_reports.specs.declared.counts.MapCounts.{MapCounts}
 use Rattle.json_reports.specs.declared.counts.ReadLevels.{ReadLevels}

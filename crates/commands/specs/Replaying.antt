@@ -12,8 +12,8 @@ use Rattle.frames.specs.Bounds.{bound_for}
 use Rattle.frames.specs.declared.bound.PathBound.{PathBound}
 use Rattle.reports.specs.Agreements.{IsAgreement}
 use Rattle.reports.specs.declared.agreement.Agreement.{Agreement}
-use Rattle.stream_paths.specs.Streams.{source_name}
-use Rattle.stream_paths.specs.declared.source.Source.{Source}
+use Rattle.counted_io.specs.Streams.{source_name}
+use Rattle.counted_io.specs.declared.source.Source.{Source}
 use Rattle.circuit_files.specs.Outcomes.{IsAbout}
 use Rattle.circuit_files.specs.declared.outcome.Failure.{Failure}
 use Rattle.command_endings.specs.Sources.{IsReadAt}

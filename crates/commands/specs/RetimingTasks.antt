@@ -2,9 +2,9 @@
 use Rattle.std.specs.Prelude.{ℕ, ◌≡◌, ◌||◌, Bool, true, false, List, Option, Some, None, Result, is_some, map, length, nat_lt, slice_get, if◌then◌else◌}
 use Rattle.std.specs.Borrow.{Bor}
 use Rattle.aig_graph.specs.Circuits.{Netlist}
-use Rattle.stream_paths.specs.Streams.{target_name}
-use Rattle.stream_paths.specs.declared.source.Source.{Source}
-use Rattle.stream_paths.specs.declared.target.Target.{Target}
+use Rattle.counted_io.specs.Streams.{target_name}
+use Rattle.counted_io.specs.declared.source.Source.{Source}
+use Rattle.counted_io.specs.declared.target.Target.{Target}
 use Rattle.command_line.specs.declared.options.RetimingOptions.{RetimingOptions}
 use Rattle.command_line.specs.declared.task.Retiming.{Retiming}
 use Rattle.mapped_answers.specs.declared.errors.AnswerError.{AnswerError}
@@ -16,8 +16,8 @@ use Rattle.frames.specs.declared.errors.RetimeError.TheVariants.{NoMemory, NoSuc
 use Rattle.counted_io.specs.Output.{Output}
 use Rattle.retimed_circuits.specs.declared.report.Retimed.{Retimed}
 use Rattle.path_levels.specs.Levels.{levels}
-use Rattle.circuit_counts.specs.Remaining.{remaining}
-use Rattle.circuit_counts.specs.declared.remaining.Remaining.{Remaining}
+use Rattle.reports.specs.RemainingCounts.{remaining}
+use Rattle.reports.specs.declared.remaining_counts.Remaining.{Remaining}
 use Rattle.reports.specs.Retimings.{retiming_text}
 use Rattle.json_reports.specs.Retimings.{retiming_data}
 use Rattle.json_reports.specs.declared.times.Times.{Times}

@@ -5,7 +5,7 @@ use Rattle.aig_binary.specs.declared.reading.SpeltCircuit.{SpeltCircuit}
 use Rattle.counted_io.specs.Input.{Input}
 use Rattle.counted_io.specs.Output.{Output, WritesAll}
 use Rattle.certificates.specs.declared.certificate.Certificate.{Certificate}
-use Rattle.certificate_files.specs.declared.file.CertFile.{CertFile}
+use Rattle.certificates.specs.declared.file.CertFile.{CertFile}
 use Rattle.certificate_audits.specs.declared.outcome.End.{End}
 use Rattle.certificate_audits.specs.declared.outcome.End.TheVariants.{NoBlocks, Certified, Open, BlocksFollow, Objected}
 use Rattle.certificate_audits.specs.declared.outcome.Replay.{Replay}

@@ -1,8 +1,8 @@
 //! From the circuit that `retime` reads to the one that it writes, with a map of states where one is asked for.
 ghost use Rattle.std.specs.Prelude.{◌≡◌, ◌<◌, ◌≤◌, true, false, IfErr, IfOk, None, OnOk, Some, option_map};
 ghost use Rattle.aig_binary.specs.Spellings.{text_in};
-ghost use Rattle.stream_paths.specs.Streams.{is_stdout, target_name};
-ghost use Rattle.stream_paths.specs.declared.target.Target.{Target};
+ghost use Rattle.counted_io.specs.Streams.{is_stdout, target_name};
+ghost use Rattle.counted_io.specs.declared.target.Target.{Target};
 ghost use Rattle.frames.specs.Answering.{IsWritten};
 ghost use Rattle.frames.specs.Retiming.{IsRetimedHeld};
 ghost use Rattle.mapped_answers.specs.Mapping.{IsMappedOf, IsMappingStop};
@@ -18,7 +18,7 @@ use aig_graph::{Circuit, Keep, NoMemory};
 use circuit_files::{Failure, file_at};
 use command_endings::{missing_latch, missing_name};
 use command_line::{Retiming, RetimingOptions};
-use counted_io::{CountedWrite, WriteError};
+use counted_io::{CountedWrite, Source, Target, WriteError};
 use file_words::ReadError;
 use frames::{BytesError, FrameWatcher, NoFollower, Options, RetimeError, Retimed, Run, run_spelt};
 use json_reports::{MapCounts, ReadLevels};
@@ -28,7 +28,6 @@ use pulse::{Crew, OpenGate};
 use std::alloc::Global;
 use std::rt::Files;
 use std::thread::Threads;
-use stream_paths::{Source, Target};
 
 /// The most workers of a crew.
 const MOST_WORKERS: u32 = 64;

@@ -9,10 +9,9 @@ ghost use Rattle.command_endings.specs.Printing.{Prints, ending};
 use aig_binary::Spelling;
 use circuit_files::{Failure, Outcome, circuit_at};
 use command_endings::write_circuit;
-use counted_io::{CountedRead, CountedWrite};
+use counted_io::{CountedRead, CountedWrite, Source, Target};
 use std::alloc::Global;
 use std::rt::Files;
-use stream_paths::{Source, Target};
 
 fn other(spelling: Spelling) -> Spelling
     ensures { result ≡ other_spelling spelling }

@@ -2,7 +2,7 @@
 ghost use Rattle.std.specs.Prelude.{◌≡◌, false, IfErr, IfOk, OnOk};
 ghost use Rattle.counted_io.specs.Output.{WritesAll};
 ghost use Rattle.pictures.specs.Looks.{IsViewOf};
-ghost use Rattle.stream_paths.specs.Streams.{is_stdout};
+ghost use Rattle.counted_io.specs.Streams.{is_stdout};
 ghost use Rattle.circuit_files.specs.Outcomes.{outcome_of};
 ghost use Rattle.circuit_files.specs.WrittenFiles.{IsFileGiven, IsTargetGiven};
 ghost use Rattle.circuit_files.specs.declared.outcome.Outcome.TheVariants.{Device};
@@ -13,13 +13,12 @@ use crate::scene::{Scene, scene_for};
 use aig_graph::NoMemory;
 use circuit_files::{Failure, Outcome, file_at};
 use command_line::Drawing;
-use counted_io::{CountedRead, CountedWrite, write_all};
+use counted_io::{CountedRead, CountedWrite, Streams, Target, write_all};
 use frames::PathBound;
 use pictures::{View, write_dot};
 use std::alloc::Global;
 use std::rt::Files;
 use std::thread::Threads;
-use stream_paths::{Streams, Target};
 
 /// What a terminal is told where the next frame was to be shown and there is none.
 const NO_FRAME: &[u8] = b"no set of gates leaves fewer latches, so no frame is shown\n";

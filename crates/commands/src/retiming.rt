@@ -1,8 +1,8 @@
 //! The command `retime`.
 ghost use Rattle.std.specs.Prelude.{◌≡◌, ◌⊎◌, true, false, IfErr, IfOk, Ok, OnOk, option_map};
 ghost use Rattle.counted_io.specs.Output.{Writes};
-ghost use Rattle.certificate_files.specs.Texts.{file_text};
-ghost use Rattle.stream_paths.specs.Streams.{is_stdout};
+ghost use Rattle.certificates.specs.Texts.{file_text};
+ghost use Rattle.counted_io.specs.Streams.{is_stdout};
 ghost use Rattle.command_line.specs.StreamUses.{takes_stdout, writes_stdout};
 ghost use Rattle.circuit_files.specs.Outcomes.{outcome_of};
 ghost use Rattle.circuit_files.specs.WrittenFiles.{IsFileGiven, IsTargetGiven};
@@ -15,22 +15,19 @@ ghost use Rattle.command_line.specs.declared.task.Shown.TheVariants.{Nothing};
 use crate::answer::{Answer, map_counts, map_written, retime_to};
 use aig_binary::{Spelling, SpeltCircuit};
 use aig_graph::{Keep, NoMemory, Sequence};
-use certificate_files::{CertFile, Choice, write_cert};
-use certificates::Certificate;
-use circuit_counts::Remaining;
+use certificates::{CertFile, Certificate, Choice, write_cert};
 use circuit_files::{Failure, Outcome, circuit_at, file_at};
 use command_endings::{Progress, ended, run_options};
 use command_line::{Retiming, Shown};
-use counted_io::{CountedRead, CountedWrite, WriteError, write_all};
+use counted_io::{CountedRead, CountedWrite, Streams, Target, WriteError, write_all};
 use frames::{FrameWatcher, Options, Retimed};
 use json_reports::{MapCounts, ReadLevels, Times};
-use reports::{print_remaining, print_retiming};
+use reports::{Remaining, print_remaining, print_retiming};
 use std::alloc::Global;
 use std::mem;
 use std::rt::Files;
 use std::thread::Threads;
 use std::time::Clock;
-use stream_paths::{Streams, Target};
 
 /// Writes the circuit that was read, retimed, to what the task writes.
 fn retime_by<'a, R: Files + Threads + Sync, O: CountedWrite, V: FrameWatcher>(

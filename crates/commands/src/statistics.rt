@@ -6,14 +6,13 @@ ghost use Rattle.command_endings.specs.Printing.{EndsPrinting, EndsWith, Prints,
 ghost use Rattle.commands.specs.Statistics.{AreMergeCounts, AreMergeCountsFor, PrintsCounts, PrintsStatistics, statistics_text};
 
 use aig_graph::{Circuit, Keep, NoMemory};
-use circuit_counts::Statistics;
 use circuit_files::{Failure, Outcome, circuit_at};
 use command_endings::ended;
 use command_line::Counting;
 use counted_io::{CountedRead, CountedWrite};
 use latch_merging::merged_start;
-use merged_latches::MergeCounts;
-use reports::print_counts;
+use reports::{Statistics, print_counts};
+use retimed_circuits::MergeCounts;
 use std::alloc::Global;
 use std::rt::Files;
 

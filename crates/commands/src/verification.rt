@@ -1,7 +1,7 @@
 //! The command `verify`.
 ghost use Rattle.std.specs.Prelude.{◌≡◌, IfErr, IfOk};
 ghost use Rattle.reports.specs.Audits.{audit_text};
-ghost use Rattle.stream_paths.specs.Streams.{source_name};
+ghost use Rattle.counted_io.specs.Streams.{source_name};
 ghost use Rattle.circuit_files.specs.Outcomes.{IsAbout};
 ghost use Rattle.command_endings.specs.Printing.{EndsPrinting, Prints, ending};
 ghost use Rattle.command_endings.specs.Sources.{AreCertificatesAt, IsCircuitAt};
@@ -198,7 +198,7 @@ fn certificates_of<'a, R: Files, I: CountedRead>(
     alloc: Global,
     task: &Verification<'a>,
     stdin: &mut I,
-) -> Result<certificate_files::CertFile, Failure<'a>>
+) -> Result<certificates::CertFile, Failure<'a>>
     ensures certificates { IfOk result (AreCertificatesAt task.now.certificates
         (I.input stdin.old) (I.input stdin.new)) }
     ensures named { IfErr result (IsAbout (source_name task.now.certificates)) }

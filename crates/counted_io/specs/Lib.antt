@@ -5,3 +5,4 @@ pub mod Buffered
 pub mod Line
 pub mod ReadErrors
 pub mod Fakes
+pub mod Streams

@@ -1,11 +1,16 @@
 //! Readers and writers that count their failures, buffered writing that takes no memory, and fake
 //! devices for tests.
+//!
+//! Paths of a command line stand for what is read or written: `-` is a standard stream, and any other path a file (that of the name `-` is `./-`).
 #![tactic(auto)]
 
 mod buffered;
 mod counted;
 mod fakes;
 mod reading;
+mod source;
+mod streams;
+mod target;
 mod waiting;
 mod writing;
 
@@ -13,4 +18,7 @@ pub use buffered::Buffered;
 pub use counted::{Counted, CountedRead, CountedWrite};
 pub use fakes::{FailAfter, Failure, OneByte};
 pub use reading::{ReadAllError, read_all};
+pub use source::Source;
+pub use streams::Streams;
+pub use target::Target;
 pub use writing::{WriteError, write_all};

@@ -1,12 +1,12 @@
 -- What a greatest flow carries, and how much of it reaches the sink.
 use Rattle.std.proofs.Common.{◌≡◌, ℕ, suc, zero, ◌+◌, ◌-◌, ◌<◌, ◌≤◌, ◌⊎◌, Bool, true, false, not, nat_lt, cond, List, length, slice_index, [], ◌==◌, ◌*◌, ◌&&◌, arith, refl, ap, sym, ◌∙◌, subst, inl, inr}
 use Rattle.std.proofs.lemmas.Bool.{cases_lt, cases_Bool, false≢true, lt-ltb, le-ltb}
-use Rattle.flow_theory.specs.Flow.{State, sum_below, IsPreflow, IsValid, is_active, IsCut, cut_value, between}
-use Rattle.flow_theory.proofs.SumLaws.{sum_below-add, sum_below-same, sum_below-swap, sum_below-le_const}
-use Rattle.flow_theory.proofs.PushLaws.{is_active-true}
-use Rattle.flow_theory.proofs.CutLaws.{held_off, cut_identity, sum_of_ones, met_once, hits_once, sum_all_zero, cond_zero, one_term, sink-le-held}
-use Rattle.flow_theory.specs.Rows.{Rises}
-use Rattle.flow_theory.proofs.SparseRowLaws.{find_head, sparse-at, sparse-none}
+use Rattle.frame_net.specs.Flow.{State, sum_below, IsPreflow, IsValid, is_active, IsCut, cut_value, between}
+use Rattle.frame_net.proofs.SumLaws.{sum_below-add, sum_below-same, sum_below-swap, sum_below-le_const}
+use Rattle.frame_net.proofs.PushLaws.{is_active-true}
+use Rattle.frame_net.proofs.TheoryCutLaws.{held_off, cut_identity, sum_of_ones, met_once, hits_once, sum_all_zero, cond_zero, one_term, sink-le-held}
+use Rattle.frame_net.specs.Rows.{Rises}
+use Rattle.frame_net.proofs.SparseRowLaws.{find_head, sparse-at, sparse-none}
 use Rattle.aig_graph.specs.Circuits.{Netlist}
 use Rattle.aig_graph.specs.Move.{move_of}
 use Rattle.aig_graph.specs.Border.{border_size, IsLeast}

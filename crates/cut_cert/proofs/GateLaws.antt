@@ -13,8 +13,8 @@ use Rattle.aig_graph.specs.Border.{IsGreatestLeast}
 use Rattle.aig_graph.proofs.SearchLaws.{has_iff_contains}
 use Rattle.frame_net.specs.declared.net.Point.{Point}
 use Rattle.frame_net.specs.FlowNet.{FlowNet, node_count, point_of, capacity_between}
-use Rattle.flow_theory.specs.Flow.{IsSourceSide}
-use Rattle.flow_theory.proofs.CutLaws.{source_side_greatest}
+use Rattle.frame_net.specs.Flow.{IsSourceSide}
+use Rattle.frame_net.proofs.TheoryCutLaws.{source_side_greatest}
 use Rattle.pulse.specs.Values.{RunEnd}
 use Rattle.pulse.specs.Conditions.{IsMaxPreflow, state_of}
 use Rattle.frame_net.proofs.LeastCutLaws.{greatest_cut_is_greatest_set-law}

@@ -2,10 +2,10 @@
 use Rattle.std.proofs.Common.{◌≡◌, ℕ, ◌+◌, ◌-◌, ◌<◌, ◌≤◌, ◌==◌, false, cond, List, length, slice_index, if◌then◌else◌, arith, refl, ap, ap₂, sym, ◌∙◌, subst, inl, inr}
 use Rattle.std.proofs.lemmas.Bool.{cases_eq, cases_order, cond-true, cond-false, eq-eqb, ne_eqb}
 use Rattle.std.proofs.lemmas.List.{length-set, get_or-set_same, get_or-set_other}
-use Rattle.flow_theory.specs.Flow.{sum_below}
-use Rattle.flow_theory.proofs.SumLaws.{sum_below-add, sum_below-same}
-use Rattle.flow_theory.proofs.CutLaws.{sum_all_zero}
-use Rattle.flow_theory.proofs.SparseRowLaws.{sum_one}
+use Rattle.frame_net.specs.Flow.{sum_below}
+use Rattle.frame_net.proofs.SumLaws.{sum_below-add, sum_below-same}
+use Rattle.frame_net.proofs.TheoryCutLaws.{sum_all_zero}
+use Rattle.frame_net.proofs.SparseRowLaws.{sum_one}
 use Rattle.frame_net.specs.FlowNet.{FlowNet, IsFlowNet, HasMate, node_count, start, row_len, head, mate}
 use Rattle.flow_part.specs.Parts.{pair}
 use Rattle.cut_cert.proofs.SinkWalkLaws.{arc-in, mate-pair}

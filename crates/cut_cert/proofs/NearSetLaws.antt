@@ -6,13 +6,13 @@ use Rattle.aig_graph.specs.Move.{move_of}
 use Rattle.aig_graph.specs.Closed.{IsClosedSet}
 use Rattle.aig_graph.specs.Border.{border_size, IsLeast, IsSmallestLeast}
 use Rattle.aig_graph.proofs.SetLaws.{empty-closed}
-use Rattle.flow_theory.specs.Flow.{State, IsPreflow}
+use Rattle.frame_net.specs.Flow.{State, IsPreflow}
 use Rattle.frame_net.specs.declared.net.Point.{Point}
 use Rattle.frame_net.specs.FlowNet.{FlowNet, IsFlowNet, HasMate, node_count, start, row_len, head, mate, cap_at, point_of, capacity_between}
 use Rattle.frame_net.specs.Capacity.{latch_count}
 use Rattle.frame_net.specs.Cuts.{IsNetworkOf}
 use Rattle.frame_net.proofs.SetCutLaws.{closed_sets_are_cuts-law}
-use Rattle.flow_theory.proofs.SparseRowLaws.{sparse-at}
+use Rattle.frame_net.proofs.SparseRowLaws.{sparse-at}
 use Rattle.cut_cert.specs.Gates.{gates_of_nodes_below}
 use Rattle.cut_cert.proofs.GateLaws.{are-gates}
 use Rattle.cut_cert.specs.Walks.{here}

@@ -1,9 +1,9 @@
 -- The near side of a greatest flow is the smallest least cut.
 use Rattle.std.proofs.Common.{◌≡◌, ℕ, ◌<◌, ◌≤◌, Bool, true, false, not, ◌&&◌, cond, arith, refl, ap, sym, ◌∙◌, inl, inr}
 use Rattle.std.proofs.lemmas.Bool.{cases_lt, cases_Bool, false≢true}
-use Rattle.flow_theory.specs.Flow.{State, sum_below, IsPreflow, between, IsCut, cut_value}
-use Rattle.flow_theory.proofs.SumLaws.{term-le-sum_below}
-use Rattle.flow_theory.proofs.CutLaws.{held_off, cut_identity, sum_all_zero, cond_zero, one_term, sink-le-held}
+use Rattle.frame_net.specs.Flow.{State, sum_below, IsPreflow, between, IsCut, cut_value}
+use Rattle.frame_net.proofs.SumLaws.{term-le-sum_below}
+use Rattle.frame_net.proofs.TheoryCutLaws.{held_off, cut_identity, sum_all_zero, cond_zero, one_term, sink-le-held}
 use Rattle.cut_cert.specs.Cuts.{NoneLeaves, IsNearSide, IsSmallestLeastCut, NearSideIsSmallest}
 
 -- where the residuals that leave a set sum to none, no residual arc leaves it

@@ -18,7 +18,7 @@ use Rattle.frame_net.proofs.PassableLaws.{passable-means, passable-at_gate, sett
 use Rattle.frame_net.proofs.NodeLaws.{rank-latch, rank-gate, rank-below, latches-among, at-latch, at-before, at-after}
 use Rattle.frame_net.specs.Cuts.{IsNetworkOf}
 use Rattle.frame_net.proofs.NetLaws.{gate-range, nodes, node-is}
-use Rattle.flow_theory.proofs.SparseRowLaws.{sparse-none, find_head}
+use Rattle.frame_net.proofs.SparseRowLaws.{sparse-none, find_head}
 use Rattle.certificates.specs.Routes.{begins_at, passes, enters, returns_to, may_step, goes_on, is_route}
 use Rattle.certificates.proofs.RouteLaws.{four_parts}
 use Rattle.cut_cert.proofs.ArcPointLaws.{capacity-is}

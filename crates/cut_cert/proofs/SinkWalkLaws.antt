@@ -2,9 +2,9 @@
 use Rattle.std.proofs.Common.{ℕ, zero, suc, ◌+◌, ◌<◌, ◌≤◌, ◌≡◌, ◌⊎◌, ◌&&◌, inl, inr, Bool, List, length, true, false, not, nat_lt, Some, None, slice_get, slice_index, refl, arith, ap, ap₂, sym, ◌∙◌, subst}
 use Rattle.std.proofs.lemmas.Bool.{cases_Bool, cases_eq, cases_lt, cond-true, cond-false, lt-ltb, le-ltb, not-false, not_from_true}
 use Rattle.std.proofs.lemmas.List.{get_or-replicate}
-use Rattle.flow_theory.specs.Flow.{State, Walk, Reaches, IsSourceSide}
-use Rattle.flow_theory.specs.Rows.{Rises}
-use Rattle.flow_theory.proofs.SparseRowLaws.{sparse-at, sparse-none, find_head}
+use Rattle.frame_net.specs.Flow.{State, Walk, Reaches, IsSourceSide}
+use Rattle.frame_net.specs.Rows.{Rises}
+use Rattle.frame_net.proofs.SparseRowLaws.{sparse-at, sparse-none, find_head}
 use Rattle.frame_net.specs.FlowNet.{FlowNet, IsFlowNet, HasMate, node_count, start, row_len, head, mate}
 use Rattle.flow_part.specs.Parts.{pair}
 use Rattle.cut_cert.specs.Fronts.{SearchFront, is_marked, mark_node, reach_node}

@@ -2,10 +2,10 @@
 use Rattle.std.proofs.Common.{◌≡◌, ℕ, suc, ◌+◌, ◌-◌, ◌*◌, ◌<◌, ◌≤◌, ◌==◌, cond, List, [], ◌∷◌, ◌++◌, length, arith, refl, ap, sym, ◌∙◌, inl, inr}
 use Rattle.std.proofs.Math.Nat.{suc-mul}
 use Rattle.std.proofs.lemmas.Bool.{cases_eq, cond-true, cond-false, eq-eqb, ne_eqb}
-use Rattle.flow_theory.specs.Flow.{State, sum_below, IsPreflow}
-use Rattle.flow_theory.proofs.SumLaws.{sum_below-add, sum_below-same}
-use Rattle.flow_theory.proofs.SparseRowLaws.{sum_one}
-use Rattle.flow_theory.proofs.CutLaws.{sum_all_zero}
+use Rattle.frame_net.specs.Flow.{State, sum_below, IsPreflow}
+use Rattle.frame_net.proofs.SumLaws.{sum_below-add, sum_below-same}
+use Rattle.frame_net.proofs.SparseRowLaws.{sum_one}
+use Rattle.frame_net.proofs.TheoryCutLaws.{sum_all_zero}
 use Rattle.cut_cert.specs.Walks.{here}
 use Rattle.cut_cert.proofs.LoweringLaws.{here-one, here-zero, sum-here}
 use Rattle.cut_cert.specs.Steps.{steps_of, all_steps}

@@ -1,6 +1,6 @@
 -- The greatest of the least cuts, the near side of a greatest flow, and the smallest of the least cuts.
 use Rattle.std.specs.Prelude.{◌≡◌, ℕ, ◌<◌, ◌≤◌, Bool, true, false, List}
-use Rattle.flow_theory.specs.Flow.{State, IsPreflow, IsCut, cut_value}
+use Rattle.frame_net.specs.Flow.{State, IsPreflow, IsCut, cut_value}
 use Rattle.aig_graph.specs.Circuits.{Netlist}
 use Rattle.aig_graph.specs.Border.{IsGreatestLeast, IsSmallestLeast}
 use Rattle.frame_net.specs.FlowNet.{FlowNet, node_count, capacity_between}

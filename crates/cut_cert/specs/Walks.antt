@@ -1,7 +1,7 @@
 -- Walks back from the sink over what each arc carries.
 use Rattle.std.specs.Prelude.{◌≡◌, ℕ, ◌+◌, ◌-◌, ◌<◌, ◌≤◌, ◌==◌, ◌⊎◌, ◌++◌, Bool, true, false, List, [], ◌∷◌, length, slice_set, slice_index, slice_index_or, Option, Some, None, if◌then◌else◌}
 use Rattle.std.specs.List.{IsDistinct}
-use Rattle.flow_theory.specs.Flow.{sum_below}
+use Rattle.frame_net.specs.Flow.{sum_below}
 use Rattle.variable_tables.specs.Marking.{has}
 use Rattle.aig_graph.specs.Circuits.{Netlist}
 use Rattle.frame_net.specs.declared.net.Point.{Point}

@@ -1,6 +1,6 @@
 //! The gates of the source's side of the greatest least cut.
 ghost use Rattle.std.specs.Prelude.{◌≡◌, ◌<◌, IfOk, [], false, length, not, slice_index_or};
-ghost use Rattle.flow_theory.specs.Flow.{IsSourceSide};
+ghost use Rattle.frame_net.specs.Flow.{IsSourceSide};
 ghost use Rattle.frame_net.specs.FlowNet.{node_count};
 ghost use Rattle.pulse.specs.Conditions.{IsMaxPreflow, state_of};
 ghost use Rattle.cut_cert.specs.Gates.{gate_of_node, gates_of_nodes_below};

@@ -28,8 +28,10 @@ mod walk;
 
 ghost use Rattle.cut_cert.specs.Cuts.{NearSideIsSmallest, SmallestCutIsSmallestSet};
 
-pub use certificate_files::{CertError, CertFile, Choice, read_cert, write_cert};
-pub use certificates::{Certificate, Objection, Routes, Verdict, check};
+pub use certificates::{
+    CertError, CertFile, Certificate, Choice, Objection, Routes, Verdict, check, read_cert,
+    write_cert,
+};
 pub use certifying::certificate_of;
 pub use gathering::routes;
 pub use greatest::greatest_cut;

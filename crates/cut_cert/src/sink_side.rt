@@ -1,7 +1,7 @@
 //! The nodes that reach the sink over residual arcs, by a walk backward from it: a sweep over the nodes by falling number, in
 //! which each row is read after the one behind it in memory, and a queue of those to which the sweep doesn't come any more.
 ghost use Rattle.std.specs.Prelude.{◌≡◌, ◌<◌, IfOk, OnOk, length, not, nat_lt, slice_index};
-ghost use Rattle.flow_theory.specs.Flow.{IsSourceSide};
+ghost use Rattle.frame_net.specs.Flow.{IsSourceSide};
 ghost use Rattle.frame_net.specs.FlowNet.{node_count, row_len};
 ghost use Rattle.pulse.specs.Conditions.{IsMaxPreflow, state_of};
 ghost use Rattle.cut_cert.specs.Fronts.{is_marked};

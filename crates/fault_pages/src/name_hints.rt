@@ -8,11 +8,10 @@ use crate::near_names::nearest;
 use crate::showing::printable;
 use aig_graph::{Circuit, Symbol, Symbols};
 use circuit_files::circuit_at;
-use counted_io::{Buffered, Counted, CountedWrite};
+use counted_io::{Buffered, Counted, CountedWrite, Source};
 use std::alloc::{AllocError, Global};
 use std::io;
 use std::rt::Files;
-use stream_paths::Source;
 
 /// Puts a name so that no byte of it steers the terminal.
 fn put_printable<W: CountedWrite>(out: &mut Buffered<'_, W>, name: &[u8])

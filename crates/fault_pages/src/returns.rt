@@ -2,9 +2,8 @@
 use crate::hints::can_be_read_again;
 use crate::line::read_piece;
 use crate::message::Message;
-use counted_io::CountedWrite;
+use counted_io::{CountedWrite, Source};
 use std::rt::Files;
-use stream_paths::Source;
 
 /// How many bytes of a list are looked at.
 const PIECE: usize = 4096;

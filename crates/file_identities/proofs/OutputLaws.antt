@@ -4,7 +4,7 @@ use Rattle.std.specs.List.{list_any}
 use Rattle.std.proofs.lemmas.List.{get_or-map, length-map}
 use Rattle.std.proofs.lemmas.List.Elements.{All-map}
 use Rattle.std.proofs.lemmas.List.Folds.{list_any_more, list_any_none}
-use Rattle.batch_lists.specs.declared.entry.Entry.{Entry}
+use Rattle.circuit_files.specs.declared.entry.Entry.{Entry}
 use Rattle.file_identities.specs.Clashes.{clash, clash_at, is_same, is_written, loses, replaces}
 use Rattle.file_identities.specs.Outputs.{AreOwnBelow, AreWrittenBy, HaveOwnFiles, IsFirstRepeat, IsOutput, IsSameAt, has_number, is_exclusive, is_repeat, output_use, takes_number}
 use Rattle.file_identities.specs.declared.file_use.FileUse.{FileUse}

@@ -2,10 +2,10 @@
 use Rattle.std.specs.Prelude.{◌++◌, List, [], ◌∷◌, Option, Some, None, map, if◌then◌else◌}
 use Rattle.std.specs.List.{flat_map}
 use Rattle.std.specs.Option.{option_to_list}
-use Rattle.stream_paths.specs.declared.source.Source.{Source}
-use Rattle.stream_paths.specs.declared.source.Source.TheVariants as sources
-use Rattle.stream_paths.specs.declared.target.Target.{Target}
-use Rattle.stream_paths.specs.declared.target.Target.TheVariants as targets
+use Rattle.counted_io.specs.declared.source.Source.{Source}
+use Rattle.counted_io.specs.declared.source.Source.TheVariants as sources
+use Rattle.counted_io.specs.declared.target.Target.{Target}
+use Rattle.counted_io.specs.declared.target.Target.TheVariants as targets
 use Rattle.command_line.specs.StreamUses.{moving_takes_stdout, name_files, takes_stdout}
 use Rattle.command_line.specs.declared.task.Asking.{Asking}
 use Rattle.command_line.specs.declared.task.Lifting.{Lifting}

@@ -3,9 +3,9 @@ use Rattle.std.specs.Prelude.{ℕ, ◌≡◌, ◌<◌, ◌==◌, ◌&&◌, ⊤, 
 use Rattle.std.specs.List.{list_any}
 use Rattle.std.specs.Str.{bytes_eq}
 use Rattle.std.specs.String.{string_bytes}
-use Rattle.batch_lists.specs.declared.entry.Entry.{Entry}
-use Rattle.batch_lists.specs.declared.fault.ListError.{ListError}
-use Rattle.batch_lists.specs.declared.fault.ListError.TheVariants.{BadLine, TooLarge, SameFile, NoMemory}
+use Rattle.circuit_files.specs.declared.entry.Entry.{Entry}
+use Rattle.circuit_files.specs.declared.fault.ListError.{ListError}
+use Rattle.circuit_files.specs.declared.fault.ListError.TheVariants.{BadLine, TooLarge, SameFile, NoMemory}
 use Rattle.file_identities.specs.Clashes.{clash, is_stream_place}
 use Rattle.file_identities.specs.declared.file_use.Argument.TheVariants.{Out}
 use Rattle.file_identities.specs.declared.file_use.FileUse.{FileUse}

@@ -6,9 +6,9 @@ ghost use Rattle.file_identities.specs.FileUses as wanted;
 use crate::file_use::{Argument, FileUse, Place, Role};
 use crate::identity::{Asked, ask};
 use command_line::{Asking, Lifting, Moving, Retiming, Stimuli, Task};
+use counted_io::{Source, Target};
 use std::alloc::{AllocError, Global};
 use std::rt::Files;
-use stream_paths::{Source, Target};
 
 fn place_of_source(source: Source<'_>) -> Place<'_>
     ensures { result ≡ wanted.place_of_source source.entry }

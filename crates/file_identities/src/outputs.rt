@@ -12,7 +12,7 @@ ghost use Rattle.file_identities.specs.Outputs as wanted;
 use crate::file_use::{Argument, FileUse, Place, Role};
 use crate::file_uses::push;
 use crate::identity::{Asked, Identity, Keeping};
-use batch_lists::{Entry, ListError};
+use circuit_files::{Entry, ListError};
 use std::alloc::{AllocError, Global};
 use std::collections::HashSet;
 use std::rt::Files;

@@ -1,6 +1,6 @@
 -- Counts of rows walked: over ranges end to end, and over those nodes of a part that lie in a range.
 use Rattle.std.proofs.Common.{◌≡◌, ℕ, List, ◌-◌, ◌<◌, ◌≤◌, min, max, cond, arith, refl, ap}
-use Rattle.flow_theory.proofs.SumLaws.{sum_below-mono}
+use Rattle.frame_net.proofs.SumLaws.{sum_below-mono}
 use Rattle.frame_net.specs.FlowNet.{FlowNet}
 use Rattle.flow_part.specs.declared.parts.PushPart.{PushPart}
 use Rattle.flow_part.specs.Parts.{Cells, PushPartFits}

@@ -1,9 +1,9 @@
 -- What a delivery computes at one node is what the definition says of it.
 use Rattle.std.proofs.Common.{◌≡◌, ℕ, ◌+◌, ◌<◌, ◌&&◌, nat_lt, cond, List, length, slice_index, ap, ◌∙◌}
 use Rattle.std.proofs.lemmas.Bool.{lt-ltb}
-use Rattle.flow_theory.specs.Flow.{sum_below, least_below}
-use Rattle.flow_theory.proofs.SumLaws.{sum_below-same}
-use Rattle.flow_theory.proofs.OrderLaws.{least_below-same}
+use Rattle.frame_net.specs.Flow.{sum_below, least_below}
+use Rattle.frame_net.proofs.SumLaws.{sum_below-same}
+use Rattle.frame_net.proofs.OrderLaws.{least_below-same}
 use Rattle.frame_net.specs.FlowNet.{FlowNet, node_count, row_len, head}
 use Rattle.flow_part.specs.Delivering.{own, row_outflow, delivered_res, delivered_label}
 

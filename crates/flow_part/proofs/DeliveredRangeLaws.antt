@@ -3,7 +3,7 @@ use Rattle.std.proofs.Common.{◌≡◌, ℕ, ◌+◌, ◌-◌, ◌<◌, ◌≤�
 use Rattle.std.proofs.lemmas.Bool.{cases_lt}
 use Rattle.std.proofs.lemmas.List.{length-set}
 use borrow.Rule.Slice.PartMut.{put_mid}
-use Rattle.flow_theory.proofs.OrderLaws.{least_below-same}
+use Rattle.frame_net.proofs.OrderLaws.{least_below-same}
 use Rattle.frame_net.specs.FlowNet.{FlowNet, node_count, start, row_len, head, IsFlowNet}
 use Rattle.flow_part.specs.Delivering.{own, back, row_outflow, delivered_res, delivered_excess, delivered_label, NodeSafe, NodeDelivered, NodeKept, SameSizes, RangeDelivered, RangeSafe}
 use Rattle.flow_part.specs.Parts.{Cells, Within, RangeFits}

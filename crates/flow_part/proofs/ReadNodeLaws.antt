@@ -1,8 +1,8 @@
 -- What a read computes at one node is what the definition says of it.
 use Rattle.std.proofs.Common.{◌≡◌, ℕ, ◌+◌, ◌<◌, ◌==◌, ◌&&◌, nat_lt, cond, List, length, slice_index, arith, refl, ap, ◌∙◌}
-use Rattle.flow_theory.proofs.SumLaws.{sum_below-same}
+use Rattle.frame_net.proofs.SumLaws.{sum_below-same}
 use Rattle.frame_net.specs.FlowNet.{FlowNet, node_count, row_len, head}
-use Rattle.flow_theory.specs.Rows.{node_admissible, IsRowOfPushes}
+use Rattle.frame_net.specs.Rows.{node_admissible, IsRowOfPushes}
 use Rattle.flow_part.specs.Reading.{arc_admissible, arc_push}
 
 -- the row that was written is the row of arc pushes

@@ -1,8 +1,8 @@
 -- What comes in at a node where the nodes that push are visited in place of its arcs.
 use Rattle.std.proofs.Common.{◌≡◌, ℕ, suc, zero, ◌+◌, ◌-◌, ◌<◌, ◌≤◌, ◌^◌, List, length, slice_index, slice_set, refl, arith, sym, ap, ◌∙◌, subst, inl, inr, get_or-set_other, get_or-set_same}
 use Rattle.std.proofs.lemmas.Bool.{cases_lt}
-use Rattle.flow_theory.specs.Flow.{sum_below}
-use Rattle.flow_theory.proofs.SumLaws.{sum_below-mono}
+use Rattle.frame_net.specs.Flow.{sum_below}
+use Rattle.frame_net.proofs.SumLaws.{sum_below-mono}
 use Rattle.frame_net.specs.FlowNet.{FlowNet, node_count, start, row_len, head, mate, HasMate, IsFlowNet}
 use Rattle.flow_part.specs.Delivering.{own, back, row_inflow}
 use Rattle.flow_part.specs.Listing.{IsListed, IsRising}

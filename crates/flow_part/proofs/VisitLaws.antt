@@ -1,7 +1,7 @@
 -- A delivery that visits the nodes of a list: the others have nothing to do, so Deliver of them changes nothing.
 use Rattle.std.proofs.Common.{◌≡◌, ℕ, ◌+◌, ◌-◌, ◌<◌, ◌≤◌, ◌&&◌, ◌⊎◌, nat_lt, false, List, [], ◌++◌, ◌∷◌, length, slice_index, refl, arith, sym, ap, ◌∙◌, subst, inl, inr}
 use Rattle.std.proofs.lemmas.Bool.{cases_lt, cond-false, and_left}
-use Rattle.flow_theory.proofs.SumLaws.{sum_below-same, sum_below-zero}
+use Rattle.frame_net.proofs.SumLaws.{sum_below-same, sum_below-zero}
 use Rattle.frame_net.specs.FlowNet.{FlowNet, node_count, start, row_len, IsFlowNet}
 use Rattle.flow_part.specs.declared.parts.FlowPart.{FlowPart}
 use Rattle.flow_part.specs.Parts.{Cells, RangeFits, part_cells}

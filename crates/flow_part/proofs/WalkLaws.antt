@@ -3,7 +3,7 @@ use Rattle.std.proofs.Common.{◌≡◌, ℕ, suc, zero, ◌+◌, ◌-◌, ◌<�
 use Rattle.std.proofs.lemmas.Bool.{cases_Bool, cases_lt, cond-false, false≢true, and_left}
 use Rattle.std.proofs.lemmas.List.{get_or-append_right, length-append}
 use Rattle.std.proofs.Math.ListN.{get_or-append}
-use Rattle.flow_theory.proofs.SumLaws.{sum_below-le_const}
+use Rattle.frame_net.proofs.SumLaws.{sum_below-le_const}
 use Rattle.frame_net.specs.FlowNet.{FlowNet, node_count, start, head, IsFlowNet}
 use Rattle.flow_part.specs.declared.node_list.NodeList.{NodeList}
 use Rattle.flow_part.specs.Listing.{AreWithin, IsListed}

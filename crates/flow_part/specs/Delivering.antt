@@ -1,5 +1,5 @@
 use Rattle.std.specs.Prelude.{◌≡◌, ℕ, ◌+◌, ◌-◌, ◌<◌, ◌≤◌, ◌^◌, nat_lt, cond, ◌&&◌, Bool, List, length, slice_index, slice_index_or, ◌⊎◌}
-use Rattle.flow_theory.specs.Flow.{sum_below, least_below, State, push}
+use Rattle.frame_net.specs.Flow.{sum_below, least_below, State, push}
 use Rattle.frame_net.specs.FlowNet.{FlowNet, node_count, start, row_len, head, mate}
 use Rattle.flow_part.specs.Parts.{Cells, Within, part_cells, pair}
 use Rattle.flow_part.specs.declared.parts.FlowPart.{FlowPart}

@@ -4,3 +4,11 @@ pub mod Reading
 pub mod Delivering
 pub mod Visiting
 pub mod Receiving
+pub mod Runs
+pub mod Marks
+pub mod Start
+pub mod Labels
+pub mod TakingOver
+pub mod Distances
+pub mod ExactRuns
+pub mod Walks

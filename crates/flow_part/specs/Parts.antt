@@ -1,7 +1,7 @@
 use Rattle.std.specs.Prelude.{◌≡◌, ℕ, ◌+◌, ◌-◌, ◌<◌, ◌≤◌, ◌^◌, List, [], ◌∷◌, length, slice_index}
 use Rattle.std.specs.List.{flat_map}
-use Rattle.flow_theory.specs.Flow.{sum_below, State, IsPreflow, IsValid}
-use Rattle.flow_theory.specs.Rows.{sparse}
+use Rattle.frame_net.specs.Flow.{sum_below, State, IsPreflow, IsValid}
+use Rattle.frame_net.specs.Rows.{sparse}
 use Rattle.frame_net.specs.FlowNet.{FlowNet, node_count, start, row_len, head}
 use Rattle.flow_part.specs.declared.parts.FlowPart.{FlowPart}
 use Rattle.flow_part.specs.declared.parts.PushPart.{PushPart}

@@ -1,6 +1,6 @@
 -- Read: what each node pushes.
 use Rattle.std.specs.Prelude.{◌≡◌, ℕ, ◌+◌, ◌-◌, ◌<◌, ◌≤◌, ◌==◌, nat_lt, min, max, cond, ◌&&◌, ◌^◌, ◌++◌, ◌∷◌, [], Bool, true, List, length, slice_index, slice_index_or, ◌⊎◌}
-use Rattle.flow_theory.specs.Flow.{sum_below, is_active}
+use Rattle.frame_net.specs.Flow.{sum_below, is_active}
 use Rattle.frame_net.specs.FlowNet.{FlowNet, node_count, start, row_len, head}
 use Rattle.flow_part.specs.declared.node_list.NodeList.{NodeList}
 use Rattle.flow_part.specs.declared.parts.PushPart.{PushPart}

@@ -8,8 +8,7 @@ ghost use Rattle.flow_part.specs.Delivering.{delivered_excess, delivered_label, 
 use crate::inflow::add_row;
 use crate::parts::{FlowPart, PushPart};
 use crate::places::push_row;
-use flow_theory::{relabel, subtract_pushes};
-use frame_net::Net;
+use frame_net::{Net, relabel, subtract_pushes};
 
 /// The label of node `v` after delivery, by its residuals after delivery: it stays unless `v` was active and keeps some of its excess.
 fn next_label(net: &Net, labels: &[u32], v: u32, excess: u32, outflow: u32, row: &[u32]) -> u32

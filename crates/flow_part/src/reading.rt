@@ -7,8 +7,7 @@ ghost use Rattle.flow_part.specs.Reading.{IsCountedOn, PartReadOn, RowsRead, act
 use crate::clearing::clear;
 use crate::parts::{FlowPart, PushPart};
 use crate::places::part_of;
-use flow_theory::write_pushes;
-use frame_net::Net;
+use frame_net::{Net, write_pushes};
 
 /// Read of node `v` into its row. No other function walks a row for pushes, and each walk is counted.
 fn walk_row(

@@ -2,7 +2,7 @@
 use Rattle.std.proofs.Common.{◌≡◌, ℕ, ◌<◌, ◌≤◌, ◌==◌, Bool, true, false, not, ◌&&◌, ◌||◌, cond, IsTrue, List, Option, Some, None, arith, refl, ap, ap₂, sym, ◌∙◌, subst, inl, inr}
 use Rattle.std.specs.List.{Contains}
 use Rattle.std.proofs.lemmas.Bool.{cases_lt, cases_Bool, cond-true, eq-eqb, or_left, or_right, or_parts, false_from_ne_true, and_parts, true≢false}
-use Rattle.flow_theory.specs.Flow.{IsCut, cut_value}
+use Rattle.frame_net.specs.Flow.{IsCut, cut_value}
 use Rattle.variable_tables.specs.Counting.{count_below}
 use Rattle.variable_tables.specs.Marking.{has}
 use Rattle.variable_tables.proofs.CountingLaws.{count-within}

@@ -1,9 +1,9 @@
 -- The capacity of a cut, variable by variable.
 use Rattle.std.proofs.Common.{◌≡◌, ◌≢◌, ℕ, suc, zero, ◌+◌, ◌-◌, ◌*◌, ◌<◌, ◌≤◌, ◌==◌, nat_lt, Bool, true, false, not, ◌&&◌, cond, List, Option, arith, refl, ap, sym, ◌∙◌, subst, inl, inr}
 use Rattle.std.proofs.lemmas.Bool.{cases_lt, cases_Bool, cases_eq, cond-true, cond-false, ne_eqb, eq-eqb, lt-ltb, le-ltb, true≢false}
-use Rattle.flow_theory.specs.Flow.{sum_below, IsCut, cut_value}
-use Rattle.flow_theory.proofs.SumLaws.{sum_below-add, sum_below-same, sum_below-zero}
-use Rattle.flow_theory.proofs.SparseRowLaws.{sum_one}
+use Rattle.frame_net.specs.Flow.{sum_below, IsCut, cut_value}
+use Rattle.frame_net.proofs.SumLaws.{sum_below-add, sum_below-same, sum_below-zero}
+use Rattle.frame_net.proofs.SparseRowLaws.{sum_one}
 use Rattle.variable_tables.specs.Counting.{count_below}
 use Rattle.variable_tables.proofs.PlacesLaws.{count-pass, count-fail, count-zero, length-places}
 use Rattle.aig_graph.specs.declared.graph.Latch.{Latch}

@@ -1,9 +1,9 @@
 -- The gates of the greatest least cut are the greatest least set.
 use Rattle.std.proofs.Common.{◌≡◌, ℕ, suc, zero, ◌<◌, ◌≤◌, Bool, true, false, not, ◌&&◌, ◌||◌, cond, IsTrue, List, [], Option, arith, refl, ap, ap₂, sym, ◌∙◌, subst, inl, inr}
 use Rattle.std.proofs.lemmas.Bool.{cases_lt, cases_Bool, cases_eq, true≢false}
-use Rattle.flow_theory.specs.Flow.{cut_value, sum_below}
-use Rattle.flow_theory.specs.Laws.{IsGreatestLeastCut}
-use Rattle.flow_theory.proofs.SumLaws.{term-le-sum_below}
+use Rattle.frame_net.specs.Flow.{cut_value, sum_below}
+use Rattle.frame_net.specs.Laws.{IsGreatestLeastCut}
+use Rattle.frame_net.proofs.SumLaws.{term-le-sum_below}
 use Rattle.variable_tables.specs.Counting.{count_below}
 use Rattle.variable_tables.specs.Marking.{has}
 use Rattle.variable_tables.proofs.PlacesLaws.{count-fail}

@@ -1,3 +1,14 @@
+pub mod SumLaws
+pub mod PushLaws
+pub mod PulseLaws
+pub mod PotentialLaws
+pub mod TheoryCutLaws
+pub mod OrderLaws
+pub mod TotalLaws
+pub mod ExactLabelLaws
+pub mod StartLaws
+pub mod SparseRowLaws
+pub mod RowLaws
 pub mod PassableLaws
 pub mod EdgeLaws
 pub mod FilledLaws

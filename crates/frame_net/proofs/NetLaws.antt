@@ -1,8 +1,8 @@
 -- The same of a network, as contracts see it.
 use Rattle.std.proofs.Common.{◌≡◌, ℕ, ◌<◌, ◌≤◌, Bool, true, false, not, IsTrue, List, length, Some, arith, refl, ap, ap₂, sym, ◌∙◌, subst}
 use Rattle.std.proofs.lemmas.Option.{none-some, same_Some}
-use Rattle.flow_theory.specs.Flow.{IsCut, cut_value}
-use Rattle.flow_theory.proofs.CutLaws.{between-same}
+use Rattle.frame_net.specs.Flow.{IsCut, cut_value}
+use Rattle.frame_net.proofs.TheoryCutLaws.{between-same}
 use Rattle.variable_tables.specs.Marking.{has}
 use Rattle.aig_graph.specs.Graph.{Graph, first_gate, variables_end}
 use Rattle.aig_graph.specs.Circuits.{Netlist}

@@ -1,8 +1,8 @@
 -- Cuts of a circuit's network, and closed sets.
 use Rattle.std.specs.Prelude.{◌≡◌, ℕ, ◌+◌, ◌<◌, ◌≤◌, ◌↔◌, Bool, true, false, List, Some}
 use Rattle.std.specs.List.Sorted.{IsStrictlyIncreasing}
-use Rattle.flow_theory.specs.Flow.{IsCut, cut_value}
-use Rattle.flow_theory.specs.Laws.{IsGreatestLeastCut}
+use Rattle.frame_net.specs.Flow.{IsCut, cut_value}
+use Rattle.frame_net.specs.Laws.{IsGreatestLeastCut}
 use Rattle.variable_tables.specs.Marking.{has}
 use Rattle.aig_graph.specs.Graph.{IsGraph}
 use Rattle.aig_graph.specs.Circuits.{Netlist}

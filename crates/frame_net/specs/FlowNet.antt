@@ -1,7 +1,7 @@
 -- A flow network by rows of arcs.
 use Rattle.std.specs.Prelude.{◌≡◌, ℕ, ◌+◌, ◌-◌, ◌*◌, ◌/◌, ◌%◌, ◌<◌, ◌≤◌, ◌==◌, ◌^◌, nat_lt, true, false, List, length, slice_index, Option, Some, None, if◌then◌else◌}
-use Rattle.flow_theory.specs.Flow.{sum_below}
-use Rattle.flow_theory.specs.Rows.{sparse}
+use Rattle.frame_net.specs.Flow.{sum_below}
+use Rattle.frame_net.specs.Rows.{sparse}
 use Rattle.frame_net.specs.declared.net.Point.{Point}
 
 -- Node 0 is the source, node 1 the sink. The arcs with tail v are those from starts v on, up to starts (v + 1).

@@ -1,3 +1,7 @@
+pub mod Flow
+pub mod Laws
+pub mod Events
+pub mod Rows
 pub mod FlowNet
 pub mod Passable
 pub mod Edges

@@ -1,5 +1,5 @@
 //! Distances in the first worked network, at the start of the flow.
-use flow_whole::{exact_labels, start_parts};
+use flow_part::{exact_labels, start_parts};
 use frame_net::Net;
 use std::alloc::{AllocError, Global};
 

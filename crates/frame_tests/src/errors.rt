@@ -1,8 +1,8 @@
 //! The texts of errors. Contracts say their numbers.
 use aag_text::{ReadError, WriteError};
 use aig_graph::{BuildError, HoldError, KeepError, NoMemory};
-use batch_lists::ListError;
 use batch_pool::BatchError;
+use circuit_files::ListError;
 use frames::{BytesError, RetimeError};
 use lane_sim::{SimError, StimError};
 use pulse::PulseError;

@@ -1,10 +1,15 @@
-//! Tests of the public calls on graphs and whole circuits: cleaning, latches that are held, passable gates, moving over a set of gates, the network of a frame, exact labels,
-//! pulses and runs by crews of several sizes, cuts, routes, files of certificates, frames by crews, from bytes to bytes, and many files at once. They
-//! stand in a crate of their own, since a crate with tests is proved twice.
+//! Tests of the public calls. On graphs and whole circuits: cleaning, latches that are held, passable gates, moving over a set of gates, the network of
+//! a frame, exact labels, pulses and runs by crews of several sizes, cuts, routes, files of certificates, frames by crews, from bytes to bytes, and many
+//! files at once. On files: reading and writing circuits in both spellings, the order that gates take, buffered writing and devices that fail. And
+//! moves backward. They stand in a crate of their own, since a crate with tests is proved twice.
 #![tactic(auto)]
 
 #[cfg(test)]
+mod any_spelling;
+#[cfg(test)]
 mod arcs;
+#[cfg(test)]
+mod backward_rows;
 #[cfg(test)]
 mod batch_counter;
 #[cfg(test)]
@@ -28,11 +33,15 @@ mod counting_gate;
 #[cfg(test)]
 mod cuts;
 #[cfg(test)]
+mod devices;
+#[cfg(test)]
 mod distances;
 #[cfg(test)]
 mod errors;
 #[cfg(test)]
 mod failing_devices;
+#[cfg(test)]
+mod faults;
 #[cfg(test)]
 mod graphs;
 #[cfg(test)]
@@ -46,7 +55,11 @@ mod moves;
 #[cfg(test)]
 mod nets;
 #[cfg(test)]
+mod order;
+#[cfg(test)]
 mod phase_gates;
+#[cfg(test)]
+mod pieces;
 #[cfg(test)]
 mod pool_gate;
 #[cfg(test)]
@@ -69,3 +82,7 @@ mod wide_runs;
 mod worked_networks;
 #[cfg(test)]
 mod worked_pulses;
+#[cfg(test)]
+mod writing;
+#[cfg(test)]
+mod wrong_drafts;

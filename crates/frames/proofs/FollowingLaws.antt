@@ -22,7 +22,7 @@ use Rattle.frames.specs.declared.options.Options.{Options}
 use Rattle.frames.specs.Following.{ComesOn, ComesWhole, IsCleanedFollowed, IsFollowed, IsMovedFollowed}
 use Rattle.frames.specs.Found.{Moves}
 use Rattle.frames.specs.Underway.{IsUnderway}
-use Rattle.normalised_circuits.specs.Normalised.{IsNormalised}
+use Rattle.clean.specs.Normalised.{IsNormalised}
 use Rattle.variable_tables.specs.Tables.{table}
 use Rattle.variable_tables.proofs.TableLaws.{table-from}
 use Rattle.frames.proofs.FrameLaws.{cleaned-by, moved-by, own-cleaned}

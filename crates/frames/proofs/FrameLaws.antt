@@ -30,8 +30,8 @@ use Rattle.retimed_circuits.specs.Frames.{AfterFrames, CleansTo, cleaned, frame,
 use Rattle.retimed_circuits.proofs.HeldLaws.{cleaning-keeps, moving-keeps}
 use Rattle.retimed_circuits.proofs.RunLaws.{after-length}
 use Rattle.retimed_circuits.proofs.StayLaws.{stays-same, stays-then}
-use Rattle.normalised_circuits.specs.Normalised.{IsNormalised}
-use Rattle.normalised_circuits.proofs.FrameLaws.{cleans-normalised, normalised-cleaned}
+use Rattle.clean.specs.Normalised.{IsNormalised}
+use Rattle.clean.proofs.FrameLaws.{cleans-normalised, normalised-cleaned}
 use Rattle.frames.specs.declared.frame.Frame.{Frame}
 use Rattle.frames.specs.declared.options.Options.{Options}
 use Rattle.frames.specs.Found.{IsAfterMove, Moves}

@@ -10,7 +10,7 @@ use Rattle.aig_binary.specs.declared.reading.SpeltCircuit.{SpeltCircuit}
 use Rattle.aig_binary.specs.Ending.{ReadsToEnd, Spells, IsReadError}
 use Rattle.retimed_circuits.specs.declared.report.Retimed.{Retimed}
 use Rattle.retimed_circuits.specs.Certified.{IsSameRetiming}
-use Rattle.level_laws.specs.Retiming.{KeepsLevels}
+use Rattle.retimed_circuits.specs.RetimingLevels.{KeepsLevels}
 use Rattle.frames.specs.declared.errors.BytesError.{BytesError}
 use Rattle.frames.specs.declared.errors.BytesError.TheVariants.{Read, Retime, Write}
 use Rattle.frames.specs.declared.errors.RetimeError.TheVariants.{NoMemory, NoSuchLatch, NoSuchName}

@@ -9,7 +9,7 @@ use Rattle.retimed_circuits.specs.declared.report.Retimed.{Retimed}
 use Rattle.retimed_circuits.specs.Frames.{CleansTo, IsHelpingSet, NoneHelps, held_over, moved_over}
 use Rattle.retimed_circuits.specs.Names.{StayHeld}
 use Rattle.retimed_circuits.specs.Retiming.{IsRetimedOver, IsRetimedWith}
-use Rattle.normalised_circuits.specs.Normalised.{IsNormalised}
+use Rattle.clean.specs.Normalised.{IsNormalised}
 use Rattle.frames.specs.declared.options.Options.{Options}
 use Rattle.frames.specs.Bounds.{bound_in}
 use Rattle.frames.specs.Named.{holding_in}

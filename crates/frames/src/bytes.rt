@@ -9,7 +9,7 @@ ghost use Rattle.frames.specs.Answering.{AfterReading, AreOfCircuit, BeforeWriti
 ghost use Rattle.frames.specs.Bounds.{bound_in};
 ghost use Rattle.frames.specs.Retiming.{IsRetimedHeld};
 ghost use Rattle.frames.specs.Stages.{Notifies, Writing, stages_of};
-ghost use Rattle.level_laws.specs.Retiming.{KeepsLevels};
+ghost use Rattle.retimed_circuits.specs.RetimingLevels.{KeepsLevels};
 ghost use Rattle.frames.specs.declared.errors.RetimeError.TheVariants.{NoSuchLatch, NoSuchName};
 
 use crate::errors::BytesError;

@@ -5,7 +5,7 @@ ghost use Rattle.frames.specs.Following.{HasComeTo, IsMovedFollowed, MovesFollow
 ghost use Rattle.frames.specs.Found.{IsAfterMove, IsPrepared, IsSavingSet};
 ghost use Rattle.frames.specs.Retiming.{NoneHelpsBy};
 ghost use Rattle.frames.specs.Stages.{Moving, Notifies};
-ghost use Rattle.normalised_circuits.specs.Normalised.{IsNormalised};
+ghost use Rattle.clean.specs.Normalised.{IsNormalised};
 
 use crate::follower::RunFollower;
 use crate::helping::{PreparedMove, helping_set};

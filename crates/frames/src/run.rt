@@ -1,6 +1,5 @@
 use aig_graph::{Keep, Sequence};
-use merged_latches::MergeCounts;
-use retimed_circuits::Retimed;
+use retimed_circuits::{MergeCounts, Retimed};
 
 /// A run under way: what it has come to, and what has followed it there.
 #[derive(Drop)]

@@ -6,7 +6,7 @@ ghost use Rattle.frames.specs.Bounds.{bound_in};
 ghost use Rattle.frames.specs.Named.{AreLatchesBy, IsFirstMissingBy, IsFirstNoLatchBy, NoneMissingBy, kept_by};
 ghost use Rattle.frames.specs.Retiming.{IsRetimedBy, IsRetimedHeld};
 ghost use Rattle.frames.specs.Stages.{Notifies, looks_of, stages_of};
-ghost use Rattle.level_laws.specs.Retiming.{KeepsLevels};
+ghost use Rattle.retimed_circuits.specs.RetimingLevels.{KeepsLevels};
 ghost use Rattle.frames.specs.declared.errors.RetimeError.TheVariants.{NoSuchLatch, NoSuchName};
 
 use crate::beginning::begin;

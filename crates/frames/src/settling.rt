@@ -5,12 +5,11 @@ ghost use Rattle.aig_graph.specs.Circuits.{IsNetlist};
 ghost use Rattle.aig_graph.specs.Graph.{IsGraph};
 ghost use Rattle.aig_graph.specs.Laws.{all_free};
 ghost use Rattle.frames.specs.Following.{HasComeTo, IsCleanedFollowed};
-ghost use Rattle.normalised_circuits.specs.Normalised.{AreLowNormalised, IsNormalised};
+ghost use Rattle.clean.specs.Normalised.{AreLowNormalised, IsNormalised};
 
 use crate::follower::RunFollower;
 use aig_graph::{Circuit, Keep, NoMemory};
-use clean::Cleaned;
-use normalised_circuits::{all_places, are_low_normalised};
+use clean::{Cleaned, all_places, are_low_normalised};
 use std::alloc::Global;
 
 /// A circuit as what it is cleaned to, which it is if it is normalised. All latches and gates stay, so none is marked.

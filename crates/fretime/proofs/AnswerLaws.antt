@@ -4,7 +4,7 @@ use Rattle.std.specs.Prelude.{IfOk, OnOk}
 use Rattle.std.proofs.lemmas.List.{get_or_default, map-append, map_more, take_all, take_more}
 use Rattle.std.proofs.lemmas.List.Elements.{All-map, All-more}
 use Rattle.counted_io.specs.Output.{Output}
-use Rattle.batch_lists.specs.declared.entry.Entry.{Entry}
+use Rattle.circuit_files.specs.declared.entry.Entry.{Entry}
 use Rattle.batch_pool.specs.declared.job.Outcome.{Outcome as JobOutcome}
 use Rattle.reports.specs.declared.batch.JobReport.{JobReport}
 use Rattle.circuit_files.specs.declared.outcome.Outcome.{Outcome}

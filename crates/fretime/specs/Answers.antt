@@ -1,7 +1,7 @@
 -- The files of a batch: which outcome goes to which path, that a circuit was written, and which of them a failure is of.
 use Rattle.std.specs.Prelude.{ℕ, ◌≡◌, ◌⊎◌, Contains, List, Option, map, codes}
 use Rattle.std.specs.Io.KnownBytes.{Appends}
-use Rattle.batch_lists.specs.declared.entry.Entry.{Entry}
+use Rattle.circuit_files.specs.declared.entry.Entry.{Entry}
 use Rattle.batch_pool.specs.declared.job.Outcome.{Outcome as JobOutcome}
 use Rattle.batch_pool.specs.declared.job.Outcome.TheVariants as jobs
 use Rattle.reports.specs.declared.batch.JobReport.{JobReport}

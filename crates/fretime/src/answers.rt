@@ -4,9 +4,8 @@ ghost use Rattle.std.specs.Prelude.{◌≡◌, All, IfErr, IfOk, OnOk, length};
 ghost use Rattle.circuit_files.specs.declared.outcome.Failure.TheVariants as fails;
 ghost use Rattle.fretime.specs.Answers.{AreAnswersOf, FailsAt, IsGiven, IsOfOutput, IsWritten};
 
-use batch_lists::Entry;
 use batch_pool::Outcome;
-use circuit_files::Failure;
+use circuit_files::{Entry, Failure};
 use counted_io::{Counted, write_all};
 use std::alloc::{AllocError, Global};
 use std::fs::File;

@@ -13,12 +13,11 @@ ghost use Rattle.file_identities.specs.Outputs.{HaveOwnFiles};
 use crate::answers::{Answer, answers_of, write_answer};
 use crate::batch_object::finish_as_object;
 use crate::reporting::{report_failure_as, told_of};
-use batch_lists::{Entry, ListError, read_list};
 use batch_pool::{Job, run_batch};
-use circuit_files::{Failure, Outcome, bytes_at, bytes_of_file};
+use circuit_files::{Entry, Failure, ListError, Outcome, bytes_at, bytes_of_file, read_list};
 use command_endings::run_options;
 use command_line::Batch;
-use counted_io::{CountedRead, CountedWrite};
+use counted_io::{CountedRead, CountedWrite, Streams};
 use fault_pages::give_hint;
 use file_identities::check_outputs;
 use pulse::{Crew, OpenGate};
@@ -26,7 +25,6 @@ use reports::{JobReport, print_job};
 use std::alloc::Global;
 use std::rt::Files;
 use std::thread::Threads;
-use stream_paths::Streams;
 
 /// The most workers of a crew.
 const MOST_WORKERS: u32 = 64;

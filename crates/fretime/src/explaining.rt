@@ -10,10 +10,9 @@ ghost use Rattle.command_endings.specs.Printing.{Prints, ending};
 ghost use Rattle.fretime.specs.Explaining.{Explains, FailsToExplain, file_part, file_text, indented, indented_byte, page_text};
 
 use circuit_files::{Failure, Outcome};
-use counted_io::{Buffered, CountedWrite, WriteError};
+use counted_io::{Buffered, CountedWrite, Streams, WriteError};
 use fault_pages::{Fault, Message};
 use std::alloc::Global;
-use stream_paths::Streams;
 
 /// Puts a byte of a file, and four spaces where it ends a line.
 fn put_indented<W: CountedWrite>(out: &mut Buffered<'_, W>, byte: u8)

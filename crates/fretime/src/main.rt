@@ -12,7 +12,7 @@ mod reporting;
 mod run;
 mod written;
 
-use counted_io::{Counted, CountedRead, CountedWrite};
+use counted_io::{Counted, CountedRead, CountedWrite, Streams};
 use run::{report_unreadable_arguments, run_words};
 use std::env::Env;
 use std::io::IsTerminal;
@@ -21,7 +21,6 @@ use std::rt::Files;
 use std::thread::Threads;
 use std::time::Clock;
 use std::{env, io};
-use stream_paths::Streams;
 
 /// The command-line arguments, the program's own name first.
 fn words<R: Env + AllocGlobal>(rt: &R) -> io::Result<Vec<String>> {

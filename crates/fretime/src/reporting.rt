@@ -10,12 +10,11 @@ use crate::written::is_written;
 use circuit_files::{Failure, Outcome};
 use command_endings::{fault_of, print_failure};
 use command_line::{Drawing, Task};
-use counted_io::CountedWrite;
+use counted_io::{CountedWrite, Streams};
 use fault_pages::{Message, Told, give_hint, tell_returns};
 use std::alloc::Global;
 use std::fmt::Write;
 use std::rt::Files;
-use stream_paths::Streams;
 
 /// Reports a failure on one line, and returns how the run ends. A failed write changes nothing.
 pub fn report_failure<E: CountedWrite>(

@@ -21,7 +21,7 @@ use clap::error::ErrorKind;
 use command_endings::{NameFile, hold_names, read_name_files};
 use command_line::{Task, Verification, parse_arguments};
 use commands::{convert, print_retimed, print_statistics, print_verification, write_picture};
-use counted_io::{Buffered, CountedRead, CountedWrite};
+use counted_io::{Buffered, CountedRead, CountedWrite, Streams};
 use fault_pages::Message;
 use map_commands::{print_check, print_moves, write_lifted, write_miter};
 use simulation_commands::{print_comparison, print_simulation, print_witness_back};
@@ -31,7 +31,6 @@ use std::io;
 use std::rt::Files;
 use std::thread::Threads;
 use std::time::Clock;
-use stream_paths::Streams;
 
 /// Checks certificates; what is told of a file that has none is shown as a terminal may have it.
 fn verify<'a, R: Files, I: CountedRead, O: CountedWrite, E: CountedWrite>(

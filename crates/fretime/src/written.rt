@@ -1,6 +1,6 @@
 //! Which files a task writes: why one failed is asked for in another way than of a file that is read.
 use command_line::Task;
-use stream_paths::{Source, Target};
+use counted_io::{Source, Target};
 
 /// Whether a file with this path is written here.
 fn is_to(target: Target<'_>, path: &str) -> bool {

@@ -8,8 +8,8 @@ use Rattle.reports.specs.declared.agreement.Agreement.TheVariants.{DiffersAt}
 use Rattle.reports.specs.declared.batch.JobReport.TheVariants.{Done, Refused}
 use Rattle.certificates.specs.declared.verdict.Objection.TheVariants.{BadRoute}
 use Rattle.certificate_audits.specs.declared.outcome.End.TheVariants.{NoBlocks, Objected}
-use Rattle.circuit_counts.specs.declared.remaining.Remaining.{Remaining}
-use Rattle.circuit_counts.specs.declared.statistics.Counts.{Counts}
+use Rattle.reports.specs.declared.remaining_counts.Remaining.{Remaining}
+use Rattle.reports.specs.declared.statistics.Counts.{Counts}
 use Rattle.aig_graph.specs.Circuits.{Netlist}
 use Rattle.aig_graph.specs.declared.graph.Reset.TheVariants.{Zero}
 use Rattle.serde_json.proofs.OnLiterals.{serde_json_on_literals}

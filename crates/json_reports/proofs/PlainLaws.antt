@@ -3,10 +3,10 @@ use Rattle.std.proofs.Common.{ℕ, ◌≡◌, ◌≤◌, suc, Bool, false, List,
 use Rattle.std.specs.Prelude.{codes}
 use Rattle.std.proofs.Math.Nat.{max-le}
 use Rattle.std.proofs.lemmas.Bool.{or_from}
-use Rattle.circuit_counts.specs.declared.held_back.HeldBack.{HeldBack}
-use Rattle.circuit_counts.specs.declared.remaining.Remaining.{Remaining}
-use Rattle.circuit_counts.specs.declared.statistics.Counts.{Counts}
-use Rattle.circuit_counts.specs.declared.statistics.Statistics.{Statistics}
+use Rattle.reports.specs.declared.held_back.HeldBack.{HeldBack}
+use Rattle.reports.specs.declared.remaining_counts.Remaining.{Remaining}
+use Rattle.reports.specs.declared.statistics.Counts.{Counts}
+use Rattle.reports.specs.declared.statistics.Statistics.{Statistics}
 use Rattle.certificates.specs.declared.certificate.Certificate.{Certificate}
 use Rattle.certificate_audits.specs.declared.outcome.Audit.{Audit}
 use Rattle.counted_io.specs.Output.{Output}
@@ -23,7 +23,7 @@ use Rattle.serde_json.specs.Written.{has_float, items_have_float, members_have_f
 use Rattle.certificates.specs.Objections.{objection_name}
 use Rattle.json_reports.specs.Audits.{agreement_data, audit_data, block_data, objection_at}
 use Rattle.json_reports.specs.Batches.{batch_data, job_data}
-use Rattle.merged_latches.specs.declared.counts.MergeCounts.{MergeCounts}
+use Rattle.retimed_circuits.specs.declared.counts.MergeCounts.{MergeCounts}
 use Rattle.json_reports.specs.Counts.{circuit_data, map_data, merge_data, statistics_data}
 use Rattle.json_reports.specs.Differences.{difference_data, shapes_data}
 use Rattle.json_reports.specs.Faults.{fault_data, fault_offset}

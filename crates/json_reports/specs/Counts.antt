@@ -1,9 +1,9 @@
 -- What a circuit has, as an object.
 use Rattle.std.specs.Prelude.{codes, Option}
-use Rattle.circuit_counts.specs.declared.statistics.Counts.{Counts}
-use Rattle.circuit_counts.specs.declared.statistics.Statistics.{Statistics}
+use Rattle.reports.specs.declared.statistics.Counts.{Counts}
+use Rattle.reports.specs.declared.statistics.Statistics.{Statistics}
 use Rattle.serde_json.specs.Data.{Data, string, object, member, no_members}
-use Rattle.merged_latches.specs.declared.counts.MergeCounts.{MergeCounts}
+use Rattle.retimed_circuits.specs.declared.counts.MergeCounts.{MergeCounts}
 use Rattle.json_reports.specs.declared.counts.MapCounts.{MapCounts}
 use Rattle.json_reports.specs.Members.{count, or_null}
 

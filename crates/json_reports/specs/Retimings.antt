@@ -1,7 +1,7 @@
 -- A retimed circuit and its frames, as an object.
 use Rattle.std.specs.Prelude.{ℕ, Bool, Option, codes}
-use Rattle.circuit_counts.specs.declared.held_back.HeldBack.{HeldBack}
-use Rattle.circuit_counts.specs.declared.remaining.Remaining.{Remaining}
+use Rattle.reports.specs.declared.held_back.HeldBack.{HeldBack}
+use Rattle.reports.specs.declared.remaining_counts.Remaining.{Remaining}
 use Rattle.retimed_circuits.specs.declared.report.FrameReport.{FrameReport}
 use Rattle.retimed_circuits.specs.declared.report.Retimed.{Retimed}
 use Rattle.serde_json.specs.Data.{Data, boolean, string, object, member, no_members}

@@ -18,12 +18,10 @@ use crate::retiming::retiming_object;
 use crate::times::Times;
 use certificate_audits::Audit;
 use certificates::Certificate;
-use circuit_counts::{Remaining, Statistics};
 use counted_io::CountedWrite;
 use lane_sim::Place;
-use merged_latches::MergeCounts;
-use reports::{Agreement, JobReport};
-use retimed_circuits::Retimed;
+use reports::{Agreement, JobReport, Remaining, Statistics};
+use retimed_circuits::{MergeCounts, Retimed};
 use std::alloc::Global;
 
 /// Prints what [`retiming_object`] makes, on a line.

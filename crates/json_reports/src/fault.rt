@@ -4,8 +4,8 @@ ghost use Rattle.serde_json.specs.View.{view};
 ghost use Rattle.json_reports.specs.Faults.{fault_data};
 
 use crate::members::{Scalar, scalars_object};
-use batch_lists::ListError;
-use certificate_files::CertError;
+use certificates::CertError;
+use circuit_files::ListError;
 use file_words::ReadError;
 use lane_sim::StimError;
 use serde_json::Value;

@@ -8,7 +8,7 @@ ghost use Rattle.json_reports.specs.Retimings.{before_data, frame_data, held_bac
 use crate::counts::{MapCounts, ReadLevels, circuit_object, map_value, merged_value};
 use crate::members::{Scalar, put_made, put_scalars, scalars_object, wide};
 use crate::times::{Times, times_value};
-use circuit_counts::{HeldBack, Remaining};
+use reports::{HeldBack, Remaining};
 use retimed_circuits::{FrameReport, Retimed};
 use serde_json::{Map, Value};
 use std::alloc::{AllocError, Global};

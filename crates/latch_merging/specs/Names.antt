@@ -6,8 +6,8 @@ use Rattle.aig_graph.specs.declared.graph.Latch.{Latch}
 use Rattle.aig_graph.specs.Graph.{Graph, variable, first_latch}
 use Rattle.cleaned_circuits.specs.Latches.{constant_of}
 use Rattle.cleaned_circuits.specs.Merged.{known_substitute, replaced_gate}
-use Rattle.merged_latches.specs.Readings.{from_reset, leaves, may_merge, own_literal, read, signature, IsReading}
-use Rattle.merged_latches.specs.Partitions.{IsInductive, IsFiner}
+use Rattle.retimed_circuits.specs.Readings.{from_reset, leaves, may_merge, own_literal, read, signature, IsReading}
+use Rattle.retimed_circuits.specs.Partitions.{IsInductive, IsFiner}
 use Rattle.latch_merging.specs.declared.signature.Signature.{Signature}
 use Rattle.latch_merging.specs.Rounds.{constant_signature, has_signature}
 

@@ -6,7 +6,7 @@ use Rattle.aig_graph.specs.Graph.{Graph}
 use Rattle.variable_tables.specs.Tables.{table}
 use Rattle.cleaned_circuits.specs.Latches.{constant_of}
 use Rattle.cleaned_circuits.specs.Merged.{substitute_or_own}
-use Rattle.merged_latches.specs.Readings.{from_reset, may_merge, own_literal, read, substitutes_by, signature}
+use Rattle.retimed_circuits.specs.Readings.{from_reset, may_merge, own_literal, read, substitutes_by, signature}
 use Rattle.clean.specs.Kept.{or_else}
 use Rattle.latch_merging.specs.declared.signature.Signature.{Signature}
 

@@ -6,8 +6,8 @@
 ghost use Rattle.std.specs.Prelude.{◌≡◌, ◌<◌, IfOk, length, nat_lt};
 ghost use Rattle.aig_graph.specs.Laws.{all_free};
 ghost use Rattle.aig_graph.specs.Streams.{SameStreams};
-ghost use Rattle.merged_latches.specs.Partitions.{IsCoarsest, IsMerged};
-ghost use Rattle.merged_latches.specs.Counts.{AreCounts, merged_latches};
+ghost use Rattle.retimed_circuits.specs.Partitions.{IsCoarsest, IsMerged};
+ghost use Rattle.retimed_circuits.specs.Counts.{AreCounts, merged_latches};
 ghost use Rattle.latch_merging.specs.Names.{IsRough};
 ghost use Rattle.latch_merging.specs.Rounds.{next_round};
 
@@ -16,7 +16,7 @@ use crate::rounds::{first_round, merged_latches, next_round};
 use crate::splitting::split_reading;
 use aig_graph::{Aig, Circuit, Keep, Lit, NoMemory};
 use clean::Held;
-use merged_latches::MergeCounts;
+use retimed_circuits::MergeCounts;
 use std::alloc::Global;
 
 /// How many rounds there are before splitting, at most.

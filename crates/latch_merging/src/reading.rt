@@ -2,8 +2,8 @@
 ghost use Rattle.std.specs.Prelude.{IfOk};
 ghost use Rattle.aig_graph.specs.Laws.{all_free};
 ghost use Rattle.aig_graph.specs.Streams.{SameStreams};
-ghost use Rattle.merged_latches.specs.Counts.{AreCounts};
-ghost use Rattle.merged_latches.specs.Partitions.{IsCoarsest, IsMerged};
+ghost use Rattle.retimed_circuits.specs.Counts.{AreCounts};
+ghost use Rattle.retimed_circuits.specs.Partitions.{IsCoarsest, IsMerged};
 
 use crate::merging::{MergedCircuit, coarsest_reading};
 use crate::rounds::{counts_of, substitutes_by};

@@ -4,14 +4,14 @@ ghost use Rattle.std.specs.Prelude.{◌≡◌, ◌<◌, ◌∷◌, [], slice_get
 ghost use Rattle.std.specs.Map.{lookup};
 ghost use Rattle.aig_graph.specs.Graph.{variable};
 ghost use Rattle.cleaned_circuits.specs.Merged.{substitute_or_own};
-ghost use Rattle.merged_latches.specs.Readings.{from_reset, may_merge, substitutes_by, signature};
-ghost use Rattle.merged_latches.specs.Counts.{constant_latches, counts_of, is_constant, merged_latches};
+ghost use Rattle.retimed_circuits.specs.Readings.{from_reset, may_merge, substitutes_by, signature};
+ghost use Rattle.retimed_circuits.specs.Counts.{constant_latches, counts_of, is_constant, merged_latches};
 ghost use Rattle.latch_merging.specs.Rounds.{constant_signature, entries_by_signature, first_read, first_round, has_signature, next_round, read_by_signature, entries_after};
 
 use crate::signature::{FirstOfSignature, Signature};
 use aig_graph::{Aig, Latch, Lit, NoMemory, Reset};
 use clean::{Held, Substitution, constant_of, merge_gates, own_literal};
-use merged_latches::MergeCounts;
+use retimed_circuits::MergeCounts;
 use std::alloc::Global;
 
 /// Whether the latch at a place may be merged.

@@ -6,7 +6,7 @@ ghost use Rattle.std.specs.Prelude.{ℕ, List, true, ◌≡◌, ◌<◌, ◌+◌
 ghost use Rattle.aig_graph.specs.declared.graph.Gate.{Gate as Pair};
 ghost use Rattle.aig_graph.specs.Graph.{variable, first_latch, variables_end};
 ghost use Rattle.cleaned_circuits.specs.Merged.{replaced, replaced_gate};
-ghost use Rattle.merged_latches.specs.Readings.{from_reset, leaves};
+ghost use Rattle.retimed_circuits.specs.Readings.{from_reset, leaves};
 ghost use Rattle.latch_merging.specs.Rounds.{constant_signature, round_by};
 ghost use Rattle.latch_merging.specs.Names.{AreAtRest, AreLeaving, AreNamed, AreReaders, AreRegrouped, AreSignatures, IsRenamed, IsRough, IsUnmarked, class_of, group_name, renamed_latch, signature_by, AreCarried, AreGatesNamed, IsGateNamed, IsLeft};
 

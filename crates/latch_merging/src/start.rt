@@ -3,15 +3,15 @@
 ghost use Rattle.std.specs.Prelude.{◌≡◌, ◌<◌, All, IfOk, length};
 ghost use Rattle.aig_graph.specs.Laws.{all_free};
 ghost use Rattle.aig_graph.specs.Streams.{SameStreams};
-ghost use Rattle.merged_latches.specs.Counts.{AreCounts};
-ghost use Rattle.merged_latches.specs.Partitions.{IsMerged};
+ghost use Rattle.retimed_circuits.specs.Counts.{AreCounts};
+ghost use Rattle.retimed_circuits.specs.Partitions.{IsMerged};
 ghost use Rattle.retimed_circuits.specs.Merging.{MergesIn};
 ghost use Rattle.retimed_circuits.specs.Names.{StayHeld};
 
 use crate::merging::{MergedCircuit, merge_latches};
 use aig_graph::{Circuit, Keep, NoMemory, Sequence};
 use clean::{Cleaned, clean};
-use merged_latches::MergeCounts;
+use retimed_circuits::MergeCounts;
 use std::alloc::Global;
 
 /// A circuit that was cleaned and then merged.

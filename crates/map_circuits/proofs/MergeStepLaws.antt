@@ -3,7 +3,7 @@ use Rattle.std.proofs.Common.{ℕ, ◌≡◌, List, sym, subst}
 use Rattle.aig_graph.specs.Circuits.{Netlist}
 use Rattle.aig_graph.specs.Graph.{Graph, free_latches}
 use Rattle.aig_graph.specs.Laws.{all_free, composed}
-use Rattle.merged_latches.proofs.MergingLaws.{IsGraph-merged_latches, merged-streams}
+use Rattle.retimed_circuits.proofs.MergingLaws.{IsGraph-merged_latches, merged-streams}
 use Rattle.state_maps.specs.States.{IsStateMap, State}
 use Rattle.state_maps.proofs.FrameMapLaws.{restated}
 use Rattle.state_maps.proofs.MapLaws.{maps-compose}

@@ -8,8 +8,8 @@ use Rattle.aig_graph.specs.Graph.{Graph, IsGraph, first_latch}
 use Rattle.aig_graph.specs.Value.{value_within}
 use Rattle.aig_graph.proofs.KindLaws.{element}
 use Rattle.cleaned_circuits.proofs.LatchLaws.{constant-even}
-use Rattle.merged_latches.specs.Partitions.{IsInductive}
-use Rattle.merged_latches.specs.Readings.{IsReading, ReadsAs, as_constant, as_first, as_itself, read}
+use Rattle.retimed_circuits.specs.Partitions.{IsInductive}
+use Rattle.retimed_circuits.specs.Readings.{IsReading, ReadsAs, as_constant, as_first, as_itself, read}
 use Rattle.state_maps.specs.States.{State}
 use Rattle.map_circuits.specs.Constraining.{IsSubstitute, SubstitutesBelow, substitute_function}
 use Rattle.map_circuits.specs.Following.{state_of}

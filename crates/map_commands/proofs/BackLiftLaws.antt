@@ -6,8 +6,8 @@ use Rattle.aig_graph.specs.Graph.{IsGraph, free_latches}
 use Rattle.witness_circuits.specs.declared.sharing.Sharing.{Sharing}
 use Rattle.witness_circuits.specs.Witnesses.{IsSharing}
 use Rattle.witness_circuits.specs.Naming.{IsSharedBy}
-use Rattle.backward_witnesses.specs.Lifting.{IsLiftedBack, LiftsBack}
-use Rattle.backward_witnesses.specs.Turned.{IsTurnable}
+use Rattle.map_miters.specs.Lifting.{IsLiftedBack, LiftsBack}
+use Rattle.map_miters.specs.Turned.{IsTurnable}
 use Rattle.map_checks.specs.Answers.{AreFitting, IsMap}
 use Rattle.circuit_files.specs.declared.outcome.Failure.{Failure}
 use Rattle.map_commands.specs.Lifted.{IsBackLiftOf, IsLiftedBackBy}

@@ -4,7 +4,7 @@ use Rattle.std.specs.Result.{IfOk}
 use Rattle.std.proofs.lemmas.Bool.{or_parts}
 use Rattle.counted_io.specs.Input.{Input}
 use Rattle.counted_io.specs.Output.{Output}
-use Rattle.stream_paths.specs.Streams.{is_stdout}
+use Rattle.counted_io.specs.Streams.{is_stdout}
 use Rattle.command_line.specs.StreamUses.{moving_takes_stdout, writes_stdout}
 use Rattle.command_line.specs.declared.task.Moving.{Moving}
 use Rattle.circuit_files.specs.declared.outcome.Outcome.{Outcome}

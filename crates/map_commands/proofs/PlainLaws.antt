@@ -3,14 +3,14 @@ use Rattle.std.proofs.Common.{ℕ, ◌≡◌, ◌≤◌, false, List, [], ◌∷
 use Rattle.std.proofs.Math.Nat.{max-le}
 use Rattle.std.proofs.lemmas.Bool.{or_from}
 use Rattle.aig_graph.specs.Circuits.{Netlist}
-use Rattle.circuit_counts.specs.declared.statistics.Counts.{Counts}
+use Rattle.reports.specs.declared.statistics.Counts.{Counts}
 use Rattle.serde_json.specs.Data.{Data, object, Members, member, no_members, depth, items_depth, members_depth}
 use Rattle.serde_json.specs.View.{items_of}
 use Rattle.serde_json.specs.Written.{has_float, items_have_float, members_have_float}
 use Rattle.backward_moves.specs.declared.frame.FrameCounts.{FrameCounts}
 use Rattle.json_reports.specs.Lines.{IsPlain}
 use Rattle.json_reports.specs.Members.{array_of}
-use Rattle.stream_paths.specs.declared.target.Target.{Target}
+use Rattle.counted_io.specs.declared.target.Target.{Target}
 use Rattle.command_line.specs.declared.task.Moving.{Moving}
 use Rattle.map_commands.specs.Printing.{backward_frame_data, map_data_for, moves_data}
 use Rattle.map_commands.specs.declared.answering.Answer.{Answer}

@@ -12,8 +12,8 @@ use Rattle.circuit_files.specs.declared.outcome.Outcome.TheVariants.{Done}
 use Rattle.circuit_files.specs.declared.outcome.Failure.{Failure}
 use Rattle.command_endings.specs.Objects.{EndsBy, EndsPrintingObject}
 use Rattle.command_endings.proofs.EndingLaws.{object_ends}
-use Rattle.circuit_counts.specs.Counts.{counts}
-use Rattle.circuit_counts.specs.declared.statistics.Counts.{Counts}
+use Rattle.reports.specs.CircuitCounts.{counts}
+use Rattle.reports.specs.declared.statistics.Counts.{Counts}
 use Rattle.map_commands.specs.Printing.{EndsPrintingMoves, moves_data}
 use Rattle.map_commands.specs.declared.answering.Answer.{Answer}
 

@@ -5,7 +5,7 @@ use Rattle.map_miters.specs.Miters.{IsMiter}
 use Rattle.file_words.specs.declared.fault.ReadError.TheVariants.{TooLarge}
 use Rattle.counted_io.specs.Input.{Input}
 use Rattle.counted_io.specs.Output.{Output}
-use Rattle.stream_paths.specs.Streams.{source_name, target_name}
+use Rattle.counted_io.specs.Streams.{source_name, target_name}
 use Rattle.command_line.specs.declared.task.Asking.{Asking}
 use Rattle.circuit_files.specs.declared.outcome.Outcome.{Outcome}
 use Rattle.circuit_files.specs.declared.outcome.Failure.{Failure}

@@ -8,7 +8,7 @@ use Rattle.aig_binary.specs.declared.reading.SpeltCircuit.{SpeltCircuit}
 use Rattle.reports.specs.Differences.{shapes_text}
 use Rattle.counted_io.specs.Input.{Input}
 use Rattle.counted_io.specs.Output.{Output}
-use Rattle.stream_paths.specs.declared.source.Source.{Source}
+use Rattle.counted_io.specs.declared.source.Source.{Source}
 use Rattle.command_line.specs.declared.task.Checking.{Checking}
 use Rattle.circuit_files.specs.declared.outcome.Outcome.{Outcome}
 use Rattle.circuit_files.specs.declared.outcome.Outcome.TheVariants as ends

@@ -8,12 +8,12 @@ use Rattle.witness_circuits.specs.Witnesses.{IsSharing, IsWitness}
 use Rattle.witness_circuits.specs.Naming.{IsSharedBy}
 use Rattle.witness_circuits.specs.LiftedLaws.{first_shared}
 use Rattle.witness_circuits.specs.Lifting.{IsLifted}
-use Rattle.backward_witnesses.specs.Lifting.{IsLiftedBack}
+use Rattle.map_miters.specs.Lifting.{IsLiftedBack}
 use Rattle.map_checks.specs.Answers.{AreFitting, IsMap}
 use Rattle.file_words.specs.declared.fault.ReadError.TheVariants.{TooLarge}
 use Rattle.counted_io.specs.Input.{Input}
 use Rattle.counted_io.specs.Output.{Output}
-use Rattle.stream_paths.specs.Streams.{source_name, target_name}
+use Rattle.counted_io.specs.Streams.{source_name, target_name}
 use Rattle.command_line.specs.declared.task.Lifting.{Lifting}
 use Rattle.circuit_files.specs.declared.outcome.Outcome.{Outcome}
 use Rattle.circuit_files.specs.declared.outcome.Failure.{Failure}

@@ -6,9 +6,9 @@ use Rattle.aig_binary.specs.Spellings.{text_in}
 use Rattle.aig_binary.specs.declared.reading.SpeltCircuit.{SpeltCircuit}
 use Rattle.frames.specs.declared.bound.PathBound.{PathBound}
 use Rattle.frames.specs.declared.bound.PathBound.TheVariants as bounds
-use Rattle.circuit_counts.specs.Counts.{counts}
+use Rattle.reports.specs.CircuitCounts.{counts}
 use Rattle.backward_retiming.specs.Answered.{IsAnswerTo}
-use Rattle.stream_paths.specs.declared.target.Target.{Target}
+use Rattle.counted_io.specs.declared.target.Target.{Target}
 use Rattle.command_line.specs.StreamUses.{moving_takes_stdout}
 use Rattle.command_line.specs.declared.task.Moving.{Moving}
 use Rattle.circuit_files.specs.WrittenFiles.{IsTargetGiven}

@@ -4,13 +4,13 @@ use Rattle.aig_graph.specs.Circuits.{Netlist}
 use Rattle.counted_io.specs.Line.{numbered_lines}
 use Rattle.counted_io.specs.Output.{Output}
 use Rattle.backward_moves.specs.declared.frame.FrameCounts.{FrameCounts}
-use Rattle.circuit_counts.specs.Counts.{counts}
-use Rattle.circuit_counts.specs.declared.statistics.Counts.{Counts}
+use Rattle.reports.specs.CircuitCounts.{counts}
+use Rattle.reports.specs.declared.statistics.Counts.{Counts}
 use Rattle.serde_json.specs.Data.{Data, boolean, null, string, object, member, no_members}
 use Rattle.reports.specs.Retimings.{change}
 use Rattle.json_reports.specs.Counts.{circuit_data}
 use Rattle.json_reports.specs.Members.{array_of, count}
-use Rattle.stream_paths.specs.declared.target.Target.{Target}
+use Rattle.counted_io.specs.declared.target.Target.{Target}
 use Rattle.command_line.specs.declared.task.Moving.{Moving}
 use Rattle.circuit_files.specs.declared.outcome.Outcome.{Outcome}
 use Rattle.circuit_files.specs.declared.outcome.Outcome.TheVariants.{Done}

@@ -10,8 +10,8 @@ use Rattle.aig_binary.specs.Spellings.{text_in}
 use Rattle.reports.specs.Differences.{shapes_text}
 use Rattle.counted_io.specs.Input.{Input}
 use Rattle.counted_io.specs.Output.{Output}
-use Rattle.stream_paths.specs.Streams.{source_name, target_name}
-use Rattle.stream_paths.specs.declared.target.Target.{Target}
+use Rattle.counted_io.specs.Streams.{source_name, target_name}
+use Rattle.counted_io.specs.declared.target.Target.{Target}
 use Rattle.command_line.specs.declared.task.Asking.{Asking}
 use Rattle.circuit_files.specs.WrittenFiles.{IsTargetGiven}
 use Rattle.circuit_files.specs.declared.outcome.Outcome.{Outcome}

@@ -1,6 +1,6 @@
 -- The circuits that a command about maps reads.
 use Rattle.counted_io.specs.Input.{Input}
-use Rattle.stream_paths.specs.declared.source.Source.{Source}
+use Rattle.counted_io.specs.declared.source.Source.{Source}
 use Rattle.command_endings.specs.Sources.{IsCircuitAt}
 use Rattle.map_commands.specs.declared.given.Pair.{Pair}
 

@@ -8,12 +8,12 @@ ghost use Rattle.map_commands.specs.Moving as wanted;
 use aig_binary::{Spelling, SpeltCircuit};
 use aig_graph::Circuit;
 use backward_retiming::{MoveOptions, MoveWatcher, MovedBack, move_back};
-use circuit_counts::Counts;
 use circuit_files::{Failure, circuit_at};
 use command_endings::held_latches;
 use command_line::Moving;
 use counted_io::CountedRead;
 use frames::PathBound;
+use reports::Counts;
 use std::alloc::Global;
 use std::rt::Files;
 

@@ -9,11 +9,11 @@ ghost use Rattle.witness_circuits.specs.Witnesses.{IsSharing};
 use crate::given::Given;
 use crate::made::Made;
 use aig_graph::Circuit;
-use backward_witnesses::{back_lift_law, witness_lifted_back};
 use circuit_files::Failure;
 use command_line::Lifting;
 use file_words::ReadError;
 use map_checks::are_fitting;
+use map_miters::{back_lift_law, witness_lifted_back};
 use std::alloc::Global;
 use witness_circuits::{LiftError, Sharing, SharingError, sharing_of};
 

@@ -10,13 +10,12 @@ use aig_graph::Circuit;
 use circuit_files::{Failure, Outcome, circuit_at};
 use command_endings::ended;
 use command_line::Checking;
-use counted_io::{CountedRead, CountedWrite};
+use counted_io::{CountedRead, CountedWrite, Source};
 use file_words::ReadError;
 use map_checks::{Answer, CheckError, Obligation, check_map};
 use reports::print_shapes_differ;
 use std::alloc::Global;
 use std::rt::Files;
-use stream_paths::Source;
 
 /// What a check of a map finds.
 #[derive(Clone, Copy)]

@@ -8,10 +8,9 @@ ghost use Rattle.map_commands.specs.Reading.{ArePair};
 use aig_binary::SpeltCircuit;
 use circuit_files::{Failure, circuit_at};
 use command_line::{Asking, Lifting};
-use counted_io::CountedRead;
+use counted_io::{CountedRead, Source};
 use std::alloc::Global;
 use std::rt::Files;
-use stream_paths::Source;
 
 /// A circuit, and the one that was made of it.
 #[derive(Drop)]

@@ -8,10 +8,9 @@ use aig_binary::Spelling;
 use aig_graph::Circuit;
 use circuit_files::{Failure, Outcome};
 use command_endings::{ended, write_circuit};
-use counted_io::CountedWrite;
+use counted_io::{CountedWrite, Target};
 use reports::print_shapes_differ;
 use std::rt::Files;
-use stream_paths::Target;
 
 /// What is made of circuits and a map.
 #[derive(Drop)]

@@ -14,11 +14,10 @@ use backward_retiming::{MoveStage, MoveWatcher};
 use circuit_files::{Failure, Outcome};
 use command_endings::{Progress, write_circuit};
 use command_line::Moving;
-use counted_io::{CountedRead, CountedWrite};
+use counted_io::{CountedRead, CountedWrite, Streams};
 use std::alloc::Global;
 use std::rt::Files;
 use std::time::Clock;
-use stream_paths::Streams;
 
 /// Writes the map of an answer where it is asked for.
 fn write_map<'a, R: Files, O: CountedWrite>(

@@ -7,9 +7,9 @@ ghost use Rattle.map_commands.specs.Printing.{backward_frame_data, map_circuit_d
 
 use crate::answering::Answer;
 use backward_moves::FrameCounts;
-use circuit_counts::Counts;
 use command_line::Moving;
 use json_reports::circuit_object;
+use reports::Counts;
 use serde_json::{Map, Value};
 use std::alloc::{AllocError, Global};
 

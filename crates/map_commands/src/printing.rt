@@ -9,12 +9,12 @@ ghost use Rattle.map_commands.specs.Printing.{EndsPrintingMoves, SaysMoves, move
 use crate::answering::Answer;
 use crate::lines::print_lines;
 use crate::object::moves_object;
-use circuit_counts::Counts;
 use circuit_files::{Failure, Outcome};
 use command_endings::ended;
 use command_line::Moving;
 use counted_io::CountedWrite;
 use json_reports::PrintError;
+use reports::Counts;
 use std::alloc::Global;
 
 /// How the command ends that has printed an object, where there was room for it and standard output took all of it.

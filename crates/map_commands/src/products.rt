@@ -7,7 +7,7 @@ ghost use Rattle.circuit_files.specs.declared.outcome.Failure.TheVariants.{NotAM
 ghost use Rattle.command_endings.specs.HeldNames.{OfSource};
 ghost use Rattle.command_endings.specs.Printing.{Prints, ending};
 ghost use Rattle.map_commands.specs.Products.{AreMachinesOf, EndsShowing, EndsWritingBoth, IsFailureToShow, IsShownOf, PrintsProduct, target_for};
-ghost use Rattle.stream_paths.specs.Streams.{target_name};
+ghost use Rattle.counted_io.specs.Streams.{target_name};
 
 use crate::given::{Mapped, mapped_for};
 use aig_binary::Spelling;
@@ -15,14 +15,13 @@ use aig_graph::Circuit;
 use circuit_files::{Failure, Outcome};
 use command_endings::{ended, write_circuit};
 use command_line::Asking;
-use counted_io::{CountedRead, CountedWrite};
+use counted_io::{CountedRead, CountedWrite, Target};
 use file_words::ReadError;
 use map_checks::{are_fitting, is_map};
 use map_miters::{Goal, MiterError, product_machine};
 use reports::print_shapes_differ;
 use std::alloc::Global;
 use std::rt::Files;
-use stream_paths::Target;
 
 /// Both circuits side by side: the model, and the witness circuit for it.
 #[derive(Drop)]

@@ -11,3 +11,6 @@ mod EndLaws
 mod WitnessLaws
 pub mod AnswerLaws
 mod AskedLaws
+mod BesideLaws
+mod TurnedLaws
+mod BackLiftLaws

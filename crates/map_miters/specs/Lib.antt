@@ -8,3 +8,6 @@ pub mod Sides
 pub mod Ties
 pub mod Built
 pub mod Laws
+pub mod Beside
+pub mod Turned
+pub mod Lifting

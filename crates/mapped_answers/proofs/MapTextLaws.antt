@@ -21,7 +21,7 @@ use Rattle.counted_io.proofs.BufferedLaws.{enumerate_from-append, puts-no_more, 
 use Rattle.file_words.specs.Text.{all_symbols, gate_row, header_row, numbered_rows, without_last_zeros}
 use Rattle.aig_binary.specs.Text.{gate_deltas, text_binary}
 use Rattle.retiming_maps.specs.Plain.{IsPlainMap}
-use Rattle.ascii_writer.proofs.HeaderLaws.{not_zero}
+use Rattle.aag_text.proofs.HeaderLaws.{not_zero}
 use Rattle.mapped_answers.specs.MapText.{BeginsWith, before_gates}
 
 -- ---- the header

@@ -12,8 +12,8 @@ ghost use Rattle.counted_io.specs.Output.{Writes};
 ghost use Rattle.file_words.specs.Text.{all_symbols, gate_row, header_row, input_rows, numbered_rows, text};
 ghost use Rattle.mapped_answers.specs.MapText.{BeginsWith, before_gates};
 
+use aag_text::{put_properties, put_symbols};
 use aig_binary::Spelling;
-use ascii_writer::{put_properties, put_symbols};
 use counted_io::{Buffered, CountedWrite, WriteError, write_all};
 use map_circuits::MapGates;
 use retiming_maps::StateMap;

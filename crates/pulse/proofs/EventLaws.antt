@@ -6,10 +6,10 @@ use Rattle.flow_part.specs.declared.parts.PushPart.{PushPart}
 use Rattle.flow_part.specs.Parts.{Cells, AreFlowParts, ArePushParts, cells_of, values_of}
 use Rattle.flow_part.specs.Reading.{PartsRead, PartsReadOn}
 use Rattle.flow_part.specs.Delivering.{PartsDelivered, PartsSafe}
-use Rattle.flow_whole.specs.Marks.{and_range, NoneMarked, DeliveredSoFar, IsPartlyDelivered}
-use Rattle.flow_whole.proofs.WholeDeliveryLaws.{cut_after_give, whole_kept}
-use Rattle.flow_whole.proofs.WholeReadLaws.{cut_after_read, parts_read, range_walked, whole_read, whole_unread}
-use Rattle.flow_whole.proofs.MarkLaws.{give_more, give_safe}
+use Rattle.flow_part.specs.Marks.{and_range, NoneMarked, DeliveredSoFar, IsPartlyDelivered}
+use Rattle.flow_part.proofs.WholeDeliveryLaws.{cut_after_give, whole_kept}
+use Rattle.flow_part.proofs.WholeReadLaws.{cut_after_read, parts_read, range_walked, whole_read, whole_unread}
+use Rattle.flow_part.proofs.MarkLaws.{give_more, give_safe}
 use Rattle.pulse.specs.Values.{flow_state, push_state}
 use Rattle.pulse.specs.Conditions.{IsFlowOf, ArePushesOf, is_marked}
 use Rattle.pulse.specs.Phases.{RangeRead, RangeDelivered}

@@ -1,11 +1,11 @@
 -- A flow that is parted anew between two pulses.
 use Rattle.std.proofs.Common.{◌≡◌, ℕ, Bool, false, List, length, sym, ap, ◌∙◌, subst}
-use Rattle.flow_theory.specs.Flow.{pulse}
+use Rattle.frame_net.specs.Flow.{pulse}
 use Rattle.frame_net.specs.FlowNet.{FlowNet, node_count, IsFlowNet}
 use Rattle.flow_part.specs.declared.parts.FlowPart.{FlowPart}
 use Rattle.flow_part.specs.Listing.{ListActive}
 use Rattle.flow_part.specs.Parts.{Agree, AreFlowParts, cells_of, pairs}
-use Rattle.flow_whole.proofs.AgreeingStateLaws.{agree_then, sound_same}
+use Rattle.flow_part.proofs.AgreeingStateLaws.{agree_then, sound_same}
 use Rattle.pulse.specs.Values.{FlowState, flow_state}
 use Rattle.pulse.specs.Conditions.{IsBetween, IsFlowOf, state_of}
 use Rattle.pulse.specs.Phases.{AfterPulse}

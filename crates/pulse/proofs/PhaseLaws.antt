@@ -7,7 +7,7 @@ use Rattle.flow_part.specs.Listing.{ListActive}
 use Rattle.flow_part.specs.Parts.{LabelsFit, cells_of, rows_walked}
 use Rattle.flow_part.specs.Reading.{active_below}
 use Rattle.flow_part.proofs.WalkLaws.{active_few}
-use Rattle.flow_whole.specs.Runs.{AreRead, ArePulsed}
+use Rattle.flow_part.specs.Runs.{AreRead, ArePulsed}
 use Rattle.pulse.specs.Values.{FlowState, PushState, flow_state, push_state}
 use Rattle.pulse.specs.Conditions.{IsFlowOf, ArePushesOf, IsBetween, active_count}
 use Rattle.pulse.specs.Phases.{AfterPulse, AfterDelivery, AfterRefusal, IsReadPhase}

@@ -4,7 +4,7 @@ use Rattle.frame_net.specs.FlowNet.{FlowNet}
 use Rattle.flow_part.specs.declared.parts.FlowPart.{FlowPart}
 use Rattle.flow_part.specs.declared.parts.PushPart.{PushPart}
 use Rattle.flow_part.specs.Parts.{AreFlowParts, ArePushParts}
-use Rattle.flow_whole.specs.Start.{AreShares}
+use Rattle.flow_part.specs.Start.{AreShares}
 use Rattle.pulse.specs.Values.{AreFlowRanges, ArePushRanges, AreRangesOf, flow_range, push_range}
 
 -- the ranges of parts say all that makes them parts of a network's flow, or of its pushes

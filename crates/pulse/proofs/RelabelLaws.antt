@@ -1,22 +1,22 @@
 -- A flow whose labels become exact, and when that is due.
 use Rattle.std.proofs.Common.{◌≡◌, ℕ, ◌<◌, ◌≤◌, ◌%◌, ◌==◌, Bool, true, false, List, length, slice_index, refl, sym, ap, ◌∙◌, subst}
 use Rattle.std.proofs.lemmas.Bool.{eq-eqb, ne_eqb, and_from, and_left, and_right}
-use Rattle.flow_theory.specs.Flow.{State}
-use Rattle.flow_theory.specs.Laws.{IsDistance}
-use Rattle.flow_theory.proofs.ExactLabelLaws.{exact-rises}
+use Rattle.frame_net.specs.Flow.{State}
+use Rattle.frame_net.specs.Laws.{IsDistance}
+use Rattle.frame_net.proofs.ExactLabelLaws.{exact-rises}
 use Rattle.frame_net.specs.FlowNet.{FlowNet, node_count, IsFlowNet}
 use Rattle.flow_part.specs.declared.parts.FlowPart.{FlowPart}
 use Rattle.flow_part.specs.Listing.{ListActive}
 use Rattle.flow_part.specs.Parts.{Agree, AreFlowParts, IsSound, cells_of, pairs}
-use Rattle.flow_whole.specs.Labels.{AreLabelled, HoldLabels}
-use Rattle.flow_whole.specs.Runs.{any_active}
-use Rattle.flow_whole.proofs.AgreeingStateLaws.{agree_self, sound_same}
-use Rattle.flow_whole.proofs.HoldingLaws.{held_cut, held_lists, held_state}
-use Rattle.flow_whole.proofs.LabelLaws.{labelled_parts}
-use Rattle.flow_whole.specs.Distances.{exact}
-use Rattle.flow_whole.specs.ExactRuns.{after_pulse}
-use Rattle.flow_whole.proofs.DistanceLaws.{exact_is}
-use Rattle.flow_whole.proofs.RunLaws.{exact_sound, after-due, after-not}
+use Rattle.flow_part.specs.Labels.{AreLabelled, HoldLabels}
+use Rattle.flow_part.specs.Runs.{any_active}
+use Rattle.flow_part.proofs.AgreeingStateLaws.{agree_self, sound_same}
+use Rattle.flow_part.proofs.HoldingLaws.{held_cut, held_lists, held_state}
+use Rattle.flow_part.proofs.LabelLaws.{labelled_parts}
+use Rattle.flow_part.specs.Distances.{exact}
+use Rattle.flow_part.specs.ExactRuns.{after_pulse}
+use Rattle.flow_part.proofs.DistanceLaws.{exact_is}
+use Rattle.flow_part.proofs.RunLaws.{exact_sound, after-due, after-not}
 use Rattle.pulse.specs.Values.{FlowState, flow_state}
 use Rattle.pulse.specs.Conditions.{IsBetween, IsFlowOf, state_of}
 use Rattle.pulse.proofs.FlowLaws.{parts_of, flow_unspent, flow_with}

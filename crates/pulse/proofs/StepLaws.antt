@@ -1,16 +1,16 @@
 -- What whole reads give, and what a run with exact labels now and then has left to do.
 use Rattle.std.proofs.Common.{◌≡◌, ℕ, ◌<◌, ◌≤◌, ◌⊎◌, true, List, refl, arith, sym, ◌∙◌, subst, inl, inr}
 use Rattle.std.proofs.lemmas.Bool.{false≢true}
-use Rattle.flow_theory.specs.Flow.{pulse}
+use Rattle.frame_net.specs.Flow.{pulse}
 use Rattle.frame_net.specs.FlowNet.{FlowNet, node_count, IsFlowNet}
 use Rattle.flow_part.specs.Parts.{Agree, IsSound}
 use Rattle.flow_part.specs.Delivering.{HoldPushes}
-use Rattle.flow_whole.specs.Marks.{DeliveredSoFar}
-use Rattle.flow_whole.specs.Runs.{any_active}
-use Rattle.flow_whole.proofs.ActiveLaws.{work, work_same, work_falls}
-use Rattle.flow_whole.proofs.MarkLaws.{read_whole}
-use Rattle.flow_whole.specs.Distances.{exact}
-use Rattle.flow_whole.proofs.RunLaws.{Paid, paid_exact, exact_falls}
+use Rattle.flow_part.specs.Marks.{DeliveredSoFar}
+use Rattle.flow_part.specs.Runs.{any_active}
+use Rattle.flow_part.proofs.ActiveLaws.{work, work_same, work_falls}
+use Rattle.flow_part.proofs.MarkLaws.{read_whole}
+use Rattle.flow_part.specs.Distances.{exact}
+use Rattle.flow_part.proofs.RunLaws.{Paid, paid_exact, exact_falls}
 use Rattle.pulse.specs.Values.{FlowState, PushState}
 use Rattle.pulse.specs.Conditions.{IsBetween, is_marked, state_of}
 use Rattle.pulse.specs.Phases.{RangeRead, AfterPulse}

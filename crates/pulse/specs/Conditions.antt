@@ -1,11 +1,11 @@
 -- What it means that a flow and pushes are of a network.
 use Rattle.std.specs.Prelude.{◌≡◌, ℕ, ◌<◌, false, cond, length, slice_index, slice_index_or, Bool}
-use Rattle.flow_theory.specs.Flow.{State, IsPreflow, IsValid, is_active, sum_below}
-use Rattle.flow_theory.specs.Laws.{started}
+use Rattle.frame_net.specs.Flow.{State, IsPreflow, IsValid, is_active, sum_below}
+use Rattle.frame_net.specs.Laws.{started}
 use Rattle.frame_net.specs.FlowNet.{FlowNet, node_count, cap_at, IsFlowNet}
 use Rattle.flow_part.specs.Parts.{Cells, LabelsFit, IsSound, Agree, pair, pairs}
-use Rattle.flow_whole.specs.Marks.{AllMarked}
-use Rattle.flow_whole.specs.ExactRuns.{IsRun}
+use Rattle.flow_part.specs.Marks.{AllMarked}
+use Rattle.flow_part.specs.ExactRuns.{IsRun}
 use Rattle.pulse.specs.Values.{FlowState, PushState, RunEnd, AreFlowRanges, ArePushRanges}
 
 pub record CellsFit (net : FlowNet) (c : Cells) : Type 0 where

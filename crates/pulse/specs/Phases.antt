@@ -1,11 +1,11 @@
 -- What ranges, turns and phases do.
 use Rattle.std.specs.Prelude.{◌≡◌, ℕ, ◌+◌, ◌-◌, ◌<◌, ◌≤◌, ◌⊎◌, ◌^◌, min, false, true, List}
-use Rattle.flow_theory.specs.Flow.{pulse}
+use Rattle.frame_net.specs.Flow.{pulse}
 use Rattle.frame_net.specs.FlowNet.{FlowNet, node_count, start, row_len, IsFlowNet}
 use Rattle.flow_part.specs.Parts.{Cells, IsSound, Agree, pairs}
 use Rattle.flow_part.specs.Reading.{active_from, cells_push}
 use Rattle.flow_part.specs.Delivering.{own, HoldPushes, NodeKept}
-use Rattle.flow_whole.specs.Marks.{and_range, AllMarked, DeliveredSoFar}
+use Rattle.flow_part.specs.Marks.{and_range, AllMarked, DeliveredSoFar}
 use Rattle.pulse.specs.Values.{FlowState, PushState}
 use Rattle.pulse.specs.Conditions.{IsFlowOf, ArePushesOf, IsBetween, is_marked, state_of}
 

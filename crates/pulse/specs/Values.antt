@@ -5,7 +5,7 @@ use Rattle.flow_part.specs.declared.parts.FlowPart.{FlowPart}
 use Rattle.flow_part.specs.declared.parts.PushPart.{PushPart}
 use Rattle.flow_part.specs.Listing.{AreWithin, IsListed, ListActive}
 use Rattle.flow_part.specs.Parts.{Cells, IsParted, cells_of, rows_walked, values_of}
-use Rattle.flow_whole.specs.Start.{FlowNumbered, border_of}
+use Rattle.flow_part.specs.Start.{FlowNumbered, border_of}
 
 -- the nodes from first up to end, their arcs, which are so many from base on, and the numbers of their excesses and new labels
 pub record FlowRange : Type 0 where

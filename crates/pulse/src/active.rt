@@ -1,12 +1,12 @@
 //! Whether a node is active, and how many are.
 ghost use Rattle.std.specs.Prelude.{◌≡◌, ◌<◌, false};
-ghost use Rattle.flow_theory.specs.Flow.{is_active};
+ghost use Rattle.frame_net.specs.Flow.{is_active};
 ghost use Rattle.frame_net.specs.FlowNet.{node_count};
-ghost use Rattle.flow_whole.specs.Runs.{any_active};
+ghost use Rattle.flow_part.specs.Runs.{any_active};
 ghost use Rattle.pulse.specs.Conditions.{IsFlowOf, active_count, state_of};
 
 use crate::flow::Flow;
-use flow_whole::any_active_node;
+use flow_part::any_active_node;
 use frame_net::Net;
 
 /// Whether some node is active. After a delivery phase the nodes that it listed are visited, and no others.

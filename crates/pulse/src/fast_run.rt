@@ -4,7 +4,7 @@
 ghost use Rattle.std.specs.Prelude.{◌≡◌, ◌*◌, ◌<◌, ◌≤◌, ◌⊎◌, IfOk, OnOk, false, length};
 ghost use Rattle.frame_net.specs.FlowNet.{node_count};
 ghost use Rattle.flow_part.specs.Parts.{Agree};
-ghost use Rattle.flow_whole.specs.Distances.{exact};
+ghost use Rattle.flow_part.specs.Distances.{exact};
 ghost use Rattle.pulse.specs.Conditions.{ArePushesOf, IsBetween, IsMaxPreflow, NoneActive, active_count, state_of};
 ghost use Rattle.pulse.specs.Phases.{AfterPulse};
 ghost use Rattle.pulse.specs.Sharing.{first_share};

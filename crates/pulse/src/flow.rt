@@ -11,8 +11,7 @@ ghost use Rattle.pulse.specs.Values.{AreFlowRangesOf};
 
 use crate::marks::{no_marks, unmark};
 use aig_graph::NoMemory;
-use flow_part::{FlowPart, excess_at, residual_at};
-use flow_whole::{start_labels, start_parts, turn};
+use flow_part::{FlowPart, excess_at, residual_at, start_labels, start_parts, turn};
 use frame_net::{Capacities, Net};
 use std::alloc::Global;
 use std::marker::Model;

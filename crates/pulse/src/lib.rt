@@ -6,7 +6,7 @@
 //! events and on no number of workers. A run ends where no node is active: its preflow can't be improved, and the nodes that
 //! can't reach the sink are the greatest of the least cuts.
 //!
-//! Contracts speak of the state on pairs of nodes (`flow_theory`).
+//! Contracts speak of the state on pairs of nodes (`frame_net`).
 #![tactic(auto)]
 
 mod active;

@@ -1,6 +1,6 @@
 //! Which nodes were delivered since the last turn.
 ghost use Rattle.std.specs.Prelude.{◌≡◌, ℕ, ◌<◌, ◌≤◌, IfOk, false, length, slice_index_or};
-ghost use Rattle.flow_whole.specs.Marks.{and_range};
+ghost use Rattle.flow_part.specs.Marks.{and_range};
 
 use std::alloc::{AllocError, Global};
 

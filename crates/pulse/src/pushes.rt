@@ -10,8 +10,7 @@ ghost use Rattle.pulse.specs.Conditions.{ArePushesOf};
 ghost use Rattle.pulse.specs.Values.{ArePushRangesOf};
 
 use aig_graph::NoMemory;
-use flow_part::{PushPart, push_over, walked_over};
-use flow_whole::push_parts;
+use flow_part::{PushPart, push_over, push_parts, walked_over};
 use frame_net::Net;
 use std::alloc::Global;
 use std::marker::Model;
@@ -27,7 +26,7 @@ pub struct Pushes {
 
 impl Model for Pushes {
     ghost use Rattle.std.specs.Prelude.{◌≡◌, false};
-    ghost use Rattle.flow_whole.specs.Start.{PushesNumbered};
+    ghost use Rattle.flow_part.specs.Start.{PushesNumbered};
     ghost use Rattle.pulse.specs.Values.{PushState, push_state};
 
     ghost Value = { PushState };

@@ -1,14 +1,14 @@
 //! The events of a range of nodes, on the calling thread. They take no memory.
 ghost use Rattle.std.specs.Prelude.{◌≡◌, ℕ, ◌<◌, ◌≤◌, false};
 ghost use Rattle.frame_net.specs.FlowNet.{node_count};
-ghost use Rattle.flow_whole.specs.Marks.{IsPartlyDelivered, NoneMarked};
+ghost use Rattle.flow_part.specs.Marks.{IsPartlyDelivered, NoneMarked};
 ghost use Rattle.pulse.specs.Conditions.{ArePushesOf, IsFlowOf, NoneDelivered, is_marked};
 ghost use Rattle.pulse.specs.Phases.{RangeDelivered, RangeRead};
 
 use crate::flow::Flow;
 use crate::marks::mark;
 use crate::pushes::Pushes;
-use flow_whole::{deliver_each, read_each};
+use flow_part::{deliver_each, read_each};
 use frame_net::Net;
 
 /// Read of the nodes from `first` up to `end`: each writes its row of pushes.

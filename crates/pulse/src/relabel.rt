@@ -2,13 +2,13 @@
 ghost use Rattle.std.specs.Prelude.{◌≡◌, IfOk, length};
 ghost use Rattle.frame_net.specs.FlowNet.{node_count};
 ghost use Rattle.flow_part.specs.Parts.{Agree};
-ghost use Rattle.flow_whole.specs.Distances.{exact};
-ghost use Rattle.flow_whole.specs.ExactRuns.{after_pulse};
+ghost use Rattle.flow_part.specs.Distances.{exact};
+ghost use Rattle.flow_part.specs.ExactRuns.{after_pulse};
 ghost use Rattle.pulse.specs.Conditions.{IsBetween, state_of};
 
 use crate::active::is_active;
 use crate::flow::Flow;
-use flow_whole::{exact_labels, hold_labels};
+use flow_part::{exact_labels, hold_labels};
 use frame_net::Net;
 use std::alloc::{AllocError, Global};
 

@@ -1,7 +1,7 @@
 //! Pulses from the start until no node is active.
 ghost use Rattle.std.specs.Prelude.{◌≡◌, IfOk, false, length};
 ghost use Rattle.frame_net.specs.FlowNet.{node_count};
-ghost use Rattle.flow_whole.specs.ExactRuns.{IsRun};
+ghost use Rattle.flow_part.specs.ExactRuns.{IsRun};
 ghost use Rattle.pulse.specs.Conditions.{ArePushesOf, IsBetween, IsMaxPreflow, IsRunEnd, state_of};
 
 use crate::active::is_active;

@@ -8,13 +8,15 @@ ghost use Rattle.flow_part.specs.Reading.{WholeRead, WholesRead, active_below};
 ghost use Rattle.flow_part.specs.Delivering.{PartSafe, PartsSafe};
 ghost use Rattle.flow_part.specs.Listing.{ListActive, ListsActive};
 ghost use Rattle.flow_part.specs.Visiting.{WholeDelivered, WholesDelivered};
-ghost use Rattle.flow_whole.specs.Runs.{ArePulsed, AreRead};
-ghost use Rattle.flow_whole.specs.Start.{AreFlowShares, ArePushShares, FlowNumbered, PushesNumbered};
+ghost use Rattle.flow_part.specs.Runs.{ArePulsed, AreRead};
+ghost use Rattle.flow_part.specs.Start.{AreFlowShares, ArePushShares, FlowNumbered, PushesNumbered};
 
 use crate::gate::PhaseGate;
 use crate::sharing::Phase;
-use flow_part::{FlowPart, PushPart, deliver_whole, read_whole};
-use flow_whole::{deliver_every, parted_anew, push_parts, read_every, turn};
+use flow_part::{
+    FlowPart, PushPart, deliver_every, deliver_whole, parted_anew, push_parts, read_every,
+    read_whole, turn,
+};
 use frame_net::Net;
 use std::alloc::{AllocError, Global};
 use std::thread::Threads;

@@ -1,3 +1,6 @@
+pub mod HeldBackLaws
+pub mod RemainingLaws
+pub mod CountLaws
 pub mod AgreementLaws
 pub mod TraceTextLaws
 mod SimulatingLaws

@@ -1,8 +1,8 @@
 -- The text of what a circuit has.
 use Rattle.std.specs.Prelude.{ℕ, List, [], ◌∷◌, ◌++◌, decimal, codes, Option, Some, None}
-use Rattle.circuit_counts.specs.declared.statistics.Counts.{Counts}
-use Rattle.circuit_counts.specs.declared.statistics.Statistics.{Statistics}
-use Rattle.merged_latches.specs.declared.counts.MergeCounts.{MergeCounts}
+use Rattle.reports.specs.declared.statistics.Counts.{Counts}
+use Rattle.reports.specs.declared.statistics.Statistics.{Statistics}
+use Rattle.retimed_circuits.specs.declared.counts.MergeCounts.{MergeCounts}
 
 -- a word, a space, a number
 unfoldable pub count_line : List ℕ → ℕ → List ℕ

@@ -1,3 +1,6 @@
+pub mod HeldBack
+pub mod CircuitCounts
+pub mod RemainingCounts
 pub mod Traces
 pub mod Simulating
 pub mod Differences

@@ -1,6 +1,6 @@
 -- The text of what holds latches where they are.
 use Rattle.std.specs.Prelude.{ℕ, ◌-◌, Bool, true, false, List, [], ◌∷◌, ◌++◌, Option, Some, None, is_some, unwrap_or, decimal, codes}
-use Rattle.circuit_counts.specs.declared.remaining.Remaining.{Remaining}
+use Rattle.reports.specs.declared.remaining_counts.Remaining.{Remaining}
 
 -- how many latches nothing holds where they are
 abbrev pub movable : Remaining → ℕ

@@ -4,9 +4,9 @@ ghost use Rattle.counted_io.specs.Buffered.{Puts};
 ghost use Rattle.counted_io.specs.Output.{Writes};
 ghost use Rattle.reports.specs.Counts.{count_line, counts_text, graph_counts, merge_counts, property_counts};
 
-use circuit_counts::{Counts, Statistics};
+use crate::{Counts, Statistics};
 use counted_io::{Buffered, CountedWrite, WriteError};
-use merged_latches::MergeCounts;
+use retimed_circuits::MergeCounts;
 
 /// Puts a word, a space, a number and the newline.
 fn put_count<W: CountedWrite>(out: &mut Buffered<'_, W>, word: &[u8], count: u64)

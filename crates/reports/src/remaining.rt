@@ -4,7 +4,7 @@ ghost use Rattle.counted_io.specs.Buffered.{Puts};
 ghost use Rattle.counted_io.specs.Output.{Writes};
 ghost use Rattle.reports.specs.Remaining.{end_text, movable, movable_lead, remaining_text, staying_text, too_long_text};
 
-use circuit_counts::Remaining;
+use crate::Remaining;
 use counted_io::{Buffered, CountedWrite, WriteError};
 
 /// How many latches nothing holds where they are: gates that they may move over alone read them, within the bound, where there is one.

@@ -1,3 +1,10 @@
+pub mod ReadingLaws
+pub mod ValueLaws
+pub mod MergingLaws
+pub mod FinerLaws
+pub mod ClassRunLaws
+pub mod CoarserLaws
+pub mod Examples
 pub mod FoundLaws
 pub mod CertifiedLaws
 pub mod ReportLaws
@@ -7,3 +14,12 @@ pub mod HeldLaws
 pub mod CircuitLaws
 pub mod LimitLaws
 pub mod MergedRunLaws
+pub mod HighestLaws
+pub mod GateLevelLaws
+pub mod SubstituteLevelLaws
+pub mod ReplacedLevelLaws
+pub mod TrimmedLevelLaws
+pub mod CleaningLevelLaws
+pub mod MovedLevelLaws
+pub mod RetimingLevelLaws
+pub mod LevelExamples

@@ -14,7 +14,7 @@ use Rattle.variable_tables.specs.Counting.{count_below}
 use Rattle.rebuild.specs.Moved.{is_latched, moved_symbols, stays}
 use Rattle.aig_graph.specs.Streams.{SameShape}
 use Rattle.ascii_file.specs.Laws.{all_names, IsWithinLimits}
-use Rattle.merged_latches.specs.declared.counts.MergeCounts.{MergeCounts}
+use Rattle.retimed_circuits.specs.declared.counts.MergeCounts.{MergeCounts}
 use Rattle.aig_graph.specs.declared.choice.Choice.{Choice}
 use Rattle.retimed_circuits.specs.declared.report.FrameReport.{FrameReport}
 use Rattle.aig_graph.specs.Keep.{Holding, held_of}

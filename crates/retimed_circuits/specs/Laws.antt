@@ -5,7 +5,7 @@ use Rattle.aig_graph.specs.Circuits.{Netlist, IsNetlist}
 use Rattle.aig_graph.specs.Keep.{AreLatches, Holding}
 use Rattle.ascii_file.specs.Laws.{IsWithinLimits}
 use Rattle.aig_graph.specs.declared.choice.Choice.{Choice}
-use Rattle.merged_latches.specs.Partitions.{IsMerged}
+use Rattle.retimed_circuits.specs.Partitions.{IsMerged}
 use Rattle.retimed_circuits.specs.declared.report.FrameReport.{FrameReport}
 use Rattle.retimed_circuits.specs.declared.report.Retimed.{Retimed}
 use Rattle.retimed_circuits.specs.Names.{StayHeld}

@@ -1,6 +1,13 @@
+pub mod Readings
+pub mod Partitions
+pub mod Counts
+pub mod MergingLaws
 pub mod Names
 pub mod Frames
 pub mod Merging
 pub mod Certified
 pub mod Retiming
 pub mod Laws
+pub mod MovingLevels
+pub mod CleaningLevels
+pub mod RetimingLevels

@@ -21,8 +21,8 @@ use Rattle.cleaned_circuits.specs.Trimmed.{kept_free, trimmed_graph, trimmed_of}
 use Rattle.cleaned_circuits.proofs.KeptFreeLaws.{free-rank, kept_free-at}
 use Rattle.cleaned_circuits.proofs.MergedLaws.{length-replaced_latches, replaced-free_before, replaced-latch}
 use Rattle.cleaned_circuits.proofs.TrimmedLaws.{LatchFrom, latch_from}
-use Rattle.merged_latches.specs.Readings.{IsReading, ReadsAs, as_constant, as_first, as_itself, own_literal, read, substitutes_by}
-use Rattle.merged_latches.proofs.ValueLaws.{may-known}
+use Rattle.retimed_circuits.specs.Readings.{IsReading, ReadsAs, as_constant, as_first, as_itself, own_literal, read, substitutes_by}
+use Rattle.retimed_circuits.proofs.ValueLaws.{may-known}
 use Rattle.rebuild.specs.Moved.{is_latched, latch_for, moved_graph, moved_of}
 use Rattle.rebuild.specs.Moved.{latch_from as latch_by}
 use Rattle.rebuild.specs.Starting.{start_value}

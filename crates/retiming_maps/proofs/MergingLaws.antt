@@ -13,10 +13,10 @@ use Rattle.cleaned_circuits.proofs.MergedLaws.{length-replaced_latches}
 use Rattle.cleaned_circuits.proofs.PassLaws.{IsCircuit, IsCircuit-cleans, cleans-streams}
 use Rattle.latch_merging.specs.declared.start.MergedStart.{MergedStart}
 use Rattle.latch_merging.proofs.StartLaws.{in_range-by, merges-by, stay-by, streams-by}
-use Rattle.merged_latches.specs.Partitions.{IsCoarsest, IsMerged}
-use Rattle.merged_latches.specs.Readings.{substitutes_by}
-use Rattle.merged_latches.proofs.FinerLaws.{coarsest-one}
-use Rattle.merged_latches.proofs.MergingLaws.{merged-streams}
+use Rattle.retimed_circuits.specs.Partitions.{IsCoarsest, IsMerged}
+use Rattle.retimed_circuits.specs.Readings.{substitutes_by}
+use Rattle.retimed_circuits.proofs.FinerLaws.{coarsest-one}
+use Rattle.retimed_circuits.proofs.MergingLaws.{merged-streams}
 use Rattle.map_circuits.specs.Constraining.{AddsSubstitutes, AreOne, substitute_function}
 use Rattle.map_circuits.specs.Following.{state_of}
 use Rattle.map_circuits.specs.Steps.{read_functions}

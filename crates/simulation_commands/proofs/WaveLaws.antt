@@ -6,9 +6,9 @@ use Rattle.aig_binary.specs.declared.reading.SpeltCircuit.{SpeltCircuit}
 use Rattle.counted_io.specs.Input.{Input}
 use Rattle.counted_io.specs.Output.{Output, WritesAll}
 use Rattle.counted_io.proofs.OutputLaws.{all-then}
-use Rattle.stream_paths.specs.Streams.{is_stdout}
-use Rattle.stream_paths.specs.declared.target.Target.{Target}
-use Rattle.stream_paths.specs.declared.target.Target.TheVariants as targets
+use Rattle.counted_io.specs.Streams.{is_stdout}
+use Rattle.counted_io.specs.declared.target.Target.{Target}
+use Rattle.counted_io.specs.declared.target.Target.TheVariants as targets
 use Rattle.command_line.specs.declared.task.Simulation.{Simulation}
 use Rattle.circuit_files.specs.declared.outcome.Outcome.{Outcome}
 use Rattle.circuit_files.specs.declared.outcome.Outcome.TheVariants.{Done}

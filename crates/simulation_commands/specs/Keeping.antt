@@ -9,7 +9,7 @@ use Rattle.lane_sim.specs.Differences.{HaveKeptShape, HaveSameShape}
 use Rattle.lane_sim.specs.Kept.{for_kept, read_kept}
 use Rattle.lane_sim.specs.declared.fault.StimError.{StimError}
 use Rattle.lane_sim.specs.declared.stimulus.InputSequence.{InputSequence}
-use Rattle.stream_paths.specs.declared.source.Source.{Source}
+use Rattle.counted_io.specs.declared.source.Source.{Source}
 use Rattle.circuit_files.specs.Outcomes.{failure_of_stimulus}
 use Rattle.circuit_files.specs.Reading.{IsReadingOfStdin}
 use Rattle.circuit_files.specs.declared.outcome.Failure.{Failure}

@@ -7,8 +7,8 @@ use Rattle.reports.specs.Simulating.{IsRoomFor}
 use Rattle.reports.specs.Traces.{trace_text}
 use Rattle.counted_io.specs.Input.{Input}
 use Rattle.counted_io.specs.Output.{Output}
-use Rattle.stream_paths.specs.declared.target.Target.{Target}
-use Rattle.stream_paths.specs.declared.target.Target.TheVariants as targets
+use Rattle.counted_io.specs.declared.target.Target.{Target}
+use Rattle.counted_io.specs.declared.target.Target.TheVariants as targets
 use Rattle.command_line.specs.declared.task.Simulation.{Simulation}
 use Rattle.command_line.specs.declared.task.Stimuli.{Stimuli}
 use Rattle.circuit_files.specs.declared.outcome.Outcome.{Outcome}

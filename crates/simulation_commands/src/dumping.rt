@@ -4,7 +4,7 @@ ghost use Rattle.counted_io.specs.Output.{Writes};
 ghost use Rattle.waves.specs.Moments.{IsRoomFor};
 ghost use Rattle.waves.specs.Names as named;
 ghost use Rattle.waves.specs.Probes as probes;
-ghost use Rattle.stream_paths.specs.Streams.{is_stdout, target_name};
+ghost use Rattle.counted_io.specs.Streams.{is_stdout, target_name};
 ghost use Rattle.circuit_files.specs.Outcomes.{IsAbout, outcome_of};
 ghost use Rattle.circuit_files.specs.declared.outcome.Outcome.TheVariants.{Device};
 ghost use Rattle.circuit_files.specs.declared.outcome.Failure.TheVariants.{Memory};
@@ -16,10 +16,9 @@ use crate::simulation::Case;
 use aig_graph::{Circuit, Sequence};
 use circuit_files::{Failure, LazyFile};
 use command_line::{Simulation, Stimuli};
-use counted_io::{Counted, CountedWrite, WriteError};
+use counted_io::{Counted, CountedWrite, Target, WriteError};
 use std::alloc::Global;
 use std::rt::Files;
-use stream_paths::Target;
 use waves::{Room, probed, wave_names, write_waves};
 
 /// A circuit that has waves as its outputs, and room for simulating it.

@@ -3,16 +3,15 @@ ghost use Rattle.std.specs.Prelude.{◌≡◌, IfErr, IfOk, true, false};
 ghost use Rattle.aig_graph.specs.Streams.{AreKept};
 ghost use Rattle.circuit_files.specs.Outcomes.{IsAbout};
 ghost use Rattle.circuit_files.specs.Reading.{IsReadingOfStdin};
-ghost use Rattle.stream_paths.specs.Streams.{is_stdin, source_name};
+ghost use Rattle.counted_io.specs.Streams.{is_stdin, source_name};
 ghost use Rattle.simulation_commands.specs.Keeping.{AreKeptOf, AreSharedAt};
 
 use aig_graph::{Circuit, Sequence};
 use circuit_files::{Failure, bytes_at};
-use counted_io::CountedRead;
+use counted_io::{CountedRead, Source};
 use lane_sim::read_kept;
 use std::alloc::Global;
 use std::rt::Files;
-use stream_paths::Source;
 
 /// Which free latches of the first circuit the second one has.
 #[derive(Drop)]

@@ -5,10 +5,9 @@ ghost use Rattle.command_endings.specs.Sources.{IsCircuitAt};
 
 use aig_graph::Circuit;
 use circuit_files::{Failure, circuit_at};
-use counted_io::CountedRead;
+use counted_io::{CountedRead, Source};
 use std::alloc::Global;
 use std::rt::Files;
-use stream_paths::Source;
 
 /// The circuit that is read.
 pub(crate) fn read_circuit<'a, R: Files, I: CountedRead>(

@@ -16,13 +16,12 @@ use aig_graph::Circuit;
 use circuit_files::{Failure, Outcome};
 use command_endings::ended;
 use command_line::Simulation;
-use counted_io::{CountedRead, CountedWrite};
+use counted_io::{CountedRead, CountedWrite, Target};
 use lane_sim::{Stimulus, Trace, simulate};
 use reports::{Room, print_simulated, print_trace};
 use std::alloc::Global;
 use std::rt::Files;
 use std::thread::Threads;
-use stream_paths::Target;
 
 /// A circuit, and what it is simulated under.
 #[derive(Drop)]

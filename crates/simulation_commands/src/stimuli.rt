@@ -10,11 +10,10 @@ use crate::room::is_too_long;
 use aig_graph::Circuit;
 use circuit_files::{Failure, stimulus_at};
 use command_line::{Sequences, Stimuli};
-use counted_io::CountedRead;
+use counted_io::{CountedRead, Source};
 use lane_sim::Stimulus;
 use std::alloc::Global;
 use std::rt::Files;
-use stream_paths::Source;
 
 /// Random sequences for a circuit, which was read here.
 fn random_for<'a>(

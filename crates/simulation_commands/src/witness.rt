@@ -10,18 +10,16 @@ ghost use Rattle.command_endings.specs.Printing.{EndsPrinting, Prints, ending};
 use crate::reading::read_circuit;
 use aig_graph::{Circuit, Keep, NoMemory, Sequence};
 use circuit_files::{Failure, Outcome, witness_at};
-use clean::{Cleaned, clean};
+use clean::{Cleaned, all_places, clean};
 use command_endings::ended;
 use command_line::Carrying;
-use counted_io::{CountedRead, CountedWrite};
+use counted_io::{CountedRead, CountedWrite, Source};
 use frames::{Options, Retimed, retime};
-use normalised_circuits::all_places;
 use pulse::{Crew, OpenGate};
 use reports::print_shapes_differ;
 use std::alloc::Global;
 use std::rt::Files;
 use std::thread::Threads;
-use stream_paths::Source;
 use witnesses::{Confirmed, Objection, Widths, Witness, confirm, print_objection, print_witness};
 
 /// A circuit, the one that it was retimed to, and a witness for that one.

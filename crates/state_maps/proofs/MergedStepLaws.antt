@@ -16,9 +16,9 @@ use Rattle.aig_graph.specs.declared.graph.Latch.{Latch}
 use Rattle.cleaned_circuits.specs.Merged.{replaced, replaced_gate, replaced_latch, replaced_graph, replaced_circuit}
 use Rattle.cleaned_circuits.proofs.SubstituteLaws.{after-within}
 use Rattle.cleaned_circuits.proofs.MergedLaws.{IsGraph-replaced, SubstitutesWithin, length-replaced_latches, replaced-inputs, replaced-first_latch, replaced-first_gate, replaced-latch, replaced-gate, replaced-free_before}
-use Rattle.merged_latches.specs.Readings.{leaves, substitutes_by}
-use Rattle.merged_latches.specs.Partitions.{IsInductive}
-use Rattle.merged_latches.proofs.ReadingLaws.{are-leaves}
+use Rattle.retimed_circuits.specs.Readings.{leaves, substitutes_by}
+use Rattle.retimed_circuits.specs.Partitions.{IsInductive}
+use Rattle.retimed_circuits.proofs.ReadingLaws.{are-leaves}
 use Rattle.state_maps.specs.States.{Digits, IsStateMap, State, after_step, opening_state}
 use Rattle.state_maps.specs.Retimed.{HasStateMap}
 use Rattle.state_maps.proofs.FrameMapLaws.{restated}

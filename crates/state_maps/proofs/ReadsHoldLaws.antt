@@ -14,10 +14,10 @@ use Rattle.cleaned_circuits.specs.Latches.{constant_of}
 use Rattle.cleaned_circuits.specs.Merged.{Merging, replaced, merge_gate, merge_gates, merging_from, substitutes_after}
 use Rattle.cleaned_circuits.proofs.LatchLaws.{constant-even}
 use Rattle.cleaned_circuits.proofs.SubstituteLaws.{GateOf, IsRight, gates-of, length-substitutes_after, merge-all, replaced-value, right-merge_gate}
-use Rattle.merged_latches.specs.Readings.{own_literal, read, from_reset, ReadsAs, as_itself, as_constant, as_first, leaves, substitutes_by, signature}
-use Rattle.merged_latches.specs.Partitions.{IsInductive}
-use Rattle.merged_latches.proofs.ReadingLaws.{are-leaves, leaf-low, leaf-latch}
-use Rattle.merged_latches.proofs.ValueLaws.{may-known, flipped, flipped-twice, opening-known}
+use Rattle.retimed_circuits.specs.Readings.{own_literal, read, from_reset, ReadsAs, as_itself, as_constant, as_first, leaves, substitutes_by, signature}
+use Rattle.retimed_circuits.specs.Partitions.{IsInductive}
+use Rattle.retimed_circuits.proofs.ReadingLaws.{are-leaves, leaf-low, leaf-latch}
+use Rattle.retimed_circuits.proofs.ValueLaws.{may-known, flipped, flipped-twice, opening-known}
 use Rattle.state_maps.specs.States.{Digits, State, after_step, opening_state}
 use Rattle.state_maps.specs.Retimed.{agrees}
 use Rattle.state_maps.proofs.FrameMapLaws.{agrees-is, is-agrees}

@@ -3,7 +3,7 @@ use Rattle.std.specs.Prelude.{ℕ, ◌≡◌, ◌&&◌, Bool, true, false, List,
 use Rattle.aig_graph.specs.declared.graph.Latch.{Latch}
 use Rattle.aig_graph.specs.Graph.{Graph}
 use Rattle.aig_graph.specs.Value.{value_within}
-use Rattle.merged_latches.specs.Readings.{read}
+use Rattle.retimed_circuits.specs.Readings.{read}
 use Rattle.state_maps.specs.Retimed.{agrees}
 use Rattle.state_maps.specs.States.{Digits, State}
 

@@ -1,8 +1,8 @@
 -- What the units of a balanced flow weigh on the far side of a closed set.
 use Rattle.std.proofs.Common.{◌≡◌, ℕ, suc, zero, ◌+◌, ◌-◌, ◌*◌, ◌<◌, ◌≤◌, ◌==◌, nat_lt, Bool, true, false, not, ◌&&◌, ◌||◌, List, length, slice_index, arith, refl, ap, ap₂, sym, ◌∙◌, inl, inr}
 use Rattle.std.proofs.lemmas.Bool.{cases_Bool, lt-ltb, le-ltb, eqb-true, eq-eqb, and_parts, cond-true, cond-false, or_left, not-true, false_from_ne_true, true≢false}
-use Rattle.flow_theory.specs.Flow.{sum_below}
-use Rattle.flow_theory.proofs.SumLaws.{sum_below-add, sum_below-same, sum_below-le, rise-le}
+use Rattle.frame_net.specs.Flow.{sum_below}
+use Rattle.frame_net.proofs.SumLaws.{sum_below-add, sum_below-same, sum_below-le, rise-le}
 use Rattle.variable_tables.specs.Counting.{count_below}
 use Rattle.variable_tables.specs.Marking.{has}
 use Rattle.variable_tables.proofs.PlacesLaws.{count-pass, count-fail}

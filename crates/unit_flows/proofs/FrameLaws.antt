@@ -14,7 +14,7 @@ use Rattle.unit_flows.specs.Shown.{IsCutAt}
 use Rattle.std.proofs.lemmas.Bool.{le-leb}
 use Rattle.std.proofs.lemmas.List.{get_or_default}
 use Rattle.std.proofs.lemmas.Option.{slice_get_read}
-use Rattle.flow_theory.specs.Flow.{sum_below}
+use Rattle.frame_net.specs.Flow.{sum_below}
 
 -- the table of which variables are observed has an entry for each latch and gate
 pub leaving-long : (c : Netlist) (held : List ℕ) (marks : List Bool) → marks ≡ table (first_latch c.aig) (latches_and_gates c.aig) (is_observed c.aig c.props held) → length marks ≡ latches_and_gates c.aig

@@ -2,7 +2,7 @@
 use Rattle.std.proofs.Common.{◌≡◌, ℕ, ◌+◌, ◌-◌, ◌<◌, ◌≤◌, ◌==◌, nat_le, nat_lt, ◌&&◌, ◌||◌, not, Bool, true, false, cond, List, length, slice_index, get_or, Some, arith, refl, ap, sym, ◌∙◌}
 use Rattle.std.proofs.lemmas.Bool.{and_parts, leb-true, lt-ltb, le-ltb, and_left}
 use Rattle.std.proofs.lemmas.Option.{slice_get_read}
-use Rattle.flow_theory.specs.Flow.{sum_below}
+use Rattle.frame_net.specs.Flow.{sum_below}
 use Rattle.variable_tables.specs.Tables.{table}
 use Rattle.variable_tables.specs.Marking.{mark_at}
 use Rattle.aig_graph.specs.declared.graph.Latch.{Latch}

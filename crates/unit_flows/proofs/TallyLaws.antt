@@ -3,8 +3,8 @@ use Rattle.std.proofs.Common.{◌≡◌, ℕ, suc, zero, ◌+◌, ◌-◌, ◌*�
 use Rattle.std.proofs.Math.ListN.{length-set}
 use Rattle.std.proofs.lemmas.Bool.{cases_eq}
 use Rattle.std.proofs.lemmas.List.{get_or-set_same, get_or-set_other, get_or-replicate, length-replicate}
-use Rattle.flow_theory.specs.Flow.{sum_below}
-use Rattle.flow_theory.proofs.SumLaws.{sum_below-same, sum_below-zero}
+use Rattle.frame_net.specs.Flow.{sum_below}
+use Rattle.frame_net.proofs.SumLaws.{sum_below-same, sum_below-zero}
 use Rattle.aig_graph.specs.declared.graph.Gate.{Gate}
 use Rattle.aig_graph.specs.Graph.{Graph, first_latch, latches_and_gates}
 use Rattle.unit_flows.specs.declared.gate_flow.GateFlow.{GateFlow}

@@ -1,6 +1,6 @@
 -- A set of gates that a flow of units shows to be the greatest least set.
 use Rattle.std.specs.Prelude.{◌≡◌, ℕ, ◌+◌, ◌<◌, ◌≤◌, nat_lt, Bool, true, false, not, ◌&&◌, ◌||◌, List, length}
-use Rattle.flow_theory.specs.Flow.{sum_below}
+use Rattle.frame_net.specs.Flow.{sum_below}
 use Rattle.aig_graph.specs.declared.graph.Gate.{Gate}
 use Rattle.aig_graph.specs.Graph.{variable, first_latch, first_gate, latches_and_gates, latch_at, is_known}
 use Rattle.aig_graph.specs.Circuits.{Netlist}

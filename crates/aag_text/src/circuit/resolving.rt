@@ -4,7 +4,7 @@
 ghost use Rattle.std.specs.Prelude.{ℕ, List, ◌≡◌, ◌+◌, ◌≤◌, ◌^◌, ◌↔◌, length, map, All, IsTrue, IfOk, IfErr};
 ghost use Rattle.aig_graph.specs.declared.properties.Symbols.{Symbols};
 ghost use Rattle.aig_graph.specs.Circuits.{IsNetlist};
-ghost use Rattle.gate_order.specs.Order.{IsOrder, ordered};
+ghost use Rattle.ascii_file.specs.Order.{IsOrder, ordered};
 ghost use Rattle.ascii_file.specs.Raw.{RawSymbol};
 ghost use Rattle.ascii_file.specs.Headers.{IsHeaderWithin};
 ghost use Rattle.ascii_file.specs.Meaning.{props_of};

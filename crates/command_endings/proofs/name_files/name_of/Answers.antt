@@ -2,7 +2,7 @@ use Rattle.std.proofs.Common.{sym, ap, ◌∙◌, Some, None}
 use Rattle.std.proofs.lemmas.Bool.{cond-true, cond-false}
 use Rattle.std.proofs.lemmas.Str.{is_utf8-from_IsUtf8, IsUtf8-from_is_utf8}
 use Rattle.std.specs.Str.{is_utf8}
-use Rattle.batch_lists.proofs.ListLaws.{false_where_not}
+use Rattle.circuit_files.proofs.ListLaws.{false_where_not}
 use Rattle.command_endings.proofs.name_files.name_of.Goals as goal
 
 pub returns-in-Ok : goal.returns-in-Ok

@@ -1,7 +1,7 @@
 use Rattle.std.proofs.Common.{List, [], ◌∷◌, ◌++◌, ◌∙◌, ap₂, sym}
 use Rattle.std.proofs.lemmas.List.{map_more}
-use Rattle.stream_paths.specs.declared.source.Source.{Source}
-use Rattle.stream_paths.specs.Streams.{source_of}
+use Rattle.counted_io.specs.declared.source.Source.{Source}
+use Rattle.counted_io.specs.Streams.{source_of}
 use Rattle.command_line.proofs.values.sources_of.Goals as goal
 
 pub loop-path-preserved : goal.loop-path-preserved

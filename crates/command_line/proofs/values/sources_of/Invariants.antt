@@ -1,5 +1,5 @@
 use Rattle.std.proofs.Common.{◌≡◌, map, take}
-use Rattle.stream_paths.specs.Streams.{source_of}
+use Rattle.counted_io.specs.Streams.{source_of}
 use Rattle.command_line.proofs.values.sources_of.Given as goal
 
 abbrev pub invariant-loop-path : goal.invariant-loop-path

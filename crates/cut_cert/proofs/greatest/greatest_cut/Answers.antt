@@ -1,7 +1,7 @@
 use Rattle.std.proofs.Common.{◌∙◌, sym, subst, ℕ, Bool, not, List, slice_index_or, false}
 use Rattle.std.specs.List.Sorted.{IsStrictlyIncreasing}
 use Rattle.aig_graph.specs.Border.{IsGreatestLeast}
-use Rattle.flow_theory.specs.Flow.{IsSourceSide}
+use Rattle.frame_net.specs.Flow.{IsSourceSide}
 use Rattle.frame_net.specs.FlowNet.{node_count}
 use Rattle.pulse.specs.Conditions.{state_of}
 use Rattle.cut_cert.proofs.GateLaws.{are-gates, greatest-set}

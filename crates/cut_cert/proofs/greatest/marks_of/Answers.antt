@@ -1,5 +1,5 @@
 use Rattle.std.proofs.Common.{◌∙◌, ap, sym, subst, Bool, List, length, not, slice_index_or, false}
-use Rattle.flow_theory.specs.Flow.{IsSourceSide}
+use Rattle.frame_net.specs.Flow.{IsSourceSide}
 use Rattle.frame_net.specs.FlowNet.{node_count}
 use Rattle.pulse.specs.Conditions.{state_of}
 use Rattle.cut_cert.proofs.greatest.marks_of.Goals as goal

@@ -1,6 +1,6 @@
 use Rattle.std.proofs.Common.{ℕ, Option, MatchOption, ap, subst}
 use Rattle.std.proofs.lemmas.List.{get_or_default}
-use Rattle.batch_lists.specs.declared.entry.Entry.{Entry}
+use Rattle.circuit_files.specs.declared.entry.Entry.{Entry}
 use Rattle.file_identities.specs.Outputs.{HaveOwnFiles, IsSameAt}
 use Rattle.file_identities.proofs.OutputLaws.{same-within}
 use Rattle.file_identities.proofs.outputs.check_outputs.Goals as goal

@@ -1,5 +1,5 @@
 use Rattle.std.proofs.Common.{ℕ, suc, slice_index, arith, ap}
-use Rattle.flow_theory.proofs.SumLaws.{sum_below-mono}
+use Rattle.frame_net.proofs.SumLaws.{sum_below-mono}
 use Rattle.frame_net.specs.FlowNet.{row_len}
 use Rattle.flow_part.specs.Parts.{values_of}
 use Rattle.flow_part.specs.Delivering.{back}

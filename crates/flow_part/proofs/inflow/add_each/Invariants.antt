@@ -1,5 +1,5 @@
 use Rattle.std.proofs.Common.{◌≡◌, ℕ, ◌+◌, ◌<◌, ◌≤◌, slice_index}
-use Rattle.flow_theory.specs.Flow.{sum_below}
+use Rattle.frame_net.specs.Flow.{sum_below}
 use Rattle.flow_part.specs.Parts.{values_of}
 use Rattle.flow_part.specs.Delivering.{back}
 use Rattle.flow_part.proofs.inflow.add_each.Given as goal

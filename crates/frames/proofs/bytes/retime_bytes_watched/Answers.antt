@@ -3,7 +3,7 @@ use Rattle.aig_binary.proofs.LimitLaws.{reads-within}
 use Rattle.std.proofs.lemmas.Result.{IfErr-weaker, IfOk-from_err, IfOk-weaker}
 use Rattle.aig_binary.specs.Ending.{ReadsToEnd}
 use Rattle.frames.specs.declared.errors.BytesError.TheVariants.{Read}
-use Rattle.level_laws.specs.Retiming.{KeepsLevels}
+use Rattle.retimed_circuits.specs.RetimingLevels.{KeepsLevels}
 use Rattle.frames.specs.Answering.{IsAnswered, IsBytesError, IsStop, IsWritten, KeepsLevelsOf}
 use Rattle.frames.specs.Bounds.{bound_in}
 use Rattle.frames.proofs.StopLaws.{at-error, facts_of, stops-answering}

@@ -1,6 +1,6 @@
 use Rattle.std.proofs.Common.{[], ◌∷◌, ◌++◌, sym, subst}
 use Rattle.retimed_circuits.specs.declared.report.Retimed.{Retimed}
-use Rattle.level_laws.specs.Retiming.{KeepsLevels}
+use Rattle.retimed_circuits.specs.RetimingLevels.{KeepsLevels}
 use Rattle.frames.specs.Answering.{IsWritten}
 use Rattle.frames.specs.Bounds.{bound_in}
 use Rattle.frames.specs.Stages.{Notifies, Writing, stages_of}

@@ -6,8 +6,8 @@ use Rattle.aig_graph.specs.Circuits.{Netlist}
 use Rattle.aig_graph.specs.Move.{move_of}
 use Rattle.aig_graph.proofs.GraphLaws.{room}
 use Rattle.retimed_circuits.specs.Frames.{held_over, moved_over}
-use Rattle.normalised_circuits.specs.Normalised.{AreLowNormalised, IsNormalised}
-use Rattle.normalised_circuits.proofs.FrameLaws.{copies-within, normalised-moved}
+use Rattle.clean.specs.Normalised.{AreLowNormalised, IsNormalised}
+use Rattle.clean.proofs.FrameLaws.{copies-within, normalised-moved}
 use Rattle.frames.specs.Following.{ComesWhole}
 use Rattle.frames.proofs.FollowingLaws.{moved-followed}
 use Rattle.frames.proofs.frame.moved_over.Goals as goal

@@ -4,7 +4,7 @@ use Rattle.std.specs.Option.{MatchOption}
 use Rattle.aig_graph.specs.Circuits.{Netlist}
 use Rattle.aig_graph.specs.Graph.{known_latches}
 use Rattle.aig_graph.specs.Laws.{composed}
-use Rattle.normalised_circuits.specs.Normalised.{IsNormalised}
+use Rattle.clean.specs.Normalised.{IsNormalised}
 use Rattle.retimed_circuits.specs.declared.report.FrameReport.{FrameReport}
 use Rattle.retimed_circuits.specs.declared.report.Retimed.{Retimed}
 use Rattle.frames.specs.declared.frame.Frame.{Frame}

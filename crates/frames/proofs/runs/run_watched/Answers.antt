@@ -1,5 +1,5 @@
 use Rattle.std.proofs.Common.{[], ◌∷◌, Err, ap}
-use Rattle.level_laws.proofs.RetimingLevelLaws.{retiming-levels}
+use Rattle.retimed_circuits.proofs.RetimingLevelLaws.{retiming-levels}
 use Rattle.frames.specs.Bounds.{bound_in}
 use Rattle.frames.specs.declared.errors.RetimeError.{RetimeError}
 use Rattle.frames.specs.Named.{IsFirstNoLatchBy, holding_in}

@@ -1,6 +1,6 @@
 use Rattle.std.proofs.Common.{◌≡◌}
 use Rattle.variable_tables.specs.Counting.{count_below}
-use Rattle.merged_latches.specs.Counts.{is_merged}
+use Rattle.retimed_circuits.specs.Counts.{is_merged}
 use Rattle.latch_merging.proofs.rounds.merged_latches.Given as goal
 
 abbrev pub invariant-loop-place : goal.invariant-loop-place

@@ -4,9 +4,9 @@ use Rattle.std.proofs.lemmas.Bool.{false≢true}
 use Rattle.std.proofs.lemmas.List.{with_items_is}
 use Rattle.flow_part.specs.declared.parts.FlowPart.{FlowPart}
 use Rattle.flow_part.specs.Parts.{values_of}
-use Rattle.flow_whole.specs.Marks.{NoneMarked, IsPartlyDelivered}
-use Rattle.flow_whole.specs.Start.{FlowNumbered}
-use Rattle.flow_whole.proofs.NumberLaws.{numbered_given}
+use Rattle.flow_part.specs.Marks.{NoneMarked, IsPartlyDelivered}
+use Rattle.flow_part.specs.Start.{FlowNumbered}
+use Rattle.flow_part.proofs.NumberLaws.{numbered_given}
 use Rattle.pulse.specs.Values.{FlowState, PushState, flow_state, push_state}
 use Rattle.pulse.specs.Conditions.{IsFlowOf, is_marked}
 use Rattle.pulse.specs.Phases.{RangeDelivered}

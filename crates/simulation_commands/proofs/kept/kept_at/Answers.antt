@@ -1,8 +1,8 @@
 use Rattle.std.proofs.Common.{ℕ, ◌≡◌, ◌∙◌, true, List, codes, inl, refl, subst}
 use Rattle.std.proofs.lemmas.Bool.{false≢true}
-use Rattle.stream_paths.specs.Streams.{is_stdin, source_name}
-use Rattle.stream_paths.specs.declared.source.Source.{Source}
-use Rattle.stream_paths.specs.declared.source.Source.TheVariants as sources
+use Rattle.counted_io.specs.Streams.{is_stdin, source_name}
+use Rattle.counted_io.specs.declared.source.Source.{Source}
+use Rattle.counted_io.specs.declared.source.Source.TheVariants as sources
 use Rattle.simulation_commands.specs.Keeping.{AreKeptOf}
 use Rattle.simulation_commands.proofs.kept.kept_at.Goals as goal
 

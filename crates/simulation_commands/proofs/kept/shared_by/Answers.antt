@@ -1,5 +1,5 @@
 use Rattle.std.proofs.Common.{Option, refl, sym, subst}
-use Rattle.stream_paths.specs.declared.source.Source.{Source}
+use Rattle.counted_io.specs.declared.source.Source.{Source}
 use Rattle.simulation_commands.specs.Keeping.{AreSharedAt}
 use Rattle.simulation_commands.specs.declared.kept.Shared.TheVariants.{Each, Kept}
 use Rattle.simulation_commands.proofs.kept.shared_by.Goals as goal

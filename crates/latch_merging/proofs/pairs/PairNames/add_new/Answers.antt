@@ -1,7 +1,7 @@
 use Rattle.std.proofs.Common.{ℕ, List, ◌∙◌, ap, None}
 use Rattle.aig_graph.specs.declared.graph.Gate.{Gate}
 use Rattle.cleaned_circuits.specs.Merged.{known_substitute}
-use Rattle.merged_latches.proofs.RunLaws.{known-more, known-own}
+use Rattle.retimed_circuits.proofs.ClassRunLaws.{known-more, known-own}
 use Rattle.latch_merging.proofs.pairs.PairNames.add_new.Goals as goal
 
 pub returns-in_ok-add : goal.returns-in_ok-add

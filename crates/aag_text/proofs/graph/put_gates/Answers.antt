@@ -1,0 +1,11 @@
+use Rattle.std.proofs.Common.{ℕ}
+use Rattle.aig_graph.specs.declared.graph.Gate.{Gate}
+use Rattle.counted_io.specs.Line.{line}
+use Rattle.counted_io.proofs.BufferedLaws.{puts-numbered_next}
+use Rattle.file_words.specs.Text.{gate_row}
+use Rattle.aag_text.proofs.graph.put_gates.Goals as goal
+
+pub loop-k-preserved : goal.loop-k-preserved
+loop-k-preserved g c =
+    puts-numbered_next (λ (v : ℕ) (x : Gate). line (gate_row v x)) c.args.first c.args.gates.now c.loop-k.k _
+    c.loop-k-test.true c.index-gates-k.is c.loop-k.invariant c.put_gate.ensures

@@ -1,8 +1,0 @@
-use Rattle.std.specs.Prelude.{codes}
-use Rattle.counted_io.proofs.BufferedLaws.{puts-then}
-use Rattle.ascii_writer.specs.Header.{header_text}
-use Rattle.ascii_writer.proofs.header.put_header.Goals as goal
-
-pub returns : goal.returns
-unfolding header_text
-returns g c = puts-then {xs = codes "aag "} c.put.ensures c.put_counts.ensures

@@ -1,3 +1,0 @@
-mod BesideLaws
-mod TurnedLaws
-mod BackLiftLaws

@@ -1,3 +1,0 @@
-pub mod Beside
-pub mod Turned
-pub mod Lifting

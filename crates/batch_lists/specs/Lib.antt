@@ -1,3 +1,0 @@
-pub mod Codes
-pub mod Lists
-pub mod Entries

@@ -1,5 +1,0 @@
-use Rattle.std.proofs.Common.{[]}
-use Rattle.binary_reader.proofs.reader.read_aig.Goals as goal
-
-pub returns : goal.returns
-returns c = c.read_rest-circuit.ensures [] c.new-reader.ensures.holds

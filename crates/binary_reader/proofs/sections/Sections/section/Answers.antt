@@ -1,6 +1,0 @@
-use Rattle.std.proofs.Common.{◌∙◌}
-use Rattle.binary_reader.proofs.ContentsLaws.{section_is}
-use Rattle.binary_reader.proofs.sections.Sections.section.Goals as goal
-
-pub returns-clause-next : goal.returns-clause-next
-returns-clause-next c h raw is = c.first_with_room.ensures ∙ section_is c.args.self.now h raw is

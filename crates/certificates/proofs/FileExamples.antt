@@ -1,0 +1,40 @@
+-- Texts of certificates, read.
+use Rattle.std.proofs.Common.{◌≡◌, ℕ, [], ◌∷◌, ◌++◌, refl, true, false, List, Ok, Err, codes}
+use Rattle.file_words.specs.Lines.{lines, pieces, numbers_of}
+use Rattle.frame_net.specs.declared.net.Point.{Point}
+use Rattle.certificates.specs.declared.fault.CertError.TheVariants.{BadHeader, BadLine, TooLarge, Truncated}
+use Rattle.aig_graph.specs.declared.choice.Choice.TheVariants.{Greatest, Smallest}
+use Rattle.certificates.specs.Files.{saying_of, read_blocks, read_text}
+
+abbrev before : ℕ → Point
+before v = record { var = v; behind = false }
+
+abbrev after : ℕ → Point
+after v = record { var = v; behind = true }
+
+abbrev newline : List ℕ
+newline = 10 ∷ []
+
+abbrev one_block : List ℕ
+one_block = codes "fretime-cert 1" ++ newline ++ codes "frame 1 1 1" ++ newline ++ codes "g 5" ++ newline ++ codes "r 3+ 5- 05+" ++ newline
+
+accepted :
+    (read_text one_block ≡ Ok (record { choice = Greatest; blocks = record { count = 1; gates = 5 ∷ []; routes = (after 3 ∷ before 5 ∷ after 5 ∷ []) ∷ [] } ∷ [] }))
+    × (read_text (codes "fretime-cert 1") ≡ Ok (record { choice = Greatest; blocks = [] }))
+    × (read_text (codes "fretime-cert 2" ++ newline ++ codes "choice smallest" ++ newline) ≡ Ok (record { choice = Smallest; blocks = [] }))
+    × (read_text (codes "fretime-cert 1" ++ newline ++ codes "frame 0 0 0" ++ newline ++ codes "frame 0 0 0" ++ newline)
+    ≡ Ok (record { choice = Greatest; blocks = record { count = 0; gates = []; routes = [] } ∷ record { count = 0; gates = []; routes = [] } ∷ [] }))
+unfolding read_text read_blocks saying_of lines pieces numbers_of
+accepted = (refl, refl, refl, refl)
+
+refused :
+    (read_text [] ≡ Err (BadHeader 0)) × (read_text (codes "fretime-cert 01") ≡ Err (BadHeader 0))
+    × (read_text (codes "fretime-cert 2" ++ newline) ≡ Err (Truncated 15)) × (read_text (codes "fretime-cert 2" ++ newline ++ codes "choice least") ≡ Err (BadLine 15))
+    × (read_text (codes "fretime-cert 1" ++ newline ++ codes "g 5") ≡ Err (BadLine 15))
+    × (read_text (codes "fretime-cert 1" ++ newline ++ codes "frame 1 1 0") ≡ Err (Truncated 26))
+    × (read_text (codes "fretime-cert 1" ++ newline ++ codes "frame 1 0 1" ++ newline ++ codes "r") ≡ Err (BadLine 27))
+    × (read_text (codes "fretime-cert 1" ++ newline ++ codes "frame 1 0 1" ++ newline ++ codes "r 3") ≡ Err (BadLine 27))
+    × (read_text (codes "fretime-cert 1" ++ newline ++ codes "frame 268435456 0 0") ≡ Err (TooLarge 15))
+    × (read_text (codes "fretime-cert 1" ++ newline ++ codes "frame 1 0 0" ++ newline ++ newline) ≡ Err (BadLine 27))
+unfolding read_text read_blocks saying_of lines pieces numbers_of
+refused = (refl, refl, refl, refl, refl, refl, refl, refl, refl, refl)

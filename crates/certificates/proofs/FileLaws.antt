@@ -1,0 +1,115 @@
+-- The lines before the blocks, and a file as a whole.
+use Rattle.std.proofs.Common.{ℕ, ◌+◌, ◌-◌, ◌≤◌, ◌≡◌, ◌⊎◌, inl, inr, length, List, [], Option, Some, None, Result, Ok, Err, arith, Bool, true, false, ◌==◌, cond, ap, ap₂, ◌∙◌, subst, codes}
+use Rattle.std.proofs.lemmas.Bool.{eqb-true, and_parts}
+use Rattle.file_words.specs.Lines.{lines, is_word}
+use Rattle.file_words.specs.Cuts.{IsFirst}
+use Rattle.file_words.proofs.FirstLaws.{no_lines}
+use Rattle.certificates.specs.declared.certificate.Certificate.{Certificate}
+use Rattle.certificates.specs.declared.fault.CertError.{CertError}
+use Rattle.certificates.specs.declared.fault.CertError.TheVariants.{BadHeader, BadLine, Truncated}
+use Rattle.aig_graph.specs.declared.choice.Choice.{Choice}
+use Rattle.aig_graph.specs.declared.choice.Choice.TheVariants.{Greatest}
+use Rattle.certificates.specs.declared.file.CertFile.{CertFile}
+use Rattle.certificates.specs.Files.{choice_in_line, nothing_read, read_blocks, read_chosen, read_second_version, read_file, read_text, with_choice}
+use Rattle.certificates.specs.Steps.{read_rest}
+use Rattle.certificates.proofs.StepLaws.{same_start}
+
+-- where the blocks begin, after a line
+behind : (end : ℕ) (text line more : List ℕ) (at : ℕ) → IsFirst text line more → length text ≤ end → at ≡ end - length text → (more ≡ []) ⊎ (at + length line + 1 ≡ end - length more)
+behind end text line more at first within here = by_case first.starts
+  where
+    by_case : (more ≡ []) ⊎ (length text ≡ length line + 1 + length more) → (more ≡ []) ⊎ (at + length line + 1 ≡ end - length more)
+    by_case (inl none) = inl none
+    by_case (inr long) = inr (omega (arith, long, within, here))
+
+-- ---- the second line
+
+-- a file of the second version without a second line is truncated
+pub second_missing : (at end : ℕ) (rest : List ℕ) → rest ≡ [] → read_second_version at end (lines rest) ≡ Err (Truncated end)
+second_missing at end rest none = ap (read_second_version at end) (ap lines none ∙ no_lines)
+
+-- a second line that names a choice gives the file this choice, and the blocks follow
+pub second_chosen : (at end : ℕ) (text line more : List ℕ) (choice : Choice) → IsFirst text line more → length text ≤ end → at ≡ end - length text → choice_in_line line ≡ Some choice
+    → read_second_version at end (lines text) ≡ with_choice choice (read_rest end more nothing_read)
+second_chosen at end text line more choice first within here is =
+    ap (read_second_version at end) first.whole ∙ ap (λ (o : Option Choice). read_chosen at end o (lines more) (length line)) is
+    ∙ ap (with_choice choice) (same_start (at + length line + 1) end more nothing_read (behind end text line more at first within here))
+
+-- a second line that names no choice is a fault of that line
+pub second_other : (at end : ℕ) (text line more : List ℕ) → IsFirst text line more → choice_in_line line ≡ None → read_second_version at end (lines text) ≡ Err (BadLine at)
+second_other at end text line more first is =
+    ap (read_second_version at end) first.whole ∙ ap (λ (o : Option Choice). read_chosen at end o (lines more) (length line)) is
+
+-- ---- the first line
+
+-- a file without a line has a bad header
+pub first_missing : (end : ℕ) (rest : List ℕ) → rest ≡ [] → read_file end (lines rest) ≡ Err (BadHeader 0)
+first_missing end rest none = ap (read_file end) (ap lines none ∙ no_lines)
+
+word_length : (text word : List ℕ) → is_word text word ≡ true → length word ≡ length text
+word_length text word is = eqb-true (length word) (length text) (and_parts (length word == length text) _ is).0
+
+abbrev by_words : Bool → Bool → ℕ → List (List ℕ) → Result CertFile CertError
+by_words one two end rest = cond one (with_choice Greatest (read_blocks 15 end nothing_read rest)) (cond two (read_second_version 15 end rest) (Err (BadHeader 0)))
+
+by_first : (end : ℕ) (text line more : List ℕ) → IsFirst text line more → read_file end (lines text) ≡ by_words (is_word line (codes "fretime-cert 1")) (is_word line (codes "fretime-cert 2")) end (lines more)
+by_first end text line more first = ap (read_file end) first.whole
+
+-- after the line of the first version the blocks follow, of greatest sets
+pub first_version : (end : ℕ) (text line more : List ℕ) → IsFirst text line more → length text ≡ end → is_word line (codes "fretime-cert 1") ≡ true
+    → read_file end (lines text) ≡ with_choice Greatest (read_rest end more nothing_read)
+first_version end text line more first whole is =
+    by_first end text line more first
+    ∙ ap (λ (one : Bool). by_words one (is_word line (codes "fretime-cert 2")) end (lines more)) is
+    ∙ ap (with_choice Greatest) (same_start 15 end more nothing_read start)
+  where
+    long : 14 ≡ length line
+    long = word_length line (codes "fretime-cert 1") is
+
+    start : (more ≡ []) ⊎ (15 ≡ end - length more)
+    start = subst (λ (n : ℕ). (more ≡ []) ⊎ (n ≡ end - length more)) (omega (arith, long)) (behind end text line more 0 first (omega (arith, whole)) (omega (arith, whole)))
+
+-- after the line of the second version the line of the choice follows
+pub second_version : (end : ℕ) (text line more : List ℕ) → IsFirst text line more → is_word line (codes "fretime-cert 1") ≡ false → is_word line (codes "fretime-cert 2") ≡ true
+    → read_file end (lines text) ≡ read_second_version 15 end (lines more)
+second_version end text line more first differs is =
+    by_first end text line more first
+    ∙ ap (λ (one : Bool). by_words one (is_word line (codes "fretime-cert 2")) end (lines more)) differs
+    ∙ ap (λ (two : Bool). by_words false two end (lines more)) is
+
+-- after the line of the second version the next line, if there is one, begins at offset 15
+pub second_start : (end : ℕ) (text line more : List ℕ) → IsFirst text line more → length text ≡ end → is_word line (codes "fretime-cert 2") ≡ true
+    → (more ≡ []) ⊎ (15 ≡ end - length more)
+second_start end text line more first whole is =
+    subst (λ (n : ℕ). (more ≡ []) ⊎ (n ≡ end - length more)) (omega (arith, long)) (behind end text line more 0 first (omega (arith, whole)) (omega (arith, whole)))
+  where
+    long : 14 ≡ length line
+    long = word_length line (codes "fretime-cert 2") is
+
+-- a first line of neither version is a bad header
+pub no_version : (end : ℕ) (text line more : List ℕ) → IsFirst text line more → is_word line (codes "fretime-cert 1") ≡ false → is_word line (codes "fretime-cert 2") ≡ false
+    → read_file end (lines text) ≡ Err (BadHeader 0)
+no_version end text line more first differs other =
+    by_first end text line more first
+    ∙ ap (λ (one : Bool). by_words one (is_word line (codes "fretime-cert 2")) end (lines more)) differs
+    ∙ ap (λ (two : Bool). by_words false two end (lines more)) other
+
+-- ---- the whole file
+
+-- blocks that are read make, with the choice, the file
+pub with_blocks : (choice : Choice) (r : Result (List Certificate) CertError) (blocks : List Certificate) → r ≡ Ok blocks → with_choice choice r ≡ Ok (record { choice = choice; blocks = blocks })
+with_blocks choice r blocks is = ap (with_choice choice) is
+
+-- a fault of the blocks is that of the file
+pub with_fault : (choice : Choice) (r : Result (List Certificate) CertError) (e : CertError) → r ≡ Err e → with_choice choice r ≡ Err e
+with_fault choice r e is = ap (with_choice choice) is
+
+-- what is read of the lines of the whole text is what is read of the text
+pub text_read : (end : ℕ) (rest bytes : List ℕ) → rest ≡ bytes → end ≡ length bytes → read_file end (lines rest) ≡ read_text bytes
+unfolding read_text
+text_read end rest bytes is long = ap₂ (λ (n : ℕ) (bs : List ℕ). read_file n (lines bs)) long is
+
+-- an offset that is right unless the text is empty is right for a text with a first line
+pub start_of : (text line more : List ℕ) (a b : ℕ) → IsFirst text line more → (text ≡ []) ⊎ (a ≡ b) → a ≡ b
+start_of text line more a b first (inl none) = absurd (omega (arith, first.shorter, ap length none))
+start_of text line more a b first (inr here) = here

@@ -1,0 +1,276 @@
+-- What was written is read again.
+use Rattle.std.proofs.Common.{ℕ, suc, ◌+◌, ◌-◌, ◌^◌, ◌<◌, ◌≡◌, length, List, [], ◌∷◌, ◌++◌, take, Some, None, Result, Ok, Err, refl, arith, Bool, true, false, not, ◌&&◌, ◌||◌, ◌==◌, ap, ap₂, sym, ◌∙◌, map, get_or, length-append, append_assoc, append-nil, decimal, codes, rules}
+use Rattle.std.proofs.Math.Seq.{take-append_seam}
+use Rattle.std.proofs.lemmas.Bool.{and_parts, and_from, cond-true, leb-true}
+use Rattle.std.specs.List.{list_all, flat_map}
+use Rattle.counted_io.specs.Line.{line}
+use Rattle.file_words.specs.Answering.{◌>>=◌}
+use Rattle.file_words.specs.Lines.{lines, pieces, is_number, digits_value}
+use Rattle.file_words.specs.Cuts.{lacks}
+use Rattle.file_words.proofs.DecimalLaws.{decimal-is_number, decimal-value, decimal-lacks, lacks-append, row_line, row-is_line, row_line-lacks_newline, numbers_of-row_line, lines-at_newline, pieces-at_space, pieces-at_end}
+use Rattle.frame_net.specs.declared.net.Point.{Point}
+use Rattle.certificates.specs.declared.certificate.Certificate.{Certificate}
+use Rattle.certificates.specs.declared.fault.CertError.{CertError}
+use Rattle.certificates.specs.declared.fault.CertError.TheVariants.{TooLarge}
+use Rattle.aig_graph.specs.declared.choice.Choice.{Choice}
+use Rattle.aig_graph.specs.declared.choice.Choice.TheVariants.{Greatest, Smallest}
+use Rattle.certificates.specs.declared.file.CertFile.{CertFile}
+use Rattle.certificates.specs.declared.forms.FrameLine.{FrameLine}
+use Rattle.certificates.specs.Files.{sign_of, is_point, point_of_word, is_small, Route, frame_saying, gate_saying, route_of, saying_of, Progress, settled, taken, read_blocks, nothing_read, with_choice, read_file, read_text}
+use Rattle.certificates.specs.Forms.{framed, gated, routed, are_small}
+use Rattle.certificates.specs.Laws.{is_writable_route, is_writable_block, CertificatesRoundTripLaw}
+use Rattle.certificates.specs.Steps.{certificate_block, block_with_gate, with_route, ended_blocks}
+use Rattle.certificates.specs.Texts.{sign_code, point_text, route_text, gate_text, frame_line_text, block_text, choice_text, file_text}
+use Rattle.certificates.proofs.FormLaws.{saying-frame, saying-gate, saying-route}
+use Rattle.certificates.proofs.StepLaws.{gate_next, route_next, frame_next}
+use Rattle.certificates.proofs.WordLaws.{last_of}
+
+-- ---- a small number is one that a row may have
+
+small_below : (n : ℕ) → is_small n ≡ true → n < 2 ^ 64
+small_below n small = let within = leb-true n (2 ^ 28 - 1) small in omega (arith, within)
+
+-- ---- a point
+
+abbrev word_of : Point → List ℕ
+word_of p = decimal p.var ++ sign_code p.behind ∷ []
+
+sign-lacks : (mark : ℕ) (behind : Bool) → mark < 43 → lacks mark (sign_code behind ∷ []) ≡ true
+sign-lacks mark true low = search (rules, low)
+sign-lacks mark false low = search (rules, low)
+
+word-lacks : (mark : ℕ) (p : Point) → mark < 43 → lacks mark (word_of p) ≡ true
+word-lacks mark p low = lacks-append mark (decimal p.var) (sign_code p.behind ∷ []) (decimal-lacks mark p.var (omega (arith, low))) (sign-lacks mark p.behind low)
+
+module _ (p : Point) where
+  long : length (word_of p) - 1 ≡ length (decimal p.var)
+  long = omega (arith, length-append (decimal p.var) (sign_code p.behind ∷ []))
+
+  front : take (length (word_of p) - 1) (word_of p) ≡ decimal p.var
+  front = ap (λ (n : ℕ). take n (word_of p)) long ∙ take-append_seam (decimal p.var) (sign_code p.behind ∷ [])
+
+  last : sign_of (word_of p) ≡ sign_code p.behind
+  last = ap (λ (n : ℕ). get_or (word_of p) n 0) long ∙ last_of (decimal p.var) (sign_code p.behind)
+
+  is_sign : (b : Bool) → (sign_code b == 43 || sign_code b == 45) ≡ true
+  is_sign true = refl
+  is_sign false = refl
+
+  is_behind : (b : Bool) → (sign_code b == 43) ≡ b
+  is_behind true = refl
+  is_behind false = refl
+
+  word-is_point : is_small p.var ≡ true → is_point (word_of p) ≡ true
+  word-is_point small =
+      ap₂ (λ (ds : List ℕ) (s : ℕ). is_number ds && (s == 43 || s == 45)) front last
+      ∙ and_from (is_number (decimal p.var)) (sign_code p.behind == 43 || sign_code p.behind == 45) (decimal-is_number p.var (small_below p.var small)) (is_sign p.behind)
+
+  point-again : is_small p.var ≡ true → point_of_word (word_of p) ≡ p
+  point-again small =
+      ap₂ (λ (ds : List ℕ) (s : ℕ). record { var = digits_value ds; behind = s == 43 }) front last
+      ∙ ap₂ (λ (v : ℕ) (b : Bool). record { var = v; behind = b }) (decimal-value p.var (small_below p.var small)) (is_behind p.behind)
+
+-- ---- a route
+
+abbrev route_words : Point → List Point → List ℕ
+route_words p ps = word_of p ++ flat_map point_text ps
+
+pieces-route : (p : Point) (ps : List Point) → pieces (route_words p ps) ≡ map word_of (p ∷ ps)
+pieces-route p [] = ap pieces (append-nil (word_of p)) ∙ pieces-at_end (word_of p) (word-lacks 32 p (omega arith))
+pieces-route p (q ∷ qs) =
+    pieces-at_space (word_of p) (route_words q qs) (word-lacks 32 p (omega arith)) ∙ ap (λ (ws : List (List ℕ)). word_of p ∷ ws) (pieces-route q qs)
+
+words-are_points : (ps : List Point) → are_small ps ≡ true → list_all is_point (map word_of ps) ≡ true
+words-are_points [] small = refl
+words-are_points (p ∷ ps) small =
+    let parts = and_parts (is_small p.var) (are_small ps) small in
+    and_from (is_point (word_of p)) (list_all is_point (map word_of ps)) (word-is_point p parts.0) (words-are_points ps parts.1)
+
+words-points : (ps : List Point) → are_small ps ≡ true → map point_of_word (map word_of ps) ≡ ps
+words-points [] small = refl
+words-points (p ∷ ps) small =
+    let parts = and_parts (is_small p.var) (are_small ps) small in
+    ap₂ (λ (q : Point) (qs : List Point). q ∷ qs) (point-again p parts.0) (words-points ps parts.1)
+
+abbrev route_line : List Point → List ℕ
+route_line ps = codes "r" ++ flat_map point_text ps
+
+route-said : (at : ℕ) (ps : List Point) → is_writable_route ps ≡ true → routed at (saying_of (route_line ps)) ≡ Ok ps
+route-said at [] writable = absurd (cc)
+route-said at (p ∷ ps) writable =
+    ap (routed at) (saying-route (route_line (p ∷ ps)) (route_words p ps) refl ∙ ap route_of (pieces-route p ps))
+    ∙ ap (routed at) (cond-true (list_all is_point (map word_of (p ∷ ps))) (Some (Route (map point_of_word (map word_of (p ∷ ps))))) None (words-are_points (p ∷ ps) small))
+    ∙ ap (λ (qs : List Point). routed at (Some (Route qs))) (words-points (p ∷ ps) small)
+    ∙ cond-true (are_small (p ∷ ps)) (Ok (p ∷ ps)) (Err (TooLarge at)) small
+  where
+    small : are_small (p ∷ ps) ≡ true
+    small = (and_parts (not (length (p ∷ ps) == 0)) (are_small (p ∷ ps)) writable).1
+
+-- ---- the other lines
+
+abbrev gate_line : ℕ → List ℕ
+gate_line v = codes "g " ++ row_line (v ∷ [])
+
+gate-said : (at v : ℕ) → is_small v ≡ true → gated at (saying_of (gate_line v)) ≡ Ok v
+gate-said at v small =
+    ap (gated at) (saying-gate (gate_line v) (row_line (v ∷ [])) refl ∙ ap gate_saying (numbers_of-row_line v [] (small_below v small, tt)))
+    ∙ cond-true (is_small v) (Ok v) (Err (TooLarge at)) small
+
+abbrev frame_line : ℕ → ℕ → ℕ → List ℕ
+frame_line count gates routes = codes "frame " ++ row_line (count ∷ gates ∷ routes ∷ [])
+
+frame-said : (at count gates routes : ℕ) → is_small count ≡ true → is_small gates ≡ true → is_small routes ≡ true
+    → framed at (saying_of (frame_line count gates routes)) ≡ Ok (record { count = count; gates = gates; routes = routes })
+frame-said at count gates routes a b c =
+    ap (framed at) (saying-frame (frame_line count gates routes) (row_line (count ∷ gates ∷ routes ∷ [])) refl
+    ∙ ap frame_saying (numbers_of-row_line count (gates ∷ routes ∷ []) (small_below count a, (small_below gates b, (small_below routes c, tt)))))
+    ∙ cond-true (is_small count && is_small gates && is_small routes) (Ok (record { count = count; gates = gates; routes = routes })) (Err (TooLarge at))
+    (and_from (is_small count && is_small gates) (is_small routes) (and_from (is_small count) (is_small gates) a b) c)
+
+-- ---- the lines of the text
+
+-- things of which each is written as a line
+lines-of : {X : Type 0} (text line_of : X → List ℕ) → ((x : X) → text x ≡ line_of x ++ 10 ∷ []) → ((x : X) → lacks 10 (line_of x) ≡ true)
+    → (xs : List X) (rest : List ℕ) → lines (flat_map text xs ++ rest) ≡ map line_of xs ++ lines rest
+lines-of text line_of is clean [] rest = refl
+lines-of text line_of is clean (x ∷ xs) rest =
+    ap lines (append_assoc (text x) (flat_map text xs) rest ∙ ap (λ (t : List ℕ). t ++ (flat_map text xs ++ rest)) (is x) ∙ append_assoc (line_of x) (10 ∷ []) (flat_map text xs ++ rest))
+    ∙ lines-at_newline (line_of x) (flat_map text xs ++ rest) (clean x)
+    ∙ ap (λ (ls : List (List ℕ)). line_of x ∷ ls) (lines-of text line_of is clean xs rest)
+
+gate-is_line : (v : ℕ) → gate_text v ≡ gate_line v ++ 10 ∷ []
+gate-is_line v = ap (λ (t : List ℕ). codes "g " ++ t) (row-is_line (v ∷ []))
+
+gate-clean : (v : ℕ) → lacks 10 (gate_line v) ≡ true
+gate-clean v = lacks-append 10 (codes "g ") (row_line (v ∷ [])) refl (row_line-lacks_newline (v ∷ []))
+
+points-clean : (ps : List Point) → lacks 10 (flat_map point_text ps) ≡ true
+points-clean [] = refl
+points-clean (p ∷ ps) = lacks-append 10 (point_text p) (flat_map point_text ps) (word-lacks 10 p (omega arith)) (points-clean ps)
+
+route-is_line : (ps : List Point) → route_text ps ≡ route_line ps ++ 10 ∷ []
+route-is_line ps = refl
+
+route-clean : (ps : List Point) → lacks 10 (route_line ps) ≡ true
+route-clean ps = points-clean ps
+
+frame-clean : (count gates routes : ℕ) → lacks 10 (frame_line count gates routes) ≡ true
+frame-clean count gates routes = lacks-append 10 (codes "frame ") (row_line (count ∷ gates ∷ routes ∷ [])) refl (row_line-lacks_newline (count ∷ gates ∷ routes ∷ []))
+
+abbrev line_of_frame : Certificate → List ℕ
+line_of_frame b = frame_line b.count (length b.gates) (length b.routes)
+
+lines-block : (b : Certificate) (rest : List ℕ) → lines (block_text b ++ rest) ≡ line_of_frame b ∷ (map gate_line b.gates ++ (map route_line b.routes ++ lines rest))
+lines-block b rest =
+    ap lines (append_assoc (frame_line_text b ++ flat_map gate_text b.gates) (flat_map route_text b.routes) rest
+    ∙ append_assoc (frame_line_text b) (flat_map gate_text b.gates) (flat_map route_text b.routes ++ rest)
+    ∙ ap (λ (t : List ℕ). (codes "frame " ++ t) ++ behind) (row-is_line row)
+    ∙ ap (λ (t : List ℕ). codes "frame " ++ t) (append_assoc (row_line row) (10 ∷ []) behind))
+    ∙ lines-at_newline (line_of_frame b) behind (frame-clean b.count (length b.gates) (length b.routes))
+    ∙ ap (λ (ls : List (List ℕ)). line_of_frame b ∷ ls)
+    (lines-of gate_text gate_line gate-is_line gate-clean b.gates (flat_map route_text b.routes ++ rest)
+    ∙ ap (λ (ls : List (List ℕ)). map gate_line b.gates ++ ls) (lines-of route_text route_line route-is_line route-clean b.routes rest))
+  where
+    row : List ℕ
+    row = b.count ∷ length b.gates ∷ length b.routes ∷ []
+
+    behind : List ℕ
+    behind = flat_map gate_text b.gates ++ (flat_map route_text b.routes ++ rest)
+
+-- ---- the blocks, wherever they begin: a text without a fault has no offset in its reading
+
+abbrev Reads : ℕ → Progress → List (List ℕ) → Result (List Certificate) CertError → Type 0
+Reads end p ls result = (at : ℕ) → read_blocks at end p ls ≡ result
+
+reads-line : (end : ℕ) (p next : Progress) (line : List ℕ) (rest : List (List ℕ)) (result : Result (List Certificate) CertError)
+    → ((at : ℕ) → taken at p (saying_of line) ≡ Ok next) → Reads end next rest result → Reads end p (line ∷ rest) result
+unfolding read_blocks
+reads-line end p next line rest result taken_as later at =
+    ap (λ (t : Result Progress CertError). t >>= λ q. read_blocks (at + length line + 1) end q rest) (taken_as at) ∙ later (at + length line + 1)
+
+reads-gates : (end : ℕ) (done : List Certificate) (count routes : ℕ) (before gates : List ℕ) (rest : List (List ℕ)) (result : Result (List Certificate) CertError)
+    → list_all is_small gates ≡ true → Reads end (settled done (certificate_block count (before ++ gates) []) 0 routes) rest result
+    → Reads end (settled done (certificate_block count before []) (length gates) routes) (map gate_line gates ++ rest) result
+reads-gates end done count routes before [] rest result small later at =
+    ap (λ (gs : List ℕ). read_blocks at end (settled done (certificate_block count gs []) 0 routes) rest) (sym (append-nil before)) ∙ later at
+reads-gates end done count routes before (v ∷ vs) rest result small later at =
+    let parts = and_parts (is_small v) (list_all is_small vs) small in
+    reads-line end (settled done (certificate_block count before []) (suc (length vs)) routes) (settled done (certificate_block count (before ++ v ∷ []) []) (length vs) routes) (gate_line v) (map gate_line vs ++ rest) result
+    (λ a. gate_next a done (certificate_block count before []) (length vs) routes (saying_of (gate_line v))
+    ∙ ap (λ (t : Result ℕ CertError). t >>= λ w. Ok (settled done (block_with_gate (certificate_block count before []) w) (length vs) routes)) (gate-said a v parts.0))
+    (reads-gates end done count routes (before ++ v ∷ []) vs rest result parts.1
+    (λ a. ap (λ (gs : List ℕ). read_blocks a end (settled done (certificate_block count gs []) 0 routes) rest) (append_assoc before (v ∷ []) vs) ∙ later a)) at
+
+reads-routes : (end : ℕ) (done : List Certificate) (count : ℕ) (gates : List ℕ) (before routes : List (List Point)) (rest : List (List ℕ)) (result : Result (List Certificate) CertError)
+    → list_all is_writable_route routes ≡ true → Reads end (ended_blocks (done ++ certificate_block count gates (before ++ routes) ∷ [])) rest result
+    → Reads end (settled done (certificate_block count gates before) 0 (length routes)) (map route_line routes ++ rest) result
+reads-routes end done count gates before [] rest result small later at =
+    ap (λ (rs : List (List Point)). read_blocks at end (ended_blocks (done ++ certificate_block count gates rs ∷ [])) rest) (sym (append-nil before)) ∙ later at
+reads-routes end done count gates before (r ∷ rs) rest result small later at =
+    let parts = and_parts (is_writable_route r) (list_all is_writable_route rs) small in
+    reads-line end (settled done (certificate_block count gates before) 0 (suc (length rs))) (settled done (certificate_block count gates (before ++ r ∷ [])) 0 (length rs)) (route_line r) (map route_line rs ++ rest) result
+    (λ a. route_next a done (certificate_block count gates before) (length rs) (saying_of (route_line r))
+    ∙ ap (λ (t : Result (List Point) CertError). t >>= λ ps. Ok (settled done (with_route (certificate_block count gates before) ps) 0 (length rs))) (route-said a r parts.0))
+    (reads-routes end done count gates (before ++ r ∷ []) rs rest result parts.1
+    (λ a. ap (λ (xs : List (List Point)). read_blocks a end (ended_blocks (done ++ certificate_block count gates xs ∷ [])) rest) (append_assoc before (r ∷ []) rs) ∙ later a)) at
+
+reads-block : (end : ℕ) (done : List Certificate) (b : Certificate) (rest : List (List ℕ)) (result : Result (List Certificate) CertError)
+    → is_writable_block b ≡ true → Reads end (ended_blocks (done ++ b ∷ [])) rest result
+    → Reads end (ended_blocks done) (line_of_frame b ∷ (map gate_line b.gates ++ (map route_line b.routes ++ rest))) result
+reads-block end done b rest result writable later =
+    let count = and_parts (is_small b.count) _ writable in
+    let gates = and_parts (is_small (length b.gates)) _ count.1 in
+    let routes = and_parts (is_small (length b.routes)) _ gates.1 in
+    let parts = and_parts (list_all is_small b.gates) (list_all is_writable_route b.routes) routes.1 in
+    reads-line end (ended_blocks done) (settled done (certificate_block b.count [] []) (length b.gates) (length b.routes)) (line_of_frame b) (map gate_line b.gates ++ (map route_line b.routes ++ rest)) result
+    (λ at. frame_next at done (saying_of (line_of_frame b))
+    ∙ ap (λ (t : Result FrameLine CertError). t >>= λ f. Ok (settled done (certificate_block f.count [] []) f.gates f.routes))
+    (frame-said at b.count (length b.gates) (length b.routes) count.0 gates.0 routes.0))
+    (reads-gates end done b.count (length b.routes) [] b.gates (map route_line b.routes ++ rest) result parts.0
+    (reads-routes end done b.count b.gates [] b.routes rest result parts.1 later))
+
+reads-end : (end : ℕ) (done : List Certificate) → Reads end (ended_blocks done) (lines []) (Ok done)
+unfolding read_blocks lines
+reads-end end done at = refl
+
+reads-blocks : (end : ℕ) (done blocks : List Certificate) → list_all is_writable_block blocks ≡ true
+    → Reads end (ended_blocks done) (lines (flat_map block_text blocks)) (Ok (done ++ blocks))
+reads-blocks end done [] writable at = reads-end end done at ∙ ap (λ (bs : List Certificate). Ok bs) (sym (append-nil done))
+reads-blocks end done (b ∷ bs) writable at =
+    let parts = and_parts (is_writable_block b) (list_all is_writable_block bs) writable in
+    ap (read_blocks at end (ended_blocks done)) (lines-block b (flat_map block_text bs))
+    ∙ reads-block end done b (lines (flat_map block_text bs)) (Ok (done ++ b ∷ bs)) parts.0
+    (λ a. reads-blocks end (done ++ b ∷ []) bs parts.1 a ∙ ap (λ (cs : List Certificate). Ok cs) (append_assoc done (b ∷ []) bs)) at
+
+-- ---- the file
+
+abbrev choice_line : Choice → List ℕ
+choice_line Greatest = codes "choice greatest"
+choice_line Smallest = codes "choice smallest"
+
+file-lines : (f : CertFile) → lines (file_text f) ≡ codes "fretime-cert 2" ∷ choice_line f.choice ∷ lines (flat_map block_text f.blocks)
+unfolding file_text
+file-lines f = by_choice f.choice
+  where
+    blocks : List ℕ
+    blocks = flat_map block_text f.blocks
+
+    by_choice : (choice : Choice) → lines (codes "fretime-cert 2\n" ++ choice_text choice ++ blocks) ≡ codes "fretime-cert 2" ∷ choice_line choice ∷ lines blocks
+    by_choice Greatest =
+        lines-at_newline (codes "fretime-cert 2") (codes "choice greatest\n" ++ blocks) refl
+        ∙ ap (λ (ls : List (List ℕ)). codes "fretime-cert 2" ∷ ls) (lines-at_newline (codes "choice greatest") blocks refl)
+    by_choice Smallest =
+        lines-at_newline (codes "fretime-cert 2") (codes "choice smallest\n" ++ blocks) refl
+        ∙ ap (λ (ls : List (List ℕ)). codes "fretime-cert 2" ∷ ls) (lines-at_newline (codes "choice smallest") blocks refl)
+
+file-chosen : (end : ℕ) (choice : Choice) (rest : List (List ℕ)) → read_file end (codes "fretime-cert 2" ∷ choice_line choice ∷ rest) ≡ with_choice choice (read_blocks 31 end nothing_read rest)
+file-chosen end Greatest rest = refl
+file-chosen end Smallest rest = refl
+
+-- what is written of a file that can be written is read as that file
+pub the_round_trip_law : (f : CertFile) → CertificatesRoundTripLaw f
+unfolding read_text
+the_round_trip_law f writable =
+    ap (read_file (length (file_text f))) (file-lines f)
+    ∙ file-chosen (length (file_text f)) f.choice (lines (flat_map block_text f.blocks))
+    ∙ ap (with_choice f.choice) (reads-blocks (length (file_text f)) [] f.blocks writable 31)

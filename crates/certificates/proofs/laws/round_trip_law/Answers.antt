@@ -1,0 +1,5 @@
+use Rattle.certificates.proofs.RoundTripLaws.{the_round_trip_law}
+use Rattle.certificates.proofs.laws.round_trip_law.Goals as goal
+
+pub returns : goal.returns
+returns c = the_round_trip_law

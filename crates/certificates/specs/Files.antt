@@ -1,0 +1,132 @@
+-- The text of certificates.
+use Rattle.std.specs.Prelude.{ℕ, ◌+◌, ◌-◌, ◌^◌, ◌==◌, ◌&&◌, ◌||◌, Bool, nat_le, List, [], ◌∷◌, ◌++◌, length, map, take, drop, slice_index_or, Option, Some, None, Result, Ok, Err, codes, if◌then◌else◌, zero, suc}
+use Rattle.std.specs.List.{list_all, starts_with}
+use Rattle.file_words.specs.Answering.{◌>>=◌}
+use Rattle.file_words.specs.Lines.{lines, pieces, is_number, digits_value, numbers_of, is_word}
+use Rattle.frame_net.specs.declared.net.Point.{Point}
+use Rattle.certificates.specs.declared.certificate.Certificate.{Certificate}
+use Rattle.certificates.specs.declared.fault.CertError.{CertError}
+use Rattle.certificates.specs.declared.fault.CertError.TheVariants.{BadHeader, BadLine, TooLarge, Truncated}
+use Rattle.aig_graph.specs.declared.choice.Choice.{Choice}
+use Rattle.aig_graph.specs.declared.choice.Choice.TheVariants.{Greatest, Smallest}
+use Rattle.certificates.specs.declared.file.CertFile.{CertFile}
+
+-- ---- the lines of a block
+
+-- a word that is a point: a number, and then + for the point after the variable or - for the one before it
+abbrev pub sign_of : List ℕ → ℕ
+sign_of word = slice_index_or word (length word - 1) 0
+
+abbrev pub is_point : List ℕ → Bool
+is_point word = is_number (take (length word - 1) word) && (sign_of word == 43 || sign_of word == 45)
+
+abbrev pub point_of_word : List ℕ → Point
+point_of_word word = record { var = digits_value (take (length word - 1) word); behind = sign_of word == 43 }
+
+abbrev pub is_small : ℕ → Bool
+is_small n = nat_le n (2 ^ 28 - 1)
+
+-- what a line says
+pub data Saying : Type 0 where
+  Frame : ℕ → ℕ → ℕ → Saying
+  Gate : ℕ → Saying
+  Route : List Point → Saying
+
+-- three numbers: the count, and how many gates and routes there are
+abbrev pub frame_saying : Option (List ℕ) → Option Saying
+frame_saying (Some (count ∷ gates ∷ routes ∷ [])) = Some (Frame count gates routes)
+frame_saying _ = None
+
+abbrev pub gate_saying : Option (List ℕ) → Option Saying
+gate_saying (Some (v ∷ [])) = Some (Gate v)
+gate_saying _ = None
+
+-- one point or more
+abbrev pub route_of : List (List ℕ) → Option Saying
+route_of words = if list_all is_point words then Some (Route (map point_of_word words)) else None
+
+abbrev pub begins_with : List ℕ → List ℕ → Bool
+begins_with word line = starts_with (λ a b. a == b) line word
+
+unfoldable pub saying_of : List ℕ → Option Saying
+saying_of line =
+    if begins_with (codes "frame ") line then frame_saying (numbers_of (drop 6 line))
+    else (if begins_with (codes "g ") line then gate_saying (numbers_of (drop 2 line))
+    else (if begins_with (codes "r ") line then route_of (pieces (drop 2 line)) else None))
+
+abbrev pub has_small_numbers : Saying → Bool
+has_small_numbers (Frame count gates routes) = is_small count && is_small gates && is_small routes
+has_small_numbers (Gate v) = is_small v
+has_small_numbers (Route points) = list_all (λ p. is_small p.var) points
+
+-- ---- line after line
+
+-- the blocks that have ended, and the one that has begun: what it has so far, and how many gates and routes it lacks
+pub record Progress : Type 0 where
+  pub blocks : List Certificate
+  pub begun : Option Certificate
+  pub gates : ℕ
+  pub routes : ℕ
+
+-- a block to which nothing is lacking has ended
+abbrev pub settled : List Certificate → Certificate → ℕ → ℕ → Progress
+settled blocks block zero zero = record { blocks = blocks ++ block ∷ []; begun = None; gates = 0; routes = 0 }
+settled blocks block gates routes = record { blocks = blocks; begun = Some block; gates = gates; routes = routes }
+
+-- what follows a saying; none where another one comes next
+abbrev pub progress_after : Progress → Option Certificate → ℕ → Saying → Option Progress
+progress_after p None lacks (Frame count gates routes) = Some (settled p.blocks (record { count = count; gates = []; routes = [] }) gates routes)
+progress_after p (Some block) (suc lacks) (Gate v) = Some (settled p.blocks (record block { gates = block.gates ++ v ∷ [] }) lacks p.routes)
+progress_after p (Some block) zero (Route points) = Some (settled p.blocks (record block { routes = block.routes ++ points ∷ [] }) 0 (p.routes - 1))
+progress_after p begun lacks saying = None
+
+abbrev pub sized : ℕ → Saying → Option Progress → Result Progress CertError
+sized at saying None = Err (BadLine at)
+sized at saying (Some next) = if has_small_numbers saying then Ok next else Err (TooLarge at)
+
+abbrev pub taken : ℕ → Progress → Option Saying → Result Progress CertError
+taken at p None = Err (BadLine at)
+taken at p (Some saying) = sized at saying (progress_after p p.begun p.gates saying)
+
+-- the blocks, where none is left open at the end
+abbrev pub blocks_at_end : ℕ → Progress → Result (List Certificate) CertError
+blocks_at_end end p = ended_by p.begun
+  where
+    ended_by : Option Certificate → Result (List Certificate) CertError
+    ended_by None = Ok p.blocks
+    ended_by (Some block) = Err (Truncated end)
+
+unfoldable pub read_blocks : ℕ → ℕ → Progress → List (List ℕ) → Result (List Certificate) CertError
+read_blocks at end p [] = blocks_at_end end p
+read_blocks at end p (line ∷ rest) = taken at p (saying_of line) >>= λ next. read_blocks (at + length line + 1) end next rest
+
+-- ---- the file
+
+abbrev pub nothing_read : Progress
+nothing_read = record { blocks = []; begun = None; gates = 0; routes = 0 }
+
+abbrev pub with_choice : Choice → Result (List Certificate) CertError → Result CertFile CertError
+with_choice choice (Ok blocks) = Ok (record { choice = choice; blocks = blocks })
+with_choice choice (Err fault) = Err fault
+
+abbrev pub choice_in_line : List ℕ → Option Choice
+choice_in_line line = if is_word line (codes "choice greatest") then Some Greatest else (if is_word line (codes "choice smallest") then Some Smallest else None)
+
+abbrev pub read_chosen : ℕ → ℕ → Option Choice → List (List ℕ) → ℕ → Result CertFile CertError
+read_chosen at end None rest len = Err (BadLine at)
+read_chosen at end (Some choice) rest len = with_choice choice (read_blocks (at + len + 1) end nothing_read rest)
+
+-- in the second version the choice comes next
+abbrev pub read_second_version : ℕ → ℕ → List (List ℕ) → Result CertFile CertError
+read_second_version at end [] = Err (Truncated end)
+read_second_version at end (line ∷ rest) = read_chosen at end (choice_in_line line) rest (length line)
+
+abbrev pub read_file : ℕ → List (List ℕ) → Result CertFile CertError
+read_file end [] = Err (BadHeader 0)
+read_file end (first ∷ rest) =
+    if is_word first (codes "fretime-cert 1") then with_choice Greatest (read_blocks 15 end nothing_read rest)
+    else (if is_word first (codes "fretime-cert 2") then read_second_version 15 end rest else Err (BadHeader 0))
+
+-- the certificates of a text, or its first fault
+unfoldable pub read_text : List ℕ → Result CertFile CertError
+read_text bytes = read_file (length bytes) (lines bytes)

@@ -1,0 +1,29 @@
+-- What holds of the text that is written.
+use Rattle.std.specs.Prelude.{◌≡◌, ◌==◌, ◌&&◌, Bool, not, true, List, length, Ok}
+use Rattle.std.specs.List.{list_all}
+use Rattle.frame_net.specs.declared.net.Point.{Point}
+use Rattle.certificates.specs.declared.certificate.Certificate.{Certificate}
+use Rattle.certificates.specs.declared.file.CertFile.{CertFile}
+use Rattle.certificates.specs.Files.{is_small, read_text}
+use Rattle.certificates.specs.Texts.{file_text}
+
+-- there is a point, and no number is above the greatest
+abbrev pub is_writable_route : List Point → Bool
+is_writable_route points = not (length points == 0) && list_all (λ p. is_small p.var) points
+
+-- neither the count nor how many gates and routes there are is above the greatest number, and no number of a gate or a point is
+abbrev pub is_writable_block : Certificate → Bool
+is_writable_block block =
+    is_small block.count && (is_small (length block.gates) && (is_small (length block.routes) && (list_all is_small block.gates && list_all is_writable_route block.routes)))
+
+abbrev pub is_writable : CertFile → Bool
+is_writable f = list_all is_writable_block f.blocks
+
+-- what was written of a file is read as that file
+abbrev pub CertificatesRoundTripLaw : CertFile → Type 0
+CertificatesRoundTripLaw f = is_writable f ≡ true → read_text (file_text f) ≡ Ok f
+
+-- what was read can be written, and is then read again
+pub record RereadingLaw (f : CertFile) : Type 0 where
+  pub writable : is_writable f ≡ true
+  pub again : read_text (file_text f) ≡ Ok f

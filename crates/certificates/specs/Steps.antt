@@ -1,0 +1,26 @@
+-- A text, line after line.
+use Rattle.std.specs.Prelude.{ℕ, ◌-◌, List, [], ◌∷◌, ◌++◌, length, None, Result}
+use Rattle.file_words.specs.Lines.{lines}
+use Rattle.frame_net.specs.declared.net.Point.{Point}
+use Rattle.certificates.specs.declared.certificate.Certificate.{Certificate}
+use Rattle.certificates.specs.declared.fault.CertError.{CertError}
+use Rattle.certificates.specs.Files.{Progress, read_blocks}
+
+-- what is read of the end of a text of this length
+abbrev pub read_rest : ℕ → List ℕ → Progress → Result (List Certificate) CertError
+read_rest end rest p = read_blocks (end - length rest) end p (lines rest)
+
+-- ---- blocks
+
+abbrev pub certificate_block : ℕ → List ℕ → List (List Point) → Certificate
+certificate_block count gates routes = record { count = count; gates = gates; routes = routes }
+
+abbrev pub block_with_gate : Certificate → ℕ → Certificate
+block_with_gate block v = record block { gates = block.gates ++ v ∷ [] }
+
+abbrev pub with_route : Certificate → List Point → Certificate
+with_route block points = record block { routes = block.routes ++ points ∷ [] }
+
+-- blocks that have ended, where none has begun
+abbrev pub ended_blocks : List Certificate → Progress
+ended_blocks blocks = record { blocks = blocks; begun = None; gates = 0; routes = 0 }

@@ -1,0 +1,133 @@
+//! A function for each part of the text, as the definition of the text has them. None of them can fail: the buffer keeps the
+//! failure of a write, and `write_cert` reports it at the end.
+ghost use Rattle.std.specs.Prelude.{◌≡◌};
+ghost use Rattle.std.specs.List.{flat_map};
+ghost use Rattle.counted_io.specs.Buffered.{Puts};
+ghost use Rattle.counted_io.specs.Output.{Writes};
+ghost use Rattle.certificates.specs.Texts.{sign_code, point_text, route_text, gate_text, frame_line_text, block_text, choice_text, file_text};
+
+use crate::file::CertFile;
+use crate::filling::Line;
+use crate::{Certificate, Routes};
+use aig_graph::Choice;
+use counted_io::{Buffered, CountedWrite, WriteError};
+use frame_net::Point;
+
+fn sign(behind: bool) -> u8
+    ensures { result ≡ sign_code behind }
+{
+    if behind { b'+' } else { b'-' }
+}
+
+fn put_point<W: CountedWrite>(out: &mut Buffered<'_, W>, point: &Point)
+    ensures { Puts W.output out.old out.new (point_text point.now) }
+{
+    out.put_byte(b' ');
+    out.put_number(u64::from(point.var));
+    out.put_byte(sign(point.behind));
+}
+
+/// Puts the points, with a space before each.
+fn put_points<W: CountedWrite>(out: &mut Buffered<'_, W>, points: &[Point])
+    ensures { Puts W.output out.old out.new (flat_map point_text points.now) }
+{
+    for point in points {
+        put_point(out, point);
+    }
+}
+
+/// Puts the line of a route piece by piece.
+fn put_long_route<W: CountedWrite>(out: &mut Buffered<'_, W>, points: &[Point])
+    ensures { Puts W.output out.old out.new (route_text points.now) }
+{
+    out.put(b"r");
+    put_points(out, points);
+    out.put_byte(b'\n');
+}
+
+fn put_route<W: CountedWrite>(out: &mut Buffered<'_, W>, line: &mut Line, points: &[Point])
+    ensures { Puts W.output out.old out.new (route_text points.now) }
+{
+    match line.route(points) {
+        Some(text) => out.put(text),
+        None => put_long_route(out, points),
+    }
+}
+
+fn put_routes<W: CountedWrite>(out: &mut Buffered<'_, W>, line: &mut Line, routes: &Routes)
+    ensures { Puts W.output out.old out.new (flat_map route_text routes.now) }
+{
+    for number in 0..routes.len() {
+        put_route(out, line, routes.route(number));
+    }
+}
+
+fn put_gates<W: CountedWrite>(out: &mut Buffered<'_, W>, line: &mut Line, gates: &[u32])
+    ensures { Puts W.output out.old out.new (flat_map gate_text gates.now) }
+{
+    for gate in gates {
+        out.put(line.gate(*gate));
+    }
+}
+
+/// Puts the line that begins a block.
+fn put_frame<W: CountedWrite>(out: &mut Buffered<'_, W>, block: &Certificate)
+    ensures { Puts W.output out.old out.new (frame_line_text block.now) }
+{
+    let count = u64::from(block.count);
+    let gates = block.gates.len() as u64;
+    let routes = block.routes.len() as u64;
+    out.put(b"frame ");
+    out.put_line(&[count, gates, routes]);
+}
+
+fn put_block<W: CountedWrite>(out: &mut Buffered<'_, W>, line: &mut Line, block: &Certificate)
+    ensures { Puts W.output out.old out.new (block_text block.now) }
+{
+    put_frame(out, block);
+    put_gates(out, line, block.gates.as_slice());
+    put_routes(out, line, &block.routes);
+}
+
+fn put_blocks<W: CountedWrite>(out: &mut Buffered<'_, W>, blocks: &[Certificate])
+    ensures { Puts W.output out.old out.new (flat_map block_text blocks.now) }
+{
+    let mut line = Line::new();
+    for block in blocks {
+        put_block(out, &mut line, block);
+    }
+}
+
+fn put_choice<W: CountedWrite>(out: &mut Buffered<'_, W>, choice: &Choice)
+    ensures { Puts W.output out.old out.new (choice_text choice.now) }
+{
+    match choice {
+        Choice::Greatest => out.put(b"choice greatest\n"),
+        Choice::Smallest => out.put(b"choice smallest\n"),
+    }
+}
+
+/// Puts the whole text.
+fn put_file<W: CountedWrite>(out: &mut Buffered<'_, W>, file: &CertFile)
+    ensures { Puts W.output out.old out.new (file_text file.now) }
+{
+    out.put(b"fretime-cert 2\n");
+    put_choice(out, &file.choice);
+    put_blocks(out, file.blocks.as_slice());
+}
+
+/// Writes the certificates: the second version, which names the choice.
+///
+/// Takes no memory, and calls the writer about once for each 8 KiB of text. What was written is read again as the same
+/// certificates, where `round_trip_law` says so: no route is empty, and no number or length is above 2^28 - 1.
+///
+/// # Errors
+///
+/// `Device` where a write failed: a beginning of the text was written then, and the writer isn't called again.
+pub fn write_cert<W: CountedWrite>(file: &CertFile, writer: &mut W) -> Result<(), WriteError>
+    ensures { Writes (W.output writer.old) (W.output writer.new) result (file_text file.now) }
+{
+    let mut out = Buffered::new(writer);
+    put_file(&mut out, file);
+    out.flush()
+}

@@ -1,3 +1,0 @@
-pub mod HeldBackLaws
-pub mod RemainingLaws
-pub mod CountLaws

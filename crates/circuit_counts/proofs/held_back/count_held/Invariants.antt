@@ -1,7 +1,0 @@
-use Rattle.std.proofs.Common.{◌≡◌, ◌≤◌}
-use Rattle.variable_tables.specs.Counting.{count_below}
-use Rattle.circuit_counts.specs.HeldBack.{is_known_held}
-use Rattle.circuit_counts.proofs.held_back.count_held.Given as goal
-
-abbrev pub invariant-loop-var : goal.invariant-loop-var
-invariant-loop-var l = (l.total ≤ l.var) × (l.total ≡ count_below (is_known_held l.aig l.keep) l.var)

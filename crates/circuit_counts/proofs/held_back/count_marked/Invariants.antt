@@ -1,7 +1,0 @@
-use Rattle.std.proofs.Common.{◌≡◌, ◌≤◌}
-use Rattle.variable_tables.specs.Counting.{count_below}
-use Rattle.circuit_counts.specs.HeldBack.{is_marked_latch}
-use Rattle.circuit_counts.proofs.held_back.count_marked.Given as goal
-
-abbrev pub invariant-loop-var : goal.invariant-loop-var
-invariant-loop-var l = (l.total ≤ l.var) × (l.total ≡ count_below (is_marked_latch l.aig l.keep l.marks) l.var)

@@ -1,3 +1,0 @@
-pub mod HeldBack
-pub mod Counts
-pub mod Remaining

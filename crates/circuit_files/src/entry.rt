@@ -1,0 +1,64 @@
+ghost use Rattle.std.specs.Prelude.{◌≡◌, ◌==◌, option_map, position};
+ghost use Rattle.std.specs.List.{list_any};
+ghost use Rattle.circuit_files.specs.Lists as lists;
+ghost use Rattle.circuit_files.specs.Entries.{paths, text_of};
+
+use file_words::Line;
+use std::str;
+
+/// A line of a list.
+#[derive(Clone, Copy, Drop)]
+pub struct Entry<'a> {
+    /// The offset of its first byte.
+    pub at: u64,
+    /// The path of the file that is read.
+    pub input: &'a str,
+    /// The path of the file that is written.
+    pub output: &'a str,
+}
+
+/// The entry of a line.
+pub(crate) fn entry_of<'a>(line: &Line<'a>) -> Option<Entry<'a>>
+    ensures { option_map paths result ≡ lists.paths_of line.now.at line.now.text.now }
+{
+    match tab_at(line.text) {
+        Some(tab) => entry_around(line.at, &line.text[..tab], &line.text[tab + 1..]),
+        None => None,
+    }
+}
+
+/// The entry of the bytes before the first tab of the line at this offset, and after it.
+fn entry_around<'a>(at: u64, input: &'a [u8], output: &'a [u8]) -> Option<Entry<'a>>
+    ensures { option_map paths result ≡ lists.paths_apart at input.now output.now }
+{
+    if has_tab(output) {
+        return None;
+    }
+    match (as_text(input), as_text(output)) {
+        (Some(input), Some(output)) => Some(Entry { at, input, output }),
+        _ => None,
+    }
+}
+
+/// Where the first tab stands.
+fn tab_at(bytes: &[u8]) -> Option<usize>
+    ensures { result ≡ position (λ b. b == 9) bytes.now }
+{
+    bytes.iter().position(|byte| *byte == b'\t')
+}
+
+fn has_tab(bytes: &[u8]) -> bool
+    ensures { result ≡ list_any (λ b. b == 9) bytes.now }
+{
+    bytes.iter().any(|byte| *byte == b'\t')
+}
+
+/// The text of the bytes, where they are UTF-8.
+fn as_text(bytes: &[u8]) -> Option<&str>
+    ensures { option_map (λ text. text.now) result ≡ text_of bytes.now }
+{
+    match str::from_utf8(bytes) {
+        Ok(text) => Some(text),
+        Err(_) => None,
+    }
+}

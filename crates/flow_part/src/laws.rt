@@ -1,0 +1,18 @@
+//! What joins the contracts of ranges, of parts cut anew and of the start.
+ghost use Rattle.flow_part.specs.Marks.{RangeLaws};
+ghost use Rattle.flow_part.specs.Start.{PartingLaw, StartLaw};
+
+/// Rows that were all read are the pushes of every node, and a delivery begins with no node delivered.
+pub fn range_laws()
+    ensures { RangeLaws }
+{}
+
+/// Parts at the start are the start of the flow: a preflow with valid labels.
+pub fn start_law()
+    ensures { StartLaw }
+{}
+
+/// Parts that were cut anew are the same state.
+pub fn parting_law()
+    ensures { PartingLaw }
+{}

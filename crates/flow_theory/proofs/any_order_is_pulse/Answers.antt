@@ -1,6 +1,0 @@
-use Rattle.flow_theory.proofs.any_order_is_pulse.Goals as goal
-use Rattle.flow_theory.specs.Events.{nodes_of_events}
-use Rattle.flow_theory.proofs.OrderLaws.{any_order}
-
-pub returns : goal.returns
-returns c = λ n t rs ds er ed. any_order n t (nodes_of_events rs) (nodes_of_events ds) er ed

@@ -1,5 +1,0 @@
-use Rattle.flow_theory.proofs.pulse_keeps_preflow.Goals as goal
-use Rattle.flow_theory.proofs.PulseLaws.{next_preflow, next_valid}
-
-pub returns : goal.returns
-returns c = λ n cap s h p ok. (next_preflow n cap s p, next_valid n s ok)

@@ -1,5 +1,0 @@
-use Rattle.flow_theory.proofs.pulse_raises_labels.Goals as goal
-use Rattle.flow_theory.proofs.PulseLaws.{next_label-ge, stuck-rises}
-
-pub returns : goal.returns
-returns c = λ n s ok v h. (next_label-ge n s ok v h, stuck-rises n s ok v h)

@@ -1,5 +1,0 @@
-use Rattle.flow_theory.proofs.total_is_kept.Goals as goal
-use Rattle.flow_theory.proofs.TotalLaws.{total_kept, inflow_source}
-
-pub returns : goal.returns
-returns c = λ n s ok. (total_kept n s, inflow_source n s ok)

@@ -1,7 +1,0 @@
-pub mod ReadingLaws
-pub mod ValueLaws
-pub mod MergingLaws
-pub mod FinerLaws
-pub mod RunLaws
-pub mod CoarserLaws
-pub mod Examples

@@ -1,4 +1,0 @@
-pub mod Readings
-pub mod Partitions
-pub mod Counts
-pub mod Laws

@@ -1,3 +1,0 @@
-pub mod Normalised
-pub mod Laws
-pub mod Gathered
