@@ -12,7 +12,7 @@ import re
 
 TOP = pathlib.Path(__file__).resolve().parent.parent
 # What such a run never calls: other commands, binary files, objects of JSON, maps, merging, the smallest sets, pages of faults.
-OTHER_CRATES = set("""binary_file json_reports map_circuits retiming_maps state_maps map_checks map_commands latch_merging batch_pool lane_sim
+OTHER_CRATES = set("""binary_file json_reports map_circuits retiming_maps map_checks map_commands latch_merging batch_pool lane_sim
     witnesses pictures certificate_audits simulation_commands fault_pages map_miters waves backward_sets backward_moves
     backward_circuits backward_retiming witness_circuits""".split())
 # The same of files of a crate that it calls: lists of files.

@@ -3,7 +3,7 @@ use Rattle.std.proofs.Common.{ℕ, ◌+◌, ◌*◌, ◌^◌, ◌<◌, ◌≤◌
 use Rattle.std.proofs.lemmas.Bool.{cond-true, cond-false, both_ways, cases_Bool, cases_lt, cases_eq, eq-eqb, ne_eqb, ltb-false, lt-ltb, le-ltb, le-leb, or_parts}
 use Rattle.std.specs.List.{sum}
 use Rattle.std.specs.Option.{option_and_then, option_map}
-use Rattle.variable_tables.specs.Marking.{has}
+use Rattle.aig_graph.specs.Marking.{has}
 use Rattle.aig_graph.specs.Graph.{variable}
 use Rattle.file_words.specs.declared.fault.ReadError.{ReadError}
 use Rattle.file_words.specs.declared.fault.ReadError.TheVariants.{MaxIndex, BadLine, BadLiteral, DefinedTwice, BadReset, BadSymbol, Trailing}

@@ -2,11 +2,11 @@
 use Rattle.std.proofs.Common.{ℕ, ◌+◌, ◌-◌, ◌<◌, ◌≤◌, ◌≡◌, ◌||◌, ◌&&◌, Bool, true, false, List, length, get_or, Option, is_some, suc, arith, ap, ap₂, sym, ◌∙◌, inl, inr, subst}
 use Rattle.std.proofs.Math.Bool.{and_comm, or_comm}
 use Rattle.std.proofs.lemmas.Bool.{cases_lt, lt-leb}
-use Rattle.variable_tables.specs.Counting.{count_below}
-use Rattle.variable_tables.specs.Marking.{has, mark_at, AreMarks}
-use Rattle.variable_tables.proofs.PlacesLaws.{count-pass, count-fail}
-use Rattle.variable_tables.proofs.CountingLaws.{count_below-same, count-none}
-use Rattle.variable_tables.proofs.MarkingLaws.{mark_at-covered}
+use Rattle.aig_graph.specs.Counting.{count_below}
+use Rattle.aig_graph.specs.Marking.{has, mark_at, AreMarks}
+use Rattle.aig_graph.proofs.PlacesLaws.{count-pass, count-fail}
+use Rattle.aig_graph.proofs.CountingLaws.{count_below-same, count-none}
+use Rattle.aig_graph.proofs.MarkingLaws.{mark_at-covered}
 use Rattle.aig_graph.specs.declared.graph.Gate.{Gate}
 use Rattle.aig_graph.specs.declared.graph.Latch.{Latch}
 use Rattle.aig_graph.specs.declared.properties.Props.{Props}

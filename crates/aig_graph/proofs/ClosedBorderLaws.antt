@@ -8,9 +8,9 @@ use Rattle.aig_graph.specs.Move.{move_of}
 use Rattle.aig_graph.specs.Border.{is_gate_in, in_border, is_read, border_size}
 use Rattle.aig_graph.specs.Laws.{ClosedBorderLaw}
 use Rattle.aig_graph.proofs.SearchLaws.{has_iff_contains}
-use Rattle.variable_tables.specs.Counting.{count_below}
-use Rattle.variable_tables.specs.Marking.{has}
-use Rattle.variable_tables.proofs.CountingLaws.{count_below-same}
+use Rattle.aig_graph.specs.Counting.{count_below}
+use Rattle.aig_graph.specs.Marking.{has}
+use Rattle.aig_graph.proofs.CountingLaws.{count_below-same}
 
 -- where each member is a gate, the gates of the set are its members
 pub is_gate_in-same : (g : Graph) (s : List ℕ) → ((v : ℕ) → has s v ≡ true → is_some (gate_at g v) ≡ true) → (v : ℕ) → is_gate_in g s v ≡ has s v

@@ -5,7 +5,7 @@ use Rattle.aig_graph.specs.Graph.{Graph}
 use Rattle.aig_graph.specs.Circuits.{Netlist, outputs_alone, no_symbols}
 use Rattle.aig_graph.specs.Border.{border_size, in_border, is_read_outside}
 use Rattle.aig_graph.specs.Move.{move_of}
-use Rattle.variable_tables.specs.Counting.{count_below}
+use Rattle.aig_graph.specs.Counting.{count_below}
 use Rattle.aig_graph.specs.declared.properties.Symbol.{Symbol}
 use Rattle.aig_graph.specs.Closed.{is_settled}
 use Rattle.aig_graph.specs.Keep.{held_by, first_missing}

@@ -7,9 +7,9 @@ use Rattle.aig_graph.specs.declared.graph.Latch.{Latch}
 use Rattle.aig_graph.specs.declared.graph.Reset.{Reset}
 use Rattle.aig_graph.specs.declared.graph.Reset.TheVariants.{Zero, One, Free}
 use Rattle.aig_graph.specs.Graph.{Graph, first_latch, first_gate, variables_end, latch_at, is_free, is_free_latch, free_before, free_latches}
-use Rattle.variable_tables.specs.Counting.{count_below}
-use Rattle.variable_tables.proofs.PlacesLaws.{count-pass, count-fail}
-use Rattle.variable_tables.proofs.CountingLaws.{count-none}
+use Rattle.aig_graph.specs.Counting.{count_below}
+use Rattle.aig_graph.proofs.PlacesLaws.{count-pass, count-fail}
+use Rattle.aig_graph.proofs.CountingLaws.{count-none}
 use Rattle.aig_graph.proofs.KindLaws.{element, latch_at-before, latch_at-first_latch, latch_at-gates}
 
 abbrev pub is_free_at : Graph → ℕ → Bool

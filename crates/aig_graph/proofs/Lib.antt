@@ -1,3 +1,9 @@
+pub mod PlacesLaws
+pub mod CountingLaws
+pub mod MemberLaws
+pub mod TableLaws
+pub mod MarkingLaws
+pub mod ListLaws
 pub mod FoldingLaws
 pub mod ValueLaws
 pub mod Examples

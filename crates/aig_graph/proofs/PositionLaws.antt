@@ -4,12 +4,12 @@ use Rattle.std.specs.List.{All}
 use Rattle.std.specs.List.Sorted.{IsStrictlyIncreasing}
 use Rattle.std.proofs.lemmas.Bool.{cases_lt, or_left, or_right}
 use Rattle.std.proofs.lemmas.Option.{slice_get-get_or, same_Some}
-use Rattle.variable_tables.specs.Counting.{count_below, places}
-use Rattle.variable_tables.specs.Marking.{has, Marks}
-use Rattle.variable_tables.specs.Tables.{table}
-use Rattle.variable_tables.proofs.MarkingLaws.{AreMarks-table}
-use Rattle.variable_tables.proofs.TableLaws.{length-table, table-from}
-use Rattle.variable_tables.proofs.PlacesLaws.{Ranks, at_rank, count-le, count-lt, length-places, rank_at}
+use Rattle.aig_graph.specs.Counting.{count_below, places}
+use Rattle.aig_graph.specs.Marking.{has, Marks}
+use Rattle.aig_graph.specs.Tables.{table}
+use Rattle.aig_graph.proofs.MarkingLaws.{AreMarks-table}
+use Rattle.aig_graph.proofs.TableLaws.{length-table, table-from}
+use Rattle.aig_graph.proofs.PlacesLaws.{Ranks, at_rank, count-le, count-lt, length-places, rank_at}
 use Rattle.aig_graph.specs.Circuits.{IsNetlist, Netlist}
 use Rattle.aig_graph.specs.Keep.{Holding, held_also, held_in, held_of}
 use Rattle.aig_graph.proofs.HoldingLaws.{held-below, held-rising}

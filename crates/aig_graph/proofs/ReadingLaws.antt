@@ -1,8 +1,8 @@
 -- What is read from outside, by tests and by marks.
 use Rattle.std.proofs.Common.{ℕ, ◌+◌, ◌<◌, ◌≤◌, ◌≡◌, ◌||◌, ◌&&◌, not, Bool, List, [], ◌∷◌, length, refl, arith, ap, subst}
 use Rattle.std.specs.List.{list_any, enumerate_from}
-use Rattle.variable_tables.specs.Marking.{mark_at, Marks, AreMarks}
-use Rattle.variable_tables.proofs.MarkingLaws.{mark_at-covered, Marks-then}
+use Rattle.aig_graph.specs.Marking.{mark_at, Marks, AreMarks}
+use Rattle.aig_graph.proofs.MarkingLaws.{mark_at-covered, Marks-then}
 use Rattle.aig_graph.specs.declared.graph.Gate.{Gate}
 use Rattle.aig_graph.specs.declared.graph.Latch.{Latch}
 use Rattle.aig_graph.specs.declared.properties.Props.{Props}

@@ -1,6 +1,6 @@
 -- What a binary search in a rising list returns.
 use Rattle.std.proofs.Common.{ℕ, ◌<◌, ◌≤◌, ◌≡◌, inl, inr, List, length, get_or, Result, Ok, Err, refl, arith, IsTrue, sym, ◌∙◌, true, false, Bool, [], ◌∷◌, suc, zero, nat_eq, ◌||◌}
-use Rattle.variable_tables.specs.Marking.{has}
+use Rattle.aig_graph.specs.Marking.{has}
 use Rattle.std.specs.List.{Contains}
 use Rattle.std.specs.List.Sorted.{IsStrictlyIncreasing, IsBinarySearchResult}
 use Rattle.std.specs.Ordering.{nat_cmp}

@@ -15,8 +15,8 @@ use Rattle.aig_graph.specs.Border.{is_read}
 use Rattle.aig_graph.specs.Laws.{MayMoveOrPassable, PassableLaw, EmptySetLaws, AtMostOne}
 use Rattle.aig_graph.proofs.ClosedLaws.{settled_where, is_settled-gate, and_left, and_right}
 use Rattle.aig_graph.proofs.ClosedBorderLaws.{closed-border_size}
-use Rattle.variable_tables.proofs.CountingLaws.{count_below-same}
-use Rattle.variable_tables.proofs.MemberLaws.{rising_rest}
+use Rattle.aig_graph.proofs.CountingLaws.{count_below-same}
+use Rattle.aig_graph.proofs.MemberLaws.{rising_rest}
 
 -- a variable is settled exactly where it is a known latch that isn't held or a passable gate
 settled_iff : (g : Graph) (held : List ℕ) (v : ℕ) → IsTrue (is_settled g held v) ↔ MayMoveOrPassable g held v

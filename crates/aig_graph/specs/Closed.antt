@@ -1,7 +1,7 @@
 -- Passable gates, and closed sets of them, where some latches are held.
 use Rattle.std.specs.Prelude.{ℕ, ◌-◌, ◌≡◌, ◌⊎◌, Bool, not, ◌&&◌, List, Some, is_some, IsTrue, Contains}
 use Rattle.std.specs.List.Sorted.{IsStrictlyIncreasing}
-use Rattle.variable_tables.specs.Marking.{has}
+use Rattle.aig_graph.specs.Marking.{has}
 use Rattle.aig_graph.specs.declared.graph.Gate.{Gate}
 use Rattle.aig_graph.specs.declared.graph.Latch.{Latch}
 use Rattle.aig_graph.specs.Graph.{Graph, variable, first_latch, latch_at, gate_at, is_known}

@@ -1,8 +1,8 @@
 -- Laws of the value of a literal, of equal streams, and of closed sets.
 use Rattle.std.specs.Prelude.{ℕ, ◌+◌, ◌*◌, ◌<◌, ◌≡◌, ◌↔◌, ◌⊎◌, false, not, ◌&&◌, ◌||◌, List, [], map, slice_get, slice_index, Some, IsTrue}
 use Rattle.std.specs.List.{range_with_len}
-use Rattle.variable_tables.specs.Counting.{count_below}
-use Rattle.variable_tables.specs.Marking.{has}
+use Rattle.aig_graph.specs.Counting.{count_below}
+use Rattle.aig_graph.specs.Marking.{has}
 use Rattle.aig_graph.specs.declared.graph.Gate.{Gate}
 use Rattle.aig_graph.specs.declared.graph.Latch.{Latch}
 use Rattle.aig_graph.specs.Graph.{Graph, variable, first_latch, first_gate, variables_end, latch_at, gate_at, is_known, free_before, free_latches}

@@ -1,3 +1,6 @@
+pub mod Counting
+pub mod Tables
+pub mod Marking
 pub mod Graph
 pub mod Folding
 pub mod Value

@@ -5,16 +5,16 @@ ghost use Rattle.aig_graph.specs.Graph.{first_latch, variables_end, latch_at};
 ghost use Rattle.aig_graph.specs.Closed.{is_held};
 ghost use Rattle.aig_graph.specs.Move.{move_of};
 ghost use Rattle.aig_graph.specs.Border.{border_size, is_counted};
-ghost use Rattle.variable_tables.specs.Counting.{count_below};
-ghost use Rattle.variable_tables.specs.Marking.{Marks};
+ghost use Rattle.aig_graph.specs.Counting.{count_below};
+ghost use Rattle.aig_graph.specs.Marking.{Marks};
 
 use crate::circuit::Circuit;
 use crate::closed::ClosedSet;
 use crate::graph::Aig;
 use crate::keep::Keep;
 use crate::reading::mark_read;
+use crate::{NoMemory, mark_at, mark_variable, marks_of};
 use std::alloc::Global;
-use variable_tables::{NoMemory, mark_at, mark_variable, marks_of};
 
 /// Marks the latch at a position, if there is one.
 fn mark_position(marks: &mut [bool], aig: &Aig, position: u32)

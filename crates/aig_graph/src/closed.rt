@@ -3,7 +3,7 @@
 ghost use Rattle.std.specs.Prelude.{◌≡◌, ◌+◌, ◌<◌, ◌↔◌, ◌⊎◌, IsTrue, All, Contains, MatchOption, length};
 ghost use Rattle.std.specs.Option.{SomeIff};
 ghost use Rattle.std.specs.List.Sorted.{IsStrictlyIncreasing};
-ghost use Rattle.variable_tables.specs.Marking.{has};
+ghost use Rattle.aig_graph.specs.Marking.{has};
 ghost use Rattle.aig_graph.specs.Closed.{IsClosedSet, MayMoveOrIn, RestsOn};
 ghost use Rattle.aig_graph.specs.Graph.{gate_at};
 

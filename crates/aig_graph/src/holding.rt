@@ -6,16 +6,16 @@ ghost use Rattle.std.specs.List.{list_any};
 ghost use Rattle.aig_graph.specs.Keep.{AreLatches, IsFirstMissing, IsFirstNoLatch, NoneMissing, first_missing, has_name, held_also, held_by, held_in, held_of, names_of};
 ghost use Rattle.aig_graph.specs.declared.holding.KeepError.TheVariants.{NoMemory, NoSuchName};
 ghost use Rattle.aig_graph.specs.declared.holding.HoldError.TheVariants as hold_error;
-ghost use Rattle.variable_tables.specs.Marking.{has};
-ghost use Rattle.variable_tables.specs.Tables.{table};
+ghost use Rattle.aig_graph.specs.Marking.{has};
+ghost use Rattle.aig_graph.specs.Tables.{table};
 
 use crate::circuit::Circuit;
 use crate::keep::Keep;
 use crate::properties::Symbol;
+use crate::{NoMemory, mark_variables, marked_variables, marks_of};
 use std::alloc::{AllocError, AllocFailed, Global};
 use std::collections::HashSet;
 use thiserror::Error;
-use variable_tables::{NoMemory, mark_variables, marked_variables, marks_of};
 
 /// Why latches can't be held by name.
 #[derive(Clone, Copy, Debug, PartialEq, Eq, Error)]

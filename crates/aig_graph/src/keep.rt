@@ -2,7 +2,7 @@
 //! list, and no memory is asked for.
 ghost use Rattle.std.specs.Prelude.{◌≡◌, ◌↔◌, [], IsTrue, Contains};
 ghost use Rattle.std.specs.List.Sorted.{IsStrictlyIncreasing};
-ghost use Rattle.variable_tables.specs.Marking.{has};
+ghost use Rattle.aig_graph.specs.Marking.{has};
 ghost use Rattle.aig_graph.specs.Closed.{is_held, may_move};
 
 use crate::graph::Aig;

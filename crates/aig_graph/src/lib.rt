@@ -1,6 +1,9 @@
 //! And-inverter graphs with latches: literals, graphs, circuits, what a circuit means, and the closed sets of gates over
 //! which latches move forward. Every other crate stands on the definitions of this one.
 //! Of a circuit's least sets a frame takes one: that which holds all others, or that which lies in all others.
+//!
+//! Tables by variable cover the variables from a first one on, entry `k` being that of variable `first + k`: those of a circuit begin at its
+//! first latch, so that inputs, of which a short file can have hundreds of millions, take no entry.
 #![tactic(auto)]
 
 mod border;
@@ -15,12 +18,17 @@ mod keep;
 mod laws;
 mod literal;
 mod mapping;
+mod marks;
+mod memory;
 mod names;
+mod noted;
+mod numbering;
 mod properties;
 mod reading;
 mod rising;
 mod sequence;
 mod shape;
+mod tables;
 
 pub use border::{count, mark_held};
 pub use build::{AigBuilder, BuildError};
@@ -34,8 +42,12 @@ pub use keep::Keep;
 pub use laws::{set_laws, stream_laws, value_laws};
 pub use literal::{Lit, MAX_VARIABLES};
 pub use mapping::Substitute;
+pub use marks::{mark_at, mark_variable, mark_variables, marks_of};
+pub use memory::NoMemory;
+pub use noted::Memory;
+pub use numbering::{count_marks, marked_variables, number_marks, renumber};
 pub use properties::{Props, Symbol, Symbols};
 pub use reading::mark_read;
 pub use sequence::Sequence;
 pub use shape::{have_same_shape, property_literals};
-pub use variable_tables::NoMemory;
+pub use tables::entry;

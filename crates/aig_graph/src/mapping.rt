@@ -3,11 +3,11 @@ ghost use Rattle.std.specs.Prelude.{◌≡◌, ◌<◌, ℕ, All, IfOk, map};
 ghost use Rattle.aig_graph.specs.Graph.{variable};
 ghost use Rattle.aig_graph.specs.Mapped.{OfProps, mapped_props};
 
+use crate::NoMemory;
 use crate::literal::Lit;
 use crate::properties::Props;
 use crate::sequence::Sequence;
 use std::alloc::Global;
-use variable_tables::NoMemory;
 
 /// What has a literal in the place of each literal of a circuit.
 pub trait Substitute {

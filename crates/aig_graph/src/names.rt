@@ -1,10 +1,10 @@
 //! Copies of a circuit's names.
 ghost use Rattle.std.specs.Prelude.{◌≡◌, IfOk};
 
+use crate::NoMemory;
 use crate::properties::{Symbol, Symbols};
 use crate::sequence::Sequence;
 use std::alloc::Global;
-use variable_tables::NoMemory;
 
 impl Symbol {
     /// A copy of the name, at another position.

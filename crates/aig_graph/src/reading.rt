@@ -6,13 +6,13 @@ ghost use Rattle.aig_graph.specs.declared.literal.TheConstants.{MAX_VARIABLES};
 ghost use Rattle.aig_graph.specs.Graph.{first_latch, first_gate, variables_end};
 ghost use Rattle.aig_graph.specs.Streams.{property_literals};
 ghost use Rattle.aig_graph.specs.Border.{reads, is_fan_in, is_read_outside};
-ghost use Rattle.variable_tables.specs.Marking.{Marks, mark_at};
+ghost use Rattle.aig_graph.specs.Marking.{Marks, mark_at};
 
 use crate::graph::{Aig, Gate, Latch};
 use crate::literal::Lit;
 use crate::properties::Props;
 use crate::sequence::Sequence;
-use variable_tables::{mark_at, mark_variable};
+use crate::{mark_at, mark_variable};
 
 fn mark_literals(read: &mut [bool], first: u32, lits: &[Lit])
     ensures { Marks first read.old read.new (λ v. list_any (reads v) lits.now) }

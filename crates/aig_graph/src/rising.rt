@@ -1,7 +1,7 @@
 //! Strictly rising lists, as sets.
 ghost use Rattle.std.specs.Prelude.{◌≡◌, ◌↔◌, IsTrue, Contains};
 ghost use Rattle.std.specs.List.Sorted.{IsStrictlyIncreasing};
-ghost use Rattle.variable_tables.specs.Marking.{has};
+ghost use Rattle.aig_graph.specs.Marking.{has};
 
 pub(crate) fn is_rising(numbers: &[u32]) -> bool
     ensures { IsTrue result ↔ IsStrictlyIncreasing numbers.now }

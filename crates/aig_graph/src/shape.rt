@@ -3,12 +3,12 @@ ghost use Rattle.std.specs.Prelude.{◌≡◌, ◌↔◌, ◌++◌, IfOk, OnOk, 
 ghost use Rattle.std.specs.List.{flat_map};
 ghost use Rattle.aig_graph.specs.Streams.{SameShape, property_literals};
 
+use crate::NoMemory;
 use crate::circuit::Circuit;
 use crate::literal::Lit;
 use crate::properties::Props;
 use crate::sequence::Sequence;
 use std::alloc::{AllocError, Global};
-use variable_tables::NoMemory;
 
 /// Adds the literals of each list.
 fn add_each(literals: &mut Vec<Lit>, lists: &[Sequence<Lit>]) -> Result<(), AllocError>

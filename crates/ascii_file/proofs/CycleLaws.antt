@@ -7,7 +7,7 @@ use Rattle.std.proofs.lemmas.List.{length_push}
 use Rattle.std.proofs.lemmas.List.Elements.{All-get_or}
 use Rattle.std.proofs.lemmas.Map.Steps.{length-le_from_distinct_below, le-length_from_below}
 use Rattle.std.specs.Option.{option_map, MatchOption}
-use Rattle.variable_tables.proofs.ListLaws.{place_take, take_place}
+use Rattle.aig_graph.proofs.ListLaws.{place_take, take_place}
 use Rattle.ascii_file.specs.declared.reads.Reads.{Reads}
 use Rattle.ascii_file.specs.Order.{has_gate, is_met, are_met, may_follow, IsOrder, ReadsBelow, AreReadsInFile, order_from, ordered}
 use Rattle.ascii_file.specs.Cycles.{is_gate, does_read, ReadsGate, LeadsTo, HasCycle}

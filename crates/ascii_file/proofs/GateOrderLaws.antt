@@ -6,8 +6,8 @@ use Rattle.std.proofs.lemmas.Bool.{cases_lt, both_ways, and_parts, and_from, not
 use Rattle.std.proofs.lemmas.Option.{none-some, same_Some, slice_get_within, slice_get-get_or, get_or_from_slice_get, MatchOption-at_some}
 use Rattle.std.proofs.lemmas.List.{take_all, take_at, take-append-le, length_push}
 use Rattle.std.proofs.lemmas.List.FromFn.{length-range_with_len, get_or-range_with_len}
-use Rattle.variable_tables.proofs.PlacesLaws.{slice_get_push}
-use Rattle.variable_tables.proofs.ListLaws.{place_take, take_place}
+use Rattle.aig_graph.proofs.PlacesLaws.{slice_get_push}
+use Rattle.aig_graph.proofs.ListLaws.{place_take, take_place}
 use Rattle.ascii_file.specs.declared.reads.Reads.{Reads}
 use Rattle.ascii_file.specs.Order.{has_gate, is_met, are_met, may_follow, IsNextGate, IsOrder, ReadsBelow, first_below, order_from}
 use Rattle.ascii_file.specs.OrderLaws.{OrderedLaw, HasAtMostOneOrder, KeepsOrder}

@@ -7,8 +7,8 @@ use Rattle.aig_graph.specs.declared.graph.Reset.TheVariants.{Zero}
 use Rattle.aig_graph.specs.declared.properties.Symbol.{Symbol}
 use Rattle.aig_graph.specs.Circuits.{Netlist, IsNetlist}
 use Rattle.aig_graph.proofs.StreamLaws.{same_streams-reflexive}
-use Rattle.variable_tables.specs.Tables.{table}
-use Rattle.variable_tables.proofs.TableLaws.{length-table, table-at}
+use Rattle.aig_graph.specs.Tables.{table}
+use Rattle.aig_graph.proofs.TableLaws.{length-table, table-at}
 use Rattle.backward_circuits.specs.Drawn.{IsWires}
 use Rattle.backward_circuits.specs.MovedBack.{IsFit, IsHeldBackIn, IsMovedBack, IsNamedBack, IsWithin}
 

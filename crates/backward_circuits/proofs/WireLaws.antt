@@ -14,7 +14,7 @@ use Rattle.aig_graph.proofs.HoldingLaws.{no-names}
 use Rattle.retiming_maps.specs.Mapping.{IsMapBy}
 use Rattle.retiming_maps.proofs.FreeLaws.{free-stay}
 use Rattle.retiming_maps.proofs.StartLaws.{identity-map, inputs-graph}
-use Rattle.variable_tables.specs.Tables.{table}
+use Rattle.aig_graph.specs.Tables.{table}
 use Rattle.backward_circuits.specs.Drawn.{IsWires, map_names}
 
 -- the inputs alone, with the names of the latches

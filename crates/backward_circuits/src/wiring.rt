@@ -1,7 +1,7 @@
 //! The map of a circuit's states to themselves: an output for each latch that is its input.
 ghost use Rattle.std.specs.Prelude.{◌≡◌, ◌+◌, ◌*◌, ◌<◌, IfOk};
 ghost use Rattle.aig_graph.specs.declared.literal.TheConstants.{MAX_VARIABLES};
-ghost use Rattle.variable_tables.specs.Tables.{table};
+ghost use Rattle.aig_graph.specs.Tables.{table};
 ghost use Rattle.backward_circuits.specs.Drawn.{IsWires};
 
 use crate::names::names_of_map;

@@ -2,8 +2,8 @@
 //! the last one did is as good as any, and no flow is needed to find it.
 
 use crate::copies::{VERSIONS, Version, copy_of};
+use aig_graph::Memory;
 use backward_sets::{Draft, Literal, count_marks, entry, has_mark, number, set_mark};
-use variable_tables::Memory;
 
 /// Marks of the copies of the gates that were moved last, by variable, and how many latches that saved.
 #[derive(Drop)]

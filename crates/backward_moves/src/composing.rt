@@ -3,9 +3,9 @@
 use crate::copies::{set_literal, standing};
 use crate::rebuilding::{FrameMap, all_standing};
 use crate::shared::{Shared, pair_at};
+use aig_graph::Memory;
 use backward_sets::{Literal, Pair, number};
 use std::mem;
-use variable_tables::Memory;
 
 /// Gates over the latches after all frames, which have the variables from 1 on, and a literal for each latch of the first draft.
 #[derive(Drop)]

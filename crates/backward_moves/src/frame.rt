@@ -4,12 +4,12 @@
 use crate::again::Again;
 use crate::levels::{freeze_long, levels_of};
 use crate::rebuilding::{FrameMap, Rebuilt, rebuild};
+use aig_graph::Memory;
 use backward_sets::{
     Bordered, Draft, Guide, Wish, Wishes, border_of, count_marks, freeze_losers, guide_of,
     has_mark, is_closed, justify, least_set, movable, number, set_mark, starts_of, wish_of,
     wishes_of,
 };
-use variable_tables::Memory;
 
 /// How often a flow is asked in a frame.
 const MOST_TRIES: u32 = 16;

@@ -2,10 +2,10 @@
 //! with its sign, so that latches by which nothing is gained stay as they are. New latches follow, in the order of their variables.
 
 use crate::copies::{VERSIONS, Version, copy_of, need_of, set_copy};
+use aig_graph::Memory;
 use backward_sets::{
     Bordered, Draft, DraftLatch, DraftReset, Literal, Wish, entry, set_entry, wish_of,
 };
-use variable_tables::Memory;
 
 /// What becomes of a latch that doesn't take part. One that becomes the latch of a copy of what it reads has the number of that version.
 const STAYS: u32 = VERSIONS;

@@ -1,8 +1,8 @@
 //! How many gates stand one above the other, and which gates have to stay so that no way gets too long. Since each gate that reads a member of a
 //! set is in it, the copies behind a latch before a gate reach what reads the latches of before: how far that is doesn't depend on the set.
 
+use aig_graph::Memory;
 use backward_sets::{Draft, entry, has_mark, number, set_entry, set_mark};
-use variable_tables::Memory;
 
 /// An entry is at least this number from now on.
 fn lift(numbers: &mut [u32], place: u32, number: u32) {

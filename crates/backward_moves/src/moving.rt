@@ -8,11 +8,10 @@ use crate::reading::{Inputs, draft_of, stands_of};
 use crate::rebuilding::FrameMap;
 use crate::sweeping::sweep;
 use crate::watching::{MoveStage, MoveWatcher};
-use aig_graph::{Aig, Circuit, Keep, Lit, NoMemory, property_literals};
+use aig_graph::{Aig, Circuit, Keep, Lit, Memory, NoMemory, property_literals};
 use backward_sets::{Draft, DraftLatch, DraftReset, Literal, Pair};
 use std::alloc::Global;
 use std::mem;
-use variable_tables::Memory;
 
 /// How far latches may be moved: over so many frames, and with no way of more gates than these, where the circuit has none.
 #[derive(Clone, Copy)]

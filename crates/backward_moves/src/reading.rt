@@ -1,9 +1,8 @@
 //! A circuit as a draft. Inputs that nothing reads are left out, since a file of thirty bytes can have hundreds of millions of them.
 
 use crate::copies::{literal_at, set_literal};
-use aig_graph::{Aig, Circuit, Gate, Keep, Latch, Lit, Reset};
+use aig_graph::{Aig, Circuit, Gate, Keep, Latch, Lit, Memory, Reset};
 use backward_sets::{Draft, DraftLatch, DraftReset, Literal, Pair, entry, number, set_entry};
-use variable_tables::Memory;
 
 /// The inputs that something reads, rising.
 #[derive(Drop)]

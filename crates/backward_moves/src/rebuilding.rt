@@ -8,10 +8,10 @@ use crate::copies::{
 use crate::latching::{Latching, latching_of};
 use crate::shared::{Shared, set_pair};
 use crate::sweeping::sweep;
+use aig_graph::Memory;
 use backward_sets::{
     Bordered, Draft, DraftLatch, Literal, Pair, Wish, Wishes, entry, has_mark, wish_of,
 };
-use variable_tables::Memory;
 
 /// What the latches of before a frame hold, by those after it: gates over these, which have the variables from 1 on, and a literal for each.
 pub(crate) struct FrameMap {

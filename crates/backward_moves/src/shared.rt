@@ -1,7 +1,7 @@
 //! Gates of which no two have the same fan-ins, by the rules by which maps are checked. An open table has the places of the gates.
 
+use aig_graph::Memory;
 use backward_sets::{Literal, Pair, entry, number, set_entry};
-use variable_tables::Memory;
 
 /// The smallest table.
 const SMALLEST: usize = 16;

@@ -1,8 +1,8 @@
 //! Gates that no property and no latch reaches are dropped.
 
 use crate::shared::set_pair;
+use aig_graph::Memory;
 use backward_sets::{Draft, DraftLatch, Literal, Pair, entry, number, set_entry};
-use variable_tables::Memory;
 
 /// Puts 1 at each variable that a property or a latch reaches.
 fn mark_reached(draft: &Draft, reached: &mut [u32]) {

@@ -12,8 +12,8 @@ use Rattle.aig_graph.proofs.PropsLaws.{literals_within, mapped-props}
 use Rattle.aig_graph.proofs.SignLaws.{variable-signed_as}
 use Rattle.clean.specs.Substitutions.{own_literals}
 use Rattle.cleaned_circuits.specs.Merged.{replaced}
-use Rattle.variable_tables.specs.Tables.{table}
-use Rattle.variable_tables.proofs.TableLaws.{length-table, table-at}
+use Rattle.aig_graph.specs.Tables.{table}
+use Rattle.aig_graph.proofs.TableLaws.{length-table, table-at}
 use Rattle.backward_retiming.specs.Sealed.{AreStanding, IsSealed, ReadStanding}
 
 -- no literals

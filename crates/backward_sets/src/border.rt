@@ -3,7 +3,7 @@
 use crate::drafts::Draft;
 use crate::starts::{Wish, wish_of};
 use crate::tables::{has_mark, number, set_mark};
-use variable_tables::Memory;
+use aig_graph::Memory;
 
 /// A set of gates and its border, by variable.
 #[derive(Drop)]

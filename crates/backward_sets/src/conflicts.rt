@@ -7,7 +7,7 @@ use crate::literals::Literal;
 use crate::starts::{Wish, wish_of};
 use crate::tables::{has_mark, set_mark};
 use crate::wishes::Wishes;
-use variable_tables::Memory;
+use aig_graph::Memory;
 
 /// A latch's wish has more weight than those of all gates.
 const LATCH_WEIGHT: u32 = 1 << 20;

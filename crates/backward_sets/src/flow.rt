@@ -2,7 +2,7 @@
 //! grow any more.
 
 use crate::tables::{entry, number, set_entry};
-use variable_tables::Memory;
+use aig_graph::Memory;
 
 /// More units than ever come to a node.
 pub const UNBOUNDED: u32 = 1 << 30;

@@ -5,7 +5,7 @@
 use crate::drafts::Draft;
 use crate::literals::Literal;
 use crate::tables::{entry, number, set_mark};
-use variable_tables::Memory;
+use aig_graph::Memory;
 
 /// How many steps are made.
 const STEPS: u32 = 4;

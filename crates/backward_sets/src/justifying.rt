@@ -8,7 +8,7 @@ use crate::literals::Literal;
 use crate::starts::Wish;
 use crate::tables::has_mark;
 use crate::values::Values;
-use variable_tables::Memory;
+use aig_graph::Memory;
 
 /// How often the search goes back at most.
 const MOST_BACK: u32 = 1000;

@@ -3,7 +3,7 @@
 
 use crate::drafts::Draft;
 use crate::tables::{has_mark, number, set_mark};
-use variable_tables::Memory;
+use aig_graph::Memory;
 
 /// Marks a variable as read, and takes its other mark where what reads it stays.
 fn mark_fan_in(may: &mut [bool], read: &mut [bool], var: u32, moves: bool) {

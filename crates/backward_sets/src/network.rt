@@ -8,7 +8,7 @@ use crate::flow::{Flow, UNBOUNDED};
 use crate::search::Search;
 use crate::starts::{Wish, wish_of};
 use crate::tables::{has_mark, number, set_mark};
-use variable_tables::Memory;
+use aig_graph::Memory;
 
 /// The node before a variable.
 fn before(var: u32) -> u32 {

@@ -3,7 +3,7 @@
 
 use crate::flow::{Flow, NO_ARC};
 use crate::tables::{entry, has_mark, set_entry, set_mark};
-use variable_tables::Memory;
+use aig_graph::Memory;
 
 /// What a step of a search does.
 #[derive(Clone, Copy)]

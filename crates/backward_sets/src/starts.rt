@@ -2,7 +2,7 @@
 
 use crate::drafts::Draft;
 use crate::literals::Literal;
-use variable_tables::Memory;
+use aig_graph::Memory;
 
 /// The values that are wished of a variable: none, one of them, or both.
 #[derive(Clone, Copy)]

@@ -6,7 +6,7 @@ use crate::literals::Literal;
 use crate::readers::Readers;
 use crate::starts::{Wish, set_wish, wish_of};
 use crate::tables::{entry, set_entry, set_mark};
-use variable_tables::Memory;
+use aig_graph::Memory;
 
 /// Values, and the variables that have one in the order in which they got it.
 #[derive(Drop)]

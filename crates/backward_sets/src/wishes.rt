@@ -6,7 +6,7 @@ use crate::drafts::{Draft, Pair};
 use crate::literals::Literal;
 use crate::starts::{Wish, add_wish, set_wish, wish_of};
 use crate::tables::{has_mark, number, set_mark};
-use variable_tables::Memory;
+use aig_graph::Memory;
 
 /// What each variable is wished to be, and of which gates that are to be 0 the larger fan-in makes them so.
 #[derive(Drop)]

@@ -3,9 +3,9 @@ ghost use Rattle.std.specs.Prelude.{◌≡◌, ◌+◌, ◌^◌, ◌<◌, ◌≤
 ghost use Rattle.batch_pool.specs.Rule.{plan};
 
 use crate::rule::{Collect, Counter, Deal, Draw, Hand, Plan, Tally};
+use aig_graph::NoMemory;
 use atomic_table::{Seat, Table};
 use std::alloc::Global;
-use variable_tables::NoMemory;
 
 /// A counter that several threads draw from. The numbers below `jobs` are the numbers of jobs.
 #[derive(Drop)]

@@ -1,7 +1,7 @@
 ghost use Rattle.std.specs.Prelude.{◌≡◌};
 
+use aig_graph::NoMemory;
 use thiserror::Error;
-use variable_tables::NoMemory;
 
 /// Why a batch has no outcomes.
 #[derive(Clone, Copy, Debug, Error)]

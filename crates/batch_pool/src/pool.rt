@@ -5,11 +5,11 @@ ghost use Rattle.batch_pool.specs.Sharing.{IsShare};
 use crate::draws::{Drawer, Draws};
 use crate::share::{Share, worked};
 use crate::slots::in_order;
+use aig_graph::NoMemory;
 use pulse::{Crew, PhaseGate};
 use std::alloc::Global;
 use std::thread;
 use std::thread::Threads;
-use variable_tables::NoMemory;
 
 /// Calls `run` once with the number of each job, from 0, by the workers of a crew, and returns the outcomes in the order of the jobs.
 ///

@@ -4,9 +4,9 @@ ghost use Rattle.batch_pool.specs.Drawing.{IsDrawerOf, drawn, jobs_of};
 ghost use Rattle.batch_pool.specs.Sharing.{IsShare};
 
 use crate::draws::{Drawer, Draws};
+use aig_graph::NoMemory;
 use pulse::PhaseGate;
 use std::alloc::Global;
-use variable_tables::NoMemory;
 
 /// How many numbers of phases there are; after the last comes 0 again.
 const PHASES: u64 = 1 << 32;

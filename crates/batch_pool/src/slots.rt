@@ -6,9 +6,9 @@ ghost use Rattle.batch_pool.specs.Sharing.{AreSlots, IsFilled, IsOutcome, IsShar
 
 use crate::draws::Draws;
 use crate::share::{Numbered, Share};
+use aig_graph::NoMemory;
 use std::alloc::Global;
 use std::mem;
-use variable_tables::NoMemory;
 
 /// So many empty slots, one for each job.
 fn empty_slots<X: Drop>(alloc: Global, count: usize) -> Result<Vec<Option<X>>, NoMemory>

@@ -4,8 +4,8 @@ use Rattle.std.specs.List.{list_any}
 use Rattle.std.proofs.lemmas.Bool.{not-true}
 use Rattle.std.proofs.lemmas.List.{length_push}
 use Rattle.std.proofs.lemmas.List.Elements.{All-push}
-use Rattle.variable_tables.specs.declared.memory.NoMemory.{NoMemory}
-use Rattle.variable_tables.proofs.PlacesLaws.{slice_get_push}
+use Rattle.aig_graph.specs.declared.memory.NoMemory.{NoMemory}
+use Rattle.aig_graph.proofs.PlacesLaws.{slice_get_push}
 use Rattle.aig_graph.specs.declared.graph.Gate.{Gate}
 use Rattle.aig_graph.specs.declared.properties.Symbols.{Symbols}
 use Rattle.aig_graph.specs.Graph.{IsGateAt}

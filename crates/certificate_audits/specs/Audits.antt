@@ -8,7 +8,7 @@ use Rattle.certificates.specs.declared.verdict.Objection.{Objection}
 use Rattle.certificates.specs.declared.verdict.Verdict.{Verdict}
 use Rattle.certificates.specs.declared.verdict.Verdict.TheVariants.{Yes, No}
 use Rattle.certificates.specs.Verdicts.{IsVerdict}
-use Rattle.path_levels.specs.Bounded.{bounded}
+use Rattle.retimed_circuits.specs.Bounded.{bounded}
 use Rattle.retimed_circuits.specs.Frames.{CleansTo, count_over, held_over, moved_over}
 use Rattle.retimed_circuits.specs.Certified.{PassesWithin}
 use Rattle.certificate_audits.specs.declared.outcome.Audit.{Audit}

@@ -7,7 +7,7 @@ use Rattle.aig_graph.specs.Border.{IsLeast, border_size}
 use Rattle.aig_graph.specs.Closed.{IsClosedSet}
 use Rattle.aig_graph.specs.Move.{move_of}
 use Rattle.certificates.specs.declared.certificate.Certificate.{Certificate}
-use Rattle.path_levels.specs.Bounded.{bounded}
+use Rattle.retimed_circuits.specs.Bounded.{bounded}
 use Rattle.retimed_circuits.specs.Frames.{CleansTo}
 use Rattle.certificate_audits.specs.declared.outcome.Audit.{Audit}
 use Rattle.certificate_audits.specs.declared.outcome.End.TheVariants.{Certified}

@@ -1,7 +1,7 @@
 //! What one block shows of its circuit, and whether an audit ends with it.
 ghost use Rattle.std.specs.Prelude.{IfOk, MatchOption};
 ghost use Rattle.certificates.specs.Verdicts.{IsVerdict};
-ghost use Rattle.path_levels.specs.Bounded.{bounded};
+ghost use Rattle.retimed_circuits.specs.Bounded.{bounded};
 ghost use Rattle.certificate_audits.specs.Audits.{IsVerdictBy};
 ghost use Rattle.certificate_audits.specs.Findings.{EndsWith, GoesOn, IsFinding};
 
@@ -9,7 +9,7 @@ use crate::moving::Stage;
 use crate::outcome::{Audit, End};
 use aig_graph::{Circuit, Keep, NoMemory};
 use certificates::{Certificate, Objection, Verdict, check};
-use path_levels::bounded;
+use retimed_circuits::bounded;
 use std::alloc::Global;
 
 #[derive(Clone, Copy)]

@@ -2,9 +2,9 @@
 use Rattle.std.proofs.Common.{◌≡◌, ℕ, suc, zero, ◌+◌, ◌≤◌, ◌==◌, Bool, true, false, ◌&&◌, nat_lt, cond, List, [], ◌∷◌, ◌++◌, arith, refl, ap, sym, ◌∙◌, inl, inr}
 use Rattle.std.specs.List.{count_by, IsDistinct, AllByRecursion}
 use Rattle.std.proofs.lemmas.Bool.{cases_Bool, cond-true, cond-false, eqb-true, eq-eqb, cases_lt, le-ltb, lt-ltb, and_left, and_right, true≢false, false≢true}
-use Rattle.variable_tables.specs.Counting.{count_below}
-use Rattle.variable_tables.proofs.PlacesLaws.{count-pass, count-fail, one_at_most}
-use Rattle.variable_tables.proofs.ListLaws.{count_by-cons}
+use Rattle.aig_graph.specs.Counting.{count_below}
+use Rattle.aig_graph.proofs.PlacesLaws.{count-pass, count-fail, one_at_most}
+use Rattle.aig_graph.proofs.ListLaws.{count_by-cons}
 
 -- where what passes one test passes one of two others, it counts at most as many numbers as these two together
 pub count-le : (p q r : ℕ → Bool) → ((v : ℕ) → cond {A = ℕ} (p v) 1 0 ≤ cond (q v) 1 0 + cond (r v) 1 0) → (xs : List ℕ) → count_by p xs ≤ count_by q xs + count_by r xs

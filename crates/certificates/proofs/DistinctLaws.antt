@@ -3,8 +3,8 @@ use Rattle.std.proofs.Common.{◌≡◌, ℕ, suc, ◌+◌, ◌-◌, ◌<◌, �
 use Rattle.std.specs.List.{AllByRecursion, IsDistinct}
 use Rattle.std.proofs.lemmas.Bool.{or_cases, or_parts, le-leb, false≢true}
 use Rattle.std.proofs.lemmas.List.Elements.{recursion_from_All}
-use Rattle.variable_tables.specs.Marking.{has, mark_at, Marks}
-use Rattle.variable_tables.proofs.MemberLaws.{has-push}
+use Rattle.aig_graph.specs.Marking.{has, mark_at, Marks}
+use Rattle.aig_graph.proofs.MemberLaws.{has-push}
 use Rattle.frame_net.specs.declared.net.Point.{Point}
 use Rattle.certificates.specs.Routes.{passed}
 use Rattle.certificates.proofs.PassedLaws.{passed-more, passed-split}

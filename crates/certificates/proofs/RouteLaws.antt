@@ -3,8 +3,8 @@ use Rattle.std.proofs.Common.{◌≡◌, ℕ, suc, ◌+◌, ◌<◌, ◌≤◌, 
 use Rattle.std.specs.List.{count_by}
 use Rattle.std.proofs.lemmas.Bool.{cases_Bool, cond-true, cond-false, eqb-true, lt-ltb, and_from, or_cases, or_left, or_right, and_parts, not-true, true≢false}
 use Rattle.std.proofs.lemmas.Option.{none-some}
-use Rattle.variable_tables.specs.Marking.{has}
-use Rattle.variable_tables.proofs.ListLaws.{count_by-cons}
+use Rattle.aig_graph.specs.Marking.{has}
+use Rattle.aig_graph.proofs.ListLaws.{count_by-cons}
 use Rattle.aig_graph.specs.declared.graph.Gate.{Gate}
 use Rattle.aig_graph.specs.declared.graph.Latch.{Latch}
 use Rattle.aig_graph.specs.Graph.{variable, variables_end, latch_at, gate_at, is_known}

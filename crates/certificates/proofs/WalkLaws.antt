@@ -2,10 +2,10 @@
 use Rattle.std.proofs.Common.{◌≡◌, ℕ, suc, ◌+◌, ◌<◌, ◌≤◌, ◌==◌, Bool, true, false, not, ◌&&◌, ◌||◌, is_some, List, ◌∷◌, length, slice_index_or, drop, drop-cons, Option, Some, None, arith, refl, ap, sym, ◌∙◌, subst, inl, inr}
 use Rattle.std.proofs.lemmas.Bool.{eqb-true, and_left, or_cases, or_right, and_parts}
 use Rattle.std.proofs.lemmas.List.{drop_all}
-use Rattle.variable_tables.specs.Marking.{mark_at}
-use Rattle.variable_tables.specs.Tables.{table}
-use Rattle.variable_tables.proofs.MarkingLaws.{mark_at-covered, AreMarks-table}
-use Rattle.variable_tables.proofs.TableLaws.{length-table}
+use Rattle.aig_graph.specs.Marking.{mark_at}
+use Rattle.aig_graph.specs.Tables.{table}
+use Rattle.aig_graph.proofs.MarkingLaws.{mark_at-covered, AreMarks-table}
+use Rattle.aig_graph.proofs.TableLaws.{length-table}
 use Rattle.aig_graph.specs.declared.graph.Latch.{Latch}
 use Rattle.aig_graph.specs.declared.graph.Gate.{Gate}
 use Rattle.aig_graph.specs.Graph.{Graph, first_latch, variables_end, latches_and_gates, latch_at, gate_at, is_known}

@@ -1,11 +1,11 @@
 //! Whether routes are apart from one another.
 ghost use Rattle.std.specs.Prelude.{◌≡◌, ◌==◌, ◌+◌, ◌<◌, ◌≤◌, ◌↔◌, false, IsTrue, All, ℕ, length};
 ghost use Rattle.std.specs.List.{IsDistinct};
-ghost use Rattle.variable_tables.specs.Marking.{mark_at};
+ghost use Rattle.aig_graph.specs.Marking.{mark_at};
 ghost use Rattle.certificates.specs.Routes.{passed};
 
+use aig_graph::{mark_at, mark_variable};
 use frame_net::Point;
-use variable_tables::{mark_at, mark_variable};
 
 /// Whether no two of the points are after one variable, by a table of marks that covers these variables, none of which is set.
 pub(crate) fn are_distinct(marks: &mut [bool], first: u32, points: &[Point]) -> bool

@@ -1,7 +1,7 @@
 //! The tests of a certificate, in their order. Where all pass, the set is least by weak duality: no border is smaller than the
 //! number of routes that are apart, and this one is as small as that. Nothing is asked of where the set or the routes come from.
 ghost use Rattle.std.specs.Prelude.{◌≡◌, ◌↔◌, IfOk, IsTrue, MatchOption};
-ghost use Rattle.variable_tables.specs.Tables.{table};
+ghost use Rattle.aig_graph.specs.Tables.{table};
 ghost use Rattle.aig_graph.specs.Graph.{first_latch, latches_and_gates};
 ghost use Rattle.aig_graph.specs.Closed.{IsClosedSet};
 ghost use Rattle.frame_net.specs.Passable.{IsPassSet};

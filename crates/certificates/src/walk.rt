@@ -2,16 +2,15 @@
 //! to after a variable that something outside reads. On each route lies a border variable of each closed set (weak duality; Menger,
 //! 1927): so the number of routes that are apart from one another is a lower bound on every border.
 ghost use Rattle.std.specs.Prelude.{◌≡◌, ◌&&◌, ℕ, List, true};
-ghost use Rattle.variable_tables.specs.Marking.{mark_at};
-ghost use Rattle.variable_tables.specs.Tables.{table};
+ghost use Rattle.aig_graph.specs.Marking.{mark_at};
+ghost use Rattle.aig_graph.specs.Tables.{table};
 ghost use Rattle.aig_graph.specs.Graph.{Graph, first_latch, latches_and_gates, gate_at};
 ghost use Rattle.frame_net.specs.Passable.{IsPassSet, is_passable};
 ghost use Rattle.frame_net.specs.Capacity.{gate_reads, is_observed};
 ghost use Rattle.certificates.specs.Routes.{begins_at, passes, enters, returns_to, may_step, goes_on, is_route, is_on};
 
-use aig_graph::{Aig, Circuit, Keep};
+use aig_graph::{Aig, Circuit, Keep, mark_at};
 use frame_net::{PassSet, Point};
-use variable_tables::mark_at;
 
 /// Whether the gate at a variable reads another.
 fn gate_reads(aig: &Aig, gate: u32, var: u32) -> bool

@@ -4,6 +4,7 @@
 use crate::cut::Cut;
 use crate::gathering::{PartFlow, gathered};
 use crate::part_flows::Part;
+use aig_graph::Memory;
 use pulse::{Crew, OpenGate, PhaseGate};
 use std::alloc::{AllocError, Global};
 use std::sync::atomic::{AtomicU64, Ordering};
@@ -11,7 +12,6 @@ use std::thread;
 use std::thread::Threads;
 use unit_flows::GateFlow;
 use unit_starts::narrow;
-use variable_tables::Memory;
 
 /// The flows of parts, and the memory for them.
 #[derive(Drop)]

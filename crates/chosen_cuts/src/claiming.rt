@@ -1,6 +1,6 @@
 //! The certificate of a set that a flow of units shows, by the routes of these units.
 ghost use Rattle.std.specs.Prelude.{◌≡◌, IfOk, IsTrue, true, false};
-ghost use Rattle.variable_tables.specs.Tables.{table};
+ghost use Rattle.aig_graph.specs.Tables.{table};
 ghost use Rattle.aig_graph.specs.Graph.{first_latch, latches_and_gates};
 ghost use Rattle.aig_graph.specs.Closed.{IsClosedSet};
 ghost use Rattle.frame_net.specs.Passable.{IsPassSet};

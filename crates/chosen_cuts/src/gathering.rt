@@ -2,10 +2,10 @@
 
 use crate::cut::Cut;
 use crate::ranges::{border, count_before, entries};
+use aig_graph::Memory;
 use std::thread;
 use std::thread::Threads;
 use unit_flows::GateFlow;
-use variable_tables::Memory;
 
 /// The flow at the gates of a part, in order.
 #[derive(Drop)]

@@ -4,11 +4,11 @@
 //! others; the calling thread then joins these. Most gates read what stands a little before them, so the lists are short.
 
 use crate::ranges::border;
+use aig_graph::Memory;
 use std::alloc::{AllocError, Global};
 use std::thread::Threads;
 use std::{mem, thread};
 use unit_starts::{Region, narrow};
-use variable_tables::Memory;
 
 /// Two places that hang together.
 #[derive(Clone, Copy)]

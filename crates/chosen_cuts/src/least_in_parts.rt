@@ -6,14 +6,13 @@ use crate::bringing::flow_of_parts;
 use crate::cut::Cut;
 use crate::parts::Parts;
 use crate::sizes::Sizes;
-use aig_graph::{Choice, Circuit, ClosedSet, Keep, NoMemory};
+use aig_graph::{Choice, Circuit, ClosedSet, Keep, Memory, NoMemory};
 use pulse::{Crew, PhaseGate};
 use std::alloc::Global;
 use std::thread::Threads;
 use unit_flows::{Frame, GateFlow, UnitFlow, shown_chosen};
 use unit_pulses::chosen_least_brought;
 use unit_starts::Region;
-use variable_tables::Memory;
 
 /// Whether parts are worth the work of cutting: where one of them has nearly all places, the others hardly help.
 fn are_worth(parts: &Parts) -> bool {

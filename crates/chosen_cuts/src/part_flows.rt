@@ -2,13 +2,12 @@
 
 use crate::cut::Cut;
 use crate::ranges::count_before;
-use aig_graph::{Gate, Latch, Lit, Reset};
+use aig_graph::{Gate, Latch, Lit, Memory, Reset};
 use pulse::{Crew, PhaseGate};
 use std::thread::Threads;
 use unit_flows::GateFlow;
 use unit_pulses::first_flow;
 use unit_starts::Region;
-use variable_tables::Memory;
 
 /// A known latch, wherever its next literal leads: what reads it from outside the gates is in the marks of what leaves.
 const KNOWN: Latch = Latch {

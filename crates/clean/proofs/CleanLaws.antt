@@ -11,7 +11,7 @@ use Rattle.aig_graph.specs.declared.graph.Reset.{Reset}
 use Rattle.aig_graph.specs.declared.graph.Reset.TheVariants.{Zero, One, Free}
 use Rattle.aig_graph.specs.Circuits.{Netlist}
 use Rattle.aig_graph.specs.Graph.{Graph, IsGraph, IsGateAt, variable, first_latch, first_gate, variables_end, is_free}
-use Rattle.variable_tables.specs.Marking.{has}
+use Rattle.aig_graph.specs.Marking.{has}
 use Rattle.cleaned_circuits.specs.Cleaned.{IsPass}
 use Rattle.cleaned_circuits.specs.Latches.{constant_of, first_duplicate, is_duplicate, same_latch, is_constant_latch, latch_substitute, same_reset}
 use Rattle.cleaned_circuits.specs.Merged.{Merging, same_fan_ins, known_substitute, merge_gate, merge_gates, merged_of, merging_start, replaced_gate, substitutes_of, with_substitute}

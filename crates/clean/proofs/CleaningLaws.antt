@@ -9,13 +9,13 @@ use Rattle.std.proofs.lemmas.List.Elements.{All-head, All-tail}
 use Rattle.aig_graph.specs.Graph.{first_latch, first_gate, variables_end, latches_and_gates, free_latches}
 use Rattle.aig_graph.specs.Circuits.{Netlist}
 use Rattle.aig_graph.specs.Laws.{all_free, composed}
-use Rattle.variable_tables.proofs.PlacesLaws.{count-bound}
+use Rattle.aig_graph.proofs.PlacesLaws.{count-bound}
 use Rattle.cleaned_circuits.specs.Merged.{merged_of, substitutes_of}
 use Rattle.cleaned_circuits.specs.Reached.{stays}
 use Rattle.cleaned_circuits.specs.Trimmed.{trimmed_graph, new_variable, new_position}
 use Rattle.cleaned_circuits.specs.Cleaned.{IsPass, Cleans, unchanged, after_pass}
 use Rattle.cleaned_circuits.specs.Held.{HeldAfter, held_unchanged, held_after_pass}
-use Rattle.variable_tables.proofs.ListLaws.{map-map}
+use Rattle.aig_graph.proofs.ListLaws.{map-map}
 use Rattle.cleaned_circuits.proofs.MergedLaws.{length-replaced_latches, replaced-first_latch, replaced-first_gate, replaced-end}
 use Rattle.cleaned_circuits.proofs.PickedLaws.{count-all}
 use Rattle.cleaned_circuits.proofs.TrimmedLaws.{trimmed-first_latch, trimmed-first_gate, trimmed-end}

@@ -7,9 +7,9 @@ use Rattle.aig_graph.specs.declared.graph.Latch.{Latch}
 use Rattle.aig_graph.specs.declared.graph.Reset.{Reset}
 use Rattle.aig_graph.specs.declared.graph.Reset.TheVariants.{Zero, One, Free}
 use Rattle.aig_graph.specs.Graph.{Graph, first_latch, is_free}
-use Rattle.variable_tables.specs.Marking.{has}
-use Rattle.variable_tables.specs.Tables.{table}
-use Rattle.variable_tables.proofs.TableLaws.{entry, table-same}
+use Rattle.aig_graph.specs.Marking.{has}
+use Rattle.aig_graph.specs.Tables.{table}
+use Rattle.aig_graph.proofs.TableLaws.{entry, table-same}
 use Rattle.cleaned_circuits.specs.Latches.{constant_of, same_reset, same_latch, is_constant_latch, is_duplicate, first_where, latch_substitute, leaf_substitute}
 use Rattle.cleaned_circuits.specs.Merged.{substitute_or_own}
 use Rattle.cleaned_circuits.proofs.LatchLaws.{first_where-cases, first_where-least, same_reset-is}

@@ -7,8 +7,8 @@ use Rattle.aig_graph.specs.Closed.{IsClosedSet}
 use Rattle.aig_graph.specs.Laws.{all_free}
 use Rattle.aig_graph.specs.Graph.{variables_end}
 use Rattle.aig_graph.specs.Move.{Move, move_of}
-use Rattle.variable_tables.specs.Counting.{count_below, places}
-use Rattle.variable_tables.proofs.PlacesLaws.{length-places}
+use Rattle.aig_graph.specs.Counting.{count_below, places}
+use Rattle.aig_graph.proofs.PlacesLaws.{length-places}
 use Rattle.cleaned_circuits.specs.Held.{HeldAfter, held_unchanged, held_after_pass}
 use Rattle.cleaned_circuits.proofs.HeldLaws.{held_after-in_range, still-in_range}
 use Rattle.cleaned_circuits.proofs.PassLaws.{IsCircuit, IsCircuit-pass}

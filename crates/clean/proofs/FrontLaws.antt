@@ -6,7 +6,7 @@ use Rattle.std.proofs.lemmas.List.{length-set, take_more, take_all, map_push, fl
 use Rattle.std.proofs.lemmas.List.Elements.{All-head, All-tail}
 use Rattle.std.proofs.lemmas.List.Sums.{sum_by-set, count_by-le-length}
 use Rattle.aig_graph.specs.Graph.{variable}
-use Rattle.variable_tables.specs.Marking.{mark_at}
+use Rattle.aig_graph.specs.Marking.{mark_at}
 use Rattle.clean.specs.Sweep.{Front, front_end, is_marked, mark, with_next, reach, reach_in_sweep, reach_all}
 
 -- ---- one variable

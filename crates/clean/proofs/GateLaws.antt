@@ -11,8 +11,8 @@ use Rattle.aig_graph.proofs.FoldingLaws.{gate_at-first_gate, gate_at-is}
 use Rattle.aig_graph.proofs.KindLaws.{GatePlace, LatchPlace, element, gate_place, latch_place}
 use Rattle.aig_graph.proofs.SearchLaws.{has_iff_contains}
 use Rattle.aig_graph.proofs.SignLaws.{variable-signed_as, variable-signed_as_twice}
-use Rattle.variable_tables.specs.Counting.{count_below}
-use Rattle.variable_tables.specs.Marking.{has}
+use Rattle.aig_graph.specs.Counting.{count_below}
+use Rattle.aig_graph.specs.Marking.{has}
 use Rattle.rebuild.specs.Moved.{advanced, advanced_literal, copies_start, copy_for, copy_variable, gate_between, gate_for, is_outside, moved_graph, moved_literal, new_variable, next_of}
 use Rattle.rebuild.proofs.BorderLaws.{closed-passable, member-gate, outside_parts, read-first, read-second}
 use Rattle.rebuild.proofs.MovedLaws.{copies_start-is, copy_variable-is, from_member, from_outside, gate_source, moved-first_gate, next-within}

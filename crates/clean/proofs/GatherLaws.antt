@@ -6,8 +6,8 @@ use Rattle.std.proofs.lemmas.Option.{none-some, same_Some, slice_get_within}
 use Rattle.std.proofs.lemmas.List.{take_all, length-drop, get_or_past}
 use Rattle.aig_graph.specs.declared.graph.Gate.{Gate}
 use Rattle.aig_graph.specs.Graph.{Graph, variable, first_gate}
-use Rattle.variable_tables.specs.Marking.{Marks, mark_at}
-use Rattle.variable_tables.proofs.ListLaws.{place_take, take_place}
+use Rattle.aig_graph.specs.Marking.{Marks, mark_at}
+use Rattle.aig_graph.proofs.ListLaws.{place_take, take_place}
 use Rattle.cleaned_circuits.specs.Merged.{same_fan_ins}
 use Rattle.cleaned_circuits.proofs.SubstituteLaws.{same_fan_ins-is, lookup_push, same_fan_ins-self}
 use Rattle.clean.specs.Normalised.{IsPlain, AreLowNormalised}

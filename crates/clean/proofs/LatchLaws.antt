@@ -10,9 +10,9 @@ use Rattle.aig_graph.specs.Move.{Move}
 use Rattle.aig_graph.proofs.KindLaws.{LatchPlace, latch_place}
 use Rattle.aig_graph.proofs.SearchLaws.{has_iff_contains}
 use Rattle.aig_graph.proofs.SignLaws.{variable-signed_as_twice}
-use Rattle.variable_tables.specs.Counting.{count_below}
-use Rattle.variable_tables.specs.Marking.{has}
-use Rattle.variable_tables.proofs.PlacesLaws.{Ranks, count-le, count-lt}
+use Rattle.aig_graph.specs.Counting.{count_below}
+use Rattle.aig_graph.specs.Marking.{has}
+use Rattle.aig_graph.proofs.PlacesLaws.{Ranks, count-le, count-lt}
 use Rattle.cleaned_circuits.specs.Latches.{constant_of, is_constant_latch}
 use Rattle.cleaned_circuits.proofs.LatchLaws.{constant-even}
 use Rattle.rebuild.specs.Moved.{copies_start, copy_variable, is_latched, latch_for, latch_from, moved_graph, moved_held, moved_literal, new_variable}

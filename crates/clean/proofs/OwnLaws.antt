@@ -12,7 +12,7 @@ use Rattle.aig_graph.specs.Graph.{IsGraph, IsGateAt, variable, first_latch, firs
 use Rattle.aig_graph.specs.Circuits.{Netlist}
 use Rattle.aig_graph.specs.Value.{signed_as}
 use Rattle.aig_graph.proofs.KindLaws.{element}
-use Rattle.variable_tables.specs.Marking.{has}
+use Rattle.aig_graph.specs.Marking.{has}
 use Rattle.cleaned_circuits.specs.Latches.{leaf_substitute, latch_substitute, is_constant_latch}
 use Rattle.cleaned_circuits.specs.Merged.{Merging, same_fan_ins, known_substitute, merge_gate, merge_gates, merging_start, replaced, replaced_gate, substitutes_of, with_substitute}
 use Rattle.cleaned_circuits.proofs.LatchLaws.{stands_for, by_constant, by_itself, by_earlier}

@@ -9,7 +9,7 @@ use Rattle.aig_graph.specs.Border.{is_fan_in, is_read, is_read_outside, reads}
 use Rattle.aig_graph.specs.Graph.{variable, first_gate, gate_at}
 use Rattle.aig_graph.specs.Move.{Move}
 use Rattle.aig_graph.specs.Streams.{property_literals}
-use Rattle.variable_tables.specs.Marking.{has}
+use Rattle.aig_graph.specs.Marking.{has}
 use Rattle.aig_graph.proofs.FoldingLaws.{gate_at-first_gate}
 
 -- an element that passes

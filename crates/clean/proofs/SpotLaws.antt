@@ -9,9 +9,9 @@ use Rattle.aig_graph.specs.Graph.{variable, first_latch, variables_end, latch_at
 use Rattle.aig_graph.specs.Move.{Move}
 use Rattle.aig_graph.proofs.FoldingLaws.{gate_at-first_gate}
 use Rattle.aig_graph.proofs.KindLaws.{is_constant, is_gate, is_input, is_latch, kind_of, latch_at-first_latch}
-use Rattle.variable_tables.specs.Counting.{count_below}
-use Rattle.variable_tables.specs.Marking.{has}
-use Rattle.variable_tables.proofs.PlacesLaws.{count-lt}
+use Rattle.aig_graph.specs.Counting.{count_below}
+use Rattle.aig_graph.specs.Marking.{has}
+use Rattle.aig_graph.proofs.PlacesLaws.{count-lt}
 use Rattle.rebuild.specs.Moved.{copies_start, gates_start, is_latched, is_outside, moved_literal, new_variable}
 use Rattle.rebuild.proofs.BorderLaws.{closed-passable, latched-latch, latched-member, new_variable-latched, new_variable-leaf, new_variable-outside, outside_where}
 use Rattle.rebuild.proofs.MovedLaws.{copies_start-is, gates_start-is}

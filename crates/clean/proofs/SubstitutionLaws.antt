@@ -2,9 +2,9 @@
 use Rattle.std.proofs.Common.{zero-add, ℕ, ◌+◌, ◌-◌, ◌*◌, ◌<◌, ◌≤◌, ◌≡◌, List, [], ◌∷◌, ◌++◌, length, get_or, arith, ap, sym, ◌∙◌, length-append, append_assoc}
 use Rattle.std.proofs.lemmas.List.{append-nil, get_or_append_left, get_or-append-add, get_or_default}
 use Rattle.aig_graph.specs.Graph.{variable}
-use Rattle.variable_tables.specs.Tables.{table}
+use Rattle.aig_graph.specs.Tables.{table}
 use Rattle.aig_graph.specs.Value.{signed_as}
-use Rattle.variable_tables.proofs.TableLaws.{length-table, table-at}
+use Rattle.aig_graph.proofs.TableLaws.{length-table, table-at}
 use Rattle.cleaned_circuits.specs.Merged.{replaced}
 use Rattle.clean.specs.Substitutions.{own_literals, from_first}
 

@@ -10,15 +10,15 @@ use Rattle.aig_graph.specs.declared.properties.Symbols.{Symbols}
 use Rattle.aig_graph.specs.Circuits.{Netlist}
 use Rattle.aig_graph.specs.Value.{signed_as}
 use Rattle.aig_graph.specs.Building.{gate_of}
-use Rattle.variable_tables.specs.Counting.{count_below, places}
-use Rattle.variable_tables.specs.Tables.{table}
-use Rattle.variable_tables.proofs.TableLaws.{length-table, table-at, table-same, entry}
-use Rattle.variable_tables.proofs.PlacesLaws.{count-bound, places-zero, places-pass, places-fail}
+use Rattle.aig_graph.specs.Counting.{count_below, places}
+use Rattle.aig_graph.specs.Tables.{table}
+use Rattle.aig_graph.proofs.TableLaws.{length-table, table-at, table-same, entry}
+use Rattle.aig_graph.proofs.PlacesLaws.{count-bound, places-zero, places-pass, places-fail}
 use Rattle.aig_graph.specs.Mapped.{OfProps, mapped_props}
 use Rattle.cleaned_circuits.specs.Reached.{stays}
 use Rattle.cleaned_circuits.specs.Merged.{replaced, replaced_latch, replaced_gate}
 use Rattle.cleaned_circuits.specs.Trimmed.{new_variable, renumbered, picked, renumbered_latch, renumbered_gate, trimmed_graph, trimmed_of, trimmed_symbols, is_kept_free, kept_free}
-use Rattle.variable_tables.proofs.ListLaws.{map-same}
+use Rattle.aig_graph.proofs.ListLaws.{map-same}
 use Rattle.cleaned_circuits.proofs.TrimmedLaws.{stays-past, new-low, renumbered-variable}
 use Rattle.aig_graph.proofs.PropsLaws.{mapped-is}
 use Rattle.clean.proofs.MappingLaws.{graph-is}

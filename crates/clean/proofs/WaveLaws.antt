@@ -20,9 +20,9 @@ use Rattle.aig_graph.proofs.KindLaws.{GatePlace, LatchPlace, element, gate_place
 use Rattle.aig_graph.proofs.PropsLaws.{literals_within}
 use Rattle.aig_graph.proofs.SearchLaws.{has_iff_contains}
 use Rattle.aig_graph.proofs.SignLaws.{variable-signed_as, variable-signed_as_twice}
-use Rattle.variable_tables.specs.Counting.{count_below}
-use Rattle.variable_tables.specs.Marking.{has}
-use Rattle.variable_tables.proofs.PlacesLaws.{Ranks}
+use Rattle.aig_graph.specs.Counting.{count_below}
+use Rattle.aig_graph.specs.Marking.{has}
+use Rattle.aig_graph.proofs.PlacesLaws.{Ranks}
 use Rattle.cleaned_circuits.specs.Reached.{stays, HoldsReads}
 use Rattle.cleaned_circuits.proofs.TrimmedLaws.{stays-past, stays-low, stays-reached}
 use Rattle.rebuild.specs.Moved.{advanced, advanced_literal, copy_for, copy_variable, gate_between, gate_for, is_latched, is_outside, latch_for, latch_from, moved_graph, moved_held, moved_literal, moved_props, new_variable, next_of}

@@ -4,7 +4,7 @@ use Rattle.aig_graph.specs.Graph.{IsGraph, variables_end}
 use Rattle.aig_graph.specs.Circuits.{Netlist, IsNetlist}
 use Rattle.aig_graph.specs.Closed.{IsClosedSet}
 use Rattle.aig_graph.specs.Move.{Move, move_of}
-use Rattle.variable_tables.specs.Counting.{count_below}
+use Rattle.aig_graph.specs.Counting.{count_below}
 use Rattle.rebuild.specs.Moved.{is_outside, moved_graph, moved_held, moved_of}
 use Rattle.aig_graph.specs.Laws.{all_free}
 use Rattle.cleaned_circuits.specs.Cleaned.{IsPass, Cleans}

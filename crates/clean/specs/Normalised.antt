@@ -4,7 +4,7 @@ use Rattle.aig_graph.specs.declared.graph.Gate.{Gate}
 use Rattle.aig_graph.specs.declared.graph.Latch.{Latch}
 use Rattle.aig_graph.specs.Graph.{Graph, variable, first_latch, first_gate, variables_end, is_free}
 use Rattle.aig_graph.specs.Circuits.{Netlist}
-use Rattle.variable_tables.specs.Marking.{has}
+use Rattle.aig_graph.specs.Marking.{has}
 use Rattle.cleaned_circuits.specs.Latches.{is_constant_latch}
 use Rattle.cleaned_circuits.specs.Reached.{HoldsReads}
 

@@ -2,7 +2,7 @@
 use Rattle.std.specs.Prelude.{ℕ, ◌*◌, ◌++◌, Bool, List}
 use Rattle.aig_graph.specs.Graph.{Graph, variables_end}
 use Rattle.cleaned_circuits.specs.Trimmed.{new_variable}
-use Rattle.variable_tables.specs.Tables.{table}
+use Rattle.aig_graph.specs.Tables.{table}
 
 -- the variables before the first latch, each for itself
 unfoldable pub own_literals : ℕ → List ℕ

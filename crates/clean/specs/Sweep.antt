@@ -4,7 +4,7 @@ use Rattle.aig_graph.specs.declared.graph.Gate.{Gate}
 use Rattle.aig_graph.specs.declared.graph.Latch.{Latch}
 use Rattle.aig_graph.specs.declared.properties.Props.{Props}
 use Rattle.aig_graph.specs.Graph.{latches_and_gates, Graph, variable, first_latch, first_gate, variables_end, gate_at, latch_at}
-use Rattle.variable_tables.specs.Marking.{mark_at}
+use Rattle.aig_graph.specs.Marking.{mark_at}
 use Rattle.cleaned_circuits.specs.Reached.{stays, HoldsReads}
 
 -- the marks of the variables from the first latch on, latches before gates, and the marked variables that wait to be read, in this order

@@ -2,7 +2,7 @@
 use Rattle.std.specs.Prelude.{ℕ, ◌≡◌, ◌+◌, List, length, slice_get}
 use Rattle.aig_graph.specs.Graph.{first_latch}
 use Rattle.aig_graph.specs.Circuits.{Netlist}
-use Rattle.variable_tables.specs.Tables.{table}
+use Rattle.aig_graph.specs.Tables.{table}
 use Rattle.cleaned_circuits.specs.Latches.{latch_substitute}
 use Rattle.cleaned_circuits.specs.Cleaned.{IsPass}
 use Rattle.clean.specs.declared.tracing.TracedPass.{TracedPass}

@@ -1,9 +1,9 @@
 ghost use Rattle.std.specs.Prelude.{◌≡◌, ◌<◌, IfOk, length};
-ghost use Rattle.variable_tables.specs.Marking.{has};
-ghost use Rattle.variable_tables.specs.Tables.{table};
+ghost use Rattle.aig_graph.specs.Marking.{has};
+ghost use Rattle.aig_graph.specs.Tables.{table};
 
+use aig_graph::{NoMemory, marks_of};
 use std::alloc::Global;
-use variable_tables::{NoMemory, marks_of};
 
 /// The positions of held latches, with a mark for each latch that is held.
 #[derive(Drop)]

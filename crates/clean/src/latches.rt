@@ -3,7 +3,7 @@
 //! itself, and others may become it.
 ghost use Rattle.std.specs.Prelude.{◌≡◌, ◌<◌, ◌+◌, ◌*◌, ◌&&◌, ◌||◌, ◌==◌, not, slice_get, length, true, Some, OnOk, IfOk};
 ghost use Rattle.aig_graph.specs.Graph.{first_latch, first_gate, is_free};
-ghost use Rattle.variable_tables.specs.Tables.{table};
+ghost use Rattle.aig_graph.specs.Tables.{table};
 ghost use Rattle.cleaned_circuits.specs.Latches.{constant_of, latch_substitute, leaf_substitute};
 ghost use Rattle.clean.specs.Firsts.{AreFirsts};
 ghost use Rattle.clean.specs.Settled.{AreOwnLatches};

@@ -9,9 +9,8 @@ ghost use Rattle.clean.specs.Normalised.{AreLowNormalised};
 ghost use Rattle.clean.specs.Gathered.{is_plain, AreGathered, AreMarked, AreNew, IsShared, IsSpoilt};
 
 use crate::pairs::Pairs;
-use aig_graph::{Aig, Gate, NoMemory};
+use aig_graph::{Aig, Gate, NoMemory, mark_at, mark_variable};
 use std::alloc::Global;
-use variable_tables::{mark_at, mark_variable};
 
 /// Whether a gate reads two variables, and neither is the constant.
 fn is_plain(gate: &Gate) -> bool

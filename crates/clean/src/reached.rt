@@ -9,10 +9,9 @@ ghost use Rattle.aig_graph.specs.Mapped.{OfProps};
 ghost use Rattle.cleaned_circuits.specs.Reached.{AreReached};
 ghost use Rattle.clean.specs.Sweep.{front_end, no_front, is_marked, with_next, reach, reach_in_sweep, reach_all, reads_of};
 
-use aig_graph::{Aig, Gate, Lit, NoMemory, Props, Sequence};
+use aig_graph::{Aig, Gate, Lit, NoMemory, Props, Sequence, mark_at};
 use std::alloc::Global;
 use std::marker::Model;
-use variable_tables::mark_at;
 
 /// The latches and gates that are reached: a mark for each variable from the first latch on, and the marked variables that wait to be
 /// read, the next one last. A variable waits once at most, so a walk that reads what waits is linear.

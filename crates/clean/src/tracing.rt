@@ -1,7 +1,7 @@
 //! A pass that tells what became of each latch, so that what a later circuit's latches hold can be told by those of an earlier one.
 ghost use Rattle.std.specs.Prelude.{◌≡◌, ◌<◌, ◌+◌, All, IfOk, length, slice_get};
 ghost use Rattle.aig_graph.specs.Graph.{first_latch};
-ghost use Rattle.variable_tables.specs.Tables.{table};
+ghost use Rattle.aig_graph.specs.Tables.{table};
 ghost use Rattle.cleaned_circuits.specs.Latches.{latch_substitute};
 ghost use Rattle.cleaned_circuits.specs.Merged.{substitutes_of};
 ghost use Rattle.clean.specs.Sweep.{is_marked};

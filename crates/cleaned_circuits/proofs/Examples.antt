@@ -3,9 +3,9 @@ use Rattle.std.proofs.Common.{ℕ, ◌≡◌, List, [], ◌∷◌, refl}
 use Rattle.aig_graph.specs.declared.graph.Reset.TheVariants.{Zero, One, Free}
 use Rattle.aig_graph.specs.Graph.{Graph}
 use Rattle.aig_graph.specs.Circuits.{Netlist}
-use Rattle.variable_tables.specs.Marking.{has}
-use Rattle.variable_tables.specs.Counting.{count_below, places}
-use Rattle.variable_tables.specs.Tables.{table}
+use Rattle.aig_graph.specs.Marking.{has}
+use Rattle.aig_graph.specs.Counting.{count_below, places}
+use Rattle.aig_graph.specs.Tables.{table}
 use Rattle.cleaned_circuits.specs.Latches.{leaf_substitute, first_where}
 use Rattle.aig_graph.specs.Mapped.{mapped_props}
 use Rattle.cleaned_circuits.specs.Merged.{merge_gates, substitutes_of, replaced_graph, merged_of}

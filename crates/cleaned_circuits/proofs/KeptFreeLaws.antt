@@ -10,9 +10,9 @@ use Rattle.aig_graph.specs.declared.graph.Latch.{Latch}
 use Rattle.aig_graph.specs.Graph.{Graph, first_latch, first_gate, latch_at, is_free, free_before, free_latches, is_free_latch}
 use Rattle.aig_graph.specs.Circuits.{Netlist}
 use Rattle.aig_graph.specs.Streams.{AreKept}
-use Rattle.variable_tables.specs.Counting.{count_below, places}
+use Rattle.aig_graph.specs.Counting.{count_below, places}
 use Rattle.cleaned_circuits.specs.Trimmed.{new_variable, renumbered_latch, trimmed_graph, trimmed_of, is_kept_free, kept_free}
-use Rattle.variable_tables.proofs.PlacesLaws.{count-pass, count-fail, count-zero, count-le, count-lt, length-places, at_rank, Ranks, rank_at}
+use Rattle.aig_graph.proofs.PlacesLaws.{count-pass, count-fail, count-zero, count-le, count-lt, length-places, at_rank, Ranks, rank_at}
 use Rattle.aig_graph.proofs.KindLaws.{element, latch_at-first_latch}
 use Rattle.aig_graph.proofs.FreeLaws.{is_free_at, free-count}
 use Rattle.cleaned_circuits.specs.Reached.{stays}

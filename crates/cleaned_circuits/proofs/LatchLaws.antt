@@ -7,11 +7,11 @@ use Rattle.aig_graph.specs.declared.graph.Reset.{Reset}
 use Rattle.aig_graph.specs.declared.graph.Reset.TheVariants.{Zero, One, Free}
 use Rattle.aig_graph.specs.Graph.{Graph, IsGraph, variable, first_latch, first_gate, is_free, free_before}
 use Rattle.aig_graph.specs.Value.{Inputs, Choice, value, opening}
-use Rattle.variable_tables.specs.Marking.{has}
-use Rattle.variable_tables.specs.Counting.{count_below, places}
+use Rattle.aig_graph.specs.Marking.{has}
+use Rattle.aig_graph.specs.Counting.{count_below, places}
 use Rattle.aig_graph.specs.Laws.{ValueLaws}
 use Rattle.aig_graph.proofs.ValueLaws.{value_laws}
-use Rattle.variable_tables.proofs.PlacesLaws.{Ranks, rank_at, at_rank, count-lt}
+use Rattle.aig_graph.proofs.PlacesLaws.{Ranks, rank_at, at_rank, count-lt}
 use Rattle.aig_graph.proofs.KindLaws.{element}
 use Rattle.cleaned_circuits.specs.Latches.{constant_of, is_constant_latch, same_reset, same_latch, is_duplicate, first_where, first_duplicate, latch_substitute, leaf_substitute}
 

@@ -15,7 +15,7 @@ use Rattle.aig_graph.proofs.SignLaws.{value_signed, value-gate_of, gate_of-order
 use Rattle.aig_graph.proofs.KindLaws.{kind_of, is_constant, is_input, is_latch, is_gate}
 use Rattle.aig_graph.specs.Mapped.{mapped_props}
 use Rattle.cleaned_circuits.specs.Merged.{replaced, replaced_gate, replaced_latch, replaced_graph, replaced_circuit, substitutes_of, merged_of}
-use Rattle.variable_tables.proofs.ListLaws.{slice_get-map_some, from_map, map-map, map-same, count_by-take_map}
+use Rattle.aig_graph.proofs.ListLaws.{slice_get-map_some, from_map, map-map, map-same, count_by-take_map}
 use Rattle.aig_graph.proofs.PropsLaws.{mapped-literals, mapped-props, literals_within}
 use Rattle.cleaned_circuits.proofs.SubstituteLaws.{replaced-within, replaced_literal-value}
 

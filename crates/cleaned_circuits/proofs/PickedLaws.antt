@@ -2,8 +2,8 @@
 use Rattle.std.proofs.Common.{ℕ, ◌+◌, ◌<◌, ◌≤◌, ◌≡◌, inl, inr, suc, zero, List, [], ◌∷◌, length, Bool, true, false, Some, slice_get, refl, arith, ap, sym, ◌∙◌}
 use Rattle.std.proofs.lemmas.Bool.{cases_Bool, cond-true, cond-false}
 use Rattle.std.proofs.lemmas.Option.{none-some}
-use Rattle.variable_tables.specs.Counting.{count_below}
-use Rattle.variable_tables.proofs.PlacesLaws.{count-pass, count-fail, count-le, count-zero}
+use Rattle.aig_graph.specs.Counting.{count_below}
+use Rattle.aig_graph.proofs.PlacesLaws.{count-pass, count-fail, count-le, count-zero}
 use Rattle.cleaned_circuits.specs.Trimmed.{picked}
 
 -- all pass

@@ -10,8 +10,8 @@ use Rattle.aig_graph.specs.Graph.{Graph, IsGraph, IsGateAt, variable, first_gate
 use Rattle.aig_graph.specs.Value.{Inputs, Choice, value, signed}
 use Rattle.aig_graph.specs.Laws.{ValueLaws}
 use Rattle.aig_graph.proofs.ValueLaws.{value_laws}
-use Rattle.variable_tables.specs.Tables.{table}
-use Rattle.variable_tables.proofs.TableLaws.{length-table, table-at}
+use Rattle.aig_graph.specs.Tables.{table}
+use Rattle.aig_graph.proofs.TableLaws.{length-table, table-at}
 use Rattle.aig_graph.proofs.SignLaws.{value_signed, value_signed_as, variable-signed_as, value-gate_of, gate_of-below}
 use Rattle.cleaned_circuits.specs.Latches.{leaf_substitute}
 use Rattle.cleaned_circuits.specs.Merged.{Merging, replaced, replaced_gate, same_fan_ins, known_substitute, with_substitute, merge_gate, merge_gates, merging_from, merging_start, substitutes_after, substitutes_of}

@@ -6,14 +6,14 @@ use Rattle.aig_graph.specs.declared.graph.Gate.{Gate}
 use Rattle.aig_graph.specs.declared.graph.Latch.{Latch}
 use Rattle.aig_graph.specs.Graph.{Graph, IsGraph, IsGateAt, variable, first_latch, first_gate, variables_end}
 use Rattle.aig_graph.specs.Circuits.{Netlist}
-use Rattle.variable_tables.specs.Counting.{count_below}
+use Rattle.aig_graph.specs.Counting.{count_below}
 use Rattle.aig_graph.proofs.FoldingLaws.{gate_at-first_gate}
-use Rattle.variable_tables.proofs.PlacesLaws.{count-le, count-lt, count-bound}
+use Rattle.aig_graph.proofs.PlacesLaws.{count-le, count-lt, count-bound}
 use Rattle.aig_graph.proofs.SignLaws.{variable-signed_as_twice, gate_of-ordered, gate_of-below}
 use Rattle.aig_graph.proofs.KindLaws.{latch_at-first_latch}
 use Rattle.cleaned_circuits.specs.Reached.{stays, HoldsReads}
 use Rattle.cleaned_circuits.specs.Trimmed.{new_variable, renumbered, renumbered_latch, renumbered_gate, picked, trimmed_graph}
-use Rattle.variable_tables.proofs.ListLaws.{slice_get-map_some, from_map}
+use Rattle.aig_graph.proofs.ListLaws.{slice_get-map_some, from_map}
 use Rattle.cleaned_circuits.proofs.PickedLaws.{count-all, length-picked, picked-at, WasAt, was_at}
 
 module _ (g : Graph) (s : ℕ → Bool) where

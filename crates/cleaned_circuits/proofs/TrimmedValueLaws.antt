@@ -12,7 +12,7 @@ use Rattle.aig_graph.proofs.SignLaws.{value_signed, value_signed_as, value-gate_
 use Rattle.aig_graph.proofs.KindLaws.{kind_of, is_constant, is_input, is_latch, is_gate}
 use Rattle.cleaned_circuits.specs.Reached.{stays, HoldsReads}
 use Rattle.cleaned_circuits.specs.Trimmed.{new_variable, renumbered, renumbered_latch, renumbered_gate, trimmed_graph, trimmed_of, kept_free}
-use Rattle.variable_tables.proofs.ListLaws.{map-map, map-same}
+use Rattle.aig_graph.proofs.ListLaws.{map-map, map-same}
 use Rattle.aig_graph.proofs.PropsLaws.{mapped-literals, mapped-shape, literals_within}
 use Rattle.aig_graph.proofs.StreamLaws.{opening-same}
 use Rattle.cleaned_circuits.proofs.TrimmedLaws.{stays-past, new-low, new-from, new-rises, trimmed-inputs, trimmed-first_latch, trimmed-first_gate, latch_in, gate_in, next-reached, fan_ins-reached, IsGraph-trimmed}

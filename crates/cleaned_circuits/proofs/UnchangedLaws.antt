@@ -12,12 +12,12 @@ use Rattle.aig_graph.specs.declared.properties.Symbol.{Symbol}
 use Rattle.aig_graph.specs.Graph.{Graph, IsGateAt, IsLiteralOf, variable, first_latch, first_gate, variables_end}
 use Rattle.aig_graph.specs.Circuits.{Netlist}
 use Rattle.aig_graph.specs.Streams.{property_literals}
-use Rattle.variable_tables.specs.Marking.{has}
-use Rattle.variable_tables.specs.Counting.{count_below}
+use Rattle.aig_graph.specs.Marking.{has}
+use Rattle.aig_graph.specs.Counting.{count_below}
 use Rattle.aig_graph.specs.Building.{gate_of}
 use Rattle.aig_graph.proofs.SearchLaws.{has_iff_contains}
 use Rattle.aig_graph.specs.Value.{signed_as}
-use Rattle.variable_tables.proofs.PlacesLaws.{count-pass, count-fail, count-bound}
+use Rattle.aig_graph.proofs.PlacesLaws.{count-pass, count-fail, count-bound}
 use Rattle.aig_graph.proofs.KindLaws.{LatchPlace, latch_place, GatePlace, gate_place}
 use Rattle.cleaned_circuits.specs.Merged.{replaced, replaced_gate, replaced_latch, replaced_graph, substitutes_of, replaced_circuit, merged_of}
 use Rattle.cleaned_circuits.specs.Reached.{stays, HoldsReads, AreReached}

@@ -5,8 +5,8 @@ use Rattle.aig_graph.specs.declared.graph.Latch.{Latch}
 use Rattle.aig_graph.specs.declared.graph.Reset.{Reset}
 use Rattle.aig_graph.specs.declared.graph.Reset.TheVariants.{Zero, One, Free}
 use Rattle.aig_graph.specs.Graph.{Graph, first_latch, is_free}
-use Rattle.variable_tables.specs.Marking.{has}
-use Rattle.variable_tables.specs.Counting.{places}
+use Rattle.aig_graph.specs.Marking.{has}
+use Rattle.aig_graph.specs.Counting.{places}
 
 -- the constant of a known reset
 abbrev pub constant_of : Reset → ℕ

@@ -7,7 +7,7 @@ use Rattle.aig_graph.specs.declared.properties.Symbols.{Symbols}
 use Rattle.aig_graph.specs.Graph.{is_free_latch, Graph, variable, first_latch, first_gate, latch_at, free_before}
 use Rattle.aig_graph.specs.Circuits.{Netlist}
 use Rattle.aig_graph.specs.Building.{gate_of}
-use Rattle.variable_tables.specs.Counting.{count_below, places}
+use Rattle.aig_graph.specs.Counting.{count_below, places}
 use Rattle.aig_graph.specs.Value.{signed_as}
 use Rattle.aig_graph.specs.Mapped.{mapped_props}
 use Rattle.cleaned_circuits.specs.Reached.{stays}

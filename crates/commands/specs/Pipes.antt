@@ -7,7 +7,7 @@ use Rattle.ascii_file.specs.Laws.{IsWithinLimits}
 use Rattle.file_words.specs.declared.spelling.Spelling.{Spelling}
 use Rattle.aig_binary.specs.declared.reading.SpeltCircuit.{SpeltCircuit}
 use Rattle.aig_binary.specs.Ending.{Spells}
-use Rattle.state_maps.specs.MapCircuits.{IsMapCircuit}
+use Rattle.retimed_circuits.specs.MapCircuits.{IsMapCircuit}
 use Rattle.retimed_circuits.specs.declared.report.Retimed.{Retimed}
 use Rattle.frames.specs.Answering.{IsAnswer, IsAnswered, ReadsBack, text_for}
 use Rattle.frames.specs.Retiming.{IsRetimedHeld}

@@ -15,7 +15,7 @@ use Rattle.frames.specs.declared.errors.RetimeError.{RetimeError}
 use Rattle.frames.specs.declared.errors.RetimeError.TheVariants.{NoMemory, NoSuchLatch, NoSuchName}
 use Rattle.counted_io.specs.Output.{Output}
 use Rattle.retimed_circuits.specs.declared.report.Retimed.{Retimed}
-use Rattle.path_levels.specs.Levels.{levels}
+use Rattle.retimed_circuits.specs.Levels.{levels}
 use Rattle.reports.specs.RemainingCounts.{remaining}
 use Rattle.reports.specs.declared.remaining_counts.Remaining.{Remaining}
 use Rattle.reports.specs.Retimings.{retiming_text}

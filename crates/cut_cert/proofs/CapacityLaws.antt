@@ -3,9 +3,9 @@ use Rattle.std.proofs.Common.{◌≡◌, ℕ, suc, zero, ◌+◌, ◌<◌, ◌�
 use Rattle.std.specs.List.{AllByRecursion, IsDistinct}
 use Rattle.std.proofs.lemmas.Bool.{cases_lt, cases_eq, cases_Bool, cond-true, cond-false, ne_eqb, eq-eqb, lt-ltb, and_from}
 use Rattle.std.proofs.lemmas.Option.{same_Some, none-some}
-use Rattle.variable_tables.specs.Counting.{count_below}
-use Rattle.variable_tables.proofs.PlacesLaws.{count-zero, count-pass, count-fail}
-use Rattle.variable_tables.proofs.ListLaws.{count_by-cons}
+use Rattle.aig_graph.specs.Counting.{count_below}
+use Rattle.aig_graph.proofs.PlacesLaws.{count-zero, count-pass, count-fail}
+use Rattle.aig_graph.proofs.ListLaws.{count_by-cons}
 use Rattle.aig_graph.specs.Circuits.{Netlist}
 use Rattle.aig_graph.proofs.SetLaws.{empty-closed}
 use Rattle.frame_net.specs.declared.net.Point.{Point}

@@ -5,7 +5,7 @@ use Rattle.std.proofs.lemmas.Option.{none-some, slice_get_within, same_Some}
 use Rattle.std.proofs.lemmas.List.{length-set, get_or-set_same, get_or-set_other, get_or_past, set-get_or, length_push, length-replicate, get_or-replicate}
 use Rattle.std.proofs.lemmas.List.Sums.{sum_by-set, count_by-le-length}
 use Rattle.aig_graph.proofs.KindLaws.{element}
-use Rattle.variable_tables.proofs.PlacesLaws.{slice_get_push, slice_get-append_left, slice_get-append_right}
+use Rattle.aig_graph.proofs.PlacesLaws.{slice_get_push, slice_get-append_left, slice_get-append_right}
 use Rattle.cut_cert.specs.Fronts.{SearchFront, is_marked, mark_node, reach_node}
 
 -- ---- one more node

@@ -1,7 +1,7 @@
 -- Points rise with the numbers of their nodes.
 use Rattle.std.proofs.Common.{◌≡◌, ℕ, ◌+◌, ◌-◌, ◌*◌, ◌<◌, ◌≤◌, ◌==◌, nat_lt, Bool, true, false, not, ◌&&◌, Option, Some, None, List, ◌⊎◌, arith, refl, ap, ap₂, sym, ◌∙◌, inl, inr}
 use Rattle.std.proofs.lemmas.Bool.{cases_lt, cases_Bool, cases_order, lt-ltb, eq-eqb, or_left, or_right, and_from}
-use Rattle.variable_tables.proofs.PlacesLaws.{count-lt}
+use Rattle.aig_graph.proofs.PlacesLaws.{count-lt}
 use Rattle.aig_graph.specs.Graph.{Graph, first_gate}
 use Rattle.aig_graph.specs.Circuits.{Netlist}
 use Rattle.frame_net.specs.declared.net.Point.{Point}

@@ -1,6 +1,6 @@
 -- The gates of the smallest least cut are the smallest least set.
 use Rattle.std.proofs.Common.{ℕ, ◌≤◌, Bool, IsTrue, List, [], arith, refl, sym, subst}
-use Rattle.variable_tables.specs.Marking.{has}
+use Rattle.aig_graph.specs.Marking.{has}
 use Rattle.aig_graph.specs.Circuits.{Netlist}
 use Rattle.aig_graph.specs.Closed.{IsClosedSet}
 use Rattle.aig_graph.specs.Move.{move_of}

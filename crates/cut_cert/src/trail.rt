@@ -1,6 +1,6 @@
 //! The nodes of a walk, each of them marked and none twice.
 ghost use Rattle.std.specs.Prelude.{◌≡◌, ◌<◌, ◌++◌, ◌∷◌, [], IfOk, OnOk, MatchOption, true, false, length, replicate, reverse};
-ghost use Rattle.variable_tables.specs.Marking.{has};
+ghost use Rattle.aig_graph.specs.Marking.{has};
 ghost use Rattle.frame_net.specs.FlowNet.{node_count};
 ghost use Rattle.cut_cert.specs.Walks.{AreOn, ComesTo, points_of};
 

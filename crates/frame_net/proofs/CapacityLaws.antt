@@ -2,8 +2,8 @@
 use Rattle.std.proofs.Common.{◌≡◌, ℕ, suc, zero, ◌+◌, ◌-◌, ◌*◌, ◌≤◌, ◌==◌, ◌^◌, nat_lt, Bool, true, false, cond, List, [], length, arith, refl, ap, ap₂, sym, ◌∙◌, subst, inl, inr}
 use Rattle.std.proofs.lemmas.Bool.{cases_Bool, cases_eq, cond-false}
 use Rattle.std.proofs.lemmas.List.{length-map}
-use Rattle.variable_tables.specs.Counting.{count_below, places}
-use Rattle.variable_tables.proofs.PlacesLaws.{count-pass, count-fail, count-zero, length-places}
+use Rattle.aig_graph.specs.Counting.{count_below, places}
+use Rattle.aig_graph.proofs.PlacesLaws.{count-pass, count-fail, count-zero, length-places}
 use Rattle.aig_graph.specs.declared.properties.Props.{Props}
 use Rattle.aig_graph.specs.Graph.{Graph, IsGraph, variables_end, latch_at, gate_at, is_known}
 use Rattle.frame_net.specs.declared.edges.Link.{Link}

@@ -4,8 +4,8 @@ use Rattle.std.proofs.lemmas.Bool.{cases_lt, cases_Bool, cases_eq, cond-true, co
 use Rattle.frame_net.specs.Flow.{sum_below, IsCut, cut_value}
 use Rattle.frame_net.proofs.SumLaws.{sum_below-add, sum_below-same, sum_below-zero}
 use Rattle.frame_net.proofs.SparseRowLaws.{sum_one}
-use Rattle.variable_tables.specs.Counting.{count_below}
-use Rattle.variable_tables.proofs.PlacesLaws.{count-pass, count-fail, count-zero, length-places}
+use Rattle.aig_graph.specs.Counting.{count_below}
+use Rattle.aig_graph.proofs.PlacesLaws.{count-pass, count-fail, count-zero, length-places}
 use Rattle.aig_graph.specs.declared.graph.Latch.{Latch}
 use Rattle.aig_graph.specs.declared.properties.Props.{Props}
 use Rattle.aig_graph.specs.Graph.{Graph, IsGraph, first_gate, variables_end, latch_at, gate_at, is_known}

@@ -6,7 +6,7 @@ use Rattle.aig_graph.specs.Graph.{Graph}
 use Rattle.aig_graph.specs.Folding.{fold_gates, fold_to_depth}
 use Rattle.aig_graph.specs.Closed.{is_settled}
 use Rattle.aig_graph.specs.Border.{is_read_outside}
-use Rattle.variable_tables.specs.Counting.{count_below, places}
+use Rattle.aig_graph.specs.Counting.{count_below, places}
 use Rattle.frame_net.specs.Passable.{is_passable, passable_gates}
 use Rattle.frame_net.specs.Capacity.{has_node, is_observed, capacity, node_total}
 

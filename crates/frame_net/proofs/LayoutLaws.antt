@@ -3,11 +3,11 @@ use Rattle.std.proofs.Common.{◌≡◌, ℕ, ◌+◌, ◌-◌, ◌/◌, ◌<◌
 use Rattle.std.proofs.lemmas.Bool.{cases_lt, and_parts, true≢false, false≢true}
 use Rattle.std.proofs.lemmas.Option.{slice_get-get_or}
 use Rattle.std.proofs.lemmas.List.{get_or-take, length-take}
-use Rattle.variable_tables.specs.Tables.{table}
-use Rattle.variable_tables.specs.Marking.{mark_at, Marks, AreAllMarks}
-use Rattle.variable_tables.proofs.PlacesLaws.{length-places, count-bound, Ranks, rank_at}
-use Rattle.variable_tables.proofs.MarkingLaws.{Marks-then, table-marks, AreAllMarks-table}
-use Rattle.variable_tables.proofs.TableLaws.{length-table, table-at}
+use Rattle.aig_graph.specs.Tables.{table}
+use Rattle.aig_graph.specs.Marking.{mark_at, Marks, AreAllMarks}
+use Rattle.aig_graph.proofs.PlacesLaws.{length-places, count-bound, Ranks, rank_at}
+use Rattle.aig_graph.proofs.MarkingLaws.{Marks-then, table-marks, AreAllMarks-table}
+use Rattle.aig_graph.proofs.TableLaws.{length-table, table-at}
 use Rattle.aig_graph.specs.declared.graph.Gate.{Gate}
 use Rattle.aig_graph.specs.declared.graph.Latch.{Latch}
 use Rattle.aig_graph.specs.declared.properties.Props.{Props}

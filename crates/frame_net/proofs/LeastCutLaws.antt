@@ -4,10 +4,10 @@ use Rattle.std.proofs.lemmas.Bool.{cases_lt, cases_Bool, cases_eq, true≢false}
 use Rattle.frame_net.specs.Flow.{cut_value, sum_below}
 use Rattle.frame_net.specs.Laws.{IsGreatestLeastCut}
 use Rattle.frame_net.proofs.SumLaws.{term-le-sum_below}
-use Rattle.variable_tables.specs.Counting.{count_below}
-use Rattle.variable_tables.specs.Marking.{has}
-use Rattle.variable_tables.proofs.PlacesLaws.{count-fail}
-use Rattle.variable_tables.proofs.CountingLaws.{count-within}
+use Rattle.aig_graph.specs.Counting.{count_below}
+use Rattle.aig_graph.specs.Marking.{has}
+use Rattle.aig_graph.proofs.PlacesLaws.{count-fail}
+use Rattle.aig_graph.proofs.CountingLaws.{count-within}
 use Rattle.aig_graph.specs.declared.graph.Latch.{Latch}
 use Rattle.aig_graph.specs.Graph.{first_gate, variables_end, latch_at, is_known}
 use Rattle.aig_graph.specs.Circuits.{Netlist}

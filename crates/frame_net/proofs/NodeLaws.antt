@@ -3,7 +3,7 @@ use Rattle.std.proofs.Common.{◌≡◌, ℕ, ◌+◌, ◌-◌, ◌*◌, ◌/◌
 use Rattle.std.proofs.Math.Bool.{or-false}
 use Rattle.std.proofs.lemmas.Bool.{cases_lt, cases_eq, cond-true, cond-false, lt-ltb, le-ltb, ne_eqb, eq-eqb}
 use Rattle.std.proofs.lemmas.Option.{same_Some, slice_get-get_or}
-use Rattle.variable_tables.proofs.PlacesLaws.{length-places, count-le, count-lt, at_rank, Ranks, rank_at}
+use Rattle.aig_graph.proofs.PlacesLaws.{length-places, count-le, count-lt, at_rank, Ranks, rank_at}
 use Rattle.aig_graph.specs.declared.graph.Latch.{Latch}
 use Rattle.aig_graph.specs.Graph.{Graph, first_gate, variables_end, latch_at, is_known}
 use Rattle.aig_graph.proofs.KindLaws.{latch_at-gates, element}

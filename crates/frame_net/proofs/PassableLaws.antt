@@ -5,12 +5,12 @@ use Rattle.std.specs.Prelude.{◌↔◌}
 use Rattle.std.proofs.lemmas.Bool.{cases_lt, and_right}
 use Rattle.std.proofs.lemmas.Option.{none-some, slice_get-get_or}
 use Rattle.std.proofs.lemmas.List.{get_or_past}
-use Rattle.variable_tables.specs.Counting.{count_below}
-use Rattle.variable_tables.specs.Tables.{table}
-use Rattle.variable_tables.specs.Marking.{mark_at, AreAllMarks}
-use Rattle.variable_tables.proofs.PlacesLaws.{length-places}
-use Rattle.variable_tables.proofs.MarkingLaws.{AreAllMarks-table, mark_at-all}
-use Rattle.variable_tables.proofs.TableLaws.{length-table, entry}
+use Rattle.aig_graph.specs.Counting.{count_below}
+use Rattle.aig_graph.specs.Tables.{table}
+use Rattle.aig_graph.specs.Marking.{mark_at, AreAllMarks}
+use Rattle.aig_graph.proofs.PlacesLaws.{length-places}
+use Rattle.aig_graph.proofs.MarkingLaws.{AreAllMarks-table, mark_at-all}
+use Rattle.aig_graph.proofs.TableLaws.{length-table, entry}
 use Rattle.aig_graph.specs.declared.graph.Gate.{Gate}
 use Rattle.aig_graph.specs.Graph.{Graph, IsGraph, IsGateAt, variable, first_latch, first_gate, variables_end, latches_and_gates, gate_at, is_known}
 use Rattle.aig_graph.specs.Closed.{is_held, may_move, both, is_settled, IsPassable}

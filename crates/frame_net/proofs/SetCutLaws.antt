@@ -3,9 +3,9 @@ use Rattle.std.proofs.Common.{◌≡◌, ℕ, suc, zero, ◌<◌, ◌==◌, Bool
 use Rattle.std.proofs.lemmas.Bool.{cases_lt, cases_Bool, or_cases, or_parts, eqb-true, and_parts, true≢false}
 use Rattle.std.proofs.lemmas.Option.{none-some}
 use Rattle.frame_net.specs.Flow.{IsCut, cut_value}
-use Rattle.variable_tables.specs.Counting.{count_below}
-use Rattle.variable_tables.specs.Marking.{has}
-use Rattle.variable_tables.proofs.CountingLaws.{count_below-same}
+use Rattle.aig_graph.specs.Counting.{count_below}
+use Rattle.aig_graph.specs.Marking.{has}
+use Rattle.aig_graph.proofs.CountingLaws.{count_below-same}
 use Rattle.aig_graph.specs.declared.graph.Gate.{Gate}
 use Rattle.aig_graph.specs.declared.graph.Latch.{Latch}
 use Rattle.aig_graph.specs.declared.properties.Props.{Props}

@@ -1,6 +1,6 @@
 -- The flow network of a circuit, by pairs of nodes.
 use Rattle.std.specs.Prelude.{◌≡◌, ℕ, ◌+◌, ◌-◌, ◌*◌, ◌<◌, ◌==◌, ◌||◌, ◌↔◌, Bool, true, false, List, length, Option, Some, None, if◌then◌else◌}
-use Rattle.variable_tables.specs.Counting.{count_below, places}
+use Rattle.aig_graph.specs.Counting.{count_below, places}
 use Rattle.aig_graph.specs.declared.graph.Gate.{Gate}
 use Rattle.aig_graph.specs.declared.properties.Props.{Props}
 use Rattle.aig_graph.specs.Graph.{Graph, first_gate, variables_end, latch_at, gate_at, is_known}

@@ -1,7 +1,7 @@
 -- The gates over which latches may move.
 use Rattle.std.specs.Prelude.{◌≡◌, ℕ, ◌&&◌, Bool, List, is_some, length}
-use Rattle.variable_tables.specs.Counting.{places}
-use Rattle.variable_tables.specs.Tables.{table}
+use Rattle.aig_graph.specs.Counting.{places}
+use Rattle.aig_graph.specs.Tables.{table}
 use Rattle.aig_graph.specs.Graph.{Graph, first_latch, variables_end, latches_and_gates, gate_at}
 use Rattle.aig_graph.specs.Closed.{is_settled}
 use Rattle.frame_net.specs.declared.pass_set.PassSet.{PassSet}

@@ -5,9 +5,9 @@
 //! the first gate's number.
 ghost use Rattle.std.specs.Prelude.{ℕ, Bool, List, ◌≡◌, ◌+◌, ◌-◌, ◌<◌, ◌≤◌, ◌^◌, nat_le, take, length, IfOk, true, if◌then◌else◌};
 ghost use Rattle.std.specs.List.{slice_index_or};
-ghost use Rattle.variable_tables.specs.Counting.{count_below};
-ghost use Rattle.variable_tables.specs.Marking.{AreAllMarks};
-ghost use Rattle.variable_tables.specs.Tables.{table};
+ghost use Rattle.aig_graph.specs.Counting.{count_below};
+ghost use Rattle.aig_graph.specs.Marking.{AreAllMarks};
+ghost use Rattle.aig_graph.specs.Tables.{table};
 ghost use Rattle.aig_graph.specs.Graph.{IsGraph, first_latch, first_gate, variables_end, latches_and_gates};
 ghost use Rattle.frame_net.specs.Passable.{IsPassSet};
 ghost use Rattle.frame_net.specs.Edges.{AreLinks};
@@ -16,9 +16,11 @@ ghost use Rattle.frame_net.specs.Capacity.{has_node, is_observed, latch_number, 
 
 use crate::links::NodeLinks;
 use crate::pass_set::PassSet;
-use aig_graph::{Aig, Keep, NoMemory, Props, mark_held, mark_read};
+use aig_graph::{
+    Aig, Keep, NoMemory, Props, count_marks, mark_at, mark_held, mark_read, marked_variables,
+    number_marks,
+};
 use std::alloc::Global;
-use variable_tables::{count_marks, mark_at, marked_variables, number_marks};
 
 /// A graph with its properties and held latches, and the tables by which its network is built, from the first latch on: whether a
 /// variable's output leaves the frame, and its number, which is that of the node after a latch, or of the one before a gate if each

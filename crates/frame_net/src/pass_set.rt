@@ -1,15 +1,14 @@
 //! The passable gates, in one pass: fan-ins come before their gates, so whether they are passable is known when a gate is met.
 ghost use Rattle.std.specs.Prelude.{ℕ, List, ◌≡◌, ◌&&◌, ◌||◌, ◌↔◌, ◌≤◌, IsTrue, IfOk, OnOk, length};
-ghost use Rattle.variable_tables.specs.Tables.{table};
-ghost use Rattle.variable_tables.specs.Marking.{mark_at};
+ghost use Rattle.aig_graph.specs.Tables.{table};
+ghost use Rattle.aig_graph.specs.Marking.{mark_at};
 ghost use Rattle.aig_graph.specs.Graph.{Graph, variable, first_latch, latches_and_gates};
 ghost use Rattle.aig_graph.specs.Closed.{IsPassable, may_move};
 ghost use Rattle.aig_graph.specs.declared.literal.TheConstants.{MAX_VARIABLES};
 ghost use Rattle.frame_net.specs.Passable.{is_passable, passable_gates, IsPassSet};
 
-use aig_graph::{Aig, Gate, Keep, NoMemory};
+use aig_graph::{Aig, Gate, Keep, NoMemory, count_marks, mark_at};
 use std::alloc::Global;
-use variable_tables::{count_marks, mark_at};
 
 /// The passable gates of a graph, by a table from the first latch on: inputs, of which a short file can have hundreds of
 /// millions, have no entry.

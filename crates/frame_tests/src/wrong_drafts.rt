@@ -1,12 +1,11 @@
 //! Drafts of which each has one thing wrong: none is taken, and the circuit stays what it is.
 use aag_text::read_aag;
-use aig_graph::{Circuit, Keep};
+use aig_graph::{Circuit, Keep, Memory};
 use backward_moves::Drafted;
 use backward_retiming::move_as_drafted;
 use backward_sets::{DraftLatch, DraftReset, Literal, Pair};
 use std::alloc::Global;
 use std::test::*;
-use variable_tables::Memory;
 
 /// A decoder of two inputs, whose first line starts at 1.
 const DECODER: &[u8] =

@@ -3,7 +3,7 @@ use Rattle.std.proofs.Common.{ℕ, suc, inl, inr, ◌≡◌, ◌<◌, ◌++◌, 
 use Rattle.std.proofs.lemmas.List.{length-append}
 use Rattle.std.proofs.lemmas.Option.{slice_get_within}
 use Rattle.aig_graph.specs.Circuits.{Netlist}
-use Rattle.variable_tables.proofs.PlacesLaws.{slice_get_push}
+use Rattle.aig_graph.proofs.PlacesLaws.{slice_get_push}
 use Rattle.certificates.specs.declared.certificate.Certificate.{Certificate}
 use Rattle.chosen_cuts.specs.declared.records.Records.{Records}
 use Rattle.aig_graph.specs.declared.choice.Choice.{Choice}

@@ -23,8 +23,8 @@ use Rattle.frames.specs.Following.{ComesOn, ComesWhole, IsCleanedFollowed, IsFol
 use Rattle.frames.specs.Found.{Moves}
 use Rattle.frames.specs.Underway.{IsUnderway}
 use Rattle.clean.specs.Normalised.{IsNormalised}
-use Rattle.variable_tables.specs.Tables.{table}
-use Rattle.variable_tables.proofs.TableLaws.{table-from}
+use Rattle.aig_graph.specs.Tables.{table}
+use Rattle.aig_graph.proofs.TableLaws.{table-from}
 use Rattle.frames.proofs.FrameLaws.{cleaned-by, moved-by, own-cleaned}
 
 -- all of what is kept

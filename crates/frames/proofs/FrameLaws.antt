@@ -4,7 +4,7 @@ use Rattle.std.specs.Result.{IfOk}
 use Rattle.std.specs.List.{All}
 use Rattle.std.proofs.lemmas.List.FromFn.{length-range_with_len}
 use Rattle.aig_graph.specs.declared.literal.TheConstants.{MAX_VARIABLES}
-use Rattle.variable_tables.specs.declared.memory.NoMemory.{NoMemory}
+use Rattle.aig_graph.specs.declared.memory.NoMemory.{NoMemory}
 use Rattle.aig_graph.specs.Graph.{Graph, IsGraph, variables_end, free_latches}
 use Rattle.aig_graph.specs.Circuits.{Netlist, IsNetlist}
 use Rattle.aig_graph.specs.Closed.{IsClosedSet}
@@ -18,10 +18,10 @@ use Rattle.clean.specs.declared.cleaning.Cleaned.{Cleaned}
 use Rattle.clean.proofs.CleaningLaws.{composed-all}
 use Rattle.cleaned_circuits.proofs.HeldLaws.{held_after-in_range}
 use Rattle.cleaned_circuits.proofs.PassLaws.{IsCircuit}
-use Rattle.variable_tables.specs.Counting.{places}
-use Rattle.variable_tables.specs.Marking.{has}
-use Rattle.variable_tables.proofs.MemberLaws.{places-members}
-use Rattle.variable_tables.proofs.PlacesLaws.{length-places, count-bound}
+use Rattle.aig_graph.specs.Counting.{places}
+use Rattle.aig_graph.specs.Marking.{has}
+use Rattle.aig_graph.proofs.MemberLaws.{places-members}
+use Rattle.aig_graph.proofs.PlacesLaws.{length-places, count-bound}
 use Rattle.rebuild.specs.Moved.{moved_of}
 use Rattle.rebuild.proofs.MovedLaws.{members-below}
 use Rattle.retimed_circuits.specs.declared.report.Retimed.{Retimed}

@@ -1,7 +1,7 @@
 -- How long paths may get, as a number of the circuit that was read.
 use Rattle.std.specs.Prelude.{ℕ, Option, Some, None}
 use Rattle.aig_graph.specs.Circuits.{Netlist}
-use Rattle.path_levels.specs.Levels.{levels}
+use Rattle.retimed_circuits.specs.Levels.{levels}
 use Rattle.frames.specs.declared.bound.PathBound.{PathBound}
 use Rattle.frames.specs.declared.bound.PathBound.TheVariants as bounds
 use Rattle.frames.specs.declared.options.Options.{Options}

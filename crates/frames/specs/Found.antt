@@ -11,7 +11,7 @@ use Rattle.aig_graph.specs.Streams.{SameStreams}
 use Rattle.aig_graph.specs.declared.choice.Choice.{Choice}
 use Rattle.chosen_cuts.specs.Certified.{AddsOne}
 use Rattle.chosen_cuts.specs.declared.records.Records.{Records}
-use Rattle.path_levels.specs.Levels.{levels}
+use Rattle.retimed_circuits.specs.Levels.{levels}
 use Rattle.rebuild.specs.Marked.{AreMarksOf}
 use Rattle.rebuild.specs.Moved.{moved_of}
 use Rattle.retimed_circuits.specs.Frames.{CleansTo, IsFrame, held_over, moved_over, report_over}

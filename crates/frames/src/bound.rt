@@ -3,7 +3,7 @@ ghost use Rattle.std.specs.Prelude.{◌≡◌, IfOk};
 ghost use Rattle.frames.specs.Bounds.{bound_for};
 
 use aig_graph::{Circuit, NoMemory};
-use path_levels::levels;
+use retimed_circuits::levels;
 use std::alloc::Global;
 
 /// How many gates may be on a path of a retimed circuit, where the circuit that was read has no longer one.

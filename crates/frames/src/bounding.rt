@@ -9,9 +9,9 @@ ghost use Rattle.frames.specs.Found.{IsAfterMove, IsFoundOver, IsSetJudged, IsOv
 use crate::helping::{Helping, PreparedMove};
 use aig_graph::{Choice, Circuit, ClosedSet, Keep, NoMemory};
 use chosen_cuts::{Records, chosen_least_along};
-use path_levels::levels;
 use pulse::{Crew, PhaseGate};
 use rebuild::moved;
+use retimed_circuits::levels;
 use std::alloc::Global;
 use std::thread::Threads;
 

@@ -8,10 +8,9 @@ use crate::options::Options;
 use crate::run::Run;
 use aig_graph::{Choice, Circuit, ClosedSet, Keep, NoMemory};
 use chosen_cuts::{Records, chosen_least_along};
-use path_levels::bounded;
 use pulse::{Crew, PhaseGate};
 use rebuild::MoveMarks;
-use retimed_circuits::FrameReport;
+use retimed_circuits::{FrameReport, bounded};
 use std::alloc::Global;
 use std::thread::Threads;
 

@@ -7,10 +7,10 @@ use Rattle.aig_graph.specs.declared.graph.Reset.{Reset}
 use Rattle.aig_graph.specs.Graph.{Graph, IsGraph, variable, first_latch}
 use Rattle.aig_graph.specs.Value.{signed_as}
 use Rattle.aig_graph.proofs.KindLaws.{element}
-use Rattle.variable_tables.specs.Counting.{count_below}
-use Rattle.variable_tables.proofs.PlacesLaws.{count-pass, count-fail}
-use Rattle.variable_tables.proofs.TableLaws.{length-table, table-at}
-use Rattle.variable_tables.proofs.CountingLaws.{count-within}
+use Rattle.aig_graph.specs.Counting.{count_below}
+use Rattle.aig_graph.proofs.PlacesLaws.{count-pass, count-fail}
+use Rattle.aig_graph.proofs.TableLaws.{length-table, table-at}
+use Rattle.aig_graph.proofs.CountingLaws.{count-within}
 use Rattle.cleaned_circuits.specs.Latches.{constant_of}
 use Rattle.cleaned_circuits.specs.Merged.{replaced}
 use Rattle.cleaned_circuits.proofs.LatchLaws.{constant-even}

@@ -5,7 +5,7 @@ use Rattle.std.proofs.lemmas.Bool.{cases_Bool, cases_eq, and_parts, and_from, an
 use Rattle.std.proofs.lemmas.Option.{none-some, same_Some, slice_get_within}
 use Rattle.aig_graph.specs.declared.graph.Latch.{Latch}
 use Rattle.aig_graph.specs.Graph.{Graph}
-use Rattle.variable_tables.proofs.TableLaws.{length-table, table-at}
+use Rattle.aig_graph.proofs.TableLaws.{length-table, table-at}
 use Rattle.cleaned_circuits.specs.Latches.{constant_of}
 use Rattle.cleaned_circuits.specs.Merged.{substitute_or_own}
 use Rattle.retimed_circuits.specs.Readings.{own_literal, read, may_merge, from_reset}

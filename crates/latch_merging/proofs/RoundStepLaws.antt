@@ -4,7 +4,7 @@ use Rattle.std.proofs.Math.Seq.{take-suc}
 use Rattle.std.proofs.lemmas.List.{get_or_default}
 use Rattle.aig_graph.specs.declared.graph.Latch.{Latch}
 use Rattle.aig_graph.specs.Graph.{Graph, first_latch, variables_end}
-use Rattle.variable_tables.specs.Tables.{table}
+use Rattle.aig_graph.specs.Tables.{table}
 use Rattle.cleaned_circuits.specs.Merged.{merging_from, substitutes_after}
 use Rattle.cleaned_circuits.proofs.SubstituteLaws.{length-merge_gates}
 use Rattle.retimed_circuits.specs.Readings.{from_reset, leaves, own_literal, read, substitutes_by, signature}
@@ -13,7 +13,7 @@ use Rattle.latch_merging.specs.declared.signature.Signature.{Signature}
 use Rattle.retimed_circuits.specs.Counts.{is_merged}
 use Rattle.latch_merging.specs.Rounds.{first_read, first_round, next_read, round_by, signature_of}
 use Rattle.clean.specs.Substitutions.{from_first, own_literals}
-use Rattle.variable_tables.proofs.TableLaws.{entry, table-end}
+use Rattle.aig_graph.proofs.TableLaws.{entry, table-end}
 
 -- for each variable there stands a literal
 pub substitutes_by-long : (g : Graph) (reads : List ℕ) → length reads ≡ length g.latches → length (substitutes_by g reads) ≡ variables_end g

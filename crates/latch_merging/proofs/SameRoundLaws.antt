@@ -2,9 +2,9 @@
 use Rattle.std.proofs.Common.{ℕ, ◌≡◌, suc, zero, List, length, ◌&&◌, cond, Option, Some, None, slice_get, refl, ap, sym, ◌∙◌}
 use Rattle.aig_graph.specs.declared.graph.Latch.{Latch}
 use Rattle.aig_graph.specs.Graph.{Graph}
-use Rattle.variable_tables.specs.Tables.{table}
-use Rattle.variable_tables.proofs.TableLaws.{table-same}
-use Rattle.variable_tables.proofs.ListLaws.{slice_get-map_none}
+use Rattle.aig_graph.specs.Tables.{table}
+use Rattle.aig_graph.proofs.TableLaws.{table-same}
+use Rattle.aig_graph.proofs.ListLaws.{slice_get-map_none}
 use Rattle.cleaned_circuits.specs.Merged.{replaced_graph, replaced_latch}
 use Rattle.cleaned_circuits.proofs.MergedLaws.{length-replaced_latches, replaced-latch}
 use Rattle.retimed_circuits.specs.Readings.{from_reset, may_merge, own_literal, read, substitutes_by, signature}

@@ -5,7 +5,7 @@ use Rattle.std.proofs.lemmas.Option.{same_Some}
 use Rattle.aig_graph.specs.Graph.{variable}
 use Rattle.aig_graph.specs.Value.{signed, signed_as}
 use Rattle.aig_graph.proofs.SignLaws.{value_signed, value_signed_as}
-use Rattle.variable_tables.proofs.PlacesLaws.{slice_get_push}
+use Rattle.aig_graph.proofs.PlacesLaws.{slice_get_push}
 use Rattle.map_checks.specs.Shared.{IsNegated}
 use Rattle.map_checks.specs.Equal.{Equal, IsRight, signed_substitute_or_own, standing_for}
 

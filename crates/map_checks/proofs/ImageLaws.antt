@@ -9,11 +9,11 @@ use Rattle.aig_graph.specs.Graph.{Graph, IsGraph, first_gate, first_latch, varia
 use Rattle.aig_graph.specs.Value.{next_value, signed, signed_as, value_within}
 use Rattle.aig_graph.proofs.KindLaws.{element}
 use Rattle.aig_graph.proofs.SignLaws.{value_signed, value_signed_as}
-use Rattle.state_maps.specs.States.{Digits, State, after_step}
-use Rattle.state_maps.specs.MapCircuits.{mapped}
-use Rattle.state_maps.proofs.WithinLaws.{within_laws}
+use Rattle.retimed_circuits.specs.States.{Digits, State, after_step}
+use Rattle.retimed_circuits.specs.MapCircuits.{mapped}
+use Rattle.retimed_circuits.proofs.WithinLaws.{within_laws}
 use Rattle.std.proofs.lemmas.List.Elements.{All-map}
-use Rattle.variable_tables.proofs.ListLaws.{map-map, map-same}
+use Rattle.aig_graph.proofs.ListLaws.{map-map, map-same}
 use Rattle.map_checks.specs.Shared.{Grows, IsNegated, IsSharedLiteral, Respects, Shared, shared_end, gates_of}
 use Rattle.map_checks.specs.Equal.{Equal, IsRight, StaysRight}
 use Rattle.map_checks.specs.Copies.{AreShared, Copy, CopiesValues, IsCopy, copied_end, copy_of}

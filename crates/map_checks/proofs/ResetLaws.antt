@@ -6,8 +6,8 @@ use Rattle.aig_graph.specs.declared.graph.Reset.TheVariants.{Zero, One, Free}
 use Rattle.aig_graph.specs.Graph.{Graph, IsGraph, first_gate, first_latch, free_before, variable}
 use Rattle.aig_graph.specs.Value.{opening, opening_at, value_within, opening_literal}
 use Rattle.aig_graph.proofs.KindLaws.{element}
-use Rattle.state_maps.specs.States.{opening_state}
-use Rattle.state_maps.proofs.WithinLaws.{within_laws}
+use Rattle.retimed_circuits.specs.States.{opening_state}
+use Rattle.retimed_circuits.proofs.WithinLaws.{within_laws}
 use Rattle.map_checks.specs.Shared.{AreGates, IsNegated, IsSharedLiteral, Shared, shared_end}
 use Rattle.map_checks.specs.Equal.{Equal}
 use Rattle.map_checks.specs.Copies.{AreShared, Copy, IsCopy}

@@ -7,7 +7,7 @@ use Rattle.aig_graph.specs.declared.graph.Gate.{Gate}
 use Rattle.aig_graph.specs.Building.{gate_of}
 use Rattle.aig_graph.specs.Graph.{IsGateAt}
 use Rattle.aig_graph.proofs.SignLaws.{gate_of-below, gate_of-ordered, value-gate_of}
-use Rattle.variable_tables.proofs.PlacesLaws.{slice_get_push, slice_get-append_left, slice_get-append_right}
+use Rattle.aig_graph.proofs.PlacesLaws.{slice_get_push, slice_get-append_left, slice_get-append_right}
 use Rattle.map_checks.specs.declared.shared.SharedGate.{SharedGate}
 use Rattle.map_checks.specs.Shared.{Shared, AreGates, Grows, IsBoth, IsFolded, IsSharedLiteral, Respects, shared_end, shared_gates}
 

@@ -8,10 +8,10 @@ use Rattle.aig_graph.specs.Circuits.{Netlist, IsNetlist}
 use Rattle.aig_graph.specs.Graph.{Graph, IsGraph, IsGateAt, first_gate, variables_end}
 use Rattle.aig_graph.specs.Mapped.{mapped_props}
 use Rattle.aig_graph.specs.Value.{next_value, value_within}
-use Rattle.state_maps.specs.States.{Digits, SameReads, State, after_step}
-use Rattle.state_maps.specs.MapCircuits.{is_kept, mapped}
-use Rattle.state_maps.proofs.WithinLaws.{within_laws}
-use Rattle.variable_tables.proofs.ListLaws.{from_map}
+use Rattle.retimed_circuits.specs.States.{Digits, SameReads, State, after_step}
+use Rattle.retimed_circuits.specs.MapCircuits.{is_kept, mapped}
+use Rattle.retimed_circuits.proofs.WithinLaws.{within_laws}
+use Rattle.aig_graph.proofs.ListLaws.{from_map}
 use Rattle.map_checks.specs.Shared.{AreGates, Shared}
 use Rattle.map_checks.specs.Equal.{Equal}
 use Rattle.map_checks.specs.Copies.{Copy, CopiesValues}

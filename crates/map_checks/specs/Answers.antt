@@ -3,8 +3,8 @@ use Rattle.std.specs.Prelude.{ℕ, ◌≡◌, List, [], length}
 use Rattle.aig_graph.specs.Circuits.{Netlist}
 use Rattle.aig_graph.specs.Streams.{AreKept, SameShape, SameStreams, chosen}
 use Rattle.aig_graph.specs.Value.{Choice}
-use Rattle.state_maps.specs.MapCircuits.{IsMapCircuit, is_kept, mapped}
-use Rattle.state_maps.specs.States.{Digits, SameReads, State, after_step, opening_state}
+use Rattle.retimed_circuits.specs.MapCircuits.{IsMapCircuit, is_kept, mapped}
+use Rattle.retimed_circuits.specs.States.{Digits, SameReads, State, after_step, opening_state}
 use Rattle.map_checks.specs.declared.answer.Answer.{Answer}
 use Rattle.map_checks.specs.declared.answer.Answer.TheVariants.{NotShown, Retiming}
 use Rattle.map_checks.specs.declared.checking.Opening.{Opening}

@@ -7,8 +7,8 @@ use Rattle.aig_graph.specs.declared.properties.Props.{Props}
 use Rattle.aig_graph.specs.Circuits.{Netlist}
 use Rattle.aig_graph.specs.Mapped.{mapped_props}
 use Rattle.aig_graph.specs.Value.{value_within}
-use Rattle.state_maps.specs.States.{Digits, State, after_step}
-use Rattle.state_maps.specs.MapCircuits.{is_kept, mapped}
+use Rattle.retimed_circuits.specs.States.{Digits, State, after_step}
+use Rattle.retimed_circuits.specs.MapCircuits.{is_kept, mapped}
 use Rattle.map_checks.specs.Shared.{IsNegated, Respects, Shared, gates_of}
 use Rattle.map_checks.specs.Equal.{Equal, IsRight}
 use Rattle.map_checks.specs.Copies.{AreShared, Copy, CopiesValues, copied_end, copy_of}

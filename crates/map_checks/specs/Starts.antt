@@ -7,7 +7,7 @@ use Rattle.aig_graph.specs.declared.graph.Reset.{Reset}
 use Rattle.aig_graph.specs.declared.graph.Reset.TheVariants.{Zero, One, Free}
 use Rattle.aig_graph.specs.Graph.{Graph, first_latch, free_before, free_latches, is_free, variables_end}
 use Rattle.aig_graph.specs.Value.{Choice, opening_literal, value_within}
-use Rattle.state_maps.specs.States.{opening_state}
+use Rattle.retimed_circuits.specs.States.{opening_state}
 use Rattle.map_checks.specs.Shared.{IsNegated}
 use Rattle.map_checks.specs.Copies.{Copy, CopiesValues, copied_end}
 

@@ -1,7 +1,7 @@
 //! Which free latches of the first circuit those of the second begin as.
 ghost use Rattle.std.specs.Prelude.{◌≡◌, IfOk, [], length, true};
 ghost use Rattle.aig_graph.specs.Graph.{free_before};
-ghost use Rattle.variable_tables.specs.Tables.{table};
+ghost use Rattle.aig_graph.specs.Tables.{table};
 ghost use Rattle.map_checks.specs.Starts.{Takes};
 
 use crate::starting::free_place;

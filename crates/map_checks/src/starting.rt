@@ -2,7 +2,7 @@
 //! free latch is one of the first's.
 ghost use Rattle.std.specs.Prelude.{◌≡◌, ◌≤◌, [], IfOk, IfSome, length, if◌then◌else◌};
 ghost use Rattle.aig_graph.specs.Graph.{free_before, is_free};
-ghost use Rattle.variable_tables.specs.Tables.{table};
+ghost use Rattle.aig_graph.specs.Tables.{table};
 ghost use Rattle.map_checks.specs.Starts.{AreOpeningLiterals, IsFreeLatch, IsResetImage};
 
 use crate::copied::{Copied, copy};

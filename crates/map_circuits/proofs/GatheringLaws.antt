@@ -15,9 +15,9 @@ use Rattle.aig_graph.proofs.KindLaws.{GatePlace, gate_place}
 use Rattle.aig_graph.proofs.SearchLaws.{has_iff_contains}
 use Rattle.rebuild.proofs.BorderLaws.{border-member}
 use Rattle.rebuild.specs.Moved.{is_latched}
-use Rattle.variable_tables.proofs.CountingLaws.{places-none}
-use Rattle.variable_tables.proofs.PlacesLaws.{at_rank, count-pass, length-places, places-fail, places-pass, take-places}
-use Rattle.variable_tables.specs.Counting.{count_below, places}
+use Rattle.aig_graph.proofs.CountingLaws.{places-none}
+use Rattle.aig_graph.proofs.PlacesLaws.{at_rank, count-pass, length-places, places-fail, places-pass, take-places}
+use Rattle.aig_graph.specs.Counting.{count_below, places}
 use Rattle.map_circuits.specs.Following.{entry_of}
 use Rattle.map_circuits.specs.Gathering.{IsGathered}
 use Rattle.map_circuits.proofs.FollowingLaws.{none-before, none-between}

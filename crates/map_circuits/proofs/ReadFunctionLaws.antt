@@ -5,7 +5,7 @@ use Rattle.aig_graph.specs.Circuits.{AreLiteralsOf, Netlist}
 use Rattle.aig_graph.specs.Graph.{Graph, IsGraph, IsLiteralOf, first_latch}
 use Rattle.aig_graph.specs.Value.{value_within}
 use Rattle.retimed_circuits.specs.Readings.{IsReading}
-use Rattle.state_maps.specs.States.{IsStateMap, SameReads, State, after_step, opening_state}
+use Rattle.retimed_circuits.specs.States.{IsStateMap, SameReads, State, after_step, opening_state}
 use Rattle.map_circuits.specs.Constraining.{AddsSubstitutes, AreOne, substitute_function}
 use Rattle.map_circuits.specs.Following.{state_of}
 use Rattle.map_circuits.proofs.ConstrainingLaws.{substitute-within}

@@ -13,12 +13,12 @@ use Rattle.aig_graph.proofs.GraphLaws.{all_from_slice_get}
 use Rattle.aig_graph.proofs.SearchLaws.{has_iff_contains}
 use Rattle.rebuild.specs.Moved.{is_latched, latch_for, moved_graph}
 use Rattle.rebuild.proofs.BorderLaws.{latched-cases}
-use Rattle.variable_tables.specs.Counting.{places}
-use Rattle.variable_tables.proofs.ListLaws.{map-same, slice_get-map_some}
-use Rattle.variable_tables.proofs.PlacesLaws.{Ranks, rank_at}
-use Rattle.state_maps.specs.States.{State}
-use Rattle.state_maps.specs.Cleaning.{held_by}
-use Rattle.state_maps.specs.Moving.{held_value}
+use Rattle.aig_graph.specs.Counting.{places}
+use Rattle.aig_graph.proofs.ListLaws.{map-same, slice_get-map_some}
+use Rattle.aig_graph.proofs.PlacesLaws.{Ranks, rank_at}
+use Rattle.retimed_circuits.specs.States.{State}
+use Rattle.retimed_circuits.specs.CleanedStates.{held_by}
+use Rattle.retimed_circuits.specs.MovedStates.{held_value}
 use Rattle.map_circuits.specs.Growing.{Extends}
 use Rattle.map_circuits.specs.Following.{Follows, IsCovered, entry_of, state_of}
 use Rattle.map_circuits.specs.Stepping.{AreMoved, ArePassed}

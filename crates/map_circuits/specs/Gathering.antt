@@ -1,8 +1,8 @@
 -- Entries that move to the front of a table.
 use Rattle.std.specs.Prelude.{ℕ, ◌+◌, ◌-◌, ◌<◌, ◌≤◌, ◌≡◌, Bool, List, length}
 use Rattle.std.specs.List.{slice_index_or}
-use Rattle.variable_tables.specs.Counting.{places}
-use Rattle.variable_tables.specs.Marking.{AreAllMarks}
+use Rattle.aig_graph.specs.Counting.{places}
+use Rattle.aig_graph.specs.Marking.{AreAllMarks}
 use Rattle.map_circuits.specs.Following.{entry_of}
 
 -- The first of the new entries are those that the variables below n that pass had before, in their order; from that of n on all are as

@@ -1,13 +1,13 @@
 -- What the latches of a circuit hold, after a move or a pass, by what those before hold.
 use Rattle.std.specs.Prelude.{ℕ, ◌+◌, ◌<◌, ◌≡◌, Bool, List, length, slice_get, All, Some}
 use Rattle.std.specs.List.{slice_index_or}
-use Rattle.variable_tables.specs.Counting.{places}
+use Rattle.aig_graph.specs.Counting.{places}
 use Rattle.aig_graph.specs.Graph.{Graph, IsLiteralOf, first_gate, first_latch, variables_end}
 use Rattle.aig_graph.specs.Move.{Move}
 use Rattle.rebuild.specs.Moved.{is_latched, moved_graph}
-use Rattle.state_maps.specs.States.{State}
-use Rattle.state_maps.specs.Cleaning.{trimmed_state}
-use Rattle.state_maps.specs.Moving.{moved_state}
+use Rattle.retimed_circuits.specs.States.{State}
+use Rattle.retimed_circuits.specs.CleanedStates.{trimmed_state}
+use Rattle.retimed_circuits.specs.MovedStates.{moved_state}
 use Rattle.map_circuits.specs.Following.{entry_of, state_of}
 
 -- the functions of the latches after a move: a latch that stays has its own

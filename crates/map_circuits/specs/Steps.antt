@@ -6,7 +6,7 @@ use Rattle.retimed_circuits.specs.Partitions.{IsMerged}
 use Rattle.retimed_circuits.specs.Readings.{IsReading}
 use Rattle.map_circuits.specs.Constraining.{AddsSubstitutes, AreOne, substitute_function}
 use Rattle.map_circuits.specs.Following.{state_of}
-use Rattle.state_maps.specs.States.{IsStateMap}
+use Rattle.retimed_circuits.specs.States.{IsStateMap}
 
 -- a reading, whatever latches are held
 abbrev pub IsSomeReading : Graph → List ℕ → Type 0

@@ -8,7 +8,7 @@ ghost use Rattle.aig_graph.specs.Graph.{first_latch, variables_end};
 ghost use Rattle.aig_graph.specs.Move.{move_of};
 ghost use Rattle.rebuild.specs.Entries.{by_variable};
 ghost use Rattle.rebuild.specs.Moved.{is_latched};
-ghost use Rattle.variable_tables.specs.Marking.{AreAllMarks};
+ghost use Rattle.aig_graph.specs.Marking.{AreAllMarks};
 ghost use Rattle.map_circuits.specs.Gathering.{GathersOn, IsGathered};
 
 use aig_graph::{Circuit, ClosedSet, Keep, Lit};

@@ -2,7 +2,7 @@
 use Rattle.std.specs.Prelude.{ℕ, List}
 use Rattle.aig_graph.specs.Circuits.{Netlist}
 use Rattle.aig_graph.specs.Streams.{SameStreams}
-use Rattle.state_maps.specs.MapCircuits.{IsMapCircuit}
+use Rattle.retimed_circuits.specs.MapCircuits.{IsMapCircuit}
 use Rattle.map_checks.specs.Answers.{AreFitting, IsMap}
 use Rattle.aig_binary.specs.declared.reading.SpeltCircuit.{SpeltCircuit}
 use Rattle.reports.specs.Differences.{shapes_text}

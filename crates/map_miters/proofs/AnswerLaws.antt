@@ -4,7 +4,7 @@ use Rattle.std.proofs.Math.Seq.{take-length}
 use Rattle.std.proofs.lemmas.Bool.{cases_lt}
 use Rattle.std.proofs.lemmas.List.{get_or-map, get_or_past, length-map}
 use Rattle.std.proofs.lemmas.Option.{none-some, same_Some, slice_get_past, slice_get_within}
-use Rattle.variable_tables.proofs.ListLaws.{count_by-cons}
+use Rattle.aig_graph.proofs.ListLaws.{count_by-cons}
 use Rattle.aig_graph.specs.declared.graph.Latch.{Latch}
 use Rattle.aig_graph.specs.declared.graph.Reset.{Reset}
 use Rattle.aig_graph.specs.declared.graph.Reset.TheVariants.{Zero, One, Free}
@@ -15,10 +15,10 @@ use Rattle.aig_graph.specs.Value.{Choice, Inputs, latch_value, next_value, openi
 use Rattle.aig_graph.proofs.KindLaws.{element}
 use Rattle.aig_graph.proofs.StreamLaws.{funext}
 use Rattle.aig_graph.proofs.FreeLaws.{free-where}
-use Rattle.state_maps.specs.MapCircuits.{FreeStay, IsFreeInput, IsMapCircuit, free_outputs, is_kept, mapped}
-use Rattle.state_maps.specs.States.{State, after_step, opening_state}
-use Rattle.state_maps.proofs.FreeLaws.{free-fewer, free-within}
-use Rattle.state_maps.proofs.MapLaws.{all-read}
+use Rattle.retimed_circuits.specs.MapCircuits.{FreeStay, IsFreeInput, IsMapCircuit, free_outputs, is_kept, mapped}
+use Rattle.retimed_circuits.specs.States.{State, after_step, opening_state}
+use Rattle.retimed_circuits.proofs.FreeLaws.{free-fewer, free-within}
+use Rattle.retimed_circuits.proofs.MapLaws.{all-read}
 use Rattle.witness_circuits.proofs.OpeningLaws.{held_choice, opened, opening-known, opening-twice}
 use Rattle.witness_circuits.proofs.ViewLaws.{input-value}
 use Rattle.map_miters.specs.Holding.{reset_at, reset_state}

@@ -1,15 +1,15 @@
 -- The graph of the questions, with their names, is a miter.
 use Rattle.std.proofs.Common.{ℕ, suc, zero, ◌+◌, ◌*◌, ◌<◌, ◌≡◌, ◌↔◌, false, List, [], ◌∷◌, length, get_or, refl, arith, ap, sym, ◌∙◌, subst}
 use Rattle.std.proofs.lemmas.List.Elements.{All-cons, All-nil}
-use Rattle.variable_tables.specs.Tables.{table}
-use Rattle.variable_tables.proofs.TableLaws.{length-table, table-at}
+use Rattle.aig_graph.specs.Tables.{table}
+use Rattle.aig_graph.proofs.TableLaws.{length-table, table-at}
 use Rattle.aig_graph.specs.declared.properties.Symbol.{Symbol}
 use Rattle.aig_graph.specs.Building.{without_gates}
 use Rattle.aig_graph.specs.Circuits.{AreLiteralsOf, AreNamesBelow, IsNetlist, Netlist, no_symbols}
 use Rattle.aig_graph.specs.Graph.{Graph, IsGraph, IsLiteralOf}
 use Rattle.aig_graph.specs.Value.{value_within}
 use Rattle.aig_graph.proofs.HoldingLaws.{no-names}
-use Rattle.state_maps.specs.States.{Digits, State}
+use Rattle.retimed_circuits.specs.States.{Digits, State}
 use Rattle.witness_circuits.proofs.ViewLaws.{input-value, table-within}
 use Rattle.map_miters.specs.declared.leaves.Leaves.{Leaves}
 use Rattle.map_miters.specs.Asking.{AreLeaves, asked_digits, asked_state}

@@ -5,8 +5,8 @@ use Rattle.std.proofs.Math.Seq.{take-length}
 use Rattle.std.proofs.lemmas.Bool.{cases_lt}
 use Rattle.std.proofs.lemmas.List.{length-append, length-map}
 use Rattle.std.proofs.lemmas.Option.{none-some, same_Some, slice_get_within}
-use Rattle.variable_tables.proofs.ListLaws.{count_by-cons, slice_get-map_some}
-use Rattle.variable_tables.proofs.PlacesLaws.{slice_get-append_left, slice_get-append_right}
+use Rattle.aig_graph.proofs.ListLaws.{count_by-cons, slice_get-map_some}
+use Rattle.aig_graph.proofs.PlacesLaws.{slice_get-append_left, slice_get-append_right}
 use Rattle.aig_graph.specs.declared.graph.Latch.{Latch}
 use Rattle.aig_graph.specs.declared.graph.Reset.{Reset}
 use Rattle.aig_graph.specs.declared.graph.Reset.TheVariants.{Zero, Free}
@@ -15,8 +15,8 @@ use Rattle.aig_graph.specs.Graph.{IsGraph, free_before, free_latches, is_free, i
 use Rattle.aig_graph.specs.Streams.{property_literals}
 use Rattle.aig_graph.specs.Value.{Choice, next_value, opening, opening_at, value_within}
 use Rattle.aig_graph.proofs.KindLaws.{element}
-use Rattle.state_maps.specs.MapCircuits.{image, is_kept, mapped}
-use Rattle.state_maps.specs.States.{Digits, IsAllowed, State, after_step, opening_state}
+use Rattle.retimed_circuits.specs.MapCircuits.{image, is_kept, mapped}
+use Rattle.retimed_circuits.specs.States.{Digits, IsAllowed, State, after_step, opening_state}
 use Rattle.witness_circuits.specs.Witnesses.{AreJoint, GoesOn, HasResets, IsGood, IsSharing, IsWitness, bad_states}
 use Rattle.witness_circuits.proofs.OpeningLaws.{opening-known, opening-twice}
 use Rattle.witness_circuits.specs.LiftedLaws.{first_places, first_shared}

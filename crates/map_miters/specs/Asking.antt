@@ -3,8 +3,8 @@ use Rattle.std.specs.Prelude.{ℕ, ◌+◌, ◌≡◌, true, length}
 use Rattle.aig_graph.specs.Circuits.{AreLiteralsOf, Netlist}
 use Rattle.aig_graph.specs.Graph.{Graph, IsLiteralOf}
 use Rattle.aig_graph.specs.Value.{value_within}
-use Rattle.state_maps.specs.MapCircuits.{mapped}
-use Rattle.state_maps.specs.States.{Digits, State, after_step}
+use Rattle.retimed_circuits.specs.MapCircuits.{mapped}
+use Rattle.retimed_circuits.specs.States.{Digits, State, after_step}
 use Rattle.map_miters.specs.declared.leaves.Leaves.{Leaves}
 use Rattle.map_miters.specs.declared.questions.Compared.{Compared}
 use Rattle.map_miters.specs.declared.questions.Sides.{Sides}

@@ -1,12 +1,12 @@
 -- Two circuits beside each other, as a model of the first.
 use Rattle.std.specs.Prelude.{ℕ, ◌+◌, ◌≡◌, ◌↔◌, Bool, [], length, slice_get, Some}
-use Rattle.variable_tables.specs.Tables.{table}
+use Rattle.aig_graph.specs.Tables.{table}
 use Rattle.aig_graph.specs.declared.graph.Latch.{Latch}
 use Rattle.aig_graph.specs.Building.{without_gates}
 use Rattle.aig_graph.specs.Circuits.{Netlist, no_symbols, outputs_alone}
 use Rattle.aig_graph.specs.Graph.{Graph}
 use Rattle.aig_graph.specs.Value.{value_within}
-use Rattle.state_maps.specs.States.{Digits, IsAllowed, State}
+use Rattle.retimed_circuits.specs.States.{Digits, IsAllowed, State}
 use Rattle.witness_circuits.specs.declared.sharing.Sharing.{Sharing}
 use Rattle.witness_circuits.specs.Lifting.{GoesAs, in_circuit}
 use Rattle.witness_circuits.specs.Naming.{place_below}

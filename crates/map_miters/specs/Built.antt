@@ -4,7 +4,7 @@ use Rattle.aig_graph.specs.declared.properties.Props.{Props}
 use Rattle.aig_graph.specs.Circuits.{ArePropsOf, Netlist, no_symbols}
 use Rattle.aig_graph.specs.Graph.{Graph}
 use Rattle.aig_graph.specs.Value.{value_within}
-use Rattle.state_maps.specs.States.{Digits, State}
+use Rattle.retimed_circuits.specs.States.{Digits, State}
 use Rattle.witness_circuits.specs.Witnesses.{bad_states}
 use Rattle.map_miters.specs.declared.products.Built.{Built}
 use Rattle.map_miters.specs.declared.products.Wanted.{Wanted}

@@ -6,7 +6,7 @@ use Rattle.aig_graph.specs.declared.properties.Symbols.{Symbols}
 use Rattle.aig_graph.specs.Circuits.{Netlist, outputs_alone}
 use Rattle.aig_graph.specs.Graph.{Graph}
 use Rattle.aig_graph.specs.Value.{value_within}
-use Rattle.state_maps.specs.States.{Digits, State}
+use Rattle.retimed_circuits.specs.States.{Digits, State}
 use Rattle.map_miters.specs.declared.questions.Failures.{Failures}
 use Rattle.map_miters.specs.declared.assembling.Asked.{Asked}
 use Rattle.map_miters.specs.Asking.{asked_state}

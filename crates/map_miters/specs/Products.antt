@@ -6,8 +6,8 @@ use Rattle.aig_graph.specs.Circuits.{Netlist, no_symbols}
 use Rattle.aig_graph.specs.Graph.{Graph, free_latches, is_free_latch}
 use Rattle.aig_graph.specs.Streams.{property_literals}
 use Rattle.aig_graph.specs.Value.{value_within}
-use Rattle.state_maps.specs.MapCircuits.{FreeStay, is_kept, mapped}
-use Rattle.state_maps.specs.States.{Digits, IsAllowed, State, after_step}
+use Rattle.retimed_circuits.specs.MapCircuits.{FreeStay, is_kept, mapped}
+use Rattle.retimed_circuits.specs.States.{Digits, IsAllowed, State, after_step}
 use Rattle.witness_circuits.specs.Witnesses.{IsGood}
 use Rattle.map_miters.specs.declared.goals.Goal.{Goal}
 use Rattle.map_miters.specs.declared.goals.Goal.TheVariants.{Agree, Mapped}

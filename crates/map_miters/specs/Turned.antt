@@ -1,11 +1,11 @@
 -- A map turned round.
 use Rattle.std.specs.Prelude.{ℕ, ◌+◌, ◌*◌, ◌<◌, ◌≡◌, ◌↔◌, [], ◌∷◌, length}
-use Rattle.variable_tables.specs.Tables.{table}
+use Rattle.aig_graph.specs.Tables.{table}
 use Rattle.aig_graph.specs.declared.properties.Props.{Props}
 use Rattle.aig_graph.specs.Circuits.{Netlist}
 use Rattle.aig_graph.specs.Graph.{Graph, IsGraph}
-use Rattle.state_maps.specs.MapCircuits.{is_kept, mapped}
-use Rattle.state_maps.specs.States.{State}
+use Rattle.retimed_circuits.specs.MapCircuits.{is_kept, mapped}
+use Rattle.retimed_circuits.specs.States.{State}
 use Rattle.map_miters.specs.Comparing.{SaysThat}
 use Rattle.map_miters.specs.Products.{GivesState, second_state}
 

@@ -4,7 +4,7 @@ ghost use Rattle.std.specs.Prelude.{◌≡◌, ◌+◌, ◌*◌, ◌≤◌, ◌�
 ghost use Rattle.aig_graph.specs.declared.literal.TheConstants.{MAX_VARIABLES};
 ghost use Rattle.aig_graph.specs.Building.{without_gates};
 ghost use Rattle.aig_graph.specs.Graph.{IsGraph};
-ghost use Rattle.variable_tables.specs.Tables.{table};
+ghost use Rattle.aig_graph.specs.Tables.{table};
 ghost use Rattle.map_miters.specs.Turned.{IsTurnable, IsTurned, IsTurnedIn};
 
 use crate::circuits::circuit_of;

@@ -21,7 +21,7 @@ use Rattle.aig_binary.proofs.SpellingLaws.{the_spelling_law}
 use Rattle.retimed_circuits.specs.declared.report.Retimed.{Retimed}
 use Rattle.retimed_circuits.specs.Retiming.{IsRetimedWith}
 use Rattle.retimed_circuits.proofs.LimitLaws.{stays-within}
-use Rattle.state_maps.specs.MapCircuits.{FreeStay, IsMapCircuit}
+use Rattle.retimed_circuits.specs.MapCircuits.{FreeStay, IsMapCircuit}
 use Rattle.mapped_answers.specs.declared.making.Made.{Made}
 use Rattle.mapped_answers.specs.declared.mapped.Mapped.{Mapped}
 use Rattle.mapped_answers.specs.declared.errors.AnswerError.{AnswerError}

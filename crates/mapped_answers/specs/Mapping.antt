@@ -6,7 +6,7 @@ use Rattle.aig_graph.specs.Circuits.{IsNetlist, Netlist}
 use Rattle.aig_graph.specs.Graph.{IsGraph}
 use Rattle.aig_binary.specs.declared.reading.SpeltCircuit.{SpeltCircuit}
 use Rattle.aig_binary.specs.Spellings.{text_in}
-use Rattle.state_maps.specs.MapCircuits.{FreeStay, IsMapCircuit}
+use Rattle.retimed_circuits.specs.MapCircuits.{FreeStay, IsMapCircuit}
 use Rattle.frames.specs.Answering.{IsStop, IsWritten}
 use Rattle.frames.specs.Named.{AreLatchesBy, IsFirstMissingBy, IsFirstNoLatchBy, NoneMissingBy}
 use Rattle.frames.specs.Retiming.{IsRetimedHeld}

@@ -1,9 +1,9 @@
 -- Looks by tables are the looks of the circuit.
 use Rattle.std.proofs.Common.{ℕ, ◌+◌, ◌<◌, ◌≤◌, ◌≡◌, ◌||◌, ◌&&◌, Bool, false, not, List, length, replicate, Some, None, ap, ap₂, sym, ◌∙◌, subst, arith}
-use Rattle.variable_tables.specs.Marking.{has, mark_at, Marks, AreMarks}
-use Rattle.variable_tables.specs.Tables.{table}
-use Rattle.variable_tables.proofs.MarkingLaws.{table-marks, mark_at-covered, AreMarks-table}
-use Rattle.variable_tables.proofs.TableLaws.{table-same, length-table}
+use Rattle.aig_graph.specs.Marking.{has, mark_at, Marks, AreMarks}
+use Rattle.aig_graph.specs.Tables.{table}
+use Rattle.aig_graph.proofs.MarkingLaws.{table-marks, mark_at-covered, AreMarks-table}
+use Rattle.aig_graph.proofs.TableLaws.{table-same, length-table}
 use Rattle.aig_graph.specs.declared.properties.Props.{Props}
 use Rattle.aig_graph.specs.Graph.{Graph, first_latch, latches_and_gates, latch_at, is_known}
 use Rattle.aig_graph.specs.Circuits.{Netlist}

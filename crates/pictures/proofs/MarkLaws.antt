@@ -2,10 +2,10 @@
 use Rattle.std.proofs.Common.{ℕ, ◌+◌, ◌-◌, ◌<◌, ◌≤◌, ◌≡◌, ◌||◌, ◌&&◌, nat_le, Bool, true, false, suc, zero, List, length, inl, inr, refl, ap, ap₂, sym, ◌∙◌, subst, arith}
 use Rattle.std.proofs.lemmas.Bool.{cases_lt, lt-ltb, le-ltb, and_right}
 use Rattle.std.proofs.lemmas.List.{get_or_past}
-use Rattle.variable_tables.specs.Marking.{Marks, mark_at}
-use Rattle.variable_tables.specs.Tables.{table}
-use Rattle.variable_tables.proofs.MarkingLaws.{Marks-none, AreMarks-table, mark_at-covered}
-use Rattle.variable_tables.proofs.TableLaws.{table-same, table-from, length-table}
+use Rattle.aig_graph.specs.Marking.{Marks, mark_at}
+use Rattle.aig_graph.specs.Tables.{table}
+use Rattle.aig_graph.proofs.MarkingLaws.{Marks-none, AreMarks-table, mark_at-covered}
+use Rattle.aig_graph.proofs.TableLaws.{table-same, table-from, length-table}
 use Rattle.aig_graph.specs.Graph.{Graph, variables_end}
 use Rattle.aig_graph.specs.Circuits.{Netlist}
 use Rattle.pictures.specs.Near.{is_centre, is_near, is_next}

@@ -2,8 +2,8 @@
 use Rattle.std.proofs.Common.{ℕ, ◌+◌, ◌-◌, ◌<◌, ◌≤◌, ◌≡◌, ◌⊎◌, ◌||◌, ◌&&◌, nat_le, Bool, true, false, not, List, length, get_or, Option, Some, None, is_some, inl, inr, cond, refl, ap, ap₂, sym, ◌∙◌, arith}
 use Rattle.std.proofs.lemmas.Bool.{cases_lt, le-leb, lt-leb, and_right}
 use Rattle.std.proofs.lemmas.List.{get_or_past}
-use Rattle.variable_tables.specs.Marking.{has, mark_at}
-use Rattle.variable_tables.proofs.TableLaws.{table-at, length-table}
+use Rattle.aig_graph.specs.Marking.{has, mark_at}
+use Rattle.aig_graph.proofs.TableLaws.{table-at, length-table}
 use Rattle.aig_graph.specs.declared.graph.Gate.{Gate}
 use Rattle.aig_graph.specs.declared.graph.Latch.{Latch}
 use Rattle.aig_graph.specs.Graph.{Graph, first_latch, latches_and_gates, variables_end, latch_at, gate_at, is_known}

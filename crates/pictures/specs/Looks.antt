@@ -1,7 +1,7 @@
 -- How each variable of a circuit looks.
 use Rattle.std.specs.Prelude.{ℕ, ◌≡◌, ◌||◌, ◌&&◌, Bool, true, false, not, List, Option, Some, None, option_map}
-use Rattle.variable_tables.specs.Marking.{mark_at}
-use Rattle.variable_tables.specs.Tables.{table}
+use Rattle.aig_graph.specs.Marking.{mark_at}
+use Rattle.aig_graph.specs.Tables.{table}
 use Rattle.aig_graph.specs.Graph.{Graph, first_latch, latches_and_gates, variables_end, latch_at, is_known}
 use Rattle.aig_graph.specs.Circuits.{Netlist}
 use Rattle.aig_graph.specs.Closed.{is_held}

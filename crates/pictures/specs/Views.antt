@@ -1,6 +1,6 @@
 -- What the tables of a view say of each variable.
 use Rattle.std.specs.Prelude.{ℕ, ◌-◌, Bool, true, false, nat_le, get_or, Some, None, if◌then◌else◌}
-use Rattle.variable_tables.specs.Marking.{mark_at}
+use Rattle.aig_graph.specs.Marking.{mark_at}
 use Rattle.pictures.specs.declared.look.Look.{Look}
 use Rattle.pictures.specs.declared.look.View.{View}
 

@@ -3,15 +3,14 @@ ghost use Rattle.std.specs.Prelude.{◌≡◌, IfOk};
 ghost use Rattle.aig_graph.specs.Graph.{variables_end};
 ghost use Rattle.pictures.specs.Near.{has_node, is_centre, is_word_of};
 ghost use Rattle.pictures.specs.Places.{is_at, is_property_read};
-ghost use Rattle.variable_tables.specs.Marking.{Marks};
-ghost use Rattle.variable_tables.specs.Tables.{table};
+ghost use Rattle.aig_graph.specs.Marking.{Marks};
+ghost use Rattle.aig_graph.specs.Tables.{table};
 
 use crate::named::{has_name, mark_justice, mark_named, mark_single};
 use crate::node::Node;
 use crate::places::{literals_of, place_of};
-use aig_graph::{Circuit, NoMemory, Props};
+use aig_graph::{Circuit, NoMemory, Props, mark_variable};
 use std::alloc::Global;
-use variable_tables::mark_variable;
 
 /// Whether something in the circuit has the name, or a picture calls something so.
 pub fn has_node(circuit: &Circuit, name: &[u8]) -> bool

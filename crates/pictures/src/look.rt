@@ -3,8 +3,7 @@
 ghost use Rattle.std.specs.Prelude.{◌≡◌, None, Some, option_map};
 ghost use Rattle.pictures.specs.Views.{drawn_in, look_in, plain};
 
-use aig_graph::Sequence;
-use variable_tables::mark_at;
+use aig_graph::{Sequence, mark_at};
 
 /// How the node of a latch or a gate looks.
 #[derive(Clone, Copy)]

@@ -6,10 +6,9 @@ ghost use Rattle.aig_graph.specs.Border.{reads};
 ghost use Rattle.aig_graph.specs.Keep.{has_name};
 ghost use Rattle.pictures.specs.Near.{is_name_of, is_named, is_property_name, is_property_named, names_justice, names_single, names_variable};
 ghost use Rattle.pictures.specs.Places.{is_justice_read, is_single_read};
-ghost use Rattle.variable_tables.specs.Marking.{Marks};
+ghost use Rattle.aig_graph.specs.Marking.{Marks};
 
-use aig_graph::{Circuit, Lit, MAX_VARIABLES, Props, Sequence, Symbol, Symbols};
-use variable_tables::mark_variable;
+use aig_graph::{Circuit, Lit, MAX_VARIABLES, Props, Sequence, Symbol, Symbols, mark_variable};
 
 fn is_called(symbol: &Symbol, name: &[u8]) -> bool
     ensures { result ≡ bytes_eq symbol.now.name name.now }

@@ -4,14 +4,13 @@ ghost use Rattle.std.specs.List.{list_any, enumerate_from};
 ghost use Rattle.aig_graph.specs.declared.literal.TheConstants.{MAX_VARIABLES};
 ghost use Rattle.aig_graph.specs.Graph.{variables_end};
 ghost use Rattle.pictures.specs.Near.{gate_meets, goes_on, is_near, is_next, latch_meets, meets};
-ghost use Rattle.variable_tables.specs.Marking.{Marks, mark_at};
-ghost use Rattle.variable_tables.specs.Tables.{table};
+ghost use Rattle.aig_graph.specs.Marking.{Marks, mark_at};
+ghost use Rattle.aig_graph.specs.Tables.{table};
 
 use crate::centre::centre;
 use crate::named::mark_where;
-use aig_graph::{Aig, Circuit, Gate, Latch, MAX_VARIABLES, NoMemory};
+use aig_graph::{Aig, Circuit, Gate, Latch, MAX_VARIABLES, NoMemory, mark_at};
 use std::alloc::Global;
-use variable_tables::mark_at;
 
 #[tactic(auto, unfolding(crate::specs::Near::goes_on))]
 fn goes_on(near: &[bool], var: u32) -> bool

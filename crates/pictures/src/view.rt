@@ -4,16 +4,15 @@ ghost use Rattle.aig_graph.specs.Border.{is_gate_in, is_read};
 ghost use Rattle.aig_graph.specs.Closed.{is_held};
 ghost use Rattle.aig_graph.specs.Graph.{first_latch, is_known, latch_at, latches_and_gates};
 ghost use Rattle.pictures.specs.Looks.{look_alone, look_of, look_with, looks_by};
-ghost use Rattle.variable_tables.specs.Marking.{mark_at};
-ghost use Rattle.variable_tables.specs.Tables.{table};
+ghost use Rattle.aig_graph.specs.Marking.{mark_at};
+ghost use Rattle.aig_graph.specs.Tables.{table};
 
 use crate::centre::centre;
 use crate::look::{Look, View};
 use crate::near::near;
-use aig_graph::{Aig, Circuit, ClosedSet, Keep, NoMemory, mark_read};
+use aig_graph::{Aig, Circuit, ClosedSet, Keep, NoMemory, mark_at, mark_read, marks_of};
 use frame_net::{PassSet, passable};
 use std::alloc::Global;
-use variable_tables::{mark_at, marks_of};
 
 /// How a latch or a gate looks where no set is shown.
 #[tactic(auto, unfolding(crate::specs::Looks::look_alone))]

@@ -16,8 +16,8 @@ use Rattle.aig_graph.specs.declared.graph.Gate.{Gate}
 use Rattle.aig_graph.specs.declared.graph.Latch.{Latch}
 use Rattle.rebuild.specs.Members.{ArePassable}
 use Rattle.rebuild.specs.Moved.{gates_start, is_latched, is_outside, new_variable}
-use Rattle.variable_tables.specs.Counting.{count_below, numbered}
-use Rattle.variable_tables.specs.Marking.{has}
+use Rattle.aig_graph.specs.Counting.{count_below, numbered}
+use Rattle.aig_graph.specs.Marking.{has}
 
 any_at : {A : Type 0} (p : A → Bool) (xs : List A) (k : ℕ) (x : A) → slice_get xs k ≡ Some x → p x ≡ true → list_any p xs ≡ true
 any_at p xs k x there passes = list_any_at p xs k x (slice_get_within xs k x there) (ap p (get_or_from_slice_get xs k x x there) ∙ passes)

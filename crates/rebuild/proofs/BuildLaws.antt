@@ -16,10 +16,10 @@ use Rattle.aig_graph.specs.declared.properties.Symbols.{Symbols}
 use Rattle.rebuild.proofs.BorderLaws.{latched-other, no-member-before, not_outside_before, not_outside_member, outside_where}
 use Rattle.rebuild.specs.Members.{ArePassable}
 use Rattle.rebuild.specs.Moved.{advanced_literal, copy_for, gate_between, gate_for, gates_below, is_latched, is_outside, latch_for, latch_from, latches_below, moved_graph, moved_literal, moved_name, moved_symbols, stays}
-use Rattle.variable_tables.proofs.CountingLaws.{places-none}
-use Rattle.variable_tables.proofs.PlacesLaws.{places-fail, places-pass}
-use Rattle.variable_tables.specs.Counting.{places}
-use Rattle.variable_tables.specs.Marking.{has}
+use Rattle.aig_graph.proofs.CountingLaws.{places-none}
+use Rattle.aig_graph.proofs.PlacesLaws.{places-fail, places-pass}
+use Rattle.aig_graph.specs.Counting.{places}
+use Rattle.aig_graph.specs.Marking.{has}
 
 push-place : {A : Type 0} (p : ℕ → Bool) (f : ℕ → A) (v : ℕ) (xs ys : List A) (x : A) → p v ≡ true → xs ≡ map f (places p v) → ys ≡ xs ++ x ∷ [] → x ≡ f v → ys ≡ map f (places p (v + 1))
 push-place {A} p f v xs ys x passes listed pushed here =

@@ -10,8 +10,8 @@ use Rattle.aig_graph.specs.Move.{move_of}
 use Rattle.aig_graph.specs.Border.{in_border, is_read_outside}
 use Rattle.aig_graph.specs.Value.{value, latch_value}
 use Rattle.aig_graph.specs.Folding.{fold_gates, fold_to_depth}
-use Rattle.variable_tables.specs.Counting.{count_below, places, numbered}
-use Rattle.variable_tables.specs.Tables.{table}
+use Rattle.aig_graph.specs.Counting.{count_below, places, numbered}
+use Rattle.aig_graph.specs.Tables.{table}
 use Rattle.rebuild.specs.Starting.{start_value, start_reset, gate_resets}
 use Rattle.rebuild.specs.Moved.{moved_of, is_latched, is_outside, gates_start, copies_start, new_variable, copy_variable, advanced, moved_graph, moved_symbols}
 

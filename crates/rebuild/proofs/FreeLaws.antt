@@ -17,10 +17,10 @@ use Rattle.rebuild.proofs.BorderLaws.{closed-passable, latched_where_free, no-me
 use Rattle.rebuild.proofs.MovedLaws.{length-moved_gates, length-moved_latches, moved-inputs}
 use Rattle.rebuild.specs.Moved.{is_latched, is_outside, latch_for, latch_from, moved_graph}
 use Rattle.rebuild.specs.Starting.{start_value}
-use Rattle.variable_tables.proofs.CountingLaws.{count-or, count-split, count_below-same, count_by-places}
-use Rattle.variable_tables.proofs.PlacesLaws.{take-places}
-use Rattle.variable_tables.specs.Counting.{count_below, places}
-use Rattle.variable_tables.specs.Marking.{has}
+use Rattle.aig_graph.proofs.CountingLaws.{count-or, count-split, count_below-same, count_by-places}
+use Rattle.aig_graph.proofs.PlacesLaws.{take-places}
+use Rattle.aig_graph.specs.Counting.{count_below, places}
+use Rattle.aig_graph.specs.Marking.{has}
 
 module _ (m : Move) (set : IsClosedSet m.circuit.aig m.held m.set) where
   -- a free latch isn't in the border

@@ -13,8 +13,8 @@ use Rattle.aig_graph.specs.Move.{Move}
 use Rattle.rebuild.proofs.MovedLaws.{length-moved_latches}
 use Rattle.rebuild.proofs.NameLaws.{ranks-rising}
 use Rattle.rebuild.specs.Moved.{is_latched, moved_graph, moved_held, moved_position}
-use Rattle.variable_tables.proofs.PlacesLaws.{count-lt}
-use Rattle.variable_tables.specs.Marking.{has}
+use Rattle.aig_graph.proofs.PlacesLaws.{count-lt}
+use Rattle.aig_graph.specs.Marking.{has}
 
 module _ (m : Move) where
   abbrev g : Graph

@@ -5,7 +5,7 @@ use Rattle.aig_graph.proofs.KindLaws.{latch_at-first_latch, latch_at-gates}
 use Rattle.aig_graph.specs.Graph.{Graph, first_latch, is_free, is_free_latch, is_known, latch_at}
 use Rattle.aig_graph.specs.declared.graph.Latch.{Latch}
 use Rattle.rebuild.specs.Entries.{latched_by}
-use Rattle.variable_tables.specs.Marking.{mark_at}
+use Rattle.aig_graph.specs.Marking.{mark_at}
 
 -- the mark of the variable at a place
 pub mark_at-place : (first : ℕ) (marks : List Bool) (k : ℕ) → mark_at first marks (first + k) ≡ get_or marks k false

@@ -16,11 +16,11 @@ use Rattle.rebuild.proofs.BorderLaws.{border-member, member-gate, no-member-befo
 use Rattle.rebuild.specs.Members.{AreFanInsIn, ArePassable, is_latch_or_in}
 use Rattle.rebuild.specs.Moved.{copy_variable, is_latched, latch_for, latch_from, latches_below}
 use Rattle.rebuild.specs.Starting.{start_value}
-use Rattle.variable_tables.proofs.CountingLaws.{places-none}
-use Rattle.variable_tables.proofs.MemberLaws.{places-members}
-use Rattle.variable_tables.proofs.PlacesLaws.{places-fail, places-pass}
-use Rattle.variable_tables.specs.Counting.{places}
-use Rattle.variable_tables.specs.Marking.{has}
+use Rattle.aig_graph.proofs.CountingLaws.{places-none}
+use Rattle.aig_graph.proofs.MemberLaws.{places-members}
+use Rattle.aig_graph.proofs.PlacesLaws.{places-fail, places-pass}
+use Rattle.aig_graph.specs.Counting.{places}
+use Rattle.aig_graph.specs.Marking.{has}
 
 -- the fan-ins of a closed set's members
 pub closed-fan_ins : (g : Graph) (held s : List ℕ) → IsClosed g held s → AreFanInsIn g s

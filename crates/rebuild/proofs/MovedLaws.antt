@@ -19,10 +19,10 @@ use Rattle.rebuild.proofs.BorderLaws.{closed-passable, latched-cases, latched-la
 use Rattle.aig_graph.proofs.SignLaws.{gate_of-below, gate_of-ordered, variable-signed_as, variable-signed_as_twice}
 use Rattle.rebuild.proofs.MemberLaws.{members}
 use Rattle.rebuild.specs.Moved.{advanced, advanced_literal, copies_start, copy_for, copy_variable, gate_between, gate_for, gates_start, is_latched, is_outside, latch_for, latch_from, moved_graph, moved_literal, new_variable, next_of}
-use Rattle.variable_tables.proofs.ListLaws.{from_map, slice_get-map_some}
-use Rattle.variable_tables.proofs.PlacesLaws.{Ranks, at_rank, count-lt, length-places, rank_at, slice_get-append_left, slice_get-append_right}
-use Rattle.variable_tables.specs.Counting.{count_below, places}
-use Rattle.variable_tables.specs.Marking.{has}
+use Rattle.aig_graph.proofs.ListLaws.{from_map, slice_get-map_some}
+use Rattle.aig_graph.proofs.PlacesLaws.{Ranks, at_rank, count-lt, length-places, rank_at, slice_get-append_left, slice_get-append_right}
+use Rattle.aig_graph.specs.Counting.{count_below, places}
+use Rattle.aig_graph.specs.Marking.{has}
 
 from_append : {A : Type 0} (xs ys : List A) (k : ℕ) (x : A) → slice_get (xs ++ ys) k ≡ Some x → (slice_get xs k ≡ Some x) ⊎ ((j : ℕ) × (k ≡ length xs + j) × (slice_get ys j ≡ Some x))
 from_append [] ys k x e = inr (k, omega arith, e)

@@ -14,8 +14,8 @@ use Rattle.aig_graph.specs.declared.properties.Symbol.{Symbol}
 use Rattle.rebuild.proofs.MovedLaws.{length-moved_latches}
 use Rattle.rebuild.proofs.ReadLaws.{moved-props, moved-shape}
 use Rattle.rebuild.specs.Moved.{is_latched, moved_graph, moved_of, moved_props, moved_symbols}
-use Rattle.variable_tables.proofs.PlacesLaws.{count-le, count-lt}
-use Rattle.variable_tables.specs.Counting.{count_below}
+use Rattle.aig_graph.proofs.PlacesLaws.{count-le, count-lt}
+use Rattle.aig_graph.specs.Counting.{count_below}
 
 module _ (p : ℕ → Bool) (start : ℕ) where
   abbrev pass_at : ℕ → Bool

@@ -12,11 +12,11 @@ use Rattle.rebuild.proofs.PlanLaws.{all-latched, all-members, literal-leaf}
 use Rattle.rebuild.specs.Entries.{by_variable}
 use Rattle.rebuild.specs.Members.{ArePassable, is_latch_or_in}
 use Rattle.rebuild.specs.Moved.{advanced, copy_variable, gates_start, is_latched, is_outside, moved_literal, new_variable, next_of}
-use Rattle.variable_tables.proofs.CountingLaws.{count-none, count-split}
-use Rattle.variable_tables.proofs.TableLaws.{numbered-first, numbered-next, numbered-other}
-use Rattle.variable_tables.proofs.PlacesLaws.{one_at_most}
-use Rattle.variable_tables.specs.Counting.{count_below}
-use Rattle.variable_tables.specs.Marking.{has}
+use Rattle.aig_graph.proofs.CountingLaws.{count-none, count-split}
+use Rattle.aig_graph.proofs.TableLaws.{numbered-first, numbered-next, numbered-other}
+use Rattle.aig_graph.proofs.PlacesLaws.{one_at_most}
+use Rattle.aig_graph.specs.Counting.{count_below}
+use Rattle.aig_graph.specs.Marking.{has}
 
 -- one variable further the count has grown by one where it passes
 pub count-next : (p : ℕ → Bool) (first k : ℕ) (b : Bool) → p (first + k) ≡ b → count_below p (first + (k + 1)) ≡ count_below p (first + k) + cond {A = ℕ} b 1 0

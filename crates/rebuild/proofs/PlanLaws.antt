@@ -17,12 +17,12 @@ use Rattle.rebuild.proofs.MovedLaws.{copies_start-is, copy_variable-is, gates_st
 use Rattle.rebuild.specs.Entries.{by_variable, latched_by}
 use Rattle.rebuild.specs.Members.{ArePassable}
 use Rattle.rebuild.specs.Moved.{copies_start, copy_variable, gates_start, is_latched, is_outside, moved_literal, new_variable, next_of}
-use Rattle.variable_tables.proofs.MarkingLaws.{AreAllMarks-table, AreMarks-from_none, Marks-then, mark_at-all, mark_at-covered}
-use Rattle.variable_tables.proofs.PlacesLaws.{count-lt}
-use Rattle.variable_tables.proofs.TableLaws.{entry, length-table, numbered-first, numbered-next, numbered-other, table-end, table-none, table-same, whole-table}
-use Rattle.variable_tables.specs.Counting.{count_below, numbered}
-use Rattle.variable_tables.specs.Marking.{AreAllMarks, Marks, has, mark_at}
-use Rattle.variable_tables.specs.Tables.{table}
+use Rattle.aig_graph.proofs.MarkingLaws.{AreAllMarks-table, AreMarks-from_none, Marks-then, mark_at-all, mark_at-covered}
+use Rattle.aig_graph.proofs.PlacesLaws.{count-lt}
+use Rattle.aig_graph.proofs.TableLaws.{entry, length-table, numbered-first, numbered-next, numbered-other, table-end, table-none, table-same, whole-table}
+use Rattle.aig_graph.specs.Counting.{count_below, numbered}
+use Rattle.aig_graph.specs.Marking.{AreAllMarks, Marks, has, mark_at}
+use Rattle.aig_graph.specs.Tables.{table}
 
 -- a table from the first latch on has an entry for each latch and gate
 pub length-by_variable : {A : Type 0} (g : Graph) (f : ℕ → A) (xs : List A) → xs ≡ by_variable g f → first_latch g + length xs ≡ variables_end g

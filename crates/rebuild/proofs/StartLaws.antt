@@ -19,7 +19,7 @@ use Rattle.aig_graph.specs.declared.graph.Reset.TheVariants.{Free, One, Zero}
 use Rattle.aig_graph.proofs.SignLaws.{value_signed}
 use Rattle.rebuild.specs.Laws.{StartLaw}
 use Rattle.rebuild.specs.Starting.{and_reset, literal_start, start_reset, start_value}
-use Rattle.variable_tables.specs.Marking.{has}
+use Rattle.aig_graph.specs.Marking.{has}
 
 -- the value of a latch and of a gate, by its variable
 pub value-latch_start : (g : Graph) → IsGraph g → (x : Inputs) (f : Choice) (v : ℕ) (latch : Latch) → latch_at g v ≡ Some latch

@@ -31,10 +31,10 @@ use Rattle.aig_graph.proofs.StreamLaws.{opening-same}
 use Rattle.rebuild.proofs.StartLaws.{opening-reset_to, value-gate, value-latch_later, value-latch_start, value-start_value}
 use Rattle.rebuild.specs.Moved.{advanced, advanced_literal, copy_for, copy_variable, gate_between, gate_for, is_latched, is_outside, latch_for, latch_from, moved_graph, moved_literal, moved_of, moved_props, moved_symbols, new_variable, next_of}
 use Rattle.rebuild.specs.Starting.{start_value}
-use Rattle.variable_tables.proofs.PlacesLaws.{count-lt}
-use Rattle.variable_tables.proofs.ListLaws.{map-map, map-same}
-use Rattle.variable_tables.specs.Counting.{count_below}
-use Rattle.variable_tables.specs.Marking.{has}
+use Rattle.aig_graph.proofs.PlacesLaws.{count-lt}
+use Rattle.aig_graph.proofs.ListLaws.{map-map, map-same}
+use Rattle.aig_graph.specs.Counting.{count_below}
+use Rattle.aig_graph.specs.Marking.{has}
 
 module _ (m : Move) (valid : IsGraph m.circuit.aig) (set : IsClosedSet m.circuit.aig m.held m.set) (moved : IsGraph (moved_graph m)) (x : Inputs) (f : Choice) where
   abbrev before : ℕ → ℕ → Bool

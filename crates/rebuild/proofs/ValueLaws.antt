@@ -8,7 +8,7 @@ use Rattle.aig_graph.specs.declared.graph.Latch.{Latch}
 use Rattle.rebuild.proofs.StartLaws.{start-latch}
 use Rattle.rebuild.specs.Members.{is_latch_or_in}
 use Rattle.rebuild.specs.Starting.{member_start, start_value}
-use Rattle.variable_tables.specs.Marking.{has}
+use Rattle.aig_graph.specs.Marking.{has}
 
 -- the entry of a latch or member is its value
 pub start-inside : (g : Graph) (s : List ℕ) (v : ℕ) → is_latch_or_in g s v ≡ true → member_start g s v ≡ start_value g v

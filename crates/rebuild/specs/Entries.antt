@@ -1,8 +1,8 @@
 -- Tables with an entry for each latch and each gate.
 use Rattle.std.specs.Prelude.{ℕ, ◌||◌, ◌&&◌, Bool, List}
 use Rattle.aig_graph.specs.Graph.{Graph, first_latch, latches_and_gates, latch_at, is_known, is_free_latch}
-use Rattle.variable_tables.specs.Marking.{mark_at}
-use Rattle.variable_tables.specs.Tables.{table}
+use Rattle.aig_graph.specs.Marking.{mark_at}
+use Rattle.aig_graph.specs.Tables.{table}
 
 abbrev pub by_variable : {A : Type 0} → Graph → (ℕ → A) → List A
 by_variable g f = table (first_latch g) (latches_and_gates g) f

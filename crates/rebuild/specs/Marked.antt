@@ -2,7 +2,7 @@
 use Rattle.std.specs.Prelude.{◌≡◌}
 use Rattle.aig_graph.specs.Border.{border_size}
 use Rattle.aig_graph.specs.Move.{Move}
-use Rattle.variable_tables.specs.Marking.{has}
+use Rattle.aig_graph.specs.Marking.{has}
 use Rattle.rebuild.specs.Entries.{by_variable}
 use Rattle.rebuild.specs.Moved.{is_latched}
 use Rattle.rebuild.specs.declared.marking.MoveMarks.{MoveMarks}

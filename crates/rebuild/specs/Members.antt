@@ -3,7 +3,7 @@ use Rattle.std.specs.Prelude.{ℕ, ◌≡◌, ◌&&◌, ◌||◌, Bool, true, Li
 use Rattle.aig_graph.specs.declared.graph.Gate.{Gate}
 use Rattle.aig_graph.specs.Graph.{Graph, gate_at, latch_at, variable}
 use Rattle.aig_graph.specs.Closed.{is_settled}
-use Rattle.variable_tables.specs.Marking.{has}
+use Rattle.aig_graph.specs.Marking.{has}
 
 -- whether the variable is a passable gate
 abbrev pub is_passable : Graph → List ℕ → ℕ → Bool

@@ -12,8 +12,8 @@ use Rattle.aig_graph.specs.Building.{gate_of}
 use Rattle.aig_graph.specs.Move.{Move}
 use Rattle.aig_graph.specs.Mapped.{mapped_props}
 use Rattle.aig_graph.specs.Border.{in_border, border_size}
-use Rattle.variable_tables.specs.Counting.{count_below, places, numbered}
-use Rattle.variable_tables.specs.Marking.{has}
+use Rattle.aig_graph.specs.Counting.{count_below, places, numbered}
+use Rattle.aig_graph.specs.Marking.{has}
 use Rattle.rebuild.specs.Starting.{start_value}
 
 -- whether the moved circuit has a latch for the variable: it is a free latch, or in the border

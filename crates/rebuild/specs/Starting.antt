@@ -5,7 +5,7 @@ use Rattle.aig_graph.specs.declared.graph.Reset.TheVariants.{Zero, One, Free}
 use Rattle.aig_graph.specs.Graph.{Graph, first_gate}
 use Rattle.aig_graph.specs.Closed.{is_settled}
 use Rattle.aig_graph.specs.Value.{value, signed, reset_to}
-use Rattle.variable_tables.specs.Tables.{table}
+use Rattle.aig_graph.specs.Tables.{table}
 use Rattle.rebuild.specs.Members.{is_latch_or_in}
 
 -- the value of a variable at step 0, where inputs and free latches are 0

@@ -7,13 +7,12 @@ ghost use Rattle.rebuild.specs.Moved.{is_latched, latches_below, gates_below, co
 ghost use Rattle.rebuild.specs.Starting.{member_start};
 ghost use Rattle.rebuild.specs.Entries.{by_variable};
 ghost use Rattle.rebuild.specs.Planned.{planned};
-ghost use Rattle.variable_tables.specs.Counting.{count_below};
+ghost use Rattle.aig_graph.specs.Counting.{count_below};
 
 use crate::plan::Plan;
 use crate::values::start_values;
-use aig_graph::{Aig, Gate, Latch, NoMemory, Reset};
+use aig_graph::{Aig, Gate, Latch, NoMemory, Reset, count_marks, entry};
 use std::alloc::Global;
-use variable_tables::{count_marks, entry};
 
 /// Adds the latches that stay, in old order.
 fn push_staying(latches: &mut Vec<Latch>, plan: &Plan<'_>)

@@ -5,15 +5,15 @@ ghost use Rattle.aig_graph.specs.Graph.{first_latch, is_free, latches_and_gates}
 ghost use Rattle.aig_graph.specs.Closed.{is_held, IsClosedSet};
 ghost use Rattle.aig_graph.specs.Border.{border_size, is_read_outside};
 ghost use Rattle.aig_graph.specs.Move.{Move, move_of};
-ghost use Rattle.variable_tables.specs.Marking.{mark_at, Marks};
+ghost use Rattle.aig_graph.specs.Marking.{mark_at, Marks};
 ghost use Rattle.rebuild.specs.Entries.{by_variable, latched_by};
 
 use crate::ranks::ranks_of;
 use aig_graph::{
-    Aig, Circuit, ClosedSet, Keep, Latch, NoMemory, Props, Reset, mark_held, mark_read,
+    Aig, Circuit, ClosedSet, Keep, Latch, NoMemory, Props, Reset, count_marks, mark_held,
+    mark_read, marks_of,
 };
 use std::alloc::Global;
-use variable_tables::{count_marks, marks_of};
 
 /// The marks that a move over a closed set rests on: which variables are in the set, and which have a latch after the move. They are
 /// made once, for the size of the border and for `moved_by`. The tables begin at the first latch.
@@ -75,7 +75,7 @@ fn latched_marks(
 impl MoveMarks {
     ghost use Rattle.rebuild.specs.Marked.{AreMarksOf};
     ghost use Rattle.rebuild.specs.Moved.{is_latched, moved_graph, moved_held};
-    ghost use Rattle.variable_tables.specs.Marking.{has};
+    ghost use Rattle.aig_graph.specs.Marking.{has};
 
     /// The marks of a closed set's move. Linear in the circuit; inputs cost nothing.
     pub fn new(

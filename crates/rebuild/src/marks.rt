@@ -5,14 +5,13 @@ ghost use Rattle.aig_graph.specs.Graph.{IsGraph, first_latch, variables_end};
 ghost use Rattle.aig_graph.specs.Circuits.{IsNetlist};
 ghost use Rattle.aig_graph.specs.Closed.{IsClosedSet};
 ghost use Rattle.aig_graph.specs.Move.{move_of};
-ghost use Rattle.variable_tables.specs.Marking.{has};
+ghost use Rattle.aig_graph.specs.Marking.{has};
 ghost use Rattle.rebuild.specs.Moved.{is_latched};
 ghost use Rattle.rebuild.specs.Members.{AreFanInsIn, ArePassable};
 ghost use Rattle.rebuild.specs.Entries.{by_variable};
 
 use crate::marking::MoveMarks;
-use aig_graph::{Aig, Circuit, ClosedSet, Keep};
-use variable_tables::entry;
+use aig_graph::{Aig, Circuit, ClosedSet, Keep, entry};
 
 /// A closed set of a circuit, with marks of its members and of the variables that have a latch after the move. The tables begin
 /// at the first latch.

@@ -4,16 +4,15 @@
 ghost use Rattle.std.specs.Prelude.{◌≡◌, ◌*◌, ◌+◌, ◌<◌, ◌≤◌, IfOk, true, if◌then◌else◌};
 ghost use Rattle.aig_graph.specs.declared.literal.TheConstants.{MAX_VARIABLES};
 ghost use Rattle.aig_graph.specs.Graph.{variable, variables_end};
-ghost use Rattle.variable_tables.specs.Counting.{count_below};
-ghost use Rattle.variable_tables.specs.Marking.{has};
+ghost use Rattle.aig_graph.specs.Counting.{count_below};
+ghost use Rattle.aig_graph.specs.Marking.{has};
 ghost use Rattle.rebuild.specs.Entries.{by_variable};
 ghost use Rattle.rebuild.specs.Moved.{advanced, copies_start, gates_start, moved_literal, new_variable};
 ghost use Rattle.rebuild.specs.Planned.{marked};
 
 use crate::marks::MarkedSet;
-use aig_graph::{Lit, NoMemory};
+use aig_graph::{Lit, NoMemory, entry};
 use std::alloc::Global;
-use variable_tables::entry;
 
 /// 1 where the mark is set, else 0.
 fn one_if(mark: bool) -> u32

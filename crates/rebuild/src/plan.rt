@@ -6,16 +6,15 @@ ghost use Rattle.aig_graph.specs.declared.literal.TheConstants.{MAX_VARIABLES};
 ghost use Rattle.aig_graph.specs.Graph.{IsGraph, variable, variables_end, first_latch, latch_at};
 ghost use Rattle.aig_graph.specs.Building.{gate_of};
 ghost use Rattle.aig_graph.specs.Move.{move_of};
-ghost use Rattle.variable_tables.specs.Counting.{count_below};
-ghost use Rattle.variable_tables.specs.Marking.{has};
+ghost use Rattle.aig_graph.specs.Counting.{count_below};
+ghost use Rattle.aig_graph.specs.Marking.{has};
 ghost use Rattle.rebuild.specs.Moved.{is_latched, copies_start, new_variable, copy_variable, moved_literal, advanced, advanced_literal, moved_graph};
 ghost use Rattle.rebuild.specs.Entries.{by_variable};
 
 use crate::marks::MarkedSet;
 use crate::numbers::{advanced_literals, new_variables, renamed};
-use aig_graph::{Aig, Gate, Latch, Lit, NoMemory, Reset};
+use aig_graph::{Aig, Gate, Latch, Lit, NoMemory, Reset, count_marks, entry};
 use std::alloc::Global;
-use variable_tables::{count_marks, entry};
 
 /// What becomes of each variable of a circuit where latches move over a set. The tables begin at the first latch.
 #[derive(Drop)]

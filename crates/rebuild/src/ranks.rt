@@ -1,8 +1,8 @@
 //! The ranks of a few places among marks, each from the one before it: one walk up to the last of them, and no table.
 ghost use Rattle.std.specs.Prelude.{ℕ, Bool, ◌≡◌, ◌+◌, ◌≤◌, ◌<◌, All, IfOk, length, map};
 ghost use Rattle.std.specs.List.Sorted.{IsStrictlyIncreasing};
-ghost use Rattle.variable_tables.specs.Counting.{count_below};
-ghost use Rattle.variable_tables.specs.Marking.{AreAllMarks};
+ghost use Rattle.aig_graph.specs.Counting.{count_below};
+ghost use Rattle.aig_graph.specs.Marking.{AreAllMarks};
 
 use aig_graph::NoMemory;
 use std::alloc::Global;

@@ -2,13 +2,12 @@
 //! it gets this value as its reset, and no search for one is needed (Hurst et al. 2007).
 ghost use Rattle.std.specs.Prelude.{◌≡◌, ◌+◌, ◌<◌, IfOk, OnOk, length};
 ghost use Rattle.aig_graph.specs.Graph.{IsGraph, variable, first_gate};
-ghost use Rattle.variable_tables.specs.Tables.{table};
+ghost use Rattle.aig_graph.specs.Tables.{table};
 ghost use Rattle.rebuild.specs.Starting.{start_reset, literal_start, and_reset, gate_resets};
 ghost use Rattle.rebuild.specs.Laws.{StartLaw};
 
-use aig_graph::{Aig, Gate, Keep, Lit, NoMemory, Reset};
+use aig_graph::{Aig, Gate, Keep, Lit, NoMemory, Reset, entry};
 use std::alloc::Global;
-use variable_tables::entry;
 
 /// The reset of a variable, by those of the gates so far: a known latch that isn't held has its own.
 fn reset_at(aig: &Aig, keep: &Keep, resets: &[Reset], var: u32) -> Reset

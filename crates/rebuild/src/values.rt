@@ -3,17 +3,16 @@
 ghost use Rattle.std.specs.Prelude.{◌≡◌, ◌&&◌, ◌+◌, ◌<◌, IfOk, Some, false, length, true};
 ghost use Rattle.aig_graph.specs.Graph.{first_latch, gate_at, variable};
 ghost use Rattle.aig_graph.specs.Value.{opening, signed};
-ghost use Rattle.variable_tables.specs.Marking.{has};
-ghost use Rattle.variable_tables.specs.Tables.{table};
+ghost use Rattle.aig_graph.specs.Marking.{has};
+ghost use Rattle.aig_graph.specs.Tables.{table};
 ghost use Rattle.rebuild.specs.Entries.{by_variable};
 ghost use Rattle.rebuild.specs.Members.{is_latch_or_in};
 ghost use Rattle.rebuild.specs.Planned.{planned};
 ghost use Rattle.rebuild.specs.Starting.{member_start, start_value};
 
 use crate::plan::Plan;
-use aig_graph::{Gate, Latch, Lit, NoMemory, Reset};
+use aig_graph::{Gate, Latch, Lit, NoMemory, Reset, entry};
 use std::alloc::Global;
-use variable_tables::entry;
 
 /// The value of a latch at step 0, false where it is free.
 fn latch_value(latch: Latch) -> bool

@@ -1,12 +1,12 @@
 -- Counting latches from the first one on.
 use Rattle.std.proofs.Common.{ℕ, ◌≡◌, ◌∙◌, ◌<◌, ◌≤◌, ◌-◌, ◌&&◌, ◌+◌, ◌⊎◌, inl, inr, Bool, false, not, List, length, replicate, Option, None, sym, ap, arith, refl}
 use Rattle.std.proofs.lemmas.Bool.{and_right, cases_lt}
-use Rattle.variable_tables.specs.Counting.{count_below}
-use Rattle.variable_tables.specs.Marking.{mark_at, Marks}
-use Rattle.variable_tables.specs.Tables.{table}
-use Rattle.variable_tables.proofs.CountingLaws.{count-none, count_below-same}
-use Rattle.variable_tables.proofs.MarkingLaws.{AreMarks-table, mark_at-covered, table-marks}
-use Rattle.variable_tables.proofs.TableLaws.{length-table}
+use Rattle.aig_graph.specs.Counting.{count_below}
+use Rattle.aig_graph.specs.Marking.{mark_at, Marks}
+use Rattle.aig_graph.specs.Tables.{table}
+use Rattle.aig_graph.proofs.CountingLaws.{count-none, count_below-same}
+use Rattle.aig_graph.proofs.MarkingLaws.{AreMarks-table, mark_at-covered, table-marks}
+use Rattle.aig_graph.proofs.TableLaws.{length-table}
 use Rattle.aig_graph.specs.declared.graph.Latch.{Latch}
 use Rattle.aig_graph.specs.declared.properties.Props.{Props}
 use Rattle.aig_graph.specs.Graph.{Graph, first_latch, first_gate, latches_and_gates, latch_at, is_known, free_latches}

@@ -1,13 +1,13 @@
 -- What holds the latches of a circuit where they are.
 use Rattle.std.specs.Prelude.{ℕ, Bool, ◌&&◌, ◌-◌, List, length, Option, Some, None}
-use Rattle.variable_tables.specs.Counting.{count_below}
-use Rattle.variable_tables.specs.Marking.{mark_at}
+use Rattle.aig_graph.specs.Counting.{count_below}
+use Rattle.aig_graph.specs.Marking.{mark_at}
 use Rattle.aig_graph.specs.Graph.{Graph, first_latch, first_gate, latch_at, is_known, free_latches}
 use Rattle.aig_graph.specs.Circuits.{Netlist}
 use Rattle.aig_graph.specs.Closed.{is_held, may_move}
 use Rattle.aig_graph.specs.Border.{is_read_outside}
 use Rattle.frame_net.specs.Passable.{is_passable, passable_gates}
-use Rattle.path_levels.specs.Bounded.{bounded}
+use Rattle.retimed_circuits.specs.Bounded.{bounded}
 use Rattle.reports.specs.declared.held_back.HeldBack.{HeldBack}
 
 -- whether the variable is a held latch with a known reset

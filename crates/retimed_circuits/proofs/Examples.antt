@@ -2,7 +2,7 @@
 use Rattle.std.proofs.Common.{ℕ, ◌≡◌, List, [], ◌∷◌, map, refl}
 use Rattle.aig_graph.specs.declared.graph.Reset.TheVariants.{Zero, One}
 use Rattle.aig_graph.specs.Graph.{Graph}
-use Rattle.variable_tables.specs.Tables.{table}
+use Rattle.aig_graph.specs.Tables.{table}
 use Rattle.cleaned_circuits.specs.Merged.{merge_gates, substitutes_after, replaced_graph}
 use Rattle.retimed_circuits.specs.Readings.{leaves, substitutes_by, signature}
 

@@ -10,8 +10,8 @@ use Rattle.aig_graph.specs.Circuits.{Netlist, IsNetlist}
 use Rattle.aig_graph.specs.Keep.{is_named}
 use Rattle.aig_graph.specs.Move.{Move, move_of}
 use Rattle.aig_graph.proofs.KindLaws.{element, latch_at-first_latch}
-use Rattle.variable_tables.proofs.ListLaws.{slice_get-map_some}
-use Rattle.variable_tables.proofs.PlacesLaws.{count-lt}
+use Rattle.aig_graph.proofs.ListLaws.{slice_get-map_some}
+use Rattle.aig_graph.proofs.PlacesLaws.{count-lt}
 use Rattle.cleaned_circuits.specs.Held.{HeldAfter, held_unchanged, held_after_pass}
 use Rattle.cleaned_circuits.specs.Merged.{merged_of, replaced_circuit, replaced_graph, replaced_latch, substitutes_of}
 use Rattle.cleaned_circuits.specs.Reached.{AreReached}

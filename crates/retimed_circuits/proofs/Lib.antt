@@ -1,3 +1,21 @@
+pub mod WithinLaws
+pub mod MoveStepLaws
+pub mod MapLaws
+pub mod PassStepLaws
+pub mod FrameMapLaws
+pub mod ReadsHoldLaws
+pub mod MergedStepLaws
+pub mod MergedRunMapLaws
+pub mod FreeLaws
+pub mod EntryLaws
+pub mod LevelLaws
+pub mod ArrivalLaws
+pub mod BarringLaws
+pub mod BarredBorderLaws
+pub mod UnbarredLaws
+pub mod BoundedLaws
+pub mod MarkedLaws
+mod PathLevelExamples
 pub mod ReadingLaws
 pub mod ValueLaws
 pub mod MergingLaws

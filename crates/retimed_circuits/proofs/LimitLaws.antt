@@ -10,7 +10,7 @@ use Rattle.aig_graph.specs.Move.{move_of}
 use Rattle.cleaned_circuits.specs.Merged.{merged_of}
 use Rattle.cleaned_circuits.specs.Trimmed.{trimmed_symbols, new_position}
 use Rattle.cleaned_circuits.specs.Cleaned.{IsPass, Cleans, unchanged, after_pass}
-use Rattle.variable_tables.specs.Counting.{count_below}
+use Rattle.aig_graph.specs.Counting.{count_below}
 use Rattle.rebuild.specs.Moved.{is_latched, moved_symbols, stays}
 use Rattle.aig_graph.specs.Streams.{SameShape}
 use Rattle.ascii_file.specs.Laws.{all_names, IsWithinLimits}

@@ -7,7 +7,7 @@ use Rattle.aig_graph.specs.Graph.{Graph, IsGraph, variable, first_gate, variable
 use Rattle.aig_graph.specs.Circuits.{Netlist, IsNetlist}
 use Rattle.aig_graph.specs.Streams.{property_literals}
 use Rattle.aig_graph.proofs.PropsLaws.{mapped-literals, literals_within}
-use Rattle.variable_tables.specs.Tables.{table}
+use Rattle.aig_graph.specs.Tables.{table}
 use Rattle.cleaned_circuits.specs.Latches.{leaf_substitute}
 use Rattle.cleaned_circuits.specs.Merged.{replaced, replaced_graph, replaced_circuit, substitutes_of, merged_of}
 use Rattle.cleaned_circuits.proofs.LatchLaws.{leaf_substitute-below}
@@ -16,7 +16,7 @@ use Rattle.cleaned_circuits.proofs.MergedLaws.{from_latch}
 use Rattle.retimed_circuits.specs.Readings.{leaves, substitutes_by}
 use Rattle.retimed_circuits.specs.Partitions.{IsMerged}
 use Rattle.retimed_circuits.proofs.ReadingLaws.{are-leaves}
-use Rattle.path_levels.specs.Levels.{level, levels}
+use Rattle.retimed_circuits.specs.Levels.{level, levels}
 use Rattle.retimed_circuits.proofs.HighestLaws.{IsReadWithin, read-within_levels, levels-most}
 use Rattle.retimed_circuits.proofs.SubstituteLevelLaws.{after-level}
 

@@ -1,7 +1,7 @@
 -- A certificate of the circuit that a frame is taken of has the count and the gates of that frame's report.
 use Rattle.std.proofs.Common.{ℕ, inl, inr, ◌≡◌, ◌<◌, List, [], length, Option, Some, slice_get, arith, ap, sym, ◌∙◌, subst}
 use Rattle.std.proofs.lemmas.Option.{slice_get_within}
-use Rattle.variable_tables.proofs.PlacesLaws.{slice_get_push}
+use Rattle.aig_graph.proofs.PlacesLaws.{slice_get_push}
 use Rattle.aig_graph.specs.Circuits.{Netlist}
 use Rattle.certificates.specs.declared.certificate.Certificate.{Certificate}
 use Rattle.aig_graph.specs.declared.choice.Choice.{Choice}

@@ -4,8 +4,8 @@ use Rattle.std.specs.List.{All}
 use Rattle.std.proofs.lemmas.Bool.{cases_lt, cases_eq, eq-eqb, eqb-true, ne_eqb}
 use Rattle.std.proofs.lemmas.List.{get_or-map, length-map}
 use Rattle.std.proofs.lemmas.List.Elements.{All-head, All-tail, All-map, All-weaker}
-use Rattle.variable_tables.specs.Marking.{has}
-use Rattle.variable_tables.proofs.ListLaws.{map-map, map-same}
+use Rattle.aig_graph.specs.Marking.{has}
+use Rattle.aig_graph.proofs.ListLaws.{map-map, map-same}
 use Rattle.aig_graph.specs.declared.properties.Symbol.{Symbol}
 use Rattle.aig_graph.specs.Circuits.{Netlist}
 use Rattle.aig_graph.specs.Keep.{is_named, held_by, held_in}

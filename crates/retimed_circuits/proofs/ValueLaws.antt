@@ -11,7 +11,7 @@ use Rattle.aig_graph.specs.Laws.{ValueLaws}
 use Rattle.aig_graph.proofs.ValueLaws.{value_laws}
 use Rattle.aig_graph.proofs.SignLaws.{value_signed_as}
 use Rattle.aig_graph.proofs.KindLaws.{element}
-use Rattle.variable_tables.specs.Marking.{has}
+use Rattle.aig_graph.specs.Marking.{has}
 use Rattle.cleaned_circuits.specs.Latches.{constant_of}
 use Rattle.cleaned_circuits.specs.Merged.{replaced}
 use Rattle.cleaned_circuits.proofs.LatchLaws.{constant-even}

@@ -4,7 +4,7 @@ use Rattle.aig_graph.specs.Graph.{IsGraph}
 use Rattle.aig_graph.specs.Circuits.{Netlist, IsNetlist}
 use Rattle.cleaned_circuits.specs.Cleaned.{Cleans}
 use Rattle.retimed_circuits.specs.Partitions.{IsMerged}
-use Rattle.path_levels.specs.Levels.{levels}
+use Rattle.retimed_circuits.specs.Levels.{levels}
 
 -- cleaning makes no path longer
 abbrev pub CleaningKeepsLevels : Type 0

@@ -2,7 +2,7 @@
 use Rattle.std.specs.Prelude.{ℕ, ◌≡◌, ◌==◌, not, Bool, List, length}
 use Rattle.std.specs.List.{count_by}
 use Rattle.aig_graph.specs.Graph.{Graph, variable}
-use Rattle.variable_tables.specs.Counting.{count_below}
+use Rattle.aig_graph.specs.Counting.{count_below}
 use Rattle.retimed_circuits.specs.declared.counts.MergeCounts.{MergeCounts}
 use Rattle.retimed_circuits.specs.Partitions.{IsCoarsest}
 use Rattle.retimed_circuits.specs.Readings.{own_literal, read}

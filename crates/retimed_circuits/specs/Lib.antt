@@ -1,3 +1,14 @@
+pub mod States
+pub mod MovedStates
+pub mod CleanedStates
+pub mod StateMapLaws
+pub mod RetimedStates
+pub mod MapCircuits
+pub mod MergedStates
+pub mod MergingMapLaws
+pub mod Levels
+pub mod Arrivals
+pub mod Bounded
 pub mod Readings
 pub mod Partitions
 pub mod Counts

@@ -1,6 +1,6 @@
 -- The held latches of a circuit, by their names or by their positions.
 use Rattle.std.specs.Prelude.{ℕ, ◌≡◌, ◌==◌, true, List, All, map, filter, Option, Some, None, slice_get}
-use Rattle.variable_tables.specs.Marking.{has}
+use Rattle.aig_graph.specs.Marking.{has}
 use Rattle.aig_graph.specs.declared.graph.Latch.{Latch}
 use Rattle.aig_graph.specs.declared.graph.Reset.{Reset}
 use Rattle.aig_graph.specs.declared.properties.Symbol.{Symbol}

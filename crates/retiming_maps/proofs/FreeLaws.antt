@@ -29,13 +29,13 @@ use Rattle.rebuild.specs.Starting.{start_value}
 use Rattle.rebuild.proofs.BorderLaws.{latched-cases}
 use Rattle.rebuild.proofs.FreeLaws.{moved-free_at}
 use Rattle.rebuild.proofs.MovedLaws.{latch_source}
-use Rattle.variable_tables.specs.Counting.{count_below, places}
-use Rattle.variable_tables.specs.Tables.{table}
-use Rattle.variable_tables.proofs.PlacesLaws.{Ranks, at_rank}
-use Rattle.variable_tables.proofs.TableLaws.{table-at}
-use Rattle.state_maps.specs.MapCircuits.{FreeStay, IsFreeInput}
-use Rattle.state_maps.proofs.FreeLaws.{all-free, free-fewer, free-order, free-within, rising-free}
-use Rattle.state_maps.proofs.PassStepLaws.{new-rank}
+use Rattle.aig_graph.specs.Counting.{count_below, places}
+use Rattle.aig_graph.specs.Tables.{table}
+use Rattle.aig_graph.proofs.PlacesLaws.{Ranks, at_rank}
+use Rattle.aig_graph.proofs.TableLaws.{table-at}
+use Rattle.retimed_circuits.specs.MapCircuits.{FreeStay, IsFreeInput}
+use Rattle.retimed_circuits.proofs.FreeLaws.{all-free, free-fewer, free-order, free-within, rising-free}
+use Rattle.retimed_circuits.proofs.PassStepLaws.{new-rank}
 use Rattle.map_circuits.specs.Constraining.{substitute_function}
 use Rattle.map_circuits.specs.Following.{entry_of, literal_at}
 use Rattle.map_circuits.specs.Stepping.{AreMoved, ArePassed}

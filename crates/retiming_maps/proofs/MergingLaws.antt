@@ -21,7 +21,7 @@ use Rattle.map_circuits.specs.Constraining.{AddsSubstitutes, AreOne, substitute_
 use Rattle.map_circuits.specs.Following.{state_of}
 use Rattle.map_circuits.specs.Steps.{read_functions}
 use Rattle.map_circuits.proofs.ReadFunctionLaws.{merged-step, read-within}
-use Rattle.state_maps.specs.States.{IsStateMap}
+use Rattle.retimed_circuits.specs.States.{IsStateMap}
 use Rattle.retimed_circuits.specs.Frames.{CleansTo}
 use Rattle.retimed_circuits.specs.Names.{StayHeld}
 use Rattle.retimed_circuits.proofs.HeldLaws.{cleaning-keeps}

@@ -18,12 +18,12 @@ use Rattle.aig_graph.proofs.FoldingLaws.{gate_at-first_gate, gate_at-is}
 use Rattle.aig_graph.proofs.KindLaws.{is_constant, is_gate, is_input, is_latch, kind_of}
 use Rattle.aig_graph.proofs.SignLaws.{value_signed}
 use Rattle.cleaned_circuits.proofs.PassLaws.{IsCircuit}
-use Rattle.variable_tables.specs.Tables.{table}
-use Rattle.variable_tables.proofs.ListLaws.{map-same}
-use Rattle.variable_tables.proofs.TableLaws.{length-table, table-at}
-use Rattle.state_maps.specs.States.{Digits, IsStateMap, SameReads, State, after_step, opening_state}
-use Rattle.state_maps.proofs.MapLaws.{opening-same}
-use Rattle.state_maps.proofs.WithinLaws.{within_laws}
+use Rattle.aig_graph.specs.Tables.{table}
+use Rattle.aig_graph.proofs.ListLaws.{map-same}
+use Rattle.aig_graph.proofs.TableLaws.{length-table, table-at}
+use Rattle.retimed_circuits.specs.States.{Digits, IsStateMap, SameReads, State, after_step, opening_state}
+use Rattle.retimed_circuits.proofs.MapLaws.{opening-same}
+use Rattle.retimed_circuits.proofs.WithinLaws.{within_laws}
 use Rattle.map_circuits.specs.Constraining.{AreOne}
 use Rattle.map_circuits.specs.Following.{state_of}
 use Rattle.retiming_maps.specs.Mapping.{IsMapBy}

@@ -8,11 +8,11 @@ use Rattle.aig_graph.specs.Value.{value_within}
 use Rattle.aig_graph.proofs.KindLaws.{element}
 use Rattle.cleaned_circuits.specs.Latches.{latch_substitute}
 use Rattle.cleaned_circuits.proofs.LatchLaws.{constant-even, stands_for, by_constant, by_itself, by_earlier}
-use Rattle.variable_tables.specs.Tables.{table}
-use Rattle.variable_tables.proofs.TableLaws.{length-table, table-at}
-use Rattle.state_maps.specs.States.{State}
-use Rattle.state_maps.specs.Cleaning.{SubstitutesHold}
-use Rattle.state_maps.proofs.FrameMapLaws.{substitute-steady}
+use Rattle.aig_graph.specs.Tables.{table}
+use Rattle.aig_graph.proofs.TableLaws.{length-table, table-at}
+use Rattle.retimed_circuits.specs.States.{State}
+use Rattle.retimed_circuits.specs.CleanedStates.{SubstitutesHold}
+use Rattle.retimed_circuits.proofs.FrameMapLaws.{substitute-steady}
 use Rattle.map_circuits.specs.Constraining.{IsSubstitute, SubstitutesBelow, substitute_function}
 use Rattle.map_circuits.specs.Following.{state_of}
 use Rattle.map_circuits.proofs.SubstituteLaws.{function-value, substitute-value}

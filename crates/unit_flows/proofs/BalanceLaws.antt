@@ -3,9 +3,9 @@ use Rattle.std.proofs.Common.{◌≡◌, ℕ, suc, zero, ◌+◌, ◌-◌, ◌*�
 use Rattle.std.proofs.lemmas.Bool.{cases_Bool, lt-ltb, le-ltb, eqb-true, eq-eqb, and_parts, cond-true, cond-false, or_left, not-true, false_from_ne_true, true≢false}
 use Rattle.frame_net.specs.Flow.{sum_below}
 use Rattle.frame_net.proofs.SumLaws.{sum_below-add, sum_below-same, sum_below-le, rise-le}
-use Rattle.variable_tables.specs.Counting.{count_below}
-use Rattle.variable_tables.specs.Marking.{has}
-use Rattle.variable_tables.proofs.PlacesLaws.{count-pass, count-fail}
+use Rattle.aig_graph.specs.Counting.{count_below}
+use Rattle.aig_graph.specs.Marking.{has}
+use Rattle.aig_graph.proofs.PlacesLaws.{count-pass, count-fail}
 use Rattle.aig_graph.specs.Graph.{variable, first_latch, first_gate, latches_and_gates, latch_at, is_known}
 use Rattle.aig_graph.specs.Circuits.{Netlist}
 use Rattle.aig_graph.specs.Closed.{is_held, IsClosedSet}

@@ -1,9 +1,9 @@
 -- What the tables of a frame say of a place.
 use Rattle.std.proofs.Common.{◌≡◌, ℕ, suc, ◌+◌, ◌-◌, ◌<◌, ◌≤◌, ◌&&◌, ◌||◌, not, Bool, true, false, List, length, get_or, arith, ap, sym, ◌∙◌, subst}
-use Rattle.variable_tables.specs.Tables.{table}
-use Rattle.variable_tables.specs.Marking.{mark_at}
-use Rattle.variable_tables.proofs.MarkingLaws.{AreMarks-table}
-use Rattle.variable_tables.proofs.TableLaws.{length-table}
+use Rattle.aig_graph.specs.Tables.{table}
+use Rattle.aig_graph.specs.Marking.{mark_at}
+use Rattle.aig_graph.proofs.MarkingLaws.{AreMarks-table}
+use Rattle.aig_graph.proofs.TableLaws.{length-table}
 use Rattle.aig_graph.specs.declared.graph.Gate.{Gate}
 use Rattle.aig_graph.specs.Graph.{Graph, IsGraph, IsGateAt, first_latch, first_gate, latches_and_gates}
 use Rattle.aig_graph.specs.Circuits.{Netlist}

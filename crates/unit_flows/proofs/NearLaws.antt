@@ -1,7 +1,7 @@
 -- A full cut, all of whose near side is reached from where units are left, shows the smallest least set.
 use Rattle.std.proofs.Common.{◌≡◌, ℕ, ◌+◌, ◌≤◌, Bool, true, false, not, IsTrue, List, length, arith, refl, ap, sym, ◌∙◌, subst}
 use Rattle.std.proofs.lemmas.Bool.{and_parts, not-true, true≢false}
-use Rattle.variable_tables.specs.Marking.{has, mark_at}
+use Rattle.aig_graph.specs.Marking.{has, mark_at}
 use Rattle.aig_graph.specs.Graph.{variable, first_latch, first_gate}
 use Rattle.aig_graph.specs.Circuits.{Netlist}
 use Rattle.aig_graph.specs.Closed.{IsClosedSet}

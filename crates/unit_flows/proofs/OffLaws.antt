@@ -1,11 +1,11 @@
 -- The set of the gates off the marks.
 use Rattle.std.proofs.Common.{◌≡◌, ℕ, suc, zero, ◌+◌, ◌<◌, ◌==◌, nat_lt, Bool, true, false, not, ◌&&◌, ◌||◌, List, [], ◌∷◌, ◌++◌, length, get_or, arith, refl, ap, ap₂, sym, ◌∙◌, inl, inr}
 use Rattle.std.proofs.lemmas.Bool.{cases_Bool, cases_lt, cases_eq, eq-eqb, ne_eqb, lt-ltb, le-ltb, and_left, and_right}
-use Rattle.variable_tables.specs.Counting.{places}
-use Rattle.variable_tables.specs.Marking.{has, mark_at}
-use Rattle.variable_tables.proofs.PlacesLaws.{places-pass, places-fail, places-zero}
-use Rattle.variable_tables.proofs.CountingLaws.{places-none}
-use Rattle.variable_tables.proofs.MemberLaws.{has-push}
+use Rattle.aig_graph.specs.Counting.{places}
+use Rattle.aig_graph.specs.Marking.{has, mark_at}
+use Rattle.aig_graph.proofs.PlacesLaws.{places-pass, places-fail, places-zero}
+use Rattle.aig_graph.proofs.CountingLaws.{places-none}
+use Rattle.aig_graph.proofs.MemberLaws.{has-push}
 use Rattle.aig_graph.specs.Graph.{first_latch, first_gate, variables_end}
 use Rattle.aig_graph.specs.Circuits.{Netlist}
 use Rattle.frame_net.specs.Passable.{is_passable}

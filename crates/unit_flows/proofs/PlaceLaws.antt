@@ -3,8 +3,8 @@ use Rattle.std.proofs.Common.{◌≡◌, ℕ, ◌+◌, ◌-◌, ◌<◌, ◌≤�
 use Rattle.std.proofs.lemmas.Bool.{and_parts, leb-true, lt-ltb, le-ltb, and_left}
 use Rattle.std.proofs.lemmas.Option.{slice_get_read}
 use Rattle.frame_net.specs.Flow.{sum_below}
-use Rattle.variable_tables.specs.Tables.{table}
-use Rattle.variable_tables.specs.Marking.{mark_at}
+use Rattle.aig_graph.specs.Tables.{table}
+use Rattle.aig_graph.specs.Marking.{mark_at}
 use Rattle.aig_graph.specs.declared.graph.Latch.{Latch}
 use Rattle.aig_graph.specs.Graph.{first_latch, first_gate, latches_and_gates, latch_at, is_free, is_known}
 use Rattle.aig_graph.specs.Circuits.{Netlist}

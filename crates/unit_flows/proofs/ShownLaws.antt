@@ -6,9 +6,9 @@ use Rattle.std.specs.List.Sorted.{IsStrictlyIncreasing}
 use Rattle.std.proofs.lemmas.Bool.{cases_Bool, le-ltb, eqb-true, eq-eqb, or_cases, or_left, or_right, or_parts, and_from, and_parts, not-true, false_from_ne_true, true≢false}
 use Rattle.std.proofs.lemmas.Option.{same_Some}
 use Rattle.frame_net.proofs.SumLaws.{sum_below-le}
-use Rattle.variable_tables.specs.Counting.{count_below}
-use Rattle.variable_tables.specs.Marking.{has, mark_at}
-use Rattle.variable_tables.proofs.CountingLaws.{count-none}
+use Rattle.aig_graph.specs.Counting.{count_below}
+use Rattle.aig_graph.specs.Marking.{has, mark_at}
+use Rattle.aig_graph.proofs.CountingLaws.{count-none}
 use Rattle.aig_graph.specs.declared.graph.Gate.{Gate}
 use Rattle.aig_graph.specs.declared.graph.Latch.{Latch}
 use Rattle.aig_graph.specs.Graph.{IsGraph, variable, first_latch, first_gate, variables_end, latches_and_gates, latch_at, gate_at, is_known}

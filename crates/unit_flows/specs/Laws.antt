@@ -1,7 +1,7 @@
 -- That a flow of units bounds the border of each closed set, and which set it shows to be the greatest least one.
 use Rattle.std.specs.Prelude.{◌≡◌, ℕ, ◌≤◌, Bool, List, length}
 use Rattle.std.specs.List.Sorted.{IsStrictlyIncreasing}
-use Rattle.variable_tables.specs.Marking.{has, mark_at}
+use Rattle.aig_graph.specs.Marking.{has, mark_at}
 use Rattle.aig_graph.specs.Graph.{IsGraph, first_latch}
 use Rattle.aig_graph.specs.Circuits.{Netlist}
 use Rattle.aig_graph.specs.Closed.{IsClosedSet}

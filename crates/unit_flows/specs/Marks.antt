@@ -1,6 +1,6 @@
 -- Nodes before and after variables from which more units could come to the sink.
 use Rattle.std.specs.Prelude.{◌≡◌, ℕ, ◌+◌, ◌<◌, Bool, true, false, List, length}
-use Rattle.variable_tables.specs.Marking.{mark_at}
+use Rattle.aig_graph.specs.Marking.{mark_at}
 use Rattle.aig_graph.specs.declared.graph.Gate.{Gate}
 use Rattle.aig_graph.specs.Graph.{variable, first_latch, first_gate}
 use Rattle.aig_graph.specs.Circuits.{Netlist}

@@ -1,6 +1,6 @@
 //! What makes marks a cut: no gate off the marks reads a marked one, and what marked gates read is marked after.
 ghost use Rattle.std.specs.Prelude.{◌≡◌, ◌+◌, ◌<◌, ◌≤◌, ◌||◌, IsTrue, length, nat_lt, not};
-ghost use Rattle.variable_tables.specs.Marking.{mark_at};
+ghost use Rattle.aig_graph.specs.Marking.{mark_at};
 ghost use Rattle.aig_graph.specs.Graph.{IsGateAt};
 ghost use Rattle.unit_flows.specs.Shown.{IsCutAt};
 

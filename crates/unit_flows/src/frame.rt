@@ -1,7 +1,7 @@
 //! A frame's circuit, with its tables of what passes and of what leaves.
 ghost use Rattle.std.specs.Prelude.{◌≡◌, ◌+◌, ◌<◌, ◌≤◌, ℕ, false, IfOk, length, drop};
 ghost use Rattle.std.specs.List.{slice_index_or};
-ghost use Rattle.variable_tables.specs.Tables.{table};
+ghost use Rattle.aig_graph.specs.Tables.{table};
 ghost use Rattle.aig_graph.specs.Graph.{first_latch, first_gate, latches_and_gates};
 ghost use Rattle.aig_graph.specs.declared.literal.TheConstants.{MAX_VARIABLES};
 ghost use Rattle.frame_net.specs.Passable.{is_passable, IsPassSet};

@@ -1,7 +1,7 @@
 //! Judges a flow: whether it shows the greatest least set, and which that is.
 ghost use Rattle.std.specs.Prelude.{◌≡◌, IfOk, IfSome, IsTrue, length, replicate};
-ghost use Rattle.variable_tables.specs.Counting.{places};
-ghost use Rattle.variable_tables.specs.Marking.{mark_at};
+ghost use Rattle.aig_graph.specs.Counting.{places};
+ghost use Rattle.aig_graph.specs.Marking.{mark_at};
 ghost use Rattle.aig_graph.specs.Graph.{first_latch, variables_end, latches_and_gates};
 ghost use Rattle.aig_graph.specs.Border.{IsGreatestLeast};
 ghost use Rattle.unit_flows.specs.Marks.{ReachSink};

@@ -2,7 +2,7 @@
 //! marked node, so all that is marked reaches the sink. That nothing else does isn't claimed here: the judge sees for itself that the marks
 //! are a full cut.
 ghost use Rattle.std.specs.Prelude.{◌≡◌, ◌&&◌, ◌==◌, ◌+◌, ◌<◌, ◌≤◌, ℕ, Bool, IsTrue, true, length};
-ghost use Rattle.variable_tables.specs.Marking.{mark_at, Marks};
+ghost use Rattle.aig_graph.specs.Marking.{mark_at, Marks};
 ghost use Rattle.aig_graph.specs.Graph.{IsGateAt, variable};
 ghost use Rattle.unit_flows.specs.Marks.{HoldsTails, AreWithin};
 

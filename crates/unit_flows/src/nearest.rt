@@ -3,7 +3,7 @@
 //! the far side.
 ghost use Rattle.std.specs.Prelude.{◌≡◌, ◌<◌, ℕ, IfOk, IfSome, IsTrue, false, length, not, replicate};
 ghost use Rattle.std.specs.List.{slice_index_or};
-ghost use Rattle.variable_tables.specs.Marking.{mark_at};
+ghost use Rattle.aig_graph.specs.Marking.{mark_at};
 ghost use Rattle.aig_graph.specs.Graph.{first_latch, latches_and_gates};
 ghost use Rattle.aig_graph.specs.Border.{IsSmallestLeast};
 ghost use Rattle.unit_flows.specs.Units.{AreTallies, IsBalanced};

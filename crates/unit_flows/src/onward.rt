@@ -1,13 +1,12 @@
 //! Marks of the nodes to which units that are left could go, by variable from the first latch on. Each is set by a residual arc from a marked
 //! node, so all that is marked is reached from where a unit is left.
 ghost use Rattle.std.specs.Prelude.{◌≡◌, ◌&&◌, ◌==◌, ℕ, Bool, IsTrue, true, length};
-ghost use Rattle.variable_tables.specs.Marking.{Marks};
+ghost use Rattle.aig_graph.specs.Marking.{Marks};
 ghost use Rattle.unit_flows.specs.Marks.{AreWithin};
 ghost use Rattle.unit_flows.specs.Onward.{HoldsHeads};
 
 use crate::gate_flow::GateFlow;
-use aig_graph::Gate;
-use variable_tables::{mark_at, mark_variable};
+use aig_graph::{Gate, mark_at, mark_variable};
 
 /// Marks a variable where it is wished.
 pub(crate) fn mark_if(marks: &mut [bool], first: u32, var: u32, wished: bool)

@@ -2,7 +2,7 @@
 //! places of all variables, the latches' and then the gates', that no more goes on from after them than comes there, that what leaves is marked,
 //! and that as many units arrive as variables cross.
 ghost use Rattle.std.specs.Prelude.{◌≡◌, ◌+◌, ◌<◌, ◌≤◌, ◌==◌, ◌&&◌, ◌||◌, nat_le, not, ℕ, IsTrue, length};
-ghost use Rattle.variable_tables.specs.Marking.{mark_at};
+ghost use Rattle.aig_graph.specs.Marking.{mark_at};
 ghost use Rattle.aig_graph.specs.Graph.{first_latch, latches_and_gates, is_free};
 ghost use Rattle.unit_flows.specs.Units.{unit};
 ghost use Rattle.unit_flows.specs.Passes.{GateHolds, PlacesHold};

@@ -5,14 +5,13 @@ use crate::nodes::Nodes;
 use crate::phases::{Passage, pulse_alone, pulse_by_crew};
 use crate::search::Search;
 use crate::sharing::{Parts, Sharing};
-use aig_graph::NoMemory;
+use aig_graph::{Memory, NoMemory};
 use pulse::PhaseGate;
 use std::alloc::Global;
 use std::mem;
 use std::thread::Threads;
 use unit_flows::{GateFlow, NodeMarks};
 use unit_starts::Region;
-use variable_tables::Memory;
 
 /// After so many rounds what is left is left to the network.
 const MOST_ROUNDS: u32 = 1024;

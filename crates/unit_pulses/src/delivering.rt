@@ -4,9 +4,9 @@ use crate::nodes::Nodes;
 use crate::parts::{Delivery, Kept, Part, Push, Range};
 use crate::raising::raised_with_arrivals;
 use crate::spots::{Labels, Spot, label_before, spot_at};
+use aig_graph::Memory;
 use std::mem;
 use unit_flows::GateFlow;
-use variable_tables::Memory;
 
 /// The units of a worker's own pushes leave the tails. Its places are these from the first on.
 fn leave_all(spots: &mut [Spot], first: u32, pushes: &[Push]) {

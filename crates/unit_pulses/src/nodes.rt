@@ -1,8 +1,8 @@
 //! Nodes of a network that isn't made: one before each gate, and one after each latch and gate. Both are named by a place, the variable
 //! less that of the first latch.
 
+use aig_graph::Memory;
 use std::mem;
-use variable_tables::Memory;
 
 /// Some nodes, by their places.
 #[derive(Drop)]

@@ -4,8 +4,8 @@
 //! writes what they change at its places. So what a pulse leaves depends on no order of nodes, and on no number of workers.
 
 use crate::nodes::Nodes;
+use aig_graph::Memory;
 use unit_flows::GateFlow;
-use variable_tables::Memory;
 
 /// An arc that units go over, between a gate's nodes, or between one of them and a node of its second or first fan-in.
 #[derive(Clone, Copy)]

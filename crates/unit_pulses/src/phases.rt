@@ -9,10 +9,10 @@ use crate::parts::{Delivery, Kept, Part};
 use crate::search::Search;
 use crate::sharing::Parts;
 use crate::spots::{FAR, Labels};
+use aig_graph::Memory;
 use pulse::PhaseGate;
 use std::thread::Threads;
 use std::{mem, thread};
-use variable_tables::Memory;
 
 /// The gate that each worker passes and leaves, and the number of the pulse, from 0.
 #[derive(Drop)]

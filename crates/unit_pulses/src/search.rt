@@ -4,10 +4,9 @@ use crate::fan_ins::FanIns;
 use crate::nodes::Nodes;
 use crate::readers::Readers;
 use crate::spots::{Labels, Spot, label_before};
-use aig_graph::Gate;
+use aig_graph::{Gate, Memory};
 use unit_flows::GateFlow;
 use unit_starts::{Region, narrow};
-use variable_tables::Memory;
 
 /// The node before a gate, as a pulse finds it: what the flow does at the gate, and the label that the node pushes to.
 #[derive(Clone, Copy)]

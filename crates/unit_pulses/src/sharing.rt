@@ -4,8 +4,8 @@
 
 use crate::nodes::Nodes;
 use crate::parts::{Delivery, Part};
+use aig_graph::Memory;
 use pulse::{Crew, PhaseGate};
-use variable_tables::Memory;
 
 /// So many active nodes make a pulse worth its two forks.
 const MANY_ACTIVE: usize = 4096;

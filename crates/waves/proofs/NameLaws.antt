@@ -3,7 +3,7 @@ use Rattle.std.proofs.Common.{ℕ, ◌+◌, ◌<◌, ◌≤◌, ◌≡◌, ◌==
 use Rattle.std.specs.List.{list_any, slice_set}
 use Rattle.std.proofs.lemmas.Bool.{le-ltb, lt-ltb}
 use Rattle.std.proofs.lemmas.List.{get_or_default, length-set}
-use Rattle.variable_tables.proofs.TableLaws.{table-more, table-none}
+use Rattle.aig_graph.proofs.TableLaws.{table-more, table-none}
 use Rattle.aig_graph.specs.declared.properties.Symbol.{Symbol}
 use Rattle.waves.specs.Names.{apart, apart_where, is_again, legal_name, literal_word, property_words, with_legal_name, with_symbols, words_before}
 

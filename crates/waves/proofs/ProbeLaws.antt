@@ -1,7 +1,7 @@
 -- The circuit whose outputs are all that is shown of another one.
 use Rattle.std.proofs.Common.{ℕ, ◌+◌, ◌*◌, ◌/◌, ◌<◌, ◌≡◌, length, arith, subst, sym}
 use Rattle.std.proofs.lemmas.List.Elements.{All-append}
-use Rattle.variable_tables.proofs.TableLaws.{length-table, table-at}
+use Rattle.aig_graph.proofs.TableLaws.{length-table, table-at}
 use Rattle.aig_graph.specs.Graph.{Graph, IsLiteralOf, variables_end}
 use Rattle.aig_graph.specs.Circuits.{AreLiteralsOf, IsNetlist, Netlist}
 use Rattle.aig_graph.specs.Streams.{property_literals}

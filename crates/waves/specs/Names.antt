@@ -2,7 +2,7 @@
 use Rattle.std.specs.Prelude.{ℕ, zero, suc, ◌==◌, ◌&&◌, not, nat_lt, Bool, List, [], ◌∷◌, ◌++◌, length, map, take, get_or, decimal, bytes_eq, if◌then◌else◌}
 use Rattle.std.specs.List.{list_any, slice_set}
 use Rattle.std.specs.Str.{byte}
-use Rattle.variable_tables.specs.Tables.{table}
+use Rattle.aig_graph.specs.Tables.{table}
 use Rattle.aig_graph.specs.declared.properties.Props.{Props}
 use Rattle.aig_graph.specs.declared.properties.Symbol.{Symbol}
 use Rattle.aig_graph.specs.declared.properties.Symbols.{Symbols}

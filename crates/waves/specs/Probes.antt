@@ -1,6 +1,6 @@
 -- What is shown of a circuit: its inputs, its latches, and the literals of its properties.
 use Rattle.std.specs.Prelude.{ℕ, ◌+◌, ◌*◌, ◌++◌, List, length}
-use Rattle.variable_tables.specs.Tables.{table}
+use Rattle.aig_graph.specs.Tables.{table}
 use Rattle.aig_graph.specs.Graph.{Graph}
 use Rattle.aig_graph.specs.Circuits.{Netlist, no_symbols, outputs_alone}
 use Rattle.aig_graph.specs.Streams.{property_literals}

@@ -3,7 +3,7 @@
 //! waves with one name all but the first say their places too.
 ghost use Rattle.std.specs.Prelude.{ℕ, List, ◌≡◌, ◌++◌, ◌∷◌, ◌<◌, ◌==◌, not, decimal, map, length, get_or, take, bytes_eq, IfOk, OnOk};
 ghost use Rattle.std.specs.List.{list_any};
-ghost use Rattle.variable_tables.specs.Tables.{table};
+ghost use Rattle.aig_graph.specs.Tables.{table};
 ghost use Rattle.waves.specs.Names.{apart_where, is_legal, justice_words, kind_names, legal_byte, legal_name, literal_word, own_names, property_words, told_apart, wave_names, with_properties, with_legal_name, with_symbols, default_name};
 
 use aig_graph::{Circuit, Lit, NoMemory, Props, Sequence, Symbol, Symbols};

@@ -5,8 +5,8 @@ use Rattle.std.proofs.Math.Seq.{take-length}
 use Rattle.std.proofs.lemmas.List.{length-append, length-map}
 use Rattle.std.proofs.lemmas.List.Elements.{All-append, All-map, All-nil}
 use Rattle.std.proofs.lemmas.Option.{get_or_from_slice_get, none-some, slice_get_within}
-use Rattle.variable_tables.proofs.ListLaws.{from_map, slice_get-map_some}
-use Rattle.variable_tables.proofs.PlacesLaws.{slice_get-append_left, slice_get-append_right}
+use Rattle.aig_graph.proofs.ListLaws.{from_map, slice_get-map_some}
+use Rattle.aig_graph.proofs.PlacesLaws.{slice_get-append_left, slice_get-append_right}
 use Rattle.aig_graph.specs.declared.graph.Latch.{Latch}
 use Rattle.aig_graph.specs.declared.graph.Reset.{Reset}
 use Rattle.aig_graph.specs.declared.literal.TheConstants.{MAX_VARIABLES}
@@ -16,7 +16,7 @@ use Rattle.aig_graph.specs.Circuits.{AreLiteralsOf, Netlist}
 use Rattle.aig_graph.specs.Graph.{Graph, IsGraph, IsLiteralOf}
 use Rattle.aig_graph.specs.Value.{value_within}
 use Rattle.aig_graph.proofs.GraphLaws.{all_from_slice_get}
-use Rattle.state_maps.specs.States.{Digits, State}
+use Rattle.retimed_circuits.specs.States.{Digits, State}
 use Rattle.witness_circuits.specs.declared.sharing.Sharing.{Sharing}
 use Rattle.witness_circuits.specs.Joining.{own_at, own_count}
 use Rattle.witness_circuits.specs.Witnesses.{bad_or, bad_states}

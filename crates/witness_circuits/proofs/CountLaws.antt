@@ -3,7 +3,7 @@ use Rattle.std.proofs.Common.{ℕ, suc, zero, ◌+◌, ◌<◌, ◌≤◌, ◌�
 use Rattle.std.proofs.lemmas.Bool.{cases_Bool}
 use Rattle.std.proofs.lemmas.List.Sums.{count_by_more_no, count_by_more_yes}
 use Rattle.std.proofs.lemmas.Option.{get_or_from_slice_get, none-some, same_Some, slice_get_within}
-use Rattle.variable_tables.proofs.ListLaws.{count_by-cons}
+use Rattle.aig_graph.proofs.ListLaws.{count_by-cons}
 use Rattle.witness_circuits.specs.Joining.{is_own, own_count}
 
 -- what is shared with none, and what isn't

@@ -3,7 +3,7 @@ use Rattle.std.proofs.Common.{inl, inr, ℕ, suc, zero, ◌+◌, ◌<◌, ◌≤
 use Rattle.std.proofs.lemmas.Bool.{cases_lt}
 use Rattle.std.proofs.lemmas.List.{length_push}
 use Rattle.std.proofs.lemmas.Option.{none-some, same_Some}
-use Rattle.variable_tables.proofs.PlacesLaws.{slice_get-append_left, slice_get-append_right, slice_get_push}
+use Rattle.aig_graph.proofs.PlacesLaws.{slice_get-append_left, slice_get-append_right, slice_get_push}
 use Rattle.aig_graph.specs.declared.graph.Latch.{Latch}
 use Rattle.aig_graph.specs.Building.{next_at}
 use Rattle.witness_circuits.specs.Joining.{own_count}

@@ -2,8 +2,8 @@
 use Rattle.std.proofs.Common.{ℕ, ◌+◌, ◌-◌, ◌<◌, ◌≤◌, ◌≡◌, inl, inr, Bool, true, false, length, get_or, slice_get, Some, refl, arith, ap, sym, ◌∙◌}
 use Rattle.std.proofs.lemmas.Bool.{cases_lt}
 use Rattle.std.proofs.lemmas.Option.{get_or_from_slice_get, slice_get_past, slice_get_within}
-use Rattle.variable_tables.specs.Counting.{places, count_below}
-use Rattle.variable_tables.proofs.PlacesLaws.{at_rank}
+use Rattle.aig_graph.specs.Counting.{places, count_below}
+use Rattle.aig_graph.proofs.PlacesLaws.{at_rank}
 use Rattle.aig_graph.specs.declared.graph.Latch.{Latch}
 use Rattle.aig_graph.specs.declared.graph.Reset.{Reset}
 use Rattle.aig_graph.specs.declared.graph.Reset.TheVariants.{Zero, One, Free}
@@ -11,7 +11,7 @@ use Rattle.aig_graph.specs.Graph.{Graph, first_latch, free_before, is_free, is_f
 use Rattle.aig_graph.specs.Value.{Choice, opening, opening_at}
 use Rattle.aig_graph.proofs.FreeLaws.{free-count, is_free_at, free-where}
 use Rattle.aig_graph.proofs.KindLaws.{element, latch_at-first_latch}
-use Rattle.state_maps.specs.States.{State, opening_state}
+use Rattle.retimed_circuits.specs.States.{State, opening_state}
 use Rattle.aig_graph.proofs.StreamLaws.{funext}
 
 -- what is held at step 0 is what the reset leaves

@@ -5,7 +5,7 @@ use Rattle.std.proofs.lemmas.Bool.{cases_lt}
 use Rattle.std.proofs.lemmas.List.{length-append, length-replicate, get_or-replicate}
 use Rattle.std.proofs.lemmas.List.FromFn.{length-map-range_with_len, get_or-map-range_with_len}
 use Rattle.std.proofs.lemmas.Option.{none-some, same_Some, slice_get-get_or, slice_get_past}
-use Rattle.variable_tables.proofs.PlacesLaws.{slice_get-append_left, slice_get-append_right}
+use Rattle.aig_graph.proofs.PlacesLaws.{slice_get-append_left, slice_get-append_right}
 use Rattle.witness_circuits.specs.LiftedLaws.{first_places}
 
 abbrev firsts : ℕ → List (Option ℕ)

@@ -3,7 +3,7 @@ use Rattle.std.specs.Prelude.{ℕ, ◌-◌, ◌++◌, List, length, map, replica
 use Rattle.std.specs.List.{range_with_len}
 use Rattle.aig_graph.specs.Circuits.{Netlist, IsNetlist}
 use Rattle.aig_graph.specs.Graph.{IsGraph}
-use Rattle.state_maps.specs.MapCircuits.{IsMapCircuit}
+use Rattle.retimed_circuits.specs.MapCircuits.{IsMapCircuit}
 use Rattle.witness_circuits.specs.declared.sharing.Sharing.{Sharing}
 use Rattle.witness_circuits.specs.Witnesses.{IsSharing, IsWitness}
 use Rattle.witness_circuits.specs.Lifting.{IsLifted}

@@ -1,13 +1,13 @@
 -- A witness circuit of a mapped circuit, read through the map.
 use Rattle.std.specs.Prelude.{ℕ, ◌+◌, ◌*◌, ◌≡◌, ◌≤◌, ◌++◌, ◌↔◌, Bool, List, length, slice_get, Some, None, codes, decimal}
-use Rattle.variable_tables.specs.Tables.{table}
+use Rattle.aig_graph.specs.Tables.{table}
 use Rattle.aig_graph.specs.declared.graph.Latch.{Latch}
 use Rattle.aig_graph.specs.declared.properties.Symbol.{Symbol}
 use Rattle.aig_graph.specs.Circuits.{Netlist}
 use Rattle.aig_graph.specs.Graph.{Graph, first_latch}
 use Rattle.aig_graph.specs.Value.{value_within}
-use Rattle.state_maps.specs.States.{Digits, IsAllowed, State}
-use Rattle.state_maps.specs.MapCircuits.{is_kept, mapped}
+use Rattle.retimed_circuits.specs.States.{Digits, IsAllowed, State}
+use Rattle.retimed_circuits.specs.MapCircuits.{is_kept, mapped}
 use Rattle.witness_circuits.specs.declared.sharing.Sharing.{Sharing}
 use Rattle.witness_circuits.specs.Witnesses.{IsGood}
 use Rattle.witness_circuits.specs.Joining.{joined, own_at, own_count}

@@ -1,6 +1,6 @@
 -- What a witness circuit shares with the model, by its names or by their places.
 use Rattle.std.specs.Prelude.{ℕ, ◌+◌, ◌*◌, ◌<◌, ◌≡◌, ◌++◌, ◌⊎◌, nat_lt, Bool, true, false, List, length, slice_get, slice_set, Option, Some, None, codes, if◌then◌else◌}
-use Rattle.variable_tables.specs.Tables.{table}
+use Rattle.aig_graph.specs.Tables.{table}
 use Rattle.aig_graph.specs.declared.properties.Symbol.{Symbol}
 use Rattle.aig_graph.specs.Circuits.{Netlist}
 use Rattle.aig_graph.specs.Graph.{first_latch}

@@ -7,14 +7,14 @@ use Rattle.aig_graph.specs.declared.properties.Props.{Props}
 use Rattle.aig_graph.specs.Circuits.{AreLiteralsOf, ArePropsOf, Netlist}
 use Rattle.aig_graph.specs.Graph.{Graph, variable, variables_end}
 use Rattle.aig_graph.specs.Value.{value_within}
-use Rattle.state_maps.specs.States.{Digits, IsAllowed, State}
-use Rattle.state_maps.specs.MapCircuits.{is_kept}
+use Rattle.retimed_circuits.specs.States.{Digits, IsAllowed, State}
+use Rattle.retimed_circuits.specs.MapCircuits.{is_kept}
 use Rattle.witness_circuits.specs.declared.sharing.Sharing.{Sharing}
 use Rattle.witness_circuits.specs.Joining.{joined, own_at, own_count}
 use Rattle.witness_circuits.specs.Witnesses.{IsGood, bad_states}
 use Rattle.map_circuits.specs.Instances.{substitute}
 use Rattle.witness_circuits.specs.declared.parts.Parts.{Parts}
-use Rattle.variable_tables.specs.Tables.{table}
+use Rattle.aig_graph.specs.Tables.{table}
 use Rattle.witness_circuits.specs.Literals.{AreSources, negated}
 use Rattle.witness_circuits.specs.Lifting.{in_circuit, in_witness, witness_digits, witness_state}
 

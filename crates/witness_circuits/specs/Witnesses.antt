@@ -4,7 +4,7 @@ use Rattle.aig_graph.specs.declared.graph.Latch.{Latch}
 use Rattle.aig_graph.specs.declared.properties.Props.{Props}
 use Rattle.aig_graph.specs.Circuits.{Netlist}
 use Rattle.aig_graph.specs.Value.{Choice, opening, value_within}
-use Rattle.state_maps.specs.States.{Digits, IsAllowed, State, after_step, opening_state}
+use Rattle.retimed_circuits.specs.States.{Digits, IsAllowed, State, after_step, opening_state}
 use Rattle.witness_circuits.specs.declared.sharing.Sharing.{Sharing}
 
 -- the places are those of inputs and latches of the model

@@ -2,7 +2,7 @@
 ghost use Rattle.std.specs.Prelude.{ℕ, ◌≡◌, ◌+◌, ◌*◌, ◌<◌, ◌≤◌, ◌++◌, ◌∷◌, All, IfOk, OnOk, Some, length, map, slice_get, true, if◌then◌else◌};
 ghost use Rattle.aig_graph.specs.declared.literal.TheConstants.{MAX_VARIABLES};
 ghost use Rattle.aig_graph.specs.Graph.{variable};
-ghost use Rattle.variable_tables.specs.Tables.{table};
+ghost use Rattle.aig_graph.specs.Tables.{table};
 ghost use Rattle.witness_circuits.specs.Joining.{is_own, own_count};
 ghost use Rattle.map_circuits.specs.Instances.{substitute};
 ghost use Rattle.witness_circuits.specs.Literals.{AreSources, negated, source_of};

@@ -3,7 +3,7 @@ ghost use Rattle.std.specs.Prelude.{◌≡◌, ◌+◌, ◌*◌, ◌≤◌, ◌+
 ghost use Rattle.aig_graph.specs.declared.literal.TheConstants.{MAX_VARIABLES};
 ghost use Rattle.aig_graph.specs.Circuits.{no_symbols};
 ghost use Rattle.aig_graph.specs.Graph.{Graph, first_latch};
-ghost use Rattle.variable_tables.specs.Tables.{table};
+ghost use Rattle.aig_graph.specs.Tables.{table};
 ghost use Rattle.witness_circuits.specs.Lifting.{literal_name, literal_names};
 
 use aig_graph::{Aig, Lit, NoMemory, Sequence, Symbol, Symbols};

@@ -8,7 +8,7 @@ ghost use Rattle.aig_graph.specs.Graph as graphs;
 ghost use Rattle.aig_graph.specs.Value.{value_within};
 ghost use Rattle.map_circuits.specs.Growing.{Extends};
 ghost use Rattle.witness_circuits.specs.Joining.{own_count};
-ghost use Rattle.variable_tables.specs.Tables.{table};
+ghost use Rattle.aig_graph.specs.Tables.{table};
 ghost use Rattle.witness_circuits.specs.Literals.{AreSources};
 ghost use Rattle.witness_circuits.specs.Parts.{AreParts, AreWitnessLeaves, HasPlaces, IsLiftable, IsFitting, IsView, first_leaves, in_shared, map_leaves, over_latches, substitutes};
 

@@ -4,10 +4,10 @@ use Rattle.aig_graph.specs.Graph.{Graph, first_latch}
 use Rattle.aig_graph.specs.declared.properties.Props.{Props}
 use Rattle.aig_graph.specs.Closed.{is_held}
 use Rattle.aig_graph.specs.Border.{is_read_outside}
-use Rattle.variable_tables.specs.Marking.{has, mark_at}
-use Rattle.variable_tables.specs.Tables.{table}
-use Rattle.variable_tables.proofs.TableLaws.{length-table}
-use Rattle.variable_tables.proofs.MarkingLaws.{Marks-then, Marks-same, AreMarks-from_none, AreMarks-table}
+use Rattle.aig_graph.specs.Marking.{has, mark_at}
+use Rattle.aig_graph.specs.Tables.{table}
+use Rattle.aig_graph.proofs.TableLaws.{length-table}
+use Rattle.aig_graph.proofs.MarkingLaws.{Marks-then, Marks-same, AreMarks-from_none, AreMarks-table}
 use Rattle.aig_graph.proofs.BorderLaws.{border_size-is}
 use Rattle.aig_graph.proofs.border.count.Goals as goal
 

@@ -1,6 +1,6 @@
 use Rattle.std.proofs.Common.{◌≡◌, ◌≤◌}
 use Rattle.aig_graph.specs.Border.{is_counted}
-use Rattle.variable_tables.specs.Counting.{count_below}
+use Rattle.aig_graph.specs.Counting.{count_below}
 use Rattle.aig_graph.proofs.border.count_marked.Given as goal
 
 abbrev pub invariant-loop-var : goal.invariant-loop-var

@@ -1,7 +1,7 @@
 use Rattle.std.proofs.Common.{take, ◌-◌, ◌&&◌}
 use Rattle.std.specs.Prelude.{is_some}
 use Rattle.aig_graph.specs.Graph.{first_latch, latch_at}
-use Rattle.variable_tables.specs.Marking.{Marks, has}
+use Rattle.aig_graph.specs.Marking.{Marks, has}
 use Rattle.aig_graph.proofs.border.mark_held.Given as goal
 
 abbrev pub invariant-loop-position : goal.invariant-loop-position

@@ -5,10 +5,10 @@ use Rattle.aig_graph.specs.Keep.{held_also}
 use Rattle.aig_graph.specs.declared.graph.Latch.{Latch}
 use Rattle.aig_graph.proofs.HoldingLaws.{empty-none}
 use Rattle.aig_graph.proofs.PositionLaws.{held_also-some, places-rising}
-use Rattle.variable_tables.specs.Counting.{places}
-use Rattle.variable_tables.specs.Marking.{has}
-use Rattle.variable_tables.proofs.MarkingLaws.{AreAllMarks-table}
-use Rattle.variable_tables.proofs.TableLaws.{length-table}
+use Rattle.aig_graph.specs.Counting.{places}
+use Rattle.aig_graph.specs.Marking.{has}
+use Rattle.aig_graph.proofs.MarkingLaws.{AreAllMarks-table}
+use Rattle.aig_graph.proofs.TableLaws.{length-table}
 use Rattle.aig_graph.proofs.holding.held_also.Goals as goal
 
 pub returns-then-is_empty : goal.returns-then-is_empty

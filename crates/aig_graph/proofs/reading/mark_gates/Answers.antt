@@ -3,8 +3,8 @@ use Rattle.std.specs.List.{enumerate_from}
 use Rattle.std.proofs.lemmas.List.FromFn.{length-enumerate_from, get_or-enumerate_from}
 use Rattle.aig_graph.specs.declared.graph.Gate.{Gate}
 use Rattle.aig_graph.specs.Border.{is_fan_in}
-use Rattle.variable_tables.specs.Marking.{mark_at}
-use Rattle.variable_tables.proofs.MarkingLaws.{Marks-same, Marks-more, Marks-all}
+use Rattle.aig_graph.specs.Marking.{mark_at}
+use Rattle.aig_graph.proofs.MarkingLaws.{Marks-same, Marks-more, Marks-all}
 use Rattle.aig_graph.proofs.reading.mark_gates.Goals as goal
 
 pub loop-k-preserved : goal.loop-k-preserved

@@ -2,7 +2,7 @@ use Rattle.std.proofs.Common.{take, ℕ, not, ◌&&◌}
 use Rattle.std.specs.List.{list_any, enumerate_from}
 use Rattle.aig_graph.specs.declared.graph.Gate.{Gate}
 use Rattle.aig_graph.specs.Border.{is_fan_in}
-use Rattle.variable_tables.specs.Marking.{Marks, mark_at}
+use Rattle.aig_graph.specs.Marking.{Marks, mark_at}
 use Rattle.aig_graph.proofs.reading.mark_gates.Given as goal
 
 abbrev pub invariant-loop-k : goal.invariant-loop-k

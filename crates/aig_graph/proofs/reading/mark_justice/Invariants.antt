@@ -1,7 +1,7 @@
 use Rattle.std.proofs.Common.{take, List, ℕ}
 use Rattle.std.specs.List.{list_any, flat_map}
 use Rattle.aig_graph.specs.Border.{reads}
-use Rattle.variable_tables.specs.Marking.{Marks}
+use Rattle.aig_graph.specs.Marking.{Marks}
 use Rattle.aig_graph.proofs.reading.mark_justice.Given as goal
 
 abbrev pub invariant-loop-lits : goal.invariant-loop-lits

@@ -2,7 +2,7 @@ use Rattle.std.proofs.Common.{take}
 use Rattle.std.specs.List.{list_any}
 use Rattle.aig_graph.specs.declared.graph.Latch.{Latch}
 use Rattle.aig_graph.specs.Border.{reads}
-use Rattle.variable_tables.specs.Marking.{Marks}
+use Rattle.aig_graph.specs.Marking.{Marks}
 use Rattle.aig_graph.proofs.reading.mark_latches.Given as goal
 
 abbrev pub invariant-loop-latch : goal.invariant-loop-latch

@@ -1,7 +1,7 @@
 use Rattle.std.proofs.Common.{take}
 use Rattle.std.specs.List.{list_any}
 use Rattle.aig_graph.specs.Border.{reads}
-use Rattle.variable_tables.specs.Marking.{Marks}
+use Rattle.aig_graph.specs.Marking.{Marks}
 use Rattle.aig_graph.proofs.reading.mark_literals.Given as goal
 
 abbrev pub invariant-loop-lit : goal.invariant-loop-lit

@@ -1,5 +1,5 @@
 use Rattle.std.proofs.Common.{ℕ, ◌≡◌, ◌∙◌, ◌+◌, ◌*◌, arith, sym}
-use Rattle.variable_tables.proofs.TableLaws.{entry, table-end, table-none}
+use Rattle.aig_graph.proofs.TableLaws.{entry, table-end, table-none}
 use Rattle.backward_circuits.proofs.wiring.input_literals.Goals as goal
 
 pub loop-place-init : goal.loop-place-init

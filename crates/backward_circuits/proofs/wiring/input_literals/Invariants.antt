@@ -1,5 +1,5 @@
 use Rattle.std.proofs.Common.{◌≡◌, ◌+◌, ◌*◌}
-use Rattle.variable_tables.specs.Tables.{table}
+use Rattle.aig_graph.specs.Tables.{table}
 use Rattle.backward_circuits.proofs.wiring.input_literals.Given as goal
 
 abbrev pub invariant-loop-place : goal.invariant-loop-place

@@ -1,5 +1,5 @@
 use Rattle.std.proofs.Common.{ℕ, ◌<◌, List, All, IfOk, Result, arith, sym, subst, ◌∙◌}
-use Rattle.variable_tables.specs.declared.memory.NoMemory.{NoMemory}
+use Rattle.aig_graph.specs.declared.memory.NoMemory.{NoMemory}
 use Rattle.batch_pool.specs.declared.draws.Drawer.{Drawer}
 use Rattle.batch_pool.specs.Drawing.{IsDrawerOf, IsDone, jobs_of}
 use Rattle.batch_pool.proofs.GatheringLaws.{last_of_all, front_of_all}

@@ -1,7 +1,7 @@
 use Rattle.std.proofs.Common.{◌||◌, ◌==◌, ◌≤◌, ◌<◌, ◌+◌, ℕ, Bool, List, false, slice_index_or, length, arith, refl, sym, ap, subst, ◌∙◌}
 use Rattle.std.specs.List.{IsDistinct}
 use Rattle.frame_net.specs.declared.net.Point.{Point}
-use Rattle.variable_tables.specs.Marking.{has, mark_at}
+use Rattle.aig_graph.specs.Marking.{has, mark_at}
 use Rattle.certificates.proofs.PassedLaws.{passed-none, passed-same}
 use Rattle.certificates.proofs.DistinctLaws.{distinct-none, distinct-seen, distinct-more, has-more, mark-more, all-here}
 use Rattle.certificates.proofs.apart.are_distinct.Goals as goal

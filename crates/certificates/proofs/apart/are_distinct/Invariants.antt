@@ -1,6 +1,6 @@
 use Rattle.std.proofs.Common.{◌≡◌, ◌==◌, ◌≤◌, ◌<◌, ◌+◌, ℕ, length, take}
 use Rattle.std.specs.List.{IsDistinct}
-use Rattle.variable_tables.specs.Marking.{has, mark_at}
+use Rattle.aig_graph.specs.Marking.{has, mark_at}
 use Rattle.certificates.specs.Routes.{passed}
 use Rattle.certificates.proofs.apart.are_distinct.Given as goal
 

@@ -1,7 +1,7 @@
 use Rattle.std.proofs.Common.{◌≡◌, ℕ, Bool, List, length, All, arith, sym, ap, ◌∙◌, subst}
 use Rattle.std.proofs.lemmas.List.{length-replicate}
-use Rattle.variable_tables.specs.Marking.{mark_at}
-use Rattle.variable_tables.proofs.MarkingLaws.{none-marked}
+use Rattle.aig_graph.specs.Marking.{mark_at}
+use Rattle.aig_graph.proofs.MarkingLaws.{none-marked}
 use Rattle.aig_graph.specs.Graph.{first_latch, latches_and_gates}
 use Rattle.certificates.specs.Routes.{passed}
 use Rattle.certificates.proofs.RangeLaws.{IsIn, routes-in}

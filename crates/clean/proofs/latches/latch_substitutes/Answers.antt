@@ -2,8 +2,8 @@ use Rattle.std.proofs.Common.{◌≡◌, ◌∙◌, ◌+◌, sym, ap, arith, len
 use Rattle.std.proofs.lemmas.Option.{slice_get_read}
 use Rattle.aig_graph.specs.declared.graph.Latch.{Latch}
 use Rattle.aig_graph.specs.Graph.{first_latch, IsGraph}
-use Rattle.variable_tables.specs.Tables.{table}
-use Rattle.variable_tables.proofs.TableLaws.{length-table}
+use Rattle.aig_graph.specs.Tables.{table}
+use Rattle.aig_graph.proofs.TableLaws.{length-table}
 use Rattle.cleaned_circuits.specs.Latches.{leaf_substitute}
 use Rattle.clean.proofs.FirstsLaws.{firsts-start, own-substitutes, substitutes-more}
 use Rattle.clean.proofs.latches.latch_substitutes.Goals as goal

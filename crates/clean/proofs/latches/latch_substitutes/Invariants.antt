@@ -1,6 +1,6 @@
 use Rattle.std.proofs.Common.{◌≡◌, ◌+◌}
 use Rattle.aig_graph.specs.Graph.{first_latch}
-use Rattle.variable_tables.specs.Tables.{table}
+use Rattle.aig_graph.specs.Tables.{table}
 use Rattle.cleaned_circuits.specs.Latches.{leaf_substitute}
 use Rattle.clean.specs.Firsts.{AreFirsts}
 use Rattle.clean.proofs.latches.latch_substitutes.Given as goal

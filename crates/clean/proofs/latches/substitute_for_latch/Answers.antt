@@ -1,6 +1,6 @@
 use Rattle.std.proofs.Common.{rules, ◌≡◌, ◌∙◌, sym, ap, true, false, ℕ}
 use Rattle.aig_graph.specs.Graph.{is_free}
-use Rattle.variable_tables.specs.Marking.{has}
+use Rattle.aig_graph.specs.Marking.{has}
 use Rattle.cleaned_circuits.specs.Latches.{is_constant_latch, same_latch}
 use Rattle.cleaned_circuits.specs.Merged.{substitute_or_own}
 use Rattle.clean.specs.Firsts.{entries_after}

@@ -1,6 +1,6 @@
 use Rattle.std.proofs.Common.{◌∙◌, [], ap, length, List, ℕ}
 use Rattle.aig_graph.specs.Graph.{first_gate}
-use Rattle.variable_tables.proofs.TableLaws.{length-table}
+use Rattle.aig_graph.proofs.TableLaws.{length-table}
 use Rattle.cleaned_circuits.specs.Latches.{leaf_substitute}
 use Rattle.cleaned_circuits.specs.Merged.{Merging, merge_gates, substitutes_of}
 use Rattle.clean.proofs.substitutes.fill_substitutes.Goals as goal

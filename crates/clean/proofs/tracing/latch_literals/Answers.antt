@@ -1,7 +1,7 @@
 use Rattle.std.proofs.Common.{ℕ, ◌≡◌, ◌∙◌, ◌+◌, List, arith, ap, sym, length, slice_get, zero-add}
 use Rattle.aig_graph.specs.declared.graph.Latch.{Latch}
 use Rattle.aig_graph.specs.Graph.{variables_end}
-use Rattle.variable_tables.proofs.TableLaws.{entry, table-end, table-none}
+use Rattle.aig_graph.proofs.TableLaws.{entry, table-end, table-none}
 use Rattle.cleaned_circuits.specs.Latches.{latch_substitute}
 use Rattle.clean.proofs.MappingLaws.{latch-entry, substitutes-long}
 use Rattle.clean.proofs.tracing.latch_literals.Goals as goal

@@ -1,5 +1,5 @@
 use Rattle.std.proofs.Common.{◌≡◌, slice_get}
-use Rattle.variable_tables.specs.Tables.{table}
+use Rattle.aig_graph.specs.Tables.{table}
 use Rattle.cleaned_circuits.specs.Latches.{latch_substitute}
 use Rattle.clean.proofs.tracing.latch_literals.Given as goal
 

@@ -1,6 +1,6 @@
 use Rattle.std.proofs.Common.{◌≡◌, ◌+◌}
 use Rattle.aig_graph.specs.Graph.{first_latch}
-use Rattle.variable_tables.specs.Tables.{table}
+use Rattle.aig_graph.specs.Tables.{table}
 use Rattle.clean.specs.Sweep.{is_marked}
 use Rattle.clean.proofs.tracing.stays_of.Given as goal
 

@@ -1,7 +1,7 @@
 use Rattle.std.proofs.Common.{rules, ◌≡◌, ◌≤◌, ◌*◌, ◌∙◌, ap, sym, subst, arith, ℕ, List, Bool, length}
 use Rattle.aig_graph.specs.Graph.{Graph, first_latch, variables_end}
-use Rattle.variable_tables.specs.Tables.{table}
-use Rattle.variable_tables.proofs.TableLaws.{length-table}
+use Rattle.aig_graph.specs.Tables.{table}
+use Rattle.aig_graph.proofs.TableLaws.{length-table}
 use Rattle.cleaned_circuits.specs.Trimmed.{new_variable}
 use Rattle.cleaned_circuits.proofs.TrimmedLaws.{new-low}
 use Rattle.clean.specs.Substitutions.{own_literals}

@@ -1,5 +1,5 @@
 use Rattle.std.proofs.Common.{◌≡◌, ◌*◌}
-use Rattle.variable_tables.specs.Tables.{table}
+use Rattle.aig_graph.specs.Tables.{table}
 use Rattle.cleaned_circuits.specs.Trimmed.{new_variable}
 use Rattle.clean.specs.Sweep.{is_marked}
 use Rattle.clean.proofs.trim.put_new_literals.Given as goal

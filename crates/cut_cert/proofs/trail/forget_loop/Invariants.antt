@@ -1,5 +1,5 @@
 use Rattle.std.proofs.Common.{◌≡◌, ◌++◌, true, List, ℕ, length, reverse}
-use Rattle.variable_tables.specs.Marking.{has}
+use Rattle.aig_graph.specs.Marking.{has}
 use Rattle.cut_cert.specs.Walks.{AreOn}
 use Rattle.cut_cert.proofs.trail.forget_loop.Given as goal
 

@@ -1,5 +1,5 @@
 use Rattle.std.proofs.Common.{◌∙◌, ap, subst, length, reverse}
-use Rattle.variable_tables.proofs.ListLaws.{reverse-push}
+use Rattle.aig_graph.proofs.ListLaws.{reverse-push}
 use Rattle.cut_cert.specs.Walks.{AreOn}
 use Rattle.cut_cert.proofs.TrailLaws.{first-in, on-pop}
 use Rattle.cut_cert.proofs.trail.pop_marked.Goals as goal

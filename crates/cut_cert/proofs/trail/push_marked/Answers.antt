@@ -1,5 +1,5 @@
 use Rattle.std.proofs.Common.{◌∙◌, ap, subst, sym, true, set, length, reverse}
-use Rattle.variable_tables.proofs.ListLaws.{reverse-push}
+use Rattle.aig_graph.proofs.ListLaws.{reverse-push}
 use Rattle.cut_cert.specs.Walks.{AreOn}
 use Rattle.cut_cert.proofs.TrailLaws.{on-push}
 use Rattle.cut_cert.proofs.trail.push_marked.Goals as goal

@@ -1,6 +1,6 @@
 use Rattle.std.proofs.Common.{◌∙◌, ap, ℕ}
 use Rattle.std.proofs.lemmas.List.{with_items_is}
-use Rattle.variable_tables.specs.Tables.{table}
+use Rattle.aig_graph.specs.Tables.{table}
 use Rattle.aig_graph.specs.Graph.{first_latch}
 use Rattle.frame_net.specs.Capacity.{is_observed}
 use Rattle.frame_net.proofs.LayoutLaws.{leaving-table, read-marks}

@@ -1,5 +1,5 @@
 use Rattle.std.proofs.Common.{◌+◌, ◌∙◌, ap, sym, ℕ}
-use Rattle.variable_tables.proofs.TableLaws.{entry, table-none}
+use Rattle.aig_graph.proofs.TableLaws.{entry, table-none}
 use Rattle.aig_graph.specs.Graph.{first_latch}
 use Rattle.frame_net.specs.Capacity.{has_node}
 use Rattle.frame_net.proofs.layout.node_marks.Goals as goal

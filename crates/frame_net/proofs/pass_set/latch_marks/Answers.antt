@@ -1,5 +1,5 @@
 use Rattle.std.proofs.Common.{◌+◌, ◌<◌, ◌∙◌, length, arith, ap, sym, List, false}
-use Rattle.variable_tables.proofs.TableLaws.{entry, table-none}
+use Rattle.aig_graph.proofs.TableLaws.{entry, table-none}
 use Rattle.aig_graph.specs.declared.graph.Latch.{Latch}
 use Rattle.aig_graph.specs.Graph.{first_latch}
 use Rattle.frame_net.specs.Passable.{is_passable}

@@ -1,5 +1,5 @@
 use Rattle.std.proofs.Common.{◌≡◌, ℕ, List}
-use Rattle.variable_tables.specs.Tables.{table}
+use Rattle.aig_graph.specs.Tables.{table}
 use Rattle.aig_graph.specs.Graph.{first_latch}
 use Rattle.frame_net.specs.Passable.{is_passable}
 use Rattle.frame_net.proofs.pass_set.latch_marks.Given as goal

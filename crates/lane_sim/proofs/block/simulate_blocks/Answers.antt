@@ -2,7 +2,7 @@ use Rattle.std.proofs.Common.{◌≡◌, ◌-◌, ◌*◌, ◌<◌, ◌≤◌, �
 use Rattle.std.specs.List.{range_with_len}
 use Rattle.rayon.specs.Numbers.{nat_range}
 use Rattle.rayon.proofs.ToStd.{nat_range-All}
-use Rattle.variable_tables.specs.declared.memory.NoMemory.{NoMemory}
+use Rattle.aig_graph.specs.declared.memory.NoMemory.{NoMemory}
 use Rattle.lane_sim.specs.Blocks.{IsBlock, block_of}
 use Rattle.lane_sim.proofs.BlockLaws.{collected, in_blocks, of_blocks}
 use Rattle.lane_sim.proofs.block.simulate_blocks.Goals as goal

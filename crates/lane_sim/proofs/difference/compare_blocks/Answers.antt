@@ -5,7 +5,7 @@ use Rattle.std.specs.List.{range_with_len}
 use Rattle.rayon.specs.Numbers.{nat_range}
 use Rattle.rayon.proofs.ToStd.{nat_range-All}
 use Rattle.rayon.proofs.ListFacts.{IfOk-then}
-use Rattle.variable_tables.specs.declared.memory.NoMemory.{NoMemory}
+use Rattle.aig_graph.specs.declared.memory.NoMemory.{NoMemory}
 use Rattle.lane_sim.specs.Comparing.{IsFoundIn}
 use Rattle.lane_sim.proofs.BlockLaws.{collected, collected_length, in_blocks, of_blocks, inside_blocks}
 use Rattle.lane_sim.proofs.difference.compare_blocks.Goals as goal

@@ -1,6 +1,6 @@
 use Rattle.std.proofs.Common.{◌∙◌, ap, sym, arith, length, List}
 use Rattle.aig_graph.specs.declared.graph.Latch.{Latch}
-use Rattle.variable_tables.proofs.TableLaws.{table-none}
+use Rattle.aig_graph.proofs.TableLaws.{table-none}
 use Rattle.clean.proofs.MappingLaws.{latch-there}
 use Rattle.latch_merging.proofs.RoundStepLaws.{first-more, first-end}
 use Rattle.latch_merging.proofs.rounds.first_round.Goals as goal

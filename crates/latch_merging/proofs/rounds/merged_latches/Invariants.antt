@@ -1,5 +1,5 @@
 use Rattle.std.proofs.Common.{◌≡◌}
-use Rattle.variable_tables.specs.Counting.{count_below}
+use Rattle.aig_graph.specs.Counting.{count_below}
 use Rattle.retimed_circuits.specs.Counts.{is_merged}
 use Rattle.latch_merging.proofs.rounds.merged_latches.Given as goal
 

@@ -1,5 +1,5 @@
 use Rattle.std.proofs.Common.{◌≡◌, slice_get}
-use Rattle.variable_tables.specs.Tables.{table}
+use Rattle.aig_graph.specs.Tables.{table}
 use Rattle.latch_merging.specs.Rounds.{AreFirstOfSignature, next_read, signature_of}
 use Rattle.latch_merging.proofs.rounds.next_reads.Given as goal
 

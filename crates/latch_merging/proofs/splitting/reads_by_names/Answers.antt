@@ -1,7 +1,7 @@
 use Rattle.std.proofs.Common.{◌≡◌, ◌∙◌, ◌<◌, ap, sym, arith, length, List, ℕ}
 use Rattle.aig_graph.specs.declared.graph.Latch.{Latch}
 use Rattle.aig_graph.specs.Graph.{Graph}
-use Rattle.variable_tables.proofs.TableLaws.{table-none}
+use Rattle.aig_graph.proofs.TableLaws.{table-none}
 use Rattle.retimed_circuits.specs.Readings.{from_reset, read}
 use Rattle.latch_merging.specs.declared.signature.Signature.{Signature}
 use Rattle.latch_merging.specs.Names.{class_of}

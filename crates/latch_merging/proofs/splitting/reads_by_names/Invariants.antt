@@ -1,5 +1,5 @@
 use Rattle.std.proofs.Common.{◌≡◌, slice_get}
-use Rattle.variable_tables.specs.Tables.{table}
+use Rattle.aig_graph.specs.Tables.{table}
 use Rattle.latch_merging.specs.Names.{class_of}
 use Rattle.latch_merging.specs.Rounds.{AreFirstOfSignature, next_read}
 use Rattle.latch_merging.proofs.splitting.reads_by_names.Given as goal

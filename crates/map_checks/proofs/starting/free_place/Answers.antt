@@ -1,7 +1,7 @@
 use Rattle.std.proofs.Common.{◌≡◌, ◌∙◌, ◌-◌, ◌<◌, ap, sym, arith, ℕ, List, Some, length, get_or, zero-add}
 use Rattle.aig_graph.specs.Graph.{Graph, first_latch, free_before, latch_at, variable}
 use Rattle.aig_graph.proofs.KindLaws.{LatchPlace, latch_place}
-use Rattle.variable_tables.proofs.TableLaws.{length-table, table-at}
+use Rattle.aig_graph.proofs.TableLaws.{length-table, table-at}
 use Rattle.map_checks.proofs.FactLaws.{even-of}
 use Rattle.map_checks.proofs.starting.free_place.Goals as goal
 

@@ -3,7 +3,7 @@ use Rattle.std.proofs.lemmas.Option.{slice_get_read}
 use Rattle.aig_graph.specs.declared.graph.Latch.{Latch}
 use Rattle.aig_graph.specs.Graph.{Graph, free_before}
 use Rattle.aig_graph.proofs.FreeLaws.{free-more}
-use Rattle.variable_tables.proofs.TableLaws.{entry, table-end, table-none}
+use Rattle.aig_graph.proofs.TableLaws.{entry, table-end, table-none}
 use Rattle.map_checks.proofs.starting.free_places.Goals as goal
 
 pub loop-latch-init : goal.loop-latch-init

@@ -1,6 +1,6 @@
 use Rattle.std.proofs.Common.{◌≡◌}
 use Rattle.aig_graph.specs.Graph.{free_before}
-use Rattle.variable_tables.specs.Tables.{table}
+use Rattle.aig_graph.specs.Tables.{table}
 use Rattle.map_checks.proofs.starting.free_places.Given as goal
 
 abbrev pub invariant-loop-latch : goal.invariant-loop-latch

@@ -5,7 +5,7 @@ use Rattle.aig_graph.specs.Move.{Move, move_of}
 use Rattle.rebuild.specs.Moved.{is_latched}
 use Rattle.rebuild.proofs.BorderLaws.{closed-passable}
 use Rattle.rebuild.proofs.PlanLaws.{all-latched, length-by_variable}
-use Rattle.variable_tables.specs.Marking.{AreAllMarks}
+use Rattle.aig_graph.specs.Marking.{AreAllMarks}
 use Rattle.map_circuits.specs.Gathering.{IsGathered}
 use Rattle.map_circuits.proofs.FollowingLaws.{at-place, member-at}
 use Rattle.map_circuits.proofs.GatheringLaws.{gathered-end, gathered-first, gathered-member, gathered-other, member-within}

@@ -1,5 +1,5 @@
 use Rattle.std.proofs.Common.{ℕ, Bool, ◌≡◌, ◌+◌, ◌-◌, ◌≤◌, length}
-use Rattle.variable_tables.specs.Marking.{AreAllMarks}
+use Rattle.aig_graph.specs.Marking.{AreAllMarks}
 use Rattle.map_circuits.specs.Gathering.{IsGathered}
 use Rattle.map_circuits.proofs.gathering.gather_marked.Given as goal
 

@@ -2,7 +2,7 @@ use Rattle.std.proofs.Common.{ℕ, ◌≤◌, ◌≡◌, List, refl, arith, sym,
 use Rattle.aig_graph.specs.Graph.{Graph, first_gate, first_latch, variables_end}
 use Rattle.aig_graph.specs.Move.{Move, move_of}
 use Rattle.rebuild.specs.Moved.{is_latched}
-use Rattle.variable_tables.specs.Counting.{places}
+use Rattle.aig_graph.specs.Counting.{places}
 use Rattle.map_circuits.specs.Following.{Follows, entry_of}
 use Rattle.map_circuits.proofs.GatheringLaws.{gathered-all}
 use Rattle.map_circuits.proofs.SteppingLaws.{are-moved}

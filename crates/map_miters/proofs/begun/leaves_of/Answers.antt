@@ -1,4 +1,4 @@
-use Rattle.variable_tables.specs.Tables.{table}
+use Rattle.aig_graph.specs.Tables.{table}
 use Rattle.std.proofs.Common.{List, ap, arith, length, ℕ, ◌+◌, ◌*◌, ◌∙◌, ap₂}
 use Rattle.aig_graph.specs.declared.graph.Latch.{Latch}
 use Rattle.map_miters.proofs.begun.leaves_of.Goals as goal

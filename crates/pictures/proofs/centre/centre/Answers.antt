@@ -1,8 +1,8 @@
 use Rattle.std.proofs.Common.{◌≡◌, ◌∙◌, ap, replicate, false, ℕ}
 use Rattle.std.proofs.lemmas.List.{with_items_is}
 use Rattle.aig_graph.specs.Graph.{variables_end}
-use Rattle.variable_tables.specs.Tables.{table}
-use Rattle.variable_tables.proofs.MarkingLaws.{table-marks}
+use Rattle.aig_graph.specs.Tables.{table}
+use Rattle.aig_graph.proofs.MarkingLaws.{table-marks}
 use Rattle.pictures.specs.Near.{is_centre}
 use Rattle.pictures.proofs.centre.centre.Goals as goal
 

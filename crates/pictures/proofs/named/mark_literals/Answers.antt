@@ -1,4 +1,4 @@
-use Rattle.variable_tables.proofs.MarkingLaws.{Marks-all, Marks-more}
+use Rattle.aig_graph.proofs.MarkingLaws.{Marks-all, Marks-more}
 use Rattle.aig_graph.specs.Border.{reads}
 use Rattle.pictures.proofs.named.mark_literals.Goals as goal
 

@@ -1,6 +1,6 @@
 use Rattle.std.proofs.Common.{take}
 use Rattle.std.specs.List.{list_any}
-use Rattle.variable_tables.specs.Marking.{Marks}
+use Rattle.aig_graph.specs.Marking.{Marks}
 use Rattle.aig_graph.specs.Border.{reads}
 use Rattle.pictures.proofs.named.mark_literals.Given as goal
 

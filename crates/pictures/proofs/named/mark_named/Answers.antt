@@ -2,7 +2,7 @@ use Rattle.std.proofs.Common.{sym, subst, arith}
 use Rattle.aig_graph.specs.declared.properties.Symbols.{Symbols}
 use Rattle.aig_graph.specs.Circuits.{AreNamesBelow}
 use Rattle.pictures.proofs.NameLaws.{in_range}
-use Rattle.variable_tables.proofs.MarkingLaws.{Marks-then}
+use Rattle.aig_graph.proofs.MarkingLaws.{Marks-then}
 use Rattle.pictures.specs.Near.{is_named}
 use Rattle.pictures.proofs.named.mark_named.Goals as goal
 

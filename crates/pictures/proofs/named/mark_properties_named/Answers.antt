@@ -1,4 +1,4 @@
-use Rattle.variable_tables.proofs.MarkingLaws.{Marks-then}
+use Rattle.aig_graph.proofs.MarkingLaws.{Marks-then}
 use Rattle.pictures.specs.Near.{is_property_named}
 use Rattle.pictures.proofs.named.mark_properties_named.Goals as goal
 

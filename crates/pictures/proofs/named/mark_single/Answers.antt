@@ -1,6 +1,6 @@
 use Rattle.std.proofs.Common.{arith, length, refl}
 use Rattle.std.proofs.lemmas.Option.{slice_get_past, slice_get_read}
-use Rattle.variable_tables.proofs.MarkingLaws.{Marks-none}
+use Rattle.aig_graph.proofs.MarkingLaws.{Marks-none}
 use Rattle.pictures.proofs.named.mark_single.Goals as goal
 
 pub returns-in-Some : goal.returns-in-Some

@@ -1,4 +1,4 @@
-use Rattle.variable_tables.proofs.MarkingLaws.{Marks-all, Marks-more}
+use Rattle.aig_graph.proofs.MarkingLaws.{Marks-all, Marks-more}
 use Rattle.pictures.specs.Near.{names_variable}
 use Rattle.pictures.proofs.named.mark_variables_named.Goals as goal
 

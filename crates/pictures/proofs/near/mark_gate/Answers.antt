@@ -1,4 +1,4 @@
-use Rattle.variable_tables.proofs.MarkingLaws.{Marks-then}
+use Rattle.aig_graph.proofs.MarkingLaws.{Marks-then}
 use Rattle.pictures.specs.Near.{gate_meets}
 use Rattle.pictures.proofs.near.mark_gate.Goals as goal
 

@@ -2,8 +2,8 @@ use Rattle.std.proofs.Common.{ap, sym, ◌∙◌, ◌+◌, ◌<◌, length}
 use Rattle.std.specs.List.{enumerate_from}
 use Rattle.std.proofs.lemmas.List.FromFn.{length-enumerate_from, get_or-enumerate_from}
 use Rattle.aig_graph.specs.declared.graph.Gate.{Gate}
-use Rattle.variable_tables.specs.Marking.{mark_at}
-use Rattle.variable_tables.proofs.MarkingLaws.{Marks-more, Marks-all}
+use Rattle.aig_graph.specs.Marking.{mark_at}
+use Rattle.aig_graph.proofs.MarkingLaws.{Marks-more, Marks-all}
 use Rattle.pictures.specs.Near.{gate_meets}
 use Rattle.pictures.proofs.near.mark_gates.Goals as goal
 

@@ -1,6 +1,6 @@
 use Rattle.std.proofs.Common.{take}
 use Rattle.std.specs.List.{list_any, enumerate_from}
-use Rattle.variable_tables.specs.Marking.{Marks, mark_at}
+use Rattle.aig_graph.specs.Marking.{Marks, mark_at}
 use Rattle.pictures.specs.Near.{latch_meets}
 use Rattle.pictures.proofs.near.mark_latches.Given as goal
 

@@ -1,6 +1,6 @@
 use Rattle.std.proofs.Common.{◌≡◌}
 use Rattle.aig_graph.specs.Graph.{variables_end}
-use Rattle.variable_tables.specs.Tables.{table}
+use Rattle.aig_graph.specs.Tables.{table}
 use Rattle.pictures.specs.Near.{is_near}
 use Rattle.pictures.proofs.near.near.Given as goal
 

@@ -1,6 +1,6 @@
 use Rattle.std.proofs.Common.{◌≡◌, ◌∙◌, Bool, List, subst, sym}
 use Rattle.std.proofs.lemmas.List.{with_items_is}
-use Rattle.variable_tables.specs.Marking.{Marks, mark_at}
+use Rattle.aig_graph.specs.Marking.{Marks, mark_at}
 use Rattle.pictures.specs.Near.{is_next}
 use Rattle.pictures.proofs.near.spread.Goals as goal
 

@@ -1,5 +1,5 @@
 use Rattle.std.proofs.Common.{◌+◌, ◌∙◌, ap, sym, arith, length}
-use Rattle.variable_tables.proofs.TableLaws.{entry, length-table, table-none, table-end}
+use Rattle.aig_graph.proofs.TableLaws.{entry, length-table, table-none, table-end}
 use Rattle.aig_graph.specs.Graph.{first_latch, latches_and_gates}
 use Rattle.pictures.specs.Looks.{look_with}
 use Rattle.pictures.proofs.view.looks_with.Goals as goal

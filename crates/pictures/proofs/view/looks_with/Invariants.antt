@@ -1,5 +1,5 @@
 use Rattle.std.proofs.Common.{◌≡◌, ◌≤◌, vec_capacity}
-use Rattle.variable_tables.specs.Tables.{table}
+use Rattle.aig_graph.specs.Tables.{table}
 use Rattle.aig_graph.specs.Graph.{first_latch, latches_and_gates}
 use Rattle.pictures.specs.Looks.{look_with}
 use Rattle.pictures.proofs.view.looks_with.Given as goal

@@ -1,8 +1,8 @@
 use Rattle.std.proofs.Common.{◌∙◌, ◌≡◌, ap₂, replicate, false, ℕ, List, Bool}
 use Rattle.std.proofs.lemmas.List.{with_items_is}
 use Rattle.aig_graph.specs.Graph.{Graph, first_latch}
-use Rattle.variable_tables.specs.Marking.{has}
-use Rattle.variable_tables.specs.Tables.{table}
+use Rattle.aig_graph.specs.Marking.{has}
+use Rattle.aig_graph.specs.Tables.{table}
 use Rattle.pictures.proofs.LookLaws.{read_is}
 use Rattle.pictures.proofs.view.read_from_outside.Goals as goal
 

@@ -3,7 +3,7 @@ use Rattle.aig_graph.specs.Graph.{first_latch, variables_end}
 use Rattle.rebuild.proofs.PlanLaws.{all-latched, counted, length-by_variable}
 use Rattle.rebuild.specs.Moved.{is_latched}
 use Rattle.rebuild.specs.Planned.{marked}
-use Rattle.variable_tables.specs.Counting.{count_below}
+use Rattle.aig_graph.specs.Counting.{count_below}
 use Rattle.rebuild.proofs.graph.moved_latches.Goals as goal
 
 pub count_marks-count-requires : goal.count_marks-count-requires

@@ -9,7 +9,7 @@ use Rattle.rebuild.proofs.ValueLaws.{start-member}
 use Rattle.rebuild.specs.Moved.{latches_below}
 use Rattle.rebuild.specs.Planned.{planned}
 use Rattle.rebuild.specs.Starting.{member_start, start_value}
-use Rattle.variable_tables.specs.Tables.{table}
+use Rattle.aig_graph.specs.Tables.{table}
 use Rattle.rebuild.proofs.graph.push_border.Goals as goal
 use Rattle.rebuild.proofs.graph.push_border.Goals.{then-is_latched+in_ok-push, else-is_latched}
 

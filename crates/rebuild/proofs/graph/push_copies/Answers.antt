@@ -9,7 +9,7 @@ use Rattle.rebuild.proofs.NumberLaws.{from-latch}
 use Rattle.rebuild.specs.Members.{is_latch_or_in}
 use Rattle.rebuild.specs.Moved.{copy_for}
 use Rattle.rebuild.specs.Planned.{planned}
-use Rattle.variable_tables.specs.Marking.{has}
+use Rattle.aig_graph.specs.Marking.{has}
 use Rattle.rebuild.proofs.graph.push_copies.Goals as goal
 
 pub copied_gate-requires-clause-first : goal.copied_gate-requires-clause-first

@@ -5,10 +5,10 @@ use Rattle.aig_graph.specs.declared.graph.Gate.{Gate}
 use Rattle.rebuild.proofs.BuildLaws.{fan-ins_within, gate-there, no-outside, outside-more, outside-skip, places-at}
 use Rattle.rebuild.specs.Moved.{gate_for, is_outside}
 use Rattle.rebuild.specs.Planned.{planned}
-use Rattle.variable_tables.specs.Marking.{has}
+use Rattle.aig_graph.specs.Marking.{has}
 use Rattle.rebuild.proofs.NumberLaws.{outside-few}
-use Rattle.variable_tables.proofs.PlacesLaws.{length-places}
-use Rattle.variable_tables.specs.Counting.{places}
+use Rattle.aig_graph.proofs.PlacesLaws.{length-places}
+use Rattle.aig_graph.specs.Counting.{places}
 use Rattle.rebuild.proofs.graph.push_outside.Goals as goal
 use Rattle.rebuild.proofs.graph.push_outside.Goals.{then-not-has, else-not-has}
 

@@ -6,8 +6,8 @@ use Rattle.aig_graph.specs.declared.graph.Latch.{Latch}
 use Rattle.rebuild.proofs.BuildLaws.{latch-there, places-at, staying-more, staying-none, staying-skip}
 use Rattle.rebuild.specs.Moved.{is_latched, latch_for}
 use Rattle.rebuild.specs.Planned.{planned}
-use Rattle.variable_tables.proofs.PlacesLaws.{count-lt, length-places}
-use Rattle.variable_tables.specs.Counting.{places}
+use Rattle.aig_graph.proofs.PlacesLaws.{count-lt, length-places}
+use Rattle.aig_graph.specs.Counting.{places}
 use Rattle.rebuild.proofs.graph.push_staying.Goals as goal
 use Rattle.rebuild.proofs.graph.push_staying.Goals.{then-is_latched, else-is_latched}
 

@@ -2,7 +2,7 @@ use Rattle.std.proofs.Common.{◌≡◌, ◌≤◌, ◌+◌, length, vec_capacit
 use Rattle.aig_graph.specs.Graph.{first_latch, variables_end}
 use Rattle.rebuild.specs.Moved.{is_latched, latches_below}
 use Rattle.rebuild.specs.Planned.{planned}
-use Rattle.variable_tables.specs.Counting.{count_below}
+use Rattle.aig_graph.specs.Counting.{count_below}
 use Rattle.rebuild.proofs.graph.push_staying.Given as goal
 
 abbrev pub invariant-loop-k : goal.invariant-loop-k

@@ -4,7 +4,7 @@ use Rattle.aig_graph.specs.declared.graph.Latch.{Latch}
 use Rattle.rebuild.proofs.BuildLaws.{latch-there}
 use Rattle.rebuild.proofs.MarkLaws.{latched_by-gate, latched_by-latch}
 use Rattle.rebuild.specs.Entries.{latched_by}
-use Rattle.variable_tables.proofs.TableLaws.{entry, length-table, table-end, table-none}
+use Rattle.aig_graph.proofs.TableLaws.{entry, length-table, table-end, table-none}
 use Rattle.rebuild.proofs.marking.latched_marks.Goals as goal
 
 pub loop-k-init : goal.loop-k-init

@@ -1,7 +1,7 @@
 use Rattle.std.proofs.Common.{◌≡◌, ◌≤◌, length, vec_capacity}
 use Rattle.aig_graph.specs.Graph.{first_latch}
 use Rattle.rebuild.specs.Entries.{latched_by}
-use Rattle.variable_tables.specs.Tables.{table}
+use Rattle.aig_graph.specs.Tables.{table}
 use Rattle.rebuild.proofs.marking.latched_marks.Given as goal
 
 abbrev pub invariant-loop-k : goal.invariant-loop-k

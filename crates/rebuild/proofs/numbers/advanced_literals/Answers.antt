@@ -7,9 +7,9 @@ use Rattle.rebuild.proofs.NumberLaws.{advanced-gate, advanced-latch, count-next,
 use Rattle.rebuild.proofs.PlanLaws.{copy-small, length-by_variable}
 use Rattle.rebuild.specs.Moved.{advanced, copy_variable}
 use Rattle.rebuild.specs.Planned.{marked}
-use Rattle.variable_tables.proofs.PlacesLaws.{count-le}
-use Rattle.variable_tables.proofs.TableLaws.{entry, length-table, table-end, table-none}
-use Rattle.variable_tables.specs.Marking.{has}
+use Rattle.aig_graph.proofs.PlacesLaws.{count-le}
+use Rattle.aig_graph.proofs.TableLaws.{entry, length-table, table-end, table-none}
+use Rattle.aig_graph.specs.Marking.{has}
 use Rattle.rebuild.proofs.numbers.advanced_literals.Goals as goal
 
 pub loop-latch-init : goal.loop-latch-init

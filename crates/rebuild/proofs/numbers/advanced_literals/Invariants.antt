@@ -2,9 +2,9 @@ use Rattle.std.proofs.Common.{◌≡◌, ◌≤◌, ◌+◌, length, vec_capacit
 use Rattle.aig_graph.specs.Graph.{first_latch, latches_and_gates}
 use Rattle.rebuild.specs.Moved.{advanced, copies_start}
 use Rattle.rebuild.specs.Planned.{marked}
-use Rattle.variable_tables.specs.Counting.{count_below}
-use Rattle.variable_tables.specs.Marking.{has}
-use Rattle.variable_tables.specs.Tables.{table}
+use Rattle.aig_graph.specs.Counting.{count_below}
+use Rattle.aig_graph.specs.Marking.{has}
+use Rattle.aig_graph.specs.Tables.{table}
 use Rattle.rebuild.proofs.numbers.advanced_literals.Given as goal
 
 abbrev pub invariant-loop-latch : goal.invariant-loop-latch

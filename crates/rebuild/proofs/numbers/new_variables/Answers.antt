@@ -7,9 +7,9 @@ use Rattle.rebuild.proofs.NumberLaws.{count-at, count-next, latched-mark, new-nu
 use Rattle.rebuild.proofs.PlanLaws.{length-by_variable}
 use Rattle.rebuild.specs.Moved.{is_latched, is_outside, new_variable}
 use Rattle.rebuild.specs.Planned.{marked}
-use Rattle.variable_tables.proofs.PlacesLaws.{count-bound}
-use Rattle.variable_tables.proofs.TableLaws.{entry, length-table, table-end, table-none}
-use Rattle.variable_tables.specs.Marking.{has}
+use Rattle.aig_graph.proofs.PlacesLaws.{count-bound}
+use Rattle.aig_graph.proofs.TableLaws.{entry, length-table, table-end, table-none}
+use Rattle.aig_graph.specs.Marking.{has}
 use Rattle.rebuild.proofs.numbers.new_variables.Goals as goal
 
 pub loop-k-init : goal.loop-k-init

@@ -2,8 +2,8 @@ use Rattle.std.proofs.Common.{◌≡◌, ◌≤◌, ◌+◌, length, vec_capacit
 use Rattle.aig_graph.specs.Graph.{first_latch, latches_and_gates}
 use Rattle.rebuild.specs.Moved.{gates_start, is_latched, is_outside, new_variable}
 use Rattle.rebuild.specs.Planned.{marked}
-use Rattle.variable_tables.specs.Counting.{count_below}
-use Rattle.variable_tables.specs.Tables.{table}
+use Rattle.aig_graph.specs.Counting.{count_below}
+use Rattle.aig_graph.specs.Tables.{table}
 use Rattle.rebuild.proofs.numbers.new_variables.Given as goal
 
 abbrev pub invariant-loop-k : goal.invariant-loop-k

@@ -1,6 +1,6 @@
 use Rattle.std.proofs.Common.{ℕ, Bool, ◌≡◌, ◌+◌, ◌≤◌}
-use Rattle.variable_tables.specs.Counting.{count_below}
-use Rattle.variable_tables.specs.Marking.{AreAllMarks}
+use Rattle.aig_graph.specs.Counting.{count_below}
+use Rattle.aig_graph.specs.Marking.{AreAllMarks}
 use Rattle.rebuild.proofs.ranks.rank_from.Given as goal
 
 abbrev pub invariant-loop-k : goal.invariant-loop-k

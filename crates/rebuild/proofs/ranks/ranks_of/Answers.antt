@@ -1,8 +1,8 @@
 use Rattle.std.proofs.Common.{ℕ, List, [], ◌∷◌, ◌++◌, ◌+◌, ◌<◌, ◌∙◌, get_or, length, map, take, ap, arith, sym}
 use Rattle.std.proofs.lemmas.List.{map_more, take_all}
 use Rattle.std.proofs.lemmas.List.Kept.{AllPairs-from_increasing}
-use Rattle.variable_tables.proofs.MarkingLaws.{count-start}
-use Rattle.variable_tables.specs.Counting.{count_below}
+use Rattle.aig_graph.proofs.MarkingLaws.{count-start}
+use Rattle.aig_graph.specs.Counting.{count_below}
 use Rattle.rebuild.proofs.ranks.ranks_of.Goals as goal
 
 pub loop-place-init : goal.loop-place-init

@@ -5,7 +5,7 @@ use Rattle.aig_graph.specs.declared.graph.Reset.{Reset}
 use Rattle.rebuild.proofs.BuildLaws.{gate-there}
 use Rattle.rebuild.proofs.StartLaws.{start_law, start_reset-gate}
 use Rattle.rebuild.specs.Starting.{start_reset}
-use Rattle.variable_tables.proofs.TableLaws.{entry, length-table, table-none, whole-table}
+use Rattle.aig_graph.proofs.TableLaws.{entry, length-table, table-none, whole-table}
 use Rattle.rebuild.proofs.starting.resets.Goals as goal
 
 pub loop-gate-init : goal.loop-gate-init

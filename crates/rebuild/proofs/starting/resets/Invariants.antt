@@ -1,7 +1,7 @@
 use Rattle.std.proofs.Common.{◌≡◌}
 use Rattle.aig_graph.specs.Graph.{first_gate}
 use Rattle.rebuild.specs.Starting.{start_reset}
-use Rattle.variable_tables.specs.Tables.{table}
+use Rattle.aig_graph.specs.Tables.{table}
 use Rattle.rebuild.proofs.starting.resets.Given as goal
 
 abbrev pub invariant-loop-gate : goal.invariant-loop-gate

@@ -6,7 +6,7 @@ use Rattle.aig_graph.specs.declared.graph.Latch.{Latch}
 use Rattle.rebuild.proofs.BuildLaws.{gate-there, latch-there}
 use Rattle.rebuild.proofs.ValueLaws.{start-of_latch}
 use Rattle.rebuild.specs.Starting.{member_start}
-use Rattle.variable_tables.proofs.TableLaws.{entry, length-table, table-end, table-none, whole-table}
+use Rattle.aig_graph.proofs.TableLaws.{entry, length-table, table-end, table-none, whole-table}
 use Rattle.rebuild.proofs.values.start_values.Goals as goal
 
 pub loop-latch-init : goal.loop-latch-init

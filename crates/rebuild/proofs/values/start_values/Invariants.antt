@@ -1,7 +1,7 @@
 use Rattle.std.proofs.Common.{◌≡◌, ◌≤◌, ◌+◌, length, vec_capacity}
 use Rattle.aig_graph.specs.Graph.{first_latch, latches_and_gates}
 use Rattle.rebuild.specs.Starting.{member_start}
-use Rattle.variable_tables.specs.Tables.{table}
+use Rattle.aig_graph.specs.Tables.{table}
 use Rattle.rebuild.proofs.values.start_values.Given as goal
 
 abbrev pub invariant-loop-latch : goal.invariant-loop-latch

@@ -5,7 +5,7 @@ use Rattle.rebuild.proofs.NumberLaws.{from-latch}
 use Rattle.rebuild.proofs.ValueLaws.{start-inside}
 use Rattle.rebuild.specs.Planned.{planned}
 use Rattle.rebuild.specs.Starting.{member_start}
-use Rattle.variable_tables.specs.Tables.{table}
+use Rattle.aig_graph.specs.Tables.{table}
 use Rattle.rebuild.proofs.values.value_of.Goals as goal
 
 pub entry-requires-clause-from : goal.entry-requires-clause-from

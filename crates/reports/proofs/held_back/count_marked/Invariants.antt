@@ -1,5 +1,5 @@
 use Rattle.std.proofs.Common.{◌≡◌, ◌≤◌}
-use Rattle.variable_tables.specs.Counting.{count_below}
+use Rattle.aig_graph.specs.Counting.{count_below}
 use Rattle.reports.specs.HeldBack.{is_marked_latch}
 use Rattle.reports.proofs.held_back.count_marked.Given as goal
 

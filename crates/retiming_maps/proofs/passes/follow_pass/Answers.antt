@@ -3,8 +3,8 @@ use Rattle.std.specs.List.{All}
 use Rattle.aig_graph.specs.Circuits.{AreLiteralsOf, Netlist}
 use Rattle.aig_graph.specs.Graph.{Graph, first_latch}
 use Rattle.cleaned_circuits.specs.Latches.{latch_substitute}
-use Rattle.variable_tables.specs.Tables.{table}
-use Rattle.variable_tables.proofs.TableLaws.{length-table}
+use Rattle.aig_graph.specs.Tables.{table}
+use Rattle.aig_graph.proofs.TableLaws.{length-table}
 use Rattle.map_circuits.specs.Constraining.{AddsSubstitutes, IsSubstitute}
 use Rattle.map_circuits.specs.Stepping.{ArePassed}
 use Rattle.retiming_maps.proofs.SubstitutesLaws.{all-substitutes, latch_substitutes}

@@ -2,7 +2,7 @@ use Rattle.std.proofs.Common.{ℕ, List, [], ◌≡◌, ◌∙◌, ◌+◌, ◌*
 use Rattle.aig_graph.specs.declared.graph.Latch.{Latch}
 use Rattle.aig_graph.specs.Building.{without_gates}
 use Rattle.aig_graph.specs.Graph.{Graph, IsGraph}
-use Rattle.variable_tables.specs.Tables.{table}
+use Rattle.aig_graph.specs.Tables.{table}
 use Rattle.retiming_maps.proofs.StartLaws.{identity-map, inputs-graph}
 use Rattle.retiming_maps.proofs.start.identity.Goals as goal
 

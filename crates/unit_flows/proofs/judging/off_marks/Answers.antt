@@ -1,5 +1,5 @@
 use Rattle.std.proofs.Common.{◌≡◌, ◌<◌, ◌+◌, ◌∙◌, ℕ, Bool, false, length, slice_index_or, arith, refl, ap, sym, Vec, Global, vec_capacity, vec_len}
-use Rattle.variable_tables.specs.Marking.{mark_at}
+use Rattle.aig_graph.specs.Marking.{mark_at}
 use Rattle.aig_graph.specs.Graph.{Graph, first_latch, first_gate}
 use Rattle.unit_flows.specs.Shown.{is_off}
 use Rattle.unit_flows.proofs.OffLaws.{off-start, off-here, off-pass, off-fail}

@@ -1,6 +1,6 @@
 use Rattle.std.proofs.Common.{◌∙◌, Bool, List, ap}
-use Rattle.variable_tables.specs.Marking.{mark_at}
-use Rattle.variable_tables.specs.Counting.{places}
+use Rattle.aig_graph.specs.Marking.{mark_at}
+use Rattle.aig_graph.specs.Counting.{places}
 use Rattle.aig_graph.specs.Graph.{first_latch, variables_end}
 use Rattle.aig_graph.specs.Border.{IsGreatestLeast}
 use Rattle.unit_flows.specs.Shown.{is_off}

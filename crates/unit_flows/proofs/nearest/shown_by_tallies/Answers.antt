@@ -1,5 +1,5 @@
 use Rattle.std.proofs.Common.{List, Bool, sym, subst}
-use Rattle.variable_tables.specs.Marking.{mark_at}
+use Rattle.aig_graph.specs.Marking.{mark_at}
 use Rattle.aig_graph.specs.Graph.{first_latch}
 use Rattle.aig_graph.specs.Border.{IsSmallestLeast}
 use Rattle.unit_flows.specs.Onward.{AreFarFromLeft}

@@ -1,5 +1,5 @@
 use Rattle.std.proofs.Common.{ℕ, ◌<◌}
-use Rattle.variable_tables.specs.Marking.{mark_at}
+use Rattle.aig_graph.specs.Marking.{mark_at}
 use Rattle.aig_graph.specs.Graph.{first_latch}
 use Rattle.unit_flows.specs.Passes.{GateHolds}
 use Rattle.unit_flows.proofs.passes.gates_hold.Given as goal

@@ -1,5 +1,5 @@
 use Rattle.std.proofs.Common.{◌≡◌, ◌<◌, ◌+◌, ◌∙◌, ◌&&◌, not, ℕ, false, length, slice_index_or, arith, refl, ap, subst}
-use Rattle.variable_tables.specs.Marking.{mark_at}
+use Rattle.aig_graph.specs.Marking.{mark_at}
 use Rattle.aig_graph.specs.Graph.{Graph, first_latch}
 use Rattle.unit_flows.specs.Units.{nth_flow}
 use Rattle.unit_flows.proofs.FrameLaws.{leaving-long}

@@ -1,5 +1,5 @@
 use Rattle.std.proofs.Common.{◌+◌, length}
-use Rattle.variable_tables.specs.Marking.{mark_at}
+use Rattle.aig_graph.specs.Marking.{mark_at}
 use Rattle.aig_graph.specs.Graph.{first_latch}
 use Rattle.unit_flows.proofs.PlaceLaws.{AreSeen}
 use Rattle.unit_flows.proofs.passes.places_hold.Given as goal

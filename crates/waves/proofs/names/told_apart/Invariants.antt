@@ -1,7 +1,7 @@
 use Rattle.std.proofs.Common.{ℕ, ◌≡◌, List, bytes_eq, take}
 use Rattle.std.specs.HashSet.{contains_by}
 use Rattle.std.specs.List.{list_any}
-use Rattle.variable_tables.specs.Tables.{table}
+use Rattle.aig_graph.specs.Tables.{table}
 use Rattle.waves.specs.Names.{apart}
 use Rattle.waves.proofs.names.told_apart.Given as goal
 

@@ -1,5 +1,5 @@
 use Rattle.std.proofs.Common.{ℕ, ◌∙◌, arith, ap, sym, zero-add}
-use Rattle.variable_tables.proofs.TableLaws.{entry, table-end, table-none}
+use Rattle.aig_graph.proofs.TableLaws.{entry, table-end, table-none}
 use Rattle.waves.specs.Names.{default_name}
 use Rattle.waves.proofs.names.words.Goals as goal
 

@@ -1,5 +1,5 @@
 use Rattle.std.proofs.Common.{◌∙◌, arith, sym}
-use Rattle.variable_tables.proofs.TableLaws.{entry, table-end, table-none}
+use Rattle.aig_graph.proofs.TableLaws.{entry, table-end, table-none}
 use Rattle.waves.specs.Probes.{literal}
 use Rattle.waves.proofs.probes.leaf_literals.Goals as goal
 

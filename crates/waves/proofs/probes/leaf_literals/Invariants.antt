@@ -1,5 +1,5 @@
 use Rattle.std.proofs.Common.{◌≡◌}
-use Rattle.variable_tables.specs.Tables.{table}
+use Rattle.aig_graph.specs.Tables.{table}
 use Rattle.waves.specs.Probes.{literal}
 use Rattle.waves.proofs.probes.leaf_literals.Given as goal
 

@@ -1,5 +1,5 @@
 use Rattle.std.proofs.Common.{ℕ, ◌≡◌, ◌∙◌, ◌+◌, ◌*◌, arith, sym, ap, length}
-use Rattle.variable_tables.proofs.TableLaws.{entry, table-end, table-none, length-table}
+use Rattle.aig_graph.proofs.TableLaws.{entry, table-end, table-none, length-table}
 use Rattle.witness_circuits.proofs.literals.numbered.Goals as goal
 
 pub loop-place-init : goal.loop-place-init

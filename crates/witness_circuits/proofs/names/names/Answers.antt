@@ -1,5 +1,5 @@
 use Rattle.std.proofs.Common.{ℕ, ◌∙◌, arith, ap, length, sym, zero-add}
-use Rattle.variable_tables.proofs.TableLaws.{entry, length-table, table-end, table-none}
+use Rattle.aig_graph.proofs.TableLaws.{entry, length-table, table-end, table-none}
 use Rattle.witness_circuits.specs.Lifting.{literal_name}
 use Rattle.witness_circuits.proofs.names.names.Goals as goal
 

@@ -1,5 +1,5 @@
 use Rattle.std.proofs.Common.{◌≡◌, ◌≤◌, vec_capacity}
-use Rattle.variable_tables.specs.Tables.{table}
+use Rattle.aig_graph.specs.Tables.{table}
 use Rattle.witness_circuits.specs.Lifting.{literal_name}
 use Rattle.witness_circuits.proofs.names.names.Given as goal
 

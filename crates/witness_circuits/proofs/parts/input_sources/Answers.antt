@@ -1,5 +1,5 @@
 use Rattle.std.proofs.Common.{ℕ, ◌≡◌, ◌<◌, ◌∙◌, ◌+◌, ◌*◌, List, Option, arith, ap, sym, length, slice_get}
-use Rattle.variable_tables.proofs.TableLaws.{length-table}
+use Rattle.aig_graph.proofs.TableLaws.{length-table}
 use Rattle.witness_circuits.proofs.parts.input_sources.Goals as goal
 
 pub sources-requires-clause-below : goal.sources-requires-clause-below

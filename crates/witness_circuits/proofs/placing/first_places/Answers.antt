@@ -1,5 +1,5 @@
 use Rattle.std.proofs.Common.{ℕ, ◌∙◌, arith, ap, sym, zero-add, length}
-use Rattle.variable_tables.proofs.TableLaws.{entry, table-end, table-none, length-table}
+use Rattle.aig_graph.proofs.TableLaws.{entry, table-end, table-none, length-table}
 use Rattle.witness_circuits.specs.Naming.{place_below}
 use Rattle.witness_circuits.proofs.placing.first_places.Goals as goal
 

@@ -1,6 +1,6 @@
 use Rattle.std.proofs.Common.{length, zero-add}
-use Rattle.variable_tables.specs.Marking.{has}
-use Rattle.variable_tables.proofs.TableLaws.{read-table}
+use Rattle.aig_graph.specs.Marking.{has}
+use Rattle.aig_graph.proofs.TableLaws.{read-table}
 use Rattle.clean.proofs.held.Held.has.Goals as goal
 
 pub returns : goal.returns

@@ -1,6 +1,6 @@
 use Rattle.std.proofs.Common.{◌∙◌, refl, ap, length, List, Bool}
-use Rattle.variable_tables.specs.Marking.{has}
-use Rattle.variable_tables.proofs.TableLaws.{whole-table, length-table}
+use Rattle.aig_graph.specs.Marking.{has}
+use Rattle.aig_graph.proofs.TableLaws.{whole-table, length-table}
 use Rattle.clean.proofs.held.Held.new.Goals as goal
 
 pub invariant_of-result : goal.invariant_of-result

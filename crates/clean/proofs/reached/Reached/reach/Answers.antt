@@ -1,6 +1,6 @@
 use Rattle.std.proofs.Common.{◌≡◌, ◌<◌, ◌-◌, ◌∙◌, ap, sym, subst, arith, ℕ, List, length, reverse, set, true, false, get_or}
 use Rattle.std.proofs.lemmas.List.{get_or_default}
-use Rattle.variable_tables.proofs.ListLaws.{reverse-push}
+use Rattle.aig_graph.proofs.ListLaws.{reverse-push}
 use Rattle.aig_graph.specs.Graph.{variable}
 use Rattle.clean.specs.Sweep.{Front, is_marked, reach}
 use Rattle.clean.proofs.FrontLaws.{reach-low, reach-marked, reach-new, mark-entry}

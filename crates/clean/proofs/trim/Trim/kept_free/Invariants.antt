@@ -1,6 +1,6 @@
 use Rattle.std.proofs.Common.{◌≡◌, map}
 use Rattle.aig_graph.specs.Graph.{free_before}
-use Rattle.variable_tables.specs.Counting.{places}
+use Rattle.aig_graph.specs.Counting.{places}
 use Rattle.cleaned_circuits.specs.Trimmed.{is_kept_free}
 use Rattle.clean.specs.Sweep.{is_marked}
 use Rattle.clean.proofs.trim.Trim.kept_free.Given as goal

@@ -1,7 +1,7 @@
 use Rattle.std.proofs.Common.{◌≡◌, ◌∙◌, arith, ap, List, ℕ, Bool, length}
-use Rattle.variable_tables.specs.Marking.{mark_at}
-use Rattle.variable_tables.proofs.MarkingLaws.{AreMarks-table, mark_at-covered}
-use Rattle.variable_tables.proofs.TableLaws.{length-table}
+use Rattle.aig_graph.specs.Marking.{mark_at}
+use Rattle.aig_graph.proofs.MarkingLaws.{AreMarks-table, mark_at-covered}
+use Rattle.aig_graph.proofs.TableLaws.{length-table}
 use Rattle.aig_graph.specs.Graph.{first_latch, latches_and_gates}
 use Rattle.frame_net.specs.Capacity.{is_observed}
 use Rattle.frame_net.proofs.layout.Layout.is_observed.Goals as goal

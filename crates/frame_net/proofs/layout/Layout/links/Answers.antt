@@ -1,5 +1,5 @@
 use Rattle.std.proofs.Common.{◌≡◌, ◌+◌, ◌-◌, ◌/◌, ◌∙◌, arith, ap, sym, subst, List, ℕ, Bool}
-use Rattle.variable_tables.proofs.PlacesLaws.{Ranks}
+use Rattle.aig_graph.proofs.PlacesLaws.{Ranks}
 use Rattle.aig_graph.specs.Graph.{variables_end}
 use Rattle.frame_net.specs.declared.edges.Link.{Link}
 use Rattle.frame_net.specs.Edges.{AreLinks}

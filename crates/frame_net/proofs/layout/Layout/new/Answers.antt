@@ -1,8 +1,8 @@
 use Rattle.std.proofs.Common.{◌≡◌, ◌∙◌, arith, ap, sym, subst, List, ℕ, Bool, length, take}
-use Rattle.variable_tables.specs.Counting.{count_below, places}
-use Rattle.variable_tables.specs.Tables.{table}
-use Rattle.variable_tables.specs.Marking.{AreAllMarks}
-use Rattle.variable_tables.proofs.TableLaws.{length-table}
+use Rattle.aig_graph.specs.Counting.{count_below, places}
+use Rattle.aig_graph.specs.Tables.{table}
+use Rattle.aig_graph.specs.Marking.{AreAllMarks}
+use Rattle.aig_graph.proofs.TableLaws.{length-table}
 use Rattle.aig_graph.specs.declared.graph.Latch.{Latch}
 use Rattle.aig_graph.specs.Graph.{first_latch, latches_and_gates}
 use Rattle.frame_net.specs.Capacity.{has_node, latch_number}

@@ -1,5 +1,5 @@
 use Rattle.std.proofs.Common.{◌≡◌, ◌∙◌, Bool, List, ap, sym, subst, IsTrue}
-use Rattle.variable_tables.specs.Marking.{mark_at}
+use Rattle.aig_graph.specs.Marking.{mark_at}
 use Rattle.frame_net.specs.Passable.{is_passable}
 use Rattle.frame_net.proofs.PassableLaws.{passable-means, has-passable}
 use Rattle.frame_net.proofs.pass_set.PassSet.has.Goals as goal

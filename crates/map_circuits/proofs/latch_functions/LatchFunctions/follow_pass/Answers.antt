@@ -1,10 +1,10 @@
 use Rattle.std.proofs.Common.{ℕ, ◌≡◌, ◌∙◌, ◌+◌, ◌≤◌, Bool, List, arith, ap, sym, refl, length, map, take, take-take}
 use Rattle.std.proofs.lemmas.List.{length-take-le}
 use Rattle.aig_graph.specs.Graph.{first_latch}
-use Rattle.variable_tables.specs.Counting.{places}
-use Rattle.variable_tables.specs.Marking.{AreAllMarks}
-use Rattle.variable_tables.proofs.MarkingLaws.{AreAllMarks-table}
-use Rattle.variable_tables.proofs.TableLaws.{length-table}
+use Rattle.aig_graph.specs.Counting.{places}
+use Rattle.aig_graph.specs.Marking.{AreAllMarks}
+use Rattle.aig_graph.proofs.MarkingLaws.{AreAllMarks-table}
+use Rattle.aig_graph.proofs.TableLaws.{length-table}
 use Rattle.map_circuits.specs.Following.{entry_of}
 use Rattle.map_circuits.proofs.GatheringLaws.{gathered-all}
 use Rattle.map_circuits.proofs.SteppingLaws.{are-passed}

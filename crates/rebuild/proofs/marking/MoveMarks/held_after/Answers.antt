@@ -8,7 +8,7 @@ use Rattle.rebuild.proofs.BorderLaws.{closed-passable}
 use Rattle.rebuild.proofs.HeldLaws.{moved_held-below, moved_held-rising}
 use Rattle.rebuild.proofs.PlanLaws.{all-latched, length-by_variable}
 use Rattle.rebuild.specs.Moved.{is_latched, moved_graph, moved_held, moved_position}
-use Rattle.variable_tables.specs.Marking.{AreAllMarks}
+use Rattle.aig_graph.specs.Marking.{AreAllMarks}
 use Rattle.rebuild.proofs.marking.MoveMarks.held_after.Goals as goal
 
 pub returns-then-is_empty-clause-value : goal.returns-then-is_empty-clause-value

@@ -6,9 +6,9 @@ use Rattle.rebuild.proofs.FreeLaws.{count-is_latched}
 use Rattle.rebuild.proofs.PlanLaws.{all-latched, counted, latched-table, length-by_variable, members-table}
 use Rattle.rebuild.specs.Entries.{by_variable, latched_by}
 use Rattle.rebuild.specs.Moved.{is_latched}
-use Rattle.variable_tables.proofs.TableLaws.{length-table}
-use Rattle.variable_tables.specs.Counting.{count_below}
-use Rattle.variable_tables.specs.Marking.{has}
+use Rattle.aig_graph.proofs.TableLaws.{length-table}
+use Rattle.aig_graph.specs.Counting.{count_below}
+use Rattle.aig_graph.specs.Marking.{has}
 use Rattle.rebuild.proofs.marking.MoveMarks.new.Goals as goal
 
 pub latched_marks-requires-clause-inside : goal.latched_marks-requires-clause-inside

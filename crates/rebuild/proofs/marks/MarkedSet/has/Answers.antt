@@ -1,6 +1,6 @@
 use Rattle.std.proofs.Common.{◌∙◌, arith}
 use Rattle.rebuild.proofs.PlanLaws.{length-by_variable, whole-by_variable}
-use Rattle.variable_tables.specs.Marking.{has}
+use Rattle.aig_graph.specs.Marking.{has}
 use Rattle.rebuild.proofs.marks.MarkedSet.has.Goals as goal
 
 pub entry-requires-clause-from : goal.entry-requires-clause-from

@@ -6,8 +6,8 @@ use Rattle.rebuild.proofs.NumberLaws.{count-both}
 use Rattle.rebuild.proofs.PlanLaws.{all-latched, all-members, counted, length-by_variable}
 use Rattle.rebuild.specs.Moved.{is_latched}
 use Rattle.rebuild.specs.Planned.{marked}
-use Rattle.variable_tables.proofs.PlacesLaws.{count-bound}
-use Rattle.variable_tables.specs.Marking.{has}
+use Rattle.aig_graph.proofs.PlacesLaws.{count-bound}
+use Rattle.aig_graph.specs.Marking.{has}
 use Rattle.rebuild.proofs.plan.Plan.new.Goals as goal
 
 pub count_marks-requires : goal.count_marks-requires

@@ -5,7 +5,7 @@ use Rattle.rebuild.proofs.BorderLaws.{new_variable-where_latched}
 use Rattle.rebuild.proofs.PlanLaws.{length-by_variable, whole-by_variable}
 use Rattle.rebuild.specs.Moved.{is_latched, new_variable}
 use Rattle.rebuild.specs.Planned.{planned}
-use Rattle.variable_tables.specs.Counting.{count_below}
+use Rattle.aig_graph.specs.Counting.{count_below}
 use Rattle.rebuild.proofs.plan.Plan.staying_position.Goals as goal
 
 pub is_latched-requires-clause-from : goal.is_latched-requires-clause-from

@@ -1,7 +1,0 @@
-use Rattle.std.proofs.Common.{ℕ, Bool, ◌≡◌, ◌+◌}
-use Rattle.variable_tables.specs.Counting.{places}
-use Rattle.variable_tables.specs.Marking.{AreAllMarks}
-use Rattle.variable_tables.proofs.numbering.marked_variables.Given as goal
-
-abbrev pub invariant-loop-k : goal.invariant-loop-k
-invariant-loop-k l = (p : ℕ → Bool) → AreAllMarks l.first l.marks p → l.vars.items ≡ places p (l.first + l.k)
