@@ -75,14 +75,14 @@ def kit():
 
 def claims():
     """All claims that are computed."""
-    greatest = constant('reader_parts', 'GREATEST_VARIABLE')
+    greatest = constant('ascii_file', 'GREATEST_VARIABLE')
     return [
         Claim('CONTRIBUTING.md', r'functions of at most (\d+) lines', LONGEST_FUNCTION),
         Claim('README.md', r'With `([^`]+)`', kit()),
         Claim('docs/PROVED.md', r'With `([^`]+)`', kit()),
         Claim('docs/PROVED.md', r'every beginning of (\w+) files', cases_of('beginnings')),
         Claim('docs/FORMAT.md', r'M past (2\^28 - 1)', power(greatest)),
-        Claim('docs/FORMAT.md', r'J, F past (2\^\d+): `TooLarge`', power(constant('reader_parts', 'MAX_PROPERTIES'))),
+        Claim('docs/FORMAT.md', r'J, F past (2\^\d+): `TooLarge`', power(constant('ascii_file', 'MAX_PROPERTIES'))),
         Claim('docs/FORMAT.md', r'sum of the sizes past (2\^\d+)', power(constant('aag_text', 'MAX_JUSTICE_LITERALS'))),
         Claim('docs/FORMAT.md', r'sequence number (2\^\d+), from 0', power(constant('lane_sim', 'MAX_SEQUENCES'))),
         Claim('docs/FORMAT.md', r'a number above (2\^\d+ - 1)', power(constant('certificates', 'MAX_NUMBER'))),

@@ -11,12 +11,16 @@ import pathlib
 import re
 
 TOP = pathlib.Path(__file__).resolve().parent.parent
-# What such a run never calls: other commands, binary files, objects of JSON, maps, merging, the smallest sets, pages of faults.
+# What such a run never calls: other commands, binary files, objects of JSON, maps, merging, the smallest sets.
 OTHER_CRATES = set("""binary_file json_reports map_circuits retiming_maps map_checks map_commands latch_merging batch_pool lane_sim
-    witnesses pictures certificate_audits simulation_commands fault_pages map_miters waves backward_sets backward_moves
+    witnesses pictures certificate_audits simulation_commands map_miters backward_sets backward_moves
     backward_circuits backward_retiming witness_circuits""".split())
-# The same of files of a crate that it calls: lists of files.
-OTHER_FILES = {'circuit_files': {'entry', 'read'}}
+# The same of files of a crate that it calls: waves, lists of files, pages of faults.
+OTHER_FILES = {
+    'reports': set('wave_dump wave_moment wave_naming wave_probes wave_room wave_times wave_values'.split()),
+    'circuit_files': set("""entry read circuit_pages hints line message name_hints named_fault near_faults near_names other_pages page
+        pages reasons returns showing smallest_file""".split()),
+}
 OTHER_FUNCTIONS = set("""retime_list print_statistics convert print_simulation print_comparison print_verification write_picture
     print_witness_back print_moves write_lifted write_miter retime_spelt_mapped print_check explain print_object mapped_between mapped_answer map_written
     merge_latches chosen_smallest

@@ -4,11 +4,11 @@ use Rattle.std.specs.List.{list_all}
 use Rattle.aig_graph.specs.declared.graph.Gate.{Gate}
 use Rattle.aig_graph.specs.declared.graph.Latch.{Latch}
 use Rattle.aig_graph.specs.Graph.{variable}
-use Rattle.reader_parts.specs.declared.places.Places.{Places}
-use Rattle.reader_parts.specs.Places.{place_of}
-use Rattle.file_words.specs.declared.fault.ReadError.{ReadError}
-use Rattle.file_words.specs.declared.fault.ReadError.TheVariants.{Undefined}
-use Rattle.file_words.specs.Answering.{◌>>=◌}
+use Rattle.ascii_file.specs.declared.places.Places.{Places}
+use Rattle.ascii_file.specs.Places.{place_of}
+use Rattle.counted_io.specs.declared.fault.ReadError.{ReadError}
+use Rattle.counted_io.specs.declared.fault.ReadError.TheVariants.{Undefined}
+use Rattle.counted_io.specs.Answering.{◌>>=◌}
 use Rattle.ascii_file.specs.declared.raw.RawGate.{RawGate}
 use Rattle.ascii_file.specs.declared.raw.RawLatch.{RawLatch}
 use Rattle.ascii_file.specs.Meaning.{reset_of}

@@ -1,9 +1,9 @@
 -- Where a reader stands.
 use Rattle.std.specs.Prelude.{ℕ, ◌≡◌, List, length, Result, Ok, Err}
 use Rattle.aig_graph.specs.Circuits.{Netlist}
-use Rattle.file_words.specs.declared.fault.ReadError.{ReadError}
-use Rattle.file_words.specs.declared.fault.ReadError.TheVariants.{BadHeader, NoMemory}
-use Rattle.file_words.specs.Answering.{Fails}
+use Rattle.counted_io.specs.declared.fault.ReadError.{ReadError}
+use Rattle.counted_io.specs.declared.fault.ReadError.TheVariants.{BadHeader, NoMemory}
+use Rattle.counted_io.specs.Answering.{Fails}
 use Rattle.ascii_file.specs.Pieces.{fed}
 use Rattle.aag_text.specs.declared.reader.AagReader.{AagReader}
 use Rattle.aag_text.specs.declared.reader.Phase.{Phase}

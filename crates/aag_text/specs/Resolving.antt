@@ -7,11 +7,11 @@ use Rattle.ascii_file.specs.declared.reads.Reads.{Reads}
 use Rattle.ascii_file.specs.Order.{IsOrder, ordered}
 use Rattle.ascii_file.specs.declared.header.Header.{Header}
 use Rattle.ascii_file.specs.Meaning.{props_of}
-use Rattle.reader_parts.specs.Names.{AreNamesOf}
-use Rattle.reader_parts.specs.Parts.{AreNamesWithin}
+use Rattle.ascii_file.specs.Names.{AreNamesOf}
+use Rattle.ascii_file.specs.Parts.{AreNamesWithin}
 use Rattle.aag_text.specs.Numbering.{PlacedLists}
 use Rattle.aag_text.specs.Arranging.{IsBelow, HasFanInsBelow, AreRanks, reads_of_gate, moved, graph_in_order}
-use Rattle.reader_parts.specs.Places.{place_of}
+use Rattle.ascii_file.specs.Places.{place_of}
 use Rattle.ascii_file.specs.Raw.{Raw, RawSymbol, defined, safety_count}
 use Rattle.ascii_file.specs.Files.{IsCountedBy, DefinesApart, NamesApart}
 use Rattle.aag_text.specs.declared.circuit.lists.RawLists.{RawLists}

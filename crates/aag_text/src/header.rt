@@ -2,8 +2,8 @@ ghost use Rattle.std.specs.Prelude.{ℕ, List, ◌≡◌, ◌≤◌, ◌++◌, l
 ghost use Rattle.aag_text.specs.Beginning.{Awaits, BeginsItems};
 
 use crate::items::Items;
-use file_words::{ReadError, cut};
-use reader_parts::HeaderLine;
+use ascii_file::HeaderLine;
+use counted_io::{ReadError, cut};
 use std::alloc::Global;
 
 /// Takes the next bytes, which end at the offset, where the first line is open: the items, where these bytes end it.

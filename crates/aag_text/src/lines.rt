@@ -2,8 +2,7 @@ ghost use Rattle.std.specs.Prelude.{◌≡◌, [], false};
 ghost use Rattle.ascii_file.specs.Reading.{is_symbols};
 ghost use Rattle.aag_text.specs.Lines.{IsOpen, is_comment};
 
-use ascii_file::Section;
-use reader_parts::{NumberLine, SymbolLine};
+use ascii_file::{NumberLine, Section, SymbolLine};
 use std::alloc::{AllocError, Global};
 
 /// A line after the header, which comes in pieces.

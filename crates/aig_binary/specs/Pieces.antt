@@ -1,8 +1,8 @@
 -- What a reader of circuits answers to the bytes that it has been given.
 use Rattle.std.specs.Prelude.{ℕ, ◌++◌, ◌≡◌, ◌⊎◌, true, List, Err}
-use Rattle.file_words.specs.declared.fault.ReadError.{ReadError}
-use Rattle.file_words.specs.declared.fault.ReadError.TheVariants.{NoMemory}
-use Rattle.file_words.specs.Codes.{is_fault_of_bytes}
+use Rattle.counted_io.specs.declared.fault.ReadError.{ReadError}
+use Rattle.counted_io.specs.declared.fault.ReadError.TheVariants.{NoMemory}
+use Rattle.counted_io.specs.Codes.{is_fault_of_bytes}
 use Rattle.aig_binary.specs.Spellings.{read_any}
 
 -- the bytes have this fault, whatever follows them

@@ -1,11 +1,11 @@
 -- Where a reader of either spelling stands.
 use Rattle.std.specs.Prelude.{ℕ, ◌≡◌, ◌<◌, List, length, Option, Some, None, Result, Ok, Err}
-use Rattle.file_words.specs.declared.fault.ReadError.{ReadError}
-use Rattle.file_words.specs.declared.fault.ReadError.TheVariants.{BadHeader}
+use Rattle.counted_io.specs.declared.fault.ReadError.{ReadError}
+use Rattle.counted_io.specs.declared.fault.ReadError.TheVariants.{BadHeader}
 use Rattle.aag_text.specs.Readers as ascii
 use Rattle.binary_file.specs.Holding as binary
-use Rattle.file_words.specs.declared.spelling.Spelling.{Spelling}
-use Rattle.file_words.specs.declared.spelling.Spelling.TheVariants.{Ascii, Binary}
+use Rattle.counted_io.specs.declared.spelling.Spelling.{Spelling}
+use Rattle.counted_io.specs.declared.spelling.Spelling.TheVariants.{Ascii, Binary}
 use Rattle.aig_binary.specs.Spellings.{spelling_of}
 use Rattle.aig_binary.specs.declared.any_reader.AnyReader.{AnyReader}
 use Rattle.aig_binary.specs.declared.any_reader.Phase.{Phase}

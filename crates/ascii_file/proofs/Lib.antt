@@ -22,3 +22,10 @@ pub mod OwnLiteralLaws
 pub mod RoundTripLaws
 pub mod PieceLaws
 pub mod OneLineLaws
+pub mod RowLaws
+pub mod HeaderLaws
+pub mod SymbolLaws
+pub mod WithinLaws
+pub mod KindNameLaws
+pub mod PartLaws
+pub mod SplitLaws

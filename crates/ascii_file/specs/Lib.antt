@@ -11,3 +11,13 @@ pub mod Reading
 pub mod Files
 pub mod Laws
 pub mod Pieces
+pub mod Rows
+pub mod Open
+pub mod Limits
+pub mod Header
+pub mod Named
+pub mod Symbols
+pub mod Names
+pub mod Lists
+pub mod Parts
+pub mod Places

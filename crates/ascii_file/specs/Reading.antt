@@ -4,11 +4,11 @@ use Rattle.std.specs.List.{sum, list_any, list_all}
 use Rattle.aig_graph.specs.Marking.{has}
 use Rattle.aig_graph.specs.Graph.{variable}
 use Rattle.aig_graph.specs.Circuits.{Netlist}
-use Rattle.file_words.specs.declared.fault.ReadError.{ReadError}
-use Rattle.file_words.specs.declared.fault.ReadError.TheVariants.{BadHeader, TooLarge, MaxIndex, BadLine, BadLiteral, DefinedTwice, Undefined, Cycle, BadReset, Truncated, BadSymbol, Trailing}
-use Rattle.file_words.specs.Answering.{◌>>=◌}
-use Rattle.file_words.specs.Codes.{is_fault_of_bytes}
-use Rattle.file_words.specs.Lines.{lines}
+use Rattle.counted_io.specs.declared.fault.ReadError.{ReadError}
+use Rattle.counted_io.specs.declared.fault.ReadError.TheVariants.{BadHeader, TooLarge, MaxIndex, BadLine, BadLiteral, DefinedTwice, Undefined, Cycle, BadReset, Truncated, BadSymbol, Trailing}
+use Rattle.counted_io.specs.Answering.{◌>>=◌}
+use Rattle.counted_io.specs.Codes.{is_fault_of_bytes}
+use Rattle.counted_io.specs.Lines.{lines}
 use Rattle.ascii_file.specs.declared.header.Header.{Header}
 use Rattle.ascii_file.specs.declared.raw.RawLatch.{RawLatch}
 use Rattle.ascii_file.specs.declared.raw.Section.{Section}

@@ -1,7 +1,7 @@
 -- The outcomes of bytes in memory that were not retimed.
 use Rattle.std.specs.Prelude.{if◌then◌else◌}
-use Rattle.file_words.specs.declared.fault.ReadError.{ReadError}
-use Rattle.file_words.specs.Codes.{is_fault_of_bytes}
+use Rattle.counted_io.specs.declared.fault.ReadError.{ReadError}
+use Rattle.counted_io.specs.Codes.{is_fault_of_bytes}
 use Rattle.frames.specs.declared.errors.BytesError.{BytesError}
 use Rattle.frames.specs.declared.errors.BytesError.TheVariants.{Read, Retime, Write}
 use Rattle.frames.specs.declared.errors.RetimeError.TheVariants as retiming

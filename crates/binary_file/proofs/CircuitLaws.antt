@@ -6,7 +6,7 @@ use Rattle.aig_graph.specs.declared.graph.Latch.{Latch}
 use Rattle.aig_graph.specs.Graph.{variable, variables_end, IsGateAt, IsGraph}
 use Rattle.aig_graph.specs.declared.properties.Symbols.{Symbols as SymbolTable}
 use Rattle.aig_graph.specs.Circuits.{AreLiteralsOf, IsNetlist}
-use Rattle.file_words.specs.declared.fault.ReadError.TheVariants.{Truncated}
+use Rattle.counted_io.specs.declared.fault.ReadError.TheVariants.{Truncated}
 use Rattle.ascii_file.specs.declared.header.Header.{Header}
 use Rattle.ascii_file.specs.declared.raw.Section.TheVariants.{Symbols}
 use Rattle.ascii_file.specs.Raw.{Raw}
@@ -14,7 +14,7 @@ use Rattle.ascii_file.specs.Reading.{is_symbols}
 use Rattle.binary_file.specs.Files.{IsWithin}
 use Rattle.binary_file.specs.Items.{next_section}
 use Rattle.binary_file.specs.Reading.{circuit_of}
-use Rattle.reader_parts.proofs.PartLaws.{netlist}
+use Rattle.ascii_file.proofs.PartLaws.{netlist}
 use Rattle.binary_file.specs.Contents.{Contents, contents_of, IsAt, section_to_fill, netlist_of_contents}
 use Rattle.binary_file.specs.Kept.{IsKept}
 use Rattle.binary_file.specs.Taking.{circuit_at_end}

@@ -1,8 +1,8 @@
 -- What holds of reading, and of deltas of at most five bytes.
 use Rattle.std.specs.Prelude.{ℕ, ◌≡◌, List, [], ◌++◌, Ok, Err, ◌≤◌, length, IsTrue}
 use Rattle.aig_graph.specs.Circuits.{Netlist}
-use Rattle.file_words.specs.declared.fault.ReadError.{ReadError}
-use Rattle.file_words.specs.Answering.{◌>>=◌}
+use Rattle.counted_io.specs.declared.fault.ReadError.{ReadError}
+use Rattle.counted_io.specs.Answering.{◌>>=◌}
 use Rattle.ascii_file.specs.declared.header.Header.{Header}
 use Rattle.ascii_file.specs.Raw.{Raw}
 use Rattle.ascii_file.specs.Files.{IsCountedBy}

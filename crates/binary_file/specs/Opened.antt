@@ -1,18 +1,18 @@
 -- The item that has begun, beside where reading stands: what was read before it, its offset, and how many bytes have come.
 use Rattle.std.specs.Prelude.{ℕ, ◌≡◌, ◌+◌, ◌<◌, Bool, true, false, List, ◌++◌, length, Result, Ok, Err}
-use Rattle.file_words.specs.declared.fault.ReadError.{ReadError}
-use Rattle.file_words.specs.declared.fault.ReadError.TheVariants.{NoMemory}
-use Rattle.file_words.specs.Answering.{Fails}
+use Rattle.counted_io.specs.declared.fault.ReadError.{ReadError}
+use Rattle.counted_io.specs.declared.fault.ReadError.TheVariants.{NoMemory}
+use Rattle.counted_io.specs.Answering.{Fails}
 use Rattle.ascii_file.specs.declared.header.Header.{Header}
 use Rattle.ascii_file.specs.declared.raw.Section.TheVariants.{Gates, Symbols}
 use Rattle.ascii_file.specs.Raw.{Raw}
 use Rattle.ascii_file.specs.Items.{begins_comment}
 use Rattle.ascii_file.specs.Reading.{is_symbols}
-use Rattle.reader_parts.specs.declared.numbers.NumberLine.{NumberLine}
-use Rattle.reader_parts.specs.declared.symbols.SymbolLine.{SymbolLine}
-use Rattle.reader_parts.specs.Rows.{row_of}
-use Rattle.reader_parts.specs.Open.{numbers_with}
-use Rattle.reader_parts.specs.Symbols.{text_of, text_with}
+use Rattle.ascii_file.specs.declared.numbers.NumberLine.{NumberLine}
+use Rattle.ascii_file.specs.declared.symbols.SymbolLine.{SymbolLine}
+use Rattle.ascii_file.specs.Rows.{row_of}
+use Rattle.ascii_file.specs.Open.{numbers_with}
+use Rattle.ascii_file.specs.Symbols.{text_of, text_with}
 use Rattle.binary_file.specs.Items.{next_section, next_gate}
 use Rattle.binary_file.specs.Reading.{State, InLine, InFirst, InSecond, InComment, read_line}
 use Rattle.binary_file.specs.Contents.{Contents, IsAt}

@@ -1,10 +1,10 @@
 -- The first fault of a binary file, byte by byte, and what is read where there is none.
 use Rattle.std.specs.Prelude.{ℕ, ◌≡◌, ◌+◌, ◌-◌, ◌==◌, ◌||◌, ◌&&◌, Bool, true, false, nat_lt, List, [], ◌∷◌, ◌++◌, length, map, Option, Some, None, Result, Ok, Err, if◌then◌else◌}
 use Rattle.aig_graph.specs.Circuits.{Netlist}
-use Rattle.file_words.specs.declared.fault.ReadError.{ReadError}
-use Rattle.file_words.specs.declared.fault.ReadError.TheVariants.{BadHeader, MaxIndex, BadReset, BadDelta, Truncated}
-use Rattle.file_words.specs.Codes.{is_fault_of_bytes}
-use Rattle.file_words.specs.Answering.{◌>>=◌}
+use Rattle.counted_io.specs.declared.fault.ReadError.{ReadError}
+use Rattle.counted_io.specs.declared.fault.ReadError.TheVariants.{BadHeader, MaxIndex, BadReset, BadDelta, Truncated}
+use Rattle.counted_io.specs.Codes.{is_fault_of_bytes}
+use Rattle.counted_io.specs.Answering.{◌>>=◌}
 use Rattle.binary_file.specs.Deltas.{delta_value}
 use Rattle.ascii_file.specs.declared.header.Header.{Header}
 use Rattle.ascii_file.specs.declared.raw.Section.{Section}

@@ -11,9 +11,8 @@ ghost use Rattle.binary_file.specs.Opened.{IsNumbers, IsText, IsOpened, TakesTex
 
 use crate::DeltaReader;
 use crate::sections::Sections;
-use ascii_file::Section;
-use file_words::ReadError;
-use reader_parts::{NumberLine, SymbolLine, SymbolText};
+use ascii_file::{NumberLine, Section, SymbolLine, SymbolText};
+use counted_io::ReadError;
 use std::alloc::Global;
 
 /// The item that has begun, as far as it has come.

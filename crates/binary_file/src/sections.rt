@@ -10,8 +10,7 @@ mod numbers;
 mod symbols;
 
 use aig_graph::{Gate, Latch};
-use ascii_file::{Header, Section};
-use reader_parts::{Names, PropertyLists};
+use ascii_file::{Header, Names, PropertyLists, Section};
 use std::alloc::Global;
 use std::marker::Model;
 

@@ -1,8 +1,8 @@
 -- The text of certificates.
 use Rattle.std.specs.Prelude.{ℕ, ◌+◌, ◌-◌, ◌^◌, ◌==◌, ◌&&◌, ◌||◌, Bool, nat_le, List, [], ◌∷◌, ◌++◌, length, map, take, drop, slice_index_or, Option, Some, None, Result, Ok, Err, codes, if◌then◌else◌, zero, suc}
 use Rattle.std.specs.List.{list_all, starts_with}
-use Rattle.file_words.specs.Answering.{◌>>=◌}
-use Rattle.file_words.specs.Lines.{lines, pieces, is_number, digits_value, numbers_of, is_word}
+use Rattle.counted_io.specs.Answering.{◌>>=◌}
+use Rattle.counted_io.specs.Lines.{lines, pieces, is_number, digits_value, numbers_of, is_word}
 use Rattle.frame_net.specs.declared.net.Point.{Point}
 use Rattle.certificates.specs.declared.certificate.Certificate.{Certificate}
 use Rattle.certificates.specs.declared.fault.CertError.{CertError}

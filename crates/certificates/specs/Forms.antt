@@ -1,8 +1,8 @@
 -- What a line says, where a line of a certain form comes next: the form is looked at before the sizes.
 use Rattle.std.specs.Prelude.{ℕ, ◌==◌, ◌&&◌, Bool, true, false, List, ◌++◌, map, Option, Some, None, Result, Ok, Err, if◌then◌else◌}
 use Rattle.std.specs.List.{list_all}
-use Rattle.file_words.specs.Lines.{is_number, digits_value}
-use Rattle.reader_parts.specs.Rows.{clamped}
+use Rattle.counted_io.specs.Lines.{is_number, digits_value}
+use Rattle.ascii_file.specs.Rows.{clamped}
 use Rattle.frame_net.specs.declared.net.Point.{Point}
 use Rattle.certificates.specs.declared.fault.CertError.{CertError}
 use Rattle.certificates.specs.declared.fault.CertError.TheVariants.{BadLine, TooLarge}

@@ -5,8 +5,8 @@ ghost use Rattle.certificates.specs.Files.{frame_saying, gate_saying, is_small, 
 ghost use Rattle.certificates.specs.Forms.{framed, gated};
 
 use crate::fault::CertError;
-use file_words::Line;
-use reader_parts::NumberLine;
+use ascii_file::NumberLine;
+use counted_io::Line;
 
 /// The greatest number in a file.
 const MAX_NUMBER: u32 = (1 << 28) - 1;

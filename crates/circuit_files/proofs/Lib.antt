@@ -1,3 +1,4 @@
 pub mod ListLaws
 pub mod NameLaws
 pub mod TargetLaws
+mod FaultNameLaws

@@ -6,3 +6,10 @@ pub mod Outcomes
 pub mod Reading
 pub mod LazyFiles
 pub mod WrittenFiles
+pub mod Faults
+pub mod Files
+pub mod Lines
+pub mod Nearest
+pub mod Pages
+pub mod HintedLines
+pub mod Messages

@@ -2,8 +2,8 @@
 use Rattle.std.specs.Prelude.{◌≡◌, ◌⊎◌, List, ℕ}
 use Rattle.std.specs.Borrow.{Bor}
 use Rattle.counted_io.specs.Output.{Output}
-use Rattle.file_words.specs.declared.fault.ReadError.{ReadError}
-use Rattle.file_words.specs.declared.fault.ReadError.TheVariants as reading
+use Rattle.counted_io.specs.declared.fault.ReadError.{ReadError}
+use Rattle.counted_io.specs.declared.fault.ReadError.TheVariants as reading
 use Rattle.counted_io.specs.declared.reading.ReadAllError.{ReadAllError}
 use Rattle.counted_io.specs.declared.reading.ReadAllError.TheVariants as whole
 use Rattle.circuit_files.specs.declared.fault.ListError.{ListError}

@@ -3,7 +3,7 @@ ghost use Rattle.std.specs.List.{list_any};
 ghost use Rattle.circuit_files.specs.Lists as lists;
 ghost use Rattle.circuit_files.specs.Entries.{paths, text_of};
 
-use file_words::Line;
+use counted_io::Line;
 use std::str;
 
 /// A line of a list.

@@ -4,8 +4,7 @@ ghost use Rattle.std.specs.Prelude.{◌≡◌};
 ghost use Rattle.command_line.specs.Asking.{command_of};
 
 use crate::options::RetimingOptions;
-use counted_io::{Source, Target};
-use file_words::Spelling;
+use counted_io::{Source, Spelling, Target};
 
 /// What is shown of a run on standard error while it goes on.
 #[derive(Clone, Copy, PartialEq, Eq)]

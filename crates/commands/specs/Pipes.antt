@@ -4,7 +4,7 @@ use Rattle.counted_io.specs.Input.{Input}
 use Rattle.counted_io.specs.Output.{Output, WritesAll}
 use Rattle.aig_binary.specs.Spellings.{text_in}
 use Rattle.ascii_file.specs.Laws.{IsWithinLimits}
-use Rattle.file_words.specs.declared.spelling.Spelling.{Spelling}
+use Rattle.counted_io.specs.declared.spelling.Spelling.{Spelling}
 use Rattle.aig_binary.specs.declared.reading.SpeltCircuit.{SpeltCircuit}
 use Rattle.aig_binary.specs.Ending.{Spells}
 use Rattle.retimed_circuits.specs.MapCircuits.{IsMapCircuit}

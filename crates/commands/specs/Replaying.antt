@@ -3,7 +3,7 @@ use Rattle.std.specs.Prelude.{ℕ, ◌≡◌, Bool, true, false, List, Option, S
 use Rattle.std.specs.Global.{Vec}
 use Rattle.aig_graph.specs.Circuits.{Netlist}
 use Rattle.aig_binary.specs.Spellings.{spelling_of, text_in}
-use Rattle.file_words.specs.declared.spelling.Spelling.TheVariants.{Ascii}
+use Rattle.counted_io.specs.declared.spelling.Spelling.TheVariants.{Ascii}
 use Rattle.counted_io.specs.Input.{Input, ReadsAll}
 use Rattle.certificates.specs.declared.certificate.Certificate.{Certificate}
 use Rattle.certificate_audits.specs.Replays.{IsMergedReplay, IsReplay}

@@ -3,7 +3,7 @@ use Rattle.std.specs.Prelude.{ℕ, ◌≡◌, ⊤, Bool, List, Some, Result, Ok,
 use Rattle.counted_io.specs.Input.{Input}
 use Rattle.counted_io.specs.Output.{Output, WritesAll, WritesPart}
 use Rattle.counted_io.specs.declared.writing.WriteError.{WriteError}
-use Rattle.file_words.specs.declared.fault.ReadError.{ReadError}
+use Rattle.counted_io.specs.declared.fault.ReadError.{ReadError}
 use Rattle.ascii_file.specs.Laws.{IsWithinLimits}
 use Rattle.aig_binary.specs.Spellings.{read_any, text_in}
 use Rattle.aig_binary.specs.declared.reading.SpeltCircuit.{SpeltCircuit}

@@ -3,8 +3,7 @@
 ghost use Rattle.std.specs.Prelude.{◌≡◌};
 
 use aig_graph::{HoldError, NoMemory};
-use counted_io::WriteError;
-use file_words::ReadError;
+use counted_io::{ReadError, WriteError};
 use thiserror::Error;
 
 /// Why a circuit wasn't retimed.

@@ -2,7 +2,7 @@ ghost use Rattle.frames.specs.Defaults.{AreDefaults};
 
 use crate::bound::PathBound;
 use aig_graph::Choice;
-use file_words::Spelling;
+use counted_io::Spelling;
 use std::alloc::Global;
 
 /// How a circuit is retimed.

@@ -2,10 +2,10 @@
 use Rattle.std.specs.Prelude.{ℕ, ◌≡◌, ◌==◌, ◌⊎◌, List, [], ◌∷◌, ◌++◌, Option, Some, None, codes, if◌then◌else◌}
 use Rattle.std.specs.List.{flat_map}
 use Rattle.counted_io.specs.Output.{Output, WritesPart}
-use Rattle.fault_pages.specs.Faults.{IsCalled, IsNoName, name_of}
-use Rattle.fault_pages.specs.Files.{smallest_file}
-use Rattle.fault_pages.specs.Pages.{advice_of, meaning_of, rule_of}
-use Rattle.fault_pages.specs.declared.fault.Fault.{Fault}
+use Rattle.circuit_files.specs.Faults.{IsCalled, IsNoName, name_of}
+use Rattle.circuit_files.specs.Files.{smallest_file}
+use Rattle.circuit_files.specs.Pages.{advice_of, meaning_of, rule_of}
+use Rattle.circuit_files.specs.declared.named_fault.Fault.{Fault}
 use Rattle.circuit_files.specs.Outcomes.{outcome_of}
 use Rattle.circuit_files.specs.declared.outcome.Failure.{Failure}
 use Rattle.circuit_files.specs.declared.outcome.Outcome.{Outcome}

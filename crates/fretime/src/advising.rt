@@ -1,8 +1,7 @@
 //! What a terminal is told where a command did its work, and what it found may be owed to how it was called.
-use circuit_files::Outcome;
+use circuit_files::{Fault, Outcome, tell_page};
 use command_line::{Task, Verification};
 use counted_io::{Buffered, CountedWrite};
-use fault_pages::{Fault, tell_page};
 use frames::PathBound;
 
 /// The options of `retime` that bear on certificates and that 'verify' wasn't given; `None` where it has all of them.

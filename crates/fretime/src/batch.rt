@@ -14,11 +14,12 @@ use crate::answers::{Answer, answers_of, write_answer};
 use crate::batch_object::finish_as_object;
 use crate::reporting::{report_failure_as, told_of};
 use batch_pool::{Job, run_batch};
-use circuit_files::{Entry, Failure, ListError, Outcome, bytes_at, bytes_of_file, read_list};
+use circuit_files::{
+    Entry, Failure, ListError, Outcome, bytes_at, bytes_of_file, give_hint, read_list,
+};
 use command_endings::run_options;
 use command_line::Batch;
 use counted_io::{CountedRead, CountedWrite, Streams};
-use fault_pages::give_hint;
 use file_identities::check_outputs;
 use pulse::{Crew, OpenGate};
 use reports::{JobReport, print_job};

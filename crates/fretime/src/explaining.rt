@@ -3,15 +3,14 @@ ghost use Rattle.std.specs.Prelude.{◌≡◌, IfErr, IfOk};
 ghost use Rattle.std.specs.List.{flat_map};
 ghost use Rattle.counted_io.specs.Buffered.{Puts};
 ghost use Rattle.counted_io.specs.Output.{Output, Writes};
-ghost use Rattle.fault_pages.specs.Files.{smallest_file};
+ghost use Rattle.circuit_files.specs.Files.{smallest_file};
 ghost use Rattle.circuit_files.specs.Outcomes.{outcome_of};
 ghost use Rattle.circuit_files.specs.declared.outcome.Outcome.TheVariants.{CommandLine, Memory};
 ghost use Rattle.command_endings.specs.Printing.{Prints, ending};
 ghost use Rattle.fretime.specs.Explaining.{Explains, FailsToExplain, file_part, file_text, indented, indented_byte, page_text};
 
-use circuit_files::{Failure, Outcome};
+use circuit_files::{Failure, Fault, Message, Outcome};
 use counted_io::{Buffered, CountedWrite, Streams, WriteError};
-use fault_pages::{Fault, Message};
 use std::alloc::Global;
 
 /// Puts a byte of a file, and four spaces where it ends a line.

@@ -7,11 +7,10 @@ ghost use Rattle.fretime.specs.Reporting as wanted;
 
 use crate::advising::advise;
 use crate::written::is_written;
-use circuit_files::{Failure, Outcome};
+use circuit_files::{Failure, Message, Outcome, Told, give_hint, tell_returns};
 use command_endings::{fault_of, print_failure};
 use command_line::{Drawing, Task};
 use counted_io::{CountedWrite, Streams};
-use fault_pages::{Message, Told, give_hint, tell_returns};
 use std::alloc::Global;
 use std::fmt::Write;
 use std::rt::Files;

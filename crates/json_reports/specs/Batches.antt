@@ -1,6 +1,6 @@
 -- What became of the files of a batch, as an object.
 use Rattle.std.specs.Prelude.{ℕ, List, codes}
-use Rattle.file_words.specs.declared.fault.ReadError.TheVariants as files
+use Rattle.counted_io.specs.declared.fault.ReadError.TheVariants as files
 use Rattle.reports.specs.declared.batch.JobReport.{JobReport}
 use Rattle.reports.specs.declared.batch.JobReport.TheVariants.{Done, Refused, NoMemory, NoSuchLatch, NoSuchName}
 use Rattle.serde_json.specs.Data.{Data, null, string, object, member, no_members}

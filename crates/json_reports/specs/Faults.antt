@@ -1,6 +1,6 @@
 -- The names of faults, and their offsets.
 use Rattle.std.specs.Prelude.{ℕ, List, Option, None, codes}
-use Rattle.file_words.specs.Codes as circuits
+use Rattle.counted_io.specs.Codes as circuits
 use Rattle.lane_sim.specs.Codes as stimuli
 use Rattle.circuit_files.specs.ListCodes as lists
 use Rattle.certificates.specs.Codes as certificates

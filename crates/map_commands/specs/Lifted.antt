@@ -10,7 +10,7 @@ use Rattle.witness_circuits.specs.LiftedLaws.{first_shared}
 use Rattle.witness_circuits.specs.Lifting.{IsLifted}
 use Rattle.map_miters.specs.Lifting.{IsLiftedBack}
 use Rattle.map_checks.specs.Answers.{AreFitting, IsMap}
-use Rattle.file_words.specs.declared.fault.ReadError.TheVariants.{TooLarge}
+use Rattle.counted_io.specs.declared.fault.ReadError.TheVariants.{TooLarge}
 use Rattle.counted_io.specs.Input.{Input}
 use Rattle.counted_io.specs.Output.{Output}
 use Rattle.counted_io.specs.Streams.{source_name, target_name}

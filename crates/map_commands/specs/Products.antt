@@ -4,8 +4,8 @@ use Rattle.map_checks.specs.Answers.{AreFitting, IsMap}
 use Rattle.map_miters.specs.declared.goals.Goal.{Goal}
 use Rattle.map_miters.specs.declared.goals.Goal.TheVariants.{Agree, Mapped as IsMapped}
 use Rattle.map_miters.specs.Products.{IsProduct}
-use Rattle.file_words.specs.declared.fault.ReadError.TheVariants.{TooLarge}
-use Rattle.file_words.specs.declared.spelling.Spelling.{Spelling}
+use Rattle.counted_io.specs.declared.fault.ReadError.TheVariants.{TooLarge}
+use Rattle.counted_io.specs.declared.spelling.Spelling.{Spelling}
 use Rattle.aig_binary.specs.Spellings.{text_in}
 use Rattle.reports.specs.Differences.{shapes_text}
 use Rattle.counted_io.specs.Input.{Input}

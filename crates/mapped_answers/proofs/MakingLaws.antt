@@ -15,7 +15,7 @@ use Rattle.frames.specs.Retiming.{IsRetimedHeld}
 use Rattle.frames.specs.Stages.{Notifies, Notification, Writing, looks_of, stages_of}
 use Rattle.frames.proofs.StageLaws.{notifies-then}
 use Rattle.std.specs.Option.{unwrap_or}
-use Rattle.file_words.specs.declared.spelling.Spelling.{Spelling}
+use Rattle.counted_io.specs.declared.spelling.Spelling.{Spelling}
 use Rattle.aig_binary.specs.Spellings.{text_in}
 use Rattle.aig_binary.proofs.SpellingLaws.{the_spelling_law}
 use Rattle.retimed_circuits.specs.declared.report.Retimed.{Retimed}

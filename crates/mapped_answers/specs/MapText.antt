@@ -3,7 +3,7 @@ use Rattle.std.specs.Prelude.{ℕ, suc, ◌<◌, ◌≡◌, ◌^◌, ◌++◌, L
 use Rattle.aig_graph.specs.Circuits.{Netlist}
 use Rattle.aig_graph.specs.Graph.{first_latch}
 use Rattle.counted_io.specs.Line.{line}
-use Rattle.file_words.specs.Text.{header_row, numbered_rows, property_rows}
+use Rattle.counted_io.specs.Text.{header_row, numbered_rows, property_rows}
 use Rattle.aig_binary.specs.Text.{next_row}
 use Rattle.binary_file.specs.Deltas.{bytes_within}
 

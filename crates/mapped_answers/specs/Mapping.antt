@@ -1,7 +1,7 @@
 -- What becomes of a circuit that was read where a map is wanted: the answer, and the map from it to the one that is written.
 use Rattle.std.specs.Prelude.{◌≡◌, ◌⊎◌, unwrap_or}
 use Rattle.counted_io.specs.Output.{Output, WritesAll, WritesPart}
-use Rattle.file_words.specs.declared.spelling.Spelling.{Spelling}
+use Rattle.counted_io.specs.declared.spelling.Spelling.{Spelling}
 use Rattle.aig_graph.specs.Circuits.{IsNetlist, Netlist}
 use Rattle.aig_graph.specs.Graph.{IsGraph}
 use Rattle.aig_binary.specs.declared.reading.SpeltCircuit.{SpeltCircuit}

@@ -9,7 +9,7 @@ ghost use Rattle.aig_binary.specs.Text.{gate_deltas, text_binary};
 ghost use Rattle.counted_io.specs.Buffered.{Puts};
 ghost use Rattle.counted_io.specs.Line.{line, numbered_lines};
 ghost use Rattle.counted_io.specs.Output.{Writes};
-ghost use Rattle.file_words.specs.Text.{all_symbols, gate_row, header_row, input_rows, numbered_rows, text};
+ghost use Rattle.counted_io.specs.Text.{all_symbols, gate_row, header_row, input_rows, numbered_rows, text};
 ghost use Rattle.mapped_answers.specs.MapText.{BeginsWith, before_gates};
 
 use aag_text::{put_properties, put_symbols};

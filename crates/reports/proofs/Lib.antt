@@ -5,3 +5,7 @@ pub mod AgreementLaws
 pub mod TraceTextLaws
 mod SimulatingLaws
 pub mod AuditTextLaws
+mod WaveDumpLaws
+mod WaveNameLaws
+mod WaveProbeLaws
+mod WaveMomentLaws

@@ -10,3 +10,7 @@ pub mod Batches
 pub mod Agreements
 pub mod Audits
 pub mod Remaining
+pub mod WaveProbes
+pub mod WaveNames
+pub mod WaveDumps
+pub mod WaveMoments

@@ -3,10 +3,10 @@ use Rattle.std.specs.Prelude.{ℕ, ◌≡◌, ◌⊎◌, Bool, true, false, List
 use Rattle.aig_graph.specs.Circuits.{Netlist}
 use Rattle.lane_sim.specs.Traces.{trace}
 use Rattle.simulation_commands.specs.Room.{is_too_long}
-use Rattle.waves.specs.Dumps.{waves_text}
-use Rattle.waves.specs.Moments.{IsRoomFor}
-use Rattle.waves.specs.Names.{wave_names}
-use Rattle.waves.specs.Probes.{probed}
+use Rattle.reports.specs.WaveDumps.{waves_text}
+use Rattle.reports.specs.WaveMoments.{IsWaveRoomFor}
+use Rattle.reports.specs.WaveNames.{wave_names}
+use Rattle.reports.specs.WaveProbes.{probed}
 use Rattle.command_line.specs.declared.task.Simulation.{Simulation}
 use Rattle.command_line.specs.declared.task.Stimuli.{Stimuli}
 use Rattle.command_line.specs.declared.task.Stimuli.TheVariants.{Read, Random}
@@ -20,7 +20,7 @@ use Rattle.simulation_commands.specs.declared.simulation.Case.{Case}
 -- the circuit that has the waves of a circuit as its outputs, with room for simulating it under the stimulus
 pub record IsShownOf (given : Case) (shown : Shown) : Type 0 where
   pub circuit : shown.circuit ≡ probed given.circuit
-  pub room : IsRoomFor (probed given.circuit) given.stimulus shown.room
+  pub room : IsWaveRoomFor (probed given.circuit) given.stimulus shown.room
 
 -- the waves of a circuit under a stimulus: their names, and the circuit that has them as its outputs
 pub record AreWavesOf (given : Case) (waves : Waves) : Type 0 where

@@ -1,9 +1,9 @@
 //! The waves of what is simulated: their names, room for their values, and how a dump of them is written.
 ghost use Rattle.std.specs.Prelude.{◌≡◌, true, false, IfErr, IfOk, MatchResult};
 ghost use Rattle.counted_io.specs.Output.{Writes};
-ghost use Rattle.waves.specs.Moments.{IsRoomFor};
-ghost use Rattle.waves.specs.Names as named;
-ghost use Rattle.waves.specs.Probes as probes;
+ghost use Rattle.reports.specs.WaveMoments.{IsWaveRoomFor};
+ghost use Rattle.reports.specs.WaveNames as named;
+ghost use Rattle.reports.specs.WaveProbes as probes;
 ghost use Rattle.counted_io.specs.Streams.{is_stdout, target_name};
 ghost use Rattle.circuit_files.specs.Outcomes.{IsAbout, outcome_of};
 ghost use Rattle.circuit_files.specs.declared.outcome.Outcome.TheVariants.{Device};
@@ -17,15 +17,15 @@ use aig_graph::{Circuit, Sequence};
 use circuit_files::{Failure, LazyFile};
 use command_line::{Simulation, Stimuli};
 use counted_io::{Counted, CountedWrite, Target, WriteError};
+use reports::{WaveRoom, probed, wave_names, write_waves};
 use std::alloc::Global;
 use std::rt::Files;
-use waves::{Room, probed, wave_names, write_waves};
 
 /// A circuit that has waves as its outputs, and room for simulating it.
 #[derive(Drop)]
 struct Shown {
     circuit: Circuit,
-    room: Room,
+    room: WaveRoom,
 }
 
 /// The waves of a circuit under a stimulus.
@@ -52,14 +52,14 @@ fn room_for<'a>(
     circuit: &Circuit,
     given: &Case,
     task: &Simulation<'a>,
-) -> Result<Room, Failure<'a>>
-    ensures room { IfOk result (IsRoomFor circuit.now given.now.stimulus) }
+) -> Result<WaveRoom, Failure<'a>>
+    ensures room { IfOk result (IsWaveRoomFor circuit.now given.now.stimulus) }
     ensures failed { IfErr result (IsFailureToShow task.now circuit.now) }
 {
     if are_too_long(task.stimuli, circuit) {
         return Err(Failure::TooManySteps(task.input.name()));
     }
-    match Room::new(alloc, circuit, &given.stimulus) {
+    match WaveRoom::new(alloc, circuit, &given.stimulus) {
         Ok(room) => Ok(room),
         Err(_) => Err(Failure::Memory),
     }

@@ -98,7 +98,7 @@ fn mark_left(
 fn sweep(
     before: &mut [bool],
     after: &mut [bool],
-    open: &mut [u32],
+    still_open: &mut [u32],
     frame: &Frame,
     flows: &[GateFlow],
 ) -> usize
@@ -114,12 +114,12 @@ fn sweep(
     let first_gate = aig.first_gate();
     let gates = aig.gates();
     let mut kept = 0;
-    for i in 0..open.len() {
-        let k = open[i] as usize;
+    for i in 0..still_open.len() {
+        let k = still_open[i] as usize;
         if k < gates.len() {
             let var = first_gate + k as u32;
             if !go_on(before, after, first, var, &gates[k], &flows[k]) {
-                open[kept] = k as u32;
+                still_open[kept] = k as u32;
                 kept += 1;
             }
         }
@@ -131,7 +131,7 @@ fn sweep(
 fn settle(
     before: &mut [bool],
     after: &mut [bool],
-    open: &mut Vec<u32>,
+    still_open: &mut Vec<u32>,
     frame: &Frame,
     flows: &[GateFlow],
 )
@@ -143,24 +143,24 @@ fn settle(
     ensures after { length after.new ≡ length after.old }
 {
     for _ in 0..MOST_SWEEPS {
-        let kept = sweep(before, after, open.as_mut_slice(), frame, flows);
-        if kept == open.len() {
+        let kept = sweep(before, after, still_open.as_mut_slice(), frame, flows);
+        if kept == still_open.len() {
             return;
         }
-        open.truncate(kept);
-        open.as_mut_slice().reverse();
+        still_open.truncate(kept);
+        still_open.as_mut_slice().reverse();
     }
 }
 
 /// Appends the numbers of the marks that are set, rising.
-fn push_numbers(open: &mut Vec<u32>, passes: &[bool])
-    requires none { vec_len open.old ≡ 0 }
-    requires room { length passes.now ≤ vec_capacity open.old }
+fn push_numbers(still_open: &mut Vec<u32>, passes: &[bool])
+    requires none { vec_len still_open.old ≡ 0 }
+    requires room { length passes.now ≤ vec_capacity still_open.old }
     requires small { length passes.now ≤ MAX_VARIABLES }
 {
     for k in 0..passes.len() {
         if passes[k] {
-            open.push_reserved(k as u32);
+            still_open.push_reserved(k as u32);
         }
     }
 }
@@ -168,11 +168,11 @@ fn push_numbers(open: &mut Vec<u32>, passes: &[bool])
 /// The numbers of the passable gates, rising.
 fn open_gates(alloc: Global, frame: &Frame) -> Result<Vec<u32>, NoMemory> {
     let passes = frame.passing_gates();
-    let Ok(mut open) = Vec::with_capacity(alloc, passes.len()) else {
+    let Ok(mut still_open) = Vec::with_capacity(alloc, passes.len()) else {
         return Err(NoMemory);
     };
-    push_numbers(&mut open, passes);
-    Ok(open)
+    push_numbers(&mut still_open, passes);
+    Ok(still_open)
 }
 
 /// Marks what is reached from where units are left, by the tallies of a flow.
@@ -204,13 +204,13 @@ pub(crate) fn mark_onward(
     let Ok(mut after) = vec![in alloc; false; entries] else {
         return Err(NoMemory);
     };
-    let Ok(mut open) = open_gates(alloc, frame) else {
+    let Ok(mut still_open) = open_gates(alloc, frame) else {
         return Err(NoMemory);
     };
     mark_from_left(
         before.as_mut_slice(),
         after.as_mut_slice(),
-        &mut open,
+        &mut still_open,
         frame,
         flows,
         went,
@@ -223,7 +223,7 @@ pub(crate) fn mark_onward(
 fn mark_from_left(
     before: &mut [bool],
     after: &mut [bool],
-    open: &mut Vec<u32>,
+    still_open: &mut Vec<u32>,
     frame: &Frame,
     flows: &[GateFlow],
     went: &[u8],
@@ -240,5 +240,5 @@ fn mark_from_left(
     ensures after { length after.new ≡ length after.old }
 {
     mark_left(before, after, frame, flows, went, came);
-    settle(before, after, open, frame, flows);
+    settle(before, after, still_open, frame, flows);
 }

@@ -27,12 +27,12 @@ pub struct NodeMarks {
 fn first_sweep(
     before: &mut [bool],
     after: &mut [bool],
-    open: &mut Vec<u32>,
+    still_open: &mut Vec<u32>,
     frame: &Frame,
     flows: &[GateFlow],
 ) -> bool
-    requires none { vec_len open.old ≡ 0 }
-    requires room { length frame.now.circuit.now.aig.gates ≤ vec_capacity open.old }
+    requires none { vec_len still_open.old ≡ 0 }
+    requires room { length frame.now.circuit.now.aig.gates ≤ vec_capacity still_open.old }
     requires flows { length flows.now ≡ length frame.now.circuit.now.aig.gates }
     requires before { length before.old ≡ latches_and_gates frame.now.circuit.now.aig }
     requires after { length after.old ≡ latches_and_gates frame.now.circuit.now.aig }
@@ -53,7 +53,7 @@ fn first_sweep(
             if see(before, after, first, var, &gates[k], &flows[k]) {
                 is_marked = true;
             } else {
-                open.push_reserved(k as u32);
+                still_open.push_reserved(k as u32);
             }
         }
     }
@@ -66,7 +66,7 @@ fn first_sweep(
 fn sweep(
     before: &mut [bool],
     after: &mut [bool],
-    open: &mut [u32],
+    still_open: &mut [u32],
     frame: &Frame,
     flows: &[GateFlow],
 ) -> usize
@@ -83,12 +83,12 @@ fn sweep(
     let first_gate = aig.first_gate();
     let gates = aig.gates();
     let mut kept = 0;
-    for i in 0..open.len() {
-        let k = open[i] as usize;
+    for i in 0..still_open.len() {
+        let k = still_open[i] as usize;
         if k < gates.len() {
             let var = first_gate + k as u32;
             if !see(before, after, first, var, &gates[k], &flows[k]) {
-                open[kept] = k as u32;
+                still_open[kept] = k as u32;
                 kept += 1;
             }
         }
@@ -100,7 +100,7 @@ fn sweep(
 fn settle(
     before: &mut [bool],
     after: &mut [bool],
-    open: &mut Vec<u32>,
+    still_open: &mut Vec<u32>,
     frame: &Frame,
     flows: &[GateFlow],
 )
@@ -113,12 +113,12 @@ fn settle(
     ensures after { length after.new ≡ length after.old }
 {
     for _ in 0..MOST_SWEEPS {
-        open.as_mut_slice().reverse();
-        let kept = sweep(before, after, open.as_mut_slice(), frame, flows);
-        if kept == open.len() {
+        still_open.as_mut_slice().reverse();
+        let kept = sweep(before, after, still_open.as_mut_slice(), frame, flows);
+        if kept == still_open.len() {
             return;
         }
-        open.truncate(kept);
+        still_open.truncate(kept);
     }
 }
 
@@ -127,12 +127,12 @@ fn settle(
 fn sweep_all(
     before: &mut [bool],
     after: &mut [bool],
-    open: &mut Vec<u32>,
+    still_open: &mut Vec<u32>,
     frame: &Frame,
     flows: &[GateFlow],
 )
-    requires none { vec_len open.old ≡ 0 }
-    requires room { length frame.now.circuit.now.aig.gates ≤ vec_capacity open.old }
+    requires none { vec_len still_open.old ≡ 0 }
+    requires room { length frame.now.circuit.now.aig.gates ≤ vec_capacity still_open.old }
     requires flows { length flows.now ≡ length frame.now.circuit.now.aig.gates }
     requires before { length before.old ≡ latches_and_gates frame.now.circuit.now.aig }
     requires after { length after.old ≡ latches_and_gates frame.now.circuit.now.aig }
@@ -141,8 +141,8 @@ fn sweep_all(
     ensures before { length before.new ≡ length before.old }
     ensures after { length after.new ≡ length after.old }
 {
-    if first_sweep(before, after, open, frame, flows) {
-        settle(before, after, open, frame, flows);
+    if first_sweep(before, after, still_open, frame, flows) {
+        settle(before, after, still_open, frame, flows);
     }
 }
 

@@ -4,7 +4,7 @@ use Rattle.aig_graph.specs.Tables.{table}
 use Rattle.aig_graph.specs.declared.properties.Symbol.{Symbol}
 use Rattle.aig_graph.specs.Circuits.{Netlist}
 use Rattle.aig_graph.specs.Graph.{first_latch}
-use Rattle.file_words.specs.Numbers.{number_of}
+use Rattle.counted_io.specs.Numbers.{number_of}
 use Rattle.witness_circuits.specs.declared.sharing.Sharing.{Sharing}
 
 -- a name that begins with `= `, and one in which the number of a literal follows

@@ -1,7 +1,7 @@
 -- The lines of a witness: those that are no comments, each with the offset of its first byte.
 use Rattle.std.specs.Prelude.{ℕ, ◌+◌, ◌-◌, ◌==◌, Bool, false, List, [], ◌∷◌, length, if◌then◌else◌}
-use Rattle.file_words.specs.Lines.{lines}
-use Rattle.file_words.specs.declared.lines.Lines.{Lines}
+use Rattle.counted_io.specs.Lines.{lines}
+use Rattle.counted_io.specs.declared.lines.Lines.{Lines}
 
 pub record Statement : Type 0 where
   pub at : ℕ

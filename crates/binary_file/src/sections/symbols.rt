@@ -1,8 +1,7 @@
 use crate::sections::Sections;
 use aig_graph::Sequence;
-use ascii_file::SymbolKind;
-use file_words::ReadError;
-use reader_parts::SymbolText;
+use ascii_file::{SymbolKind, SymbolText};
+use counted_io::ReadError;
 
 impl Sections {
     ghost use Rattle.std.specs.Prelude.{ℕ, List, ◌≡◌, false};
@@ -11,12 +10,12 @@ impl Sections {
     ghost use Rattle.ascii_file.specs.Raw.{Raw, RawSymbol};
     ghost use Rattle.ascii_file.specs.Items.{begins_comment};
     ghost use Rattle.ascii_file.specs.Meaning.{symbols_of};
-    ghost use Rattle.file_words.specs.declared.fault.ReadError.TheVariants.{NoMemory};
-    ghost use Rattle.file_words.specs.Answering.{Gives};
-    ghost use Rattle.reader_parts.specs.Symbols.{text_of};
+    ghost use Rattle.counted_io.specs.declared.fault.ReadError.TheVariants.{NoMemory};
+    ghost use Rattle.counted_io.specs.Answering.{Gives};
+    ghost use Rattle.ascii_file.specs.Symbols.{text_of};
     ghost use Rattle.binary_file.specs.Items.{next_section};
     ghost use Rattle.binary_file.specs.Reading.{read_line};
-    ghost use Rattle.reader_parts.specs.Names.{symbol_at};
+    ghost use Rattle.ascii_file.specs.Names.{symbol_at};
     ghost use Rattle.binary_file.specs.Contents.{IsAt};
     ghost use Rattle.binary_file.specs.ReaderItems.{symbol_taken};
     ghost use Rattle.binary_file.specs.Taking.{Takes};

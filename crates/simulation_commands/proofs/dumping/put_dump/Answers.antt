@@ -1,15 +1,15 @@
 use Rattle.std.proofs.Common.{◌∙◌, ap, ap₂, subst, sym}
 use Rattle.aig_graph.specs.Circuits.{Netlist}
 use Rattle.lane_sim.specs.Traces.{trace}
-use Rattle.waves.specs.Dumps.{waves_text}
-use Rattle.waves.specs.Moments.{IsRoomFor}
+use Rattle.reports.specs.WaveDumps.{waves_text}
+use Rattle.reports.specs.WaveMoments.{IsWaveRoomFor}
 use Rattle.simulation_commands.proofs.dumping.put_dump.Goals as goal
 
 pub write_waves-requires : goal.write_waves-requires
 write_waves-requires g c =
     let given = c.args.given.now in
     let shown = c.requires.shown in
-    subst (λ (circuit : Netlist). IsRoomFor circuit given.stimulus c.args.waves.now.shown.room) (sym shown.circuit) shown.room
+    subst (λ (circuit : Netlist). IsWaveRoomFor circuit given.stimulus c.args.waves.now.shown.room) (sym shown.circuit) shown.room
 
 pub returns : goal.returns
 returns g c =

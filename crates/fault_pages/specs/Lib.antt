@@ -1,7 +1,0 @@
-pub mod Faults
-pub mod Files
-pub mod Lines
-pub mod Nearest
-pub mod Pages
-pub mod HintedLines
-pub mod Messages

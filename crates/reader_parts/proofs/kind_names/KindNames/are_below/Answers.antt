@@ -1,5 +1,0 @@
-use Rattle.reader_parts.proofs.PartLaws.{below_where_keys}
-use Rattle.reader_parts.proofs.kind_names.KindNames.are_below.Goals as goal
-
-pub returns : goal.returns
-returns c = below_where_keys c.are_keys_below.result c.args.count c.self.inside.names.entries c.args.self.now c.self.view_is c.are_keys_below.ensures.below c.are_keys_below.ensures.ordered

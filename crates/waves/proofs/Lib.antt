@@ -1,4 +1,0 @@
-mod DumpLaws
-mod NameLaws
-mod ProbeLaws
-mod MomentLaws

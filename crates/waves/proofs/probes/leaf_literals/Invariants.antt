@@ -1,7 +1,0 @@
-use Rattle.std.proofs.Common.{◌≡◌}
-use Rattle.aig_graph.specs.Tables.{table}
-use Rattle.waves.specs.Probes.{literal}
-use Rattle.waves.proofs.probes.leaf_literals.Given as goal
-
-abbrev pub invariant-loop-k : goal.invariant-loop-k
-invariant-loop-k l = l.literals.items ≡ table 1 l.k literal

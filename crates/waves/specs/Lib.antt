@@ -1,4 +1,0 @@
-pub mod Probes
-pub mod Names
-pub mod Dumps
-pub mod Moments
