@@ -1,26 +1,17 @@
 """What the help of the programs says, as it is read, and how the tests run that compare with it what is installed beside them: each has
-a room of its own, and is left out where a tool isn't on the machine."""
+a room of its own, and is left out where a tool isn't on the machine (skips.py)."""
 import argparse
 import os
 import pathlib
 import re
-import shutil
 import subprocess
 import sys
 import tempfile
 
+from skips import LeftOut, Skipped
+
 TOP = pathlib.Path(__file__).resolve().parent.parent
 INSTALL = TOP / 'install'
-
-
-class Skipped(Exception):
-    """A tool isn't there."""
-
-
-def need(*tools):
-    for tool in tools:
-        if not shutil.which(tool):
-            raise Skipped(f'there is no {tool} here')
 
 
 def call(*words, **how):
@@ -88,13 +79,10 @@ def verilog_options():
 
 
 def passes(test, program):
-    """Whether a test passed, or nothing where a tool that it needs isn't there."""
+    """Whether a test passed."""
     with tempfile.TemporaryDirectory(prefix='fretime-test-') as room:
         try:
             return bool(test(program, pathlib.Path(room)))
-        except Skipped as why:
-            print(f'skipped {test.__name__}: {why}')
-            return None
         except (OSError, KeyError, TypeError, subprocess.SubprocessError) as error:
             print(repr(error))
             return False
@@ -108,10 +96,16 @@ def run_all(tests, what):
     given = parser.parse_args()
     program = os.path.abspath(given.program)
     passed = failed = 0
-    for test in tests:
-        well = passes(test, program) if given.only in test.__name__ else None
-        if well is False:
+    left_out = LeftOut()
+    for test in (test for test in tests if given.only in test.__name__):
+        try:
+            well = passes(test, program)
+        except Skipped as wanted:
+            left_out.add(wanted)
+            continue
+        if not well:
             print(f'FAILED {test.__name__}: {test.__doc__}')
-        passed, failed = passed + (well is True), failed + (well is False)
+        passed, failed = passed + well, failed + (not well)
+    left_out.tell()
     print(f'{passed} passed, {failed} failed')
     return 0 if passed and not failed else 1
