@@ -16,7 +16,8 @@ from tree import TOP
 
 OWN = ('./fretime', 'fretime')
 OTHERS = ('yosys', 'berkeley-abc', 'sed', 'python3', 'fretime_verilog')
-SOLVERS = ('cadical', 'minisat')
+# What may be missing: of each one program is enough.
+TOOLS = {'Yosys': ['yosys'], 'ABC': ['berkeley-abc'], 'CaDiCaL or MiniSat': ['cadical', 'minisat']}
 
 
 @dataclasses.dataclass
@@ -163,43 +164,59 @@ def circuits_in(command):
     return re.findall(r'(?<![\w./])[\w./]+\.a[ai]g\b', command)
 
 
-def can_run(command, folder, made):
-    """Whether the programs that a command needs, and the files that it reads, are there, or made by a command of its block before."""
-    command = command.split('    #')[0]
+def missing_tools():
+    """The tools of which no program is there."""
+    return [tool for tool, programs in TOOLS.items() if not any(map(shutil.which, programs))]
+
+
+def tools_of(command):
+    """The tools that a command calls."""
+    name = command.split()[0]
+    called = ['yosys', 'berkeley-abc'] if name == 'fretime_verilog' else ['cadical'] if 'witness_checker' in command else [name]
+    return [tool for tool, programs in TOOLS.items() if set(programs) & set(called)]
+
+
+def files_of(command, made):
+    """The files that a command reads and that no command of its block before made."""
     name = command.split()[0]
     written = [*made, *re.findall(r'(?:write_aiger|retime \S+) (\S+?)[;"]', command)]
     if name in OWN:
-        read = circuits_in(command)[:-1 if ' lift ' in command else 1]
-        return all(circuit in written or (folder / circuit).exists() for circuit in read)
+        return [it for it in circuits_in(command)[:-1 if ' lift ' in command else 1] if it not in written]
     circuits = [it for it in circuits_in(command) if it not in written]
-    files = circuits if name == 'berkeley-abc' else re.findall(r'(\S+) >', command) if name == 'sed' else []
-    needed = ('yosys', 'berkeley-abc') if name == 'fretime_verilog' else (name,)
-    if 'witness_checker' in command and not any(map(shutil.which, SOLVERS)):
-        return False
-    return all(shutil.which(it) for it in needed) and all((folder / file).exists() for file in files)
+    return circuits if name == 'berkeley-abc' else re.findall(r'(\S+) >', command) if name == 'sed' else []
+
+
+def wanted_by(command, folder, made=()):
+    """The missing tool for want of which a command can't be run: one that it calls, or that would have made a file that it reads."""
+    command, missing = command.split('    #')[0], missing_tools()
+    called = [tool for tool in tools_of(command) if tool in missing]
+    is_there = all((folder / file).exists() for file in files_of(command, made))
+    return (called or missing)[:1] if called or not is_there else []
+
+
+def cases_of_block(path, shown, number, commands):
+    """What the document says of the commands of a block: of each saying its title, and what their runs tell is wrong with it."""
+    block, later = shown[number], shown[number + 1:]
+    following = next((other for other in later if is_commands(other)), None)
+    for place, command in enumerate(commands):
+        yield f'{path.name}: {command}', lambda ran, at=place: '' if ran[at].status == 0 else f'status {ran[at].status}: {ran[at].err}'
+    for words in printed_words(said_after(path, block, following)):
+        yield f'{path.name}: {commands[-1]} prints {words}', lambda ran, words=words: (
+            '' if any(words in ' '.join(done.out.split()) for done in ran) else ran[-1].out)
+    for other in later[:later.index(following)] if following else later:
+        if re.search(r'\bprints\b', other.paragraph):
+            yield f'{path.name}: what {commands[0]} prints', lambda ran, lines=other.lines: (
+                '' if '\n'.join(lines) + '\n' in [done.out for done in ran] else repr(ran[0].out))
 
 
 def faults_of_block(program, path, folder, shown, number):
     """Runs the commands of a block; the faults of what the document says of them."""
-    block = shown[number]
-    commands = [line for line in block.lines if is_command(line)]
+    commands = [line for line in shown[number].lines if is_command(line)]
     made = [circuits_in(command)[1:] if command.split()[0] in OWN else [] for command in commands]
-    if not all(can_run(command, folder, sum(made[:k], [])) for k, command in enumerate(commands)):
-        yield 'left out', commands[0]
-        return
-    ran = [run(program, command, folder) for command in commands]
-    following = next((other for other in shown[number + 1:] if is_commands(other)), None)
-    for command, done in zip(commands, ran):
-        yield f'{path.name}: {command}', '' if done.status == 0 else f'status {done.status}: {done.err}'
-    for words in printed_words(said_after(path, block, following)):
-        there = any(words in ' '.join(done.out.split()) for done in ran)
-        yield f'{path.name}: {commands[-1]} prints {words}', '' if there else ran[-1].out
-    for other in shown[number + 1:]:
-        if other is following:
-            break
-        if re.search(r'\bprints\b', other.paragraph):
-            there = '\n'.join(other.lines) + '\n' in [done.out for done in ran]
-            yield f'{path.name}: what {commands[0]} prints', '' if there else repr(ran[0].out)
+    wanted = [tool for k, command in enumerate(commands) for tool in wanted_by(command, folder, sum(made[:k], []))]
+    ran = [] if wanted else [run(program, command, folder) for command in commands]
+    for what, fault in cases_of_block(path, shown, number, commands):
+        yield ('left out', wanted[0]) if wanted else (what, fault(ran))
 
 
 def faults_of_files(path, folder, shown):
@@ -215,8 +232,9 @@ def faults_of_files(path, folder, shown):
 def faults_of_saying(program, saying, path, folder):
     """Whether the document has the text, and the run prints it."""
     command = 'fretime ' + saying.arguments
-    if not can_run(command, folder, []) and saying.text != 'device':
-        yield 'left out', command
+    wanted = wanted_by(command, folder) if saying.text != 'device' else []
+    if wanted:
+        yield 'left out', wanted[0]
         return
     ran = run(program, command, folder)
     stands = all(saying.text in ' '.join(text.split()) for text in (path.read_text(), ran.out + ran.err))
@@ -225,7 +243,7 @@ def faults_of_saying(program, saying, path, folder):
 
 
 def faults_of_commands(program):
-    """Each command and printed text of these documents, with what is wrong; or 'left out' with a command. A block of code is
+    """Each command and printed text of these documents, with what is wrong; or 'left out' with a tool that is missing. A block of code is
     commands where its first word is a program; what is printed where the paragraph before it says 'prints'; and else the contents
     of the file that the paragraph before it names."""
     for path in (TOP / 'README.md', TOP / 'docs' / 'MANUAL.md', TOP / 'docs' / 'TUTORIAL.md', TOP / 'docs' / 'EMBEDDING.md'):

@@ -11,6 +11,7 @@ import tempfile
 import time
 
 from copies import copy
+from skips import LeftOut, Skipped
 
 TOP = pathlib.Path(__file__).resolve().parent.parent
 NOBODY = 65534
@@ -168,9 +169,12 @@ def others(tree):
 
 
 def passes(test):
+    """Whether a test passed, or what it is left out for want of."""
     with tempfile.TemporaryDirectory(prefix='fretime-launcher-') as room:
         try:
-            return test(Tree(pathlib.Path(room)))
+            return bool(test(Tree(pathlib.Path(room))))
+        except Skipped as wanted:
+            return wanted
         except (OSError, subprocess.SubprocessError) as error:
             print(error)
             return False
@@ -183,9 +187,14 @@ def run_all(tests, words):
     only = parser.parse_args(words).only
     tests = [test for test in tests if only in test.__name__]
     with concurrent.futures.ThreadPoolExecutor(len(os.sched_getaffinity(0))) as pool:
-        passed = list(pool.map(passes, tests))
-    for test, well in zip(tests, passed):
-        if not well:
+        found = list(pool.map(passes, tests))
+    left_out = LeftOut()
+    for test, well in zip(tests, found):
+        if isinstance(well, Skipped):
+            left_out.add(well)
+        elif not well:
             print(f'FAILED {test.__name__}: {test.__doc__}')
-    print(f'{sum(map(bool, passed))} passed, {len(tests) - sum(map(bool, passed))} failed')
-    return 0 if tests and all(passed) else 1
+    left_out.tell()
+    passed, failed = found.count(True), found.count(False)
+    print(f'{passed} passed, {failed} failed')
+    return 0 if passed and not failed else 1
