@@ -56,16 +56,20 @@ def megabytes_of_release():
 
 
 def scripts_of_test():
-    """The scripts of tests/ that ./test runs."""
-    return set(re.findall(r'tests/([\w.]+)', re.sub(r'(?m)^#.*', '', (TOP / 'test').read_text())))
+    """The scripts of tests/ that ./test runs, and those that it runs with --proofs alone."""
+    parts = re.findall(r'(?m)^(\+ )?\w+ \| tests/([\w.]+)', (TOP / 'tests' / 'parts').read_text())
+    return {script for _, script in parts}, {script for proofs, script in parts if proofs}
 
 
 def faults_of_scripts():
-    """Scripts that tests/README lists and ./test doesn't run, but those that it says so of."""
+    """Scripts that tests/README lists and tests/parts hasn't, or the other way, but those that it says are run by hand; and those of which
+    one of the two alone says that they are run with --proofs alone."""
     text = (TOP / 'tests' / 'README.md').read_text()
-    listed = set(re.findall(r'(?m)^\| `tests/([\w.]+)', text))
-    aside = set(re.findall(r'`tests/(\w+)`', re.search(r'runs all of these but ([^,]*),', text)[1]))
-    return sorted((listed - aside) ^ scripts_of_test())
+    rows = dict(re.findall(r'(?m)^\| `tests/([\w.]+)[^`]*` \| (.*)', text))
+    by_hand = {name for name, row in rows.items() if 'no part of `./test`' in row}
+    of_proofs = {name for name, row in rows.items() if '`./test --proofs` alone' in row}
+    run, run_with_proofs = scripts_of_test()
+    return sorted((set(rows) - by_hand) ^ run) + sorted(of_proofs ^ run_with_proofs)
 
 
 def kit():
