@@ -15,8 +15,8 @@ FISHDIR = $(PREFIX)/share/fish/vendor_completions.d
 MANDIR = $(PREFIX)/share/man/man1
 DOCDIR = $(PREFIX)/share/doc/fretime
 DATADIR = $(PREFIX)/share/fretime
-# of this version
-DATE = 2026-11-29
+# of the newest version that has one
+DATE := $(shell sed -n '/^\#\# \[[0-9].*\] - /{s/.* - //p;q}' CHANGELOG.md)
 
 VERSION := $(shell sed -n 's/.*\.version("\([^"]*\)").*/\1/p' crates/*/src/*.rt)
 INSTALLED = $(addprefix $(PREFIX)/bin/,$(COMMANDS)) $(addprefix $(MANDIR)/,$(COMMANDS:=.1)) $(addprefix $(BASHDIR)/,$(COMMANDS)) \

@@ -6,6 +6,7 @@ crate=fretime
 built=$top/crates/$crate/out/$crate
 release=$top/release/fretime-x86_64-linux
 record=$top/release/record
+versions=$top/release/versions
 known=$top/out/release.known
 listed=$top/out/release.paths
 lines=

@@ -45,10 +45,15 @@ echo
 exit 5
 """
 BUILT = """#!/bin/sh
-[ "$*" != --version ] || exit 0
+[ "$*" != --version ] || { echo 'fretime VERSION' >&2; exit 0; }
 echo built "$@"
 exit 5
 """
+
+
+def built(version, more=''):
+    """A stand-in for a program of this version, with more bytes at its end."""
+    return BUILT.replace('VERSION', version) + more
 
 
 def path_without_rt(room):
@@ -84,8 +89,7 @@ class Tree:
             self.write(f'crates/{name}/proofs/deep/Answers.antt', f'-- {name}\n')
         self.write('crates/low/specs/Words.antt', '-- words\n')
         self.write('release/fretime-x86_64-linux', RELEASE, 0o755)
-        (room / 'built').write_text(BUILT, encoding='utf-8')
-        (room / 'built').chmod(0o755)
+        self.write('../built', built('9.0.0-dev'), 0o755)
         self.record()
 
     def write(self, name, text, mode=0o644):
@@ -136,9 +140,9 @@ class Tree:
         if keeps_time:
             os.utime(path, ns=(times.st_atime_ns, times.st_mtime_ns))
 
-    def build(self):
+    def build(self, version='9.0.0-dev', more=''):
         """A program as rt leaves it, newer than all sources."""
-        self.write('crates/fretime/out/fretime', BUILT, 0o755)
+        self.write('crates/fretime/out/fretime', built(version, more), 0o755)
         later = time.time() + 2
         os.utime(self.top / 'crates/fretime/out/fretime', (later, later))
 
