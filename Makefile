@@ -1,8 +1,8 @@
 # make            whether there is a program: the release, or one that ./fretime --build proved and built; neither begins a proof
 # make test       the program from outside; make prove: every proof from nothing first
 # make install    programs, man pages, completions and documents below PREFIX; make uninstall takes them away
-# make deb        a Debian package of the same, out/fretime_VERSION_amd64.deb
-# make wheel      a wheel for Python, out/fretime-VERSION-py3-none-manylinux_2_34_x86_64.whl
+# make deb        a Debian package of the same, out/fretime_VERSION_amd64.deb, with ~dev for -dev
+# make wheel      a wheel for Python, out/fretime-VERSION-py3-none-manylinux_2_34_x86_64.whl, with .dev0 for -dev
 # make dist       what is installed, as a plain tar, out/fretime-VERSION-x86_64-linux.tar.gz
 # make version    the version, which stands in the program's command line alone
 # make clean      takes away out/, with these packages; what was proved and built in crates/ stays
@@ -28,7 +28,9 @@ SCRIPTS = fretime_verilog circuits.py netlists.py writing.py
 DOCUMENTS = README.md CHANGELOG.md SECURITY.md examples/verilog/README.md \
 	$(filter-out $(addprefix docs/,ARCHITECTURE.md COSTS.md PROOFS.md TRAPS.md),$(wildcard docs/*.md))
 STAGE = out/deb
-PACKAGE = out/fretime_$(VERSION)_amd64.deb
+# Debian has what comes before a version by a tilde.
+DEB_VERSION = $(VERSION:-dev=~dev)
+PACKAGE = out/fretime_$(DEB_VERSION)_amd64.deb
 TARBALL = out/fretime-$(VERSION)-x86_64-linux.tar.gz
 WHEELS = out
 FILLED = sed -e 's/@VERSION@/$(VERSION)/' -e 's/@DATE@/$(DATE)/'
@@ -97,12 +99,12 @@ deb:
 	$(MAKE) install DESTDIR=$(STAGE) PREFIX=/usr ZSHDIR=/usr/share/zsh/vendor-completions
 	rm $(STAGE)/usr/share/doc/fretime/LICENSE-*
 	install -m 644 install/debian/copyright $(STAGE)/usr/share/doc/fretime/copyright
-	awk -f install/debian/changelog.awk CHANGELOG.md | gzip -9n > $(STAGE)/usr/share/doc/fretime/changelog.gz
+	awk -v version=$(DEB_VERSION) -v date=$(DATE) -f install/debian/changelog.awk CHANGELOG.md | gzip -9n > $(STAGE)/usr/share/doc/fretime/changelog.gz
 	gzip -9n $(STAGE)/usr/share/man/man1/*.1
 	install -d $(STAGE)/usr/share/lintian/overrides $(STAGE)/DEBIAN
 	install -m 644 install/debian/overrides $(STAGE)/usr/share/lintian/overrides/fretime
 	cd $(STAGE) && find usr -type f | LC_ALL=C sort | xargs md5sum > DEBIAN/md5sums
-	size=$$(du -ks $(STAGE)/usr | cut -f1) && $(FILLED) -e "s/@SIZE@/$$size/" install/debian/control > $(STAGE)/DEBIAN/control
+	size=$$(du -ks $(STAGE)/usr | cut -f1) && sed -e 's/@VERSION@/$(DEB_VERSION)/' -e "s/@SIZE@/$$size/" install/debian/control > $(STAGE)/DEBIAN/control
 	chmod -R u=rwX,go=rX $(STAGE)
 	dpkg-deb --root-owner-group --build $(STAGE) $(PACKAGE)
 	rm -rf $(STAGE)

@@ -1,4 +1,5 @@
-# Makes Debian's changelog of CHANGELOG.md: an entry for each version that has a date, with its headings and points.
+# Makes Debian's changelog of CHANGELOG.md: an entry for each version that has a date, with its headings and points; for a `version`
+# that ends in ~dev one of what is unreleased, with the `date` of the newest version before.
 function write_point(    count, words, k, line) {
     count = split(point, words, " ")
     line = "  *"
@@ -15,14 +16,14 @@ function end_version() {
     time = ""
 }
 /^## / { end_version() }
-/^## \[[0-9]/ {
-    version = $2
-    gsub(/[][]/, "", version)
-    command = "LC_ALL=C date -u -R -d " $4
+function begin_version(version, day,    command) {
+    command = "LC_ALL=C date -u -R -d " day
     command | getline time
     close(command)
     print "fretime (" version ") unstable; urgency=medium"
 }
+/^## \[Unreleased\]/ && version ~ /~dev$/ { begin_version(version, date) }
+/^## \[[0-9]/ { begin_version(substr($2, 2, length($2) - 2), $4) }
 time == "" { next }
 /^### / { write_point(); print "\n  [ " $2 " ]" }
 /^- / { write_point(); point = substr($0, 3) }
