@@ -1,5 +1,5 @@
 # Makes Debian's changelog of CHANGELOG.md: an entry for each version that has a date, with its headings and points; for a `version`
-# that ends in ~dev one of what is unreleased, with the `date` of the newest version before.
+# that ends in ~dev one of what is unreleased, a second after the `date` of the newest version.
 function write_point(    count, words, k, line) {
     count = split(point, words, " ")
     line = "  *"
@@ -16,13 +16,13 @@ function end_version() {
     time = ""
 }
 /^## / { end_version() }
-function begin_version(version, day,    command) {
-    command = "LC_ALL=C date -u -R -d " day
+function begin_version(version, moment,    command) {
+    command = "LC_ALL=C date -u -R -d \"" moment "\""
     command | getline time
     close(command)
     print "fretime (" version ") unstable; urgency=medium"
 }
-/^## \[Unreleased\]/ && version ~ /~dev$/ { begin_version(version, date) }
+/^## \[Unreleased\]/ && version ~ /~dev$/ { begin_version(version, date " 00:00:01") }
 /^## \[[0-9]/ { begin_version(substr($2, 2, length($2) - 2), $4) }
 time == "" { next }
 /^### / { write_point(); print "\n  [ " $2 " ]" }
