@@ -206,14 +206,15 @@ def results_text(text, stored, drawn):
 
 
 def fast(stored):
-    """The section of README.md about time: rows of the table."""
-    wanted = [HEAD.index(name) for name in OF_FAST]
-    rows = [cells(found(stored, name)) for name in OF_README if found(stored, name)]
-    large = (found(stored, TEN_MILLION) or {'workers': {}})['workers'].get('1', {})
-    took = f'{seconds_of(large)} s and {megabytes_of(large)} MB'
-    more = f'A circuit of 10^7 gates with two frames took {took}. ' if 'seconds' in large else ''
-    paragraph = ('Seconds and megabytes of the whole process by one worker, beside `fretime -f` of ABC 1.01; `bench/RESULTS.md` has the '
-                 f'rest. {measured(stored).replace("**", "")} {more}').strip()
+    """The section of README.md about time: the run of its circuits that is stored for it."""
+    run, wanted = stored['readme'], [HEAD.index(name) for name in OF_FAST]
+    rows = [cells(found(run, name)) for name in OF_README]
+    large = found(run, TEN_MILLION)['workers']['1']
+    which = 'the program of `release/`' if is_of_release(run) else 'an earlier program than that of `release/`'
+    days = span([run['date'], *(entry['abc']['date'] for entry in run['circuits'] if 'abc' in entry)])
+    paragraph = ('Seconds and megabytes of the whole process by one worker, beside `fretime -f` of ABC 1.01; `bench/RESULTS.md` has more. '
+                 f'Measured on {days} with {which} (SHA-256 {run["program"][:12]}), on a machine of the kind {run["machine"]}. A circuit of '
+                 f'10^7 gates with two frames took {seconds_of(large)} s and {megabytes_of(large)} MB.')
     return [*textwrap.wrap(paragraph, 128), '', *table([HEAD[k] for k in wanted], [[cells[k] for k in wanted] for cells in rows])]
 
 

@@ -1,6 +1,6 @@
 """The stored results of the scripts: a file of JSON with the machine, the sum of the one program that was measured, an entry a
-circuit, and the tables of bench/batch and bench/certificates; and what bench/levels and bench/backward counted, which is no time, each
-with the sum of the program that it ran."""
+circuit, and the tables of bench/batch and bench/certificates; and, each with the sum of its own program, what bench/levels and
+bench/backward counted, which is no time, and the run of which README.md tells."""
 import datetime
 import hashlib
 import json
@@ -9,7 +9,8 @@ import os
 import measure
 
 
-COUNTS = ['levels', 'backward']
+# What has a program of its own.
+APART = ['levels', 'backward', 'readme']
 
 
 def read(path):
@@ -68,8 +69,8 @@ def begun(path, program):
     if all(stored.get(name) == value for name, value in head.items()):
         return stored
     others = map(of_others, stored['circuits']) if stored.get('machine') == head['machine'] else []
-    counted = {name: stored[name] for name in COUNTS if name in stored}
-    return head | counted | {'circuits': list(others), 'tables': {}}
+    apart = {name: stored[name] for name in APART if name in stored}
+    return head | apart | {'circuits': list(others), 'tables': {}}
 
 
 def write(path, stored):
@@ -97,9 +98,9 @@ def put_table(path, program, name, head, rows):
 LEVELS_HEAD = ['Circuit', 'Bound', 'Latches', 'Levels', 'Equal', 'ABC latches', 'ABC levels', 'ABC equal']
 
 
-def put_counts(path, program, name, date, circuits):
-    """Stores what a script counted, in place of what it had counted before."""
-    write(path, read(path) | {name: {'program': sum_of(program), 'date': date, 'circuits': circuits}})
+def put_apart(path, program, name, date, circuits):
+    """Stores what was found of a program of its own, in place of what had been found before."""
+    write(path, read(path) | {name: {'program': sum_of(program), 'machine': measure.kind(), 'date': date, 'circuits': circuits}})
 
 
 def rows_of_levels(circuit):
