@@ -23,7 +23,7 @@ INSTALLED = $(addprefix $(PREFIX)/bin/,$(COMMANDS)) $(addprefix $(MANDIR)/,$(COM
 	$(addprefix $(ZSHDIR)/_,$(COMMANDS)) $(addprefix $(FISHDIR)/,$(COMMANDS:=.fish)) $(DATADIR) $(DOCDIR)
 COMMANDS = fretime fretime_verilog
 # the script from Verilog to Verilog, and its modules, which the examples lead to
-SCRIPTS = fretime_verilog circuits.py netlists.py writing.py
+SCRIPTS = fretime_verilog $(notdir $(wildcard examples/verilog/*.py))
 # the documents that are installed: all but those of work on the sources
 DOCUMENTS = README.md CHANGELOG.md SECURITY.md examples/verilog/README.md \
 	$(filter-out $(addprefix docs/,ARCHITECTURE.md COSTS.md PROOFS.md TRAPS.md),$(wildcard docs/*.md))

@@ -15,4 +15,5 @@ complete -c fretime_verilog -l no-longer -d 'no path between registers gets more
 complete -c fretime_verilog -x -l levels -d 'no move makes a path of more than N gates'
 complete -c fretime_verilog -x -l seconds -d 'how long the check may take, 60 by default'
 complete -c fretime_verilog -r -l program -d 'fretime, else that of this repository, else that of PATH'
+complete -c fretime_verilog -l version -d 'print the versions of fretime, Yosys and ABC, and end'
 complete -c fretime_verilog -s h -l help -d 'show this help message and exit'

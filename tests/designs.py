@@ -120,6 +120,81 @@ module still(input clk, input reset, input on, input [3:0] d, output [8:0] y);
 endmodule
 """
 
+# Eight registers, of which the attribute holds four; without it one would hold the output.
+HELD = """
+module held(input clk, input [3:0] d, input [3:0] e, output o);
+    (* keep *) reg [3:0] x = 0;
+    reg [3:0] y = 0;
+    always @(posedge clk) begin
+        x <= d;
+        y <= e;
+    end
+    assign o = &(x ^ y);
+endmodule
+"""
+
+# Two registers between gates: one after them all holds the output, and two gates stand in front of it then.
+BETWEEN = """
+module between(input clk, input [3:0] d, output o);
+    reg a = 0, b = 0;
+    always @(posedge clk) begin
+        a <= d[0] & d[1];
+        b <= d[2] & d[3];
+    end
+    assign o = a & b;
+endmodule
+"""
+
+# Three registers, of which two always agree, as Yosys finds by their inputs; as many gates behind the last as before it.
+COPIES = """
+module copies(input clk, input d, input e, input f, output reg q);
+    reg [1:0] a = 0;
+    initial q = 0;
+    always @(posedge clk) begin
+        a <= {d, d};
+        q <= (a[0] | e) & (a[1] | f);
+    end
+endmodule
+"""
+
+# An included file, one that $readmemh loads, a module of another file, and an array that a loop uses.
+PARTS = {
+    'top.v': """
+`include "width.vh"
+module top(input clk, input [1:0] at, input [`WIDTH:0] d, output [`WIDTH:0] q);
+    reg [`WIDTH:0] table [0:3];
+    reg [`WIDTH:0] p [0:3];
+    integer i;
+    initial $readmemh("table.hex", table);
+    always @* for (i = 0; i < 4; i = i + 1) p[i] = table[i] ^ d;
+    leaf u(.clk(clk), .d(p[at]), .q(q));
+endmodule
+""",
+    'leaf.v': """
+module leaf(input clk, input [3:0] d, output reg [3:0] q);
+    initial q = 0;
+    always @(posedge clk) q <= d;
+endmodule
+""",
+    'width.vh': '`define WIDTH 3\n',
+    'table.hex': '1\n2\n3\n4\n',
+}
+
+# Assertions without labels, of which one is constant, and one with a label.
+UNLABELLED = """
+module unlabelled(input clk, input [3:0] d, output reg q);
+    reg [3:0] a = 0;
+    initial q = 0;
+    always @(posedge clk) begin
+        a <= d;
+        q <= ^a;
+    end
+    always @* assert (a != 9 || q);
+    always @* assume (d != 9);
+    always @* if (d == 2) assert (1);
+endmodule
+"""
+
 # What cleaning leaves without a register.
 EMPTY = """
 module empty(input clk, input [3:0] d, output o);
@@ -192,7 +267,7 @@ REFUSALS = [
     Refusal('two drivers', 'input clk, input [1:0] d, output reg q',
             'wire u; assign u = d[0]; assign u = d[1]; always @(posedge clk) q <= u;', 'Drivers'),
     Refusal('a loop of gates', 'input clk, input d, output reg q',
-            'wire a, b; assign a = ~(b & d); assign b = ~(a & q); always @(posedge clk) q <= a;', 'Loop'),
+            'wire a, b; assign a = ~(b & d); assign b = ~(a & q); always @(posedge clk) q <= a;', 'Loop a: gates read'),
     Refusal('a black box', 'input clk, input d, output q',
             'box u (.clk(clk), .d(d), .q(q)); endmodule (* blackbox *) module box(input clk, input d, output q);', 'Cell u'),
     Refusal('a tristate buffer', 'input clk, input d, output q',

@@ -54,11 +54,12 @@ class Names:
 
 @dataclasses.dataclass(frozen=True)
 class Assertion:
-    """An assertion or an assumption: 'assert' or 'assume', the name of its cell, the label that it gets, and once it is written the
-    wire that says whether it holds."""
+    """An assertion or an assumption: 'assert' or 'assume', the name of its cell, the label that it gets here, whether the design gave it
+    none, and once it is written the wire that says whether it holds."""
     kind: str
     name: str
     label: str
+    is_unlabelled: bool
     wire: str = ''
 
 
@@ -245,11 +246,18 @@ def assertions_of(netlist):
         while label in taken and label != name:
             label += '_'
         taken.add(label)
-        found.append(Assertion(kind, name, label))
+        found.append(Assertion(kind, name, label, bool(cell['hide_name'])))
     return found
 
 
-def labels_of(netlist):
-    """The labels of a netlist whose assertions are named, those of each kind in the order of the circuit that Yosys writes."""
-    return [name for _, cells in (('assert', netlist.cells_of({'$assert'})), ('assume', netlist.cells_of({'$assume'})))
-            for name, _ in cells]
+def labels_of(netlist, by_line=None):
+    """Kind and label of each assertion, those of each kind in the order of the circuit that Yosys writes. The label is the name of the
+    cell; of one that has none it is that of its line in the file that Yosys read."""
+    found = [(kind, name, cell) for kind in ASSERTIONS for name, cell in netlist.cells_of({kind})]
+    return [(ASSERTIONS[kind], (by_line or {}).get(line_of(cell), name) if cell['hide_name'] else name) for kind, name, cell in found]
+
+
+def line_of(cell):
+    """The number of the line from which a cell comes, if Yosys says it."""
+    found = re.search(r':(\d+)', cell['attributes'].get('src', ''))
+    return int(found[1]) if found else None

@@ -151,7 +151,7 @@ class Assertions:
 
     def __init__(self, netlist, registers, circuit, assertions):
         by_label = {it.label: it for it in assertions}
-        named = [by_label[label] for label in netlists.labels_of(netlist)]
+        named = [by_label[label] for _, label in netlists.labels_of(netlist)]
         literals = [literal ^ 1 for literal in circuit.bad] + circuit.constraints
         self.found, self.literals = [], literals
         for it in named:
