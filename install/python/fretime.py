@@ -12,6 +12,7 @@ Each call runs it once, on pipes and files of its own, so calls may be made from
 from __future__ import annotations
 
 import dataclasses
+import functools
 import json
 import os
 import pathlib
@@ -22,17 +23,20 @@ import tempfile
 from collections.abc import Iterable
 from typing import Any
 
+__all__ = ['Frame', 'FrameBack', 'MovedBack', 'Ran', 'RetimeError', 'Retimed', 'backward', 'program', 'retime', 'run']
+__version__: str
 BESIDE = pathlib.Path(__file__).resolve().parent / 'fretime_program'
 
 
 class RetimeError(Exception):
     """A circuit or a name was refused, or the run failed: `name` as `docs/FORMAT.md` has it ('DefinedTwice', 'NoSuchName',
     'NoMemory', 'Device', 'Usage'), `offset` in bytes from the start of the circuit or None, `latch` the name that is that of no
-    latch or None, and the exit status."""
+    latch or None, the exit status, and `text`, what the program says of a wrong option."""
 
-    def __init__(self, name: str, offset: int | None = None, latch: str | None = None, status: int | None = None) -> None:
-        super().__init__(name if offset is None else f'{name} at {offset}', *([latch] if latch else []))
-        self.name, self.offset, self.latch, self.status = name, offset, latch, status
+    def __init__(self, name: str, offset: int | None = None, latch: str | None = None, status: int | None = None, text: str = '') -> None:
+        said = f'{name}: {text}' if text else name
+        super().__init__(said if offset is None else f'{said} at {offset}', *([latch] if latch else []))
+        self.name, self.offset, self.latch, self.status, self.text = name, offset, latch, status, text
 
 
 @dataclasses.dataclass(frozen=True)
@@ -95,6 +99,20 @@ def program() -> str:
     return found
 
 
+def __getattr__(name: str) -> str:
+    """`__version__`, which is that of the program."""
+    if name == '__version__':
+        return version_of(program())
+    raise AttributeError(f'module {__name__!r} has no attribute {name!r}')
+
+
+@functools.cache
+def version_of(path: str) -> str:
+    """The version of a program, as it says it."""
+    said = subprocess.run([path, '--version'], stdin=subprocess.DEVNULL, capture_output=True, check=True)
+    return (said.stdout + said.stderr).decode().split()[-1]
+
+
 def environment() -> dict[str, str]:
     """The environment of the program: with pages of 2 MB, which make a run over millions of gates quicker, unless it says otherwise."""
     return {'GLIBC_TUNABLES': 'glibc.malloc.hugetlb=1', **os.environ}
@@ -103,7 +121,10 @@ def environment() -> dict[str, str]:
 def refused(ran: Ran, report: dict[str, Any] | None) -> RetimeError:
     """The error of a run that failed. Where no memory was left for an object, the status alone tells."""
     if report is None:
-        return RetimeError({1: 'Refused', 2: 'Usage', 3: 'Device', 4: 'NoMemory'}.get(ran.status, 'Ended'), status=ran.status)
+        name = {1: 'Refused', 2: 'Usage', 3: 'Device', 4: 'NoMemory'}.get(ran.status, 'Ended')
+        lines = ran.messages.decode(errors='replace').splitlines()
+        text = next((line.removeprefix('error: ') for line in lines if line.startswith('error: ')), '')
+        return RetimeError(name, status=ran.status, text=text)
     fault = report['fault']
     return RetimeError(fault['name'], fault['offset'], report['latch'], report['status'])
 
@@ -121,27 +142,28 @@ def run(words: Iterable[str | os.PathLike[str]], input: bytes = b'', *, seconds:
     return Ran(ran.returncode, ran.stdout, ran.stderr)
 
 
-def choices(keep: Iterable[str], keep_latch: Iterable[int], frames: int | None, levels: int | None, no_longer: bool,
+def choices(keep: str | Iterable[str], keep_latch: Iterable[int], frames: int | None, levels: int | None, no_longer: bool,
             ascii: bool | None) -> list[str]:
     """The options that `retime` and `backward` share."""
-    words = [f'--keep={name}' for name in keep] + [f'--keep-latch={place}' for place in keep_latch]
-    words += [] if frames is None else ['--frames', str(frames)]
-    words += ['--no-longer'] * no_longer + ([] if levels is None else ['--levels', str(levels)])
+    words = [f'--keep={name}' for name in ([keep] if isinstance(keep, str) else keep)]
+    words += [f'--keep-latch={place}' for place in keep_latch] + ([] if frames is None else [f'--frames={frames}'])
+    words += ['--no-longer'] * no_longer + ([] if levels is None else [f'--levels={levels}'])
     return words + ([] if ascii is None else ['--ascii' if ascii else '--binary'])
 
 
-def retime(circuit: bytes, *, near: bool = False, merge: bool = False, keep: Iterable[str] = (), keep_latch: Iterable[int] = (),
+def retime(circuit: bytes, *, near: bool = False, merge: bool = False, keep: str | Iterable[str] = (), keep_latch: Iterable[int] = (),
            frames: int | None = None, levels: int | None = None, no_longer: bool = False, workers: int = 1, ascii: bool | None = None,
            certificates: bool = False, map: bool = False, seconds: float | None = None) -> Retimed:
     """The circuit with its latches moved forward, frame by frame, until no move leaves fewer.
 
     `near` takes the smallest of a frame's least sets, `merge` merges latches that always agree before the first frame, `keep` holds
-    the latches with these names, `keep_latch` those at these places, from 0. `frames` is the most that are taken, `levels` the most
+    the latches with these names (or with one, a text), `keep_latch` those at these places, from 0. `frames` is the most that are taken, `levels` the most
     gates on a path that a move makes; `no_longer` takes those of the circuit's longest path for it. `ascii` chooses the spelling (that
     of the circuit where it is None), `certificates` and `map` ask for these. A run of over `seconds` raises
-    subprocess.TimeoutExpired. A circuit that is refused, a name or place of no latch, or want of memory raises RetimeError.
+    subprocess.TimeoutExpired. A circuit that is refused, a name or place of no latch, a number out of its range, or want of memory raises
+    RetimeError.
     """
-    words = ['retime', '-', '-', '--json', '--quiet', '--workers', str(workers)]
+    words = ['retime', '-', '-', '--json', '--quiet', f'--workers={workers}']
     words += ['--near'] * near + ['--merge'] * merge + choices(keep, keep_latch, frames, levels, no_longer, ascii)
     with tempfile.TemporaryDirectory(prefix='fretime-') as folder:
         text, states = pathlib.Path(folder, 'certificates'), pathlib.Path(folder, 'map')
@@ -154,7 +176,7 @@ def retime(circuit: bytes, *, near: bool = False, merge: bool = False, keep: Ite
         return Retimed(ran.output, taken, text.read_bytes() if certificates else None, report, states.read_bytes() if map else None)
 
 
-def backward(circuit: bytes, *, keep: Iterable[str] = (), keep_latch: Iterable[int] = (), frames: int | None = None,
+def backward(circuit: bytes, *, keep: str | Iterable[str] = (), keep_latch: Iterable[int] = (), frames: int | None = None,
              levels: int | None = None, no_longer: bool = False, ascii: bool | None = None, map: bool = False,
              seconds: float | None = None) -> MovedBack:
     """The circuit with its latches moved backward, frame by frame, until no move leaves fewer; best of a circuit that `retime` wrote.
