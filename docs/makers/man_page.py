@@ -1,4 +1,4 @@
-"""The synopsis, the description of each command and the options of the man page install/fretime.1."""
+"""The synopsis, the description of each command and the options of the man page install/fretime.1, and what it says of standard streams."""
 import itertools
 import re
 
@@ -77,6 +77,13 @@ def descriptions(program, notes):
     """The descriptions of all commands."""
     last = '.SS help\nPrints the help of the program or of\n.IR COMMAND .\n'
     return ''.join([*(description(command, notes) for command in program.commands.values()), last])
+
+
+def streams(manual):
+    """What the manual says of standard streams: the paragraphs of its section but for the first one and for examples."""
+    section = re.search(r'(?ms)^## Files and standard streams\n\n(.*?)\n\n## ', manual)[1]
+    texts = [it for it in section.split('\n\n')[1:] if not it.startswith('    ')]
+    return '\n.PP\n'.join('\n'.join(sentences(fonts(re.sub(':$', '.', ' '.join(it.split()))))) for it in texts) + '\n'
 
 
 def sentences(text):

@@ -111,4 +111,7 @@ def main(words):
 
 
 if __name__ == '__main__':
-    main(sys.argv[1:])
+    try:
+        main(sys.argv[1:])
+    except OSError as error:
+        sys.exit(f'{error.filename}: {error.strerror}')

@@ -82,12 +82,13 @@ since all are read before.",
 };
 
 pub const SHAPES_DIFFER: Page = Page {
-    meaning: "Two circuits differ in what they have, so they aren't compared.",
-    rule: "Both have as many inputs, and as many outputs, bad states, constraints, justice
-properties of the same sizes and fairness literals; for 'same' as many free
-latches too. A map has an input for each latch of IN and an output for each
-latch of OUT.",
-    advice: "Compare what 'fretime stat' prints of both. Where 'retime' left free latches
+    meaning: "Two circuits, or a map and its circuits, don't fit together.",
+    rule: "Both circuits have as many inputs, and as many outputs, bad states, constraints,
+justice properties of the same sizes and fairness literals; for 'same' as many
+free latches too. A map has an input for each latch of IN and an output for each
+latch of OUT, for 'lift --back' the other way round; IN has no free latch there.",
+    advice: "Compare what 'fretime stat' prints of both circuits and of MAP, and see that all
+are of one run and in the order of the command. Where 'retime' left free latches
 out, 'same' takes --kept LIST.",
 };
 
