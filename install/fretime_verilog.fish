@@ -12,7 +12,7 @@ complete -c fretime_verilog -l merge -d 'merges registers that always agree, bef
 complete -c fretime_verilog -l backward -d 'moves registers backward, too, after they moved forward'
 complete -c fretime_verilog -x -l frames -d 'the most frames that are taken'
 complete -c fretime_verilog -l no-longer -d 'no path between registers gets more gates than the longest one has'
-complete -c fretime_verilog -x -l levels -d 'no move makes a path of more than N gates'
+complete -c fretime_verilog -x -l levels -d 'no path gets more gates than N or the longest one has'
 complete -c fretime_verilog -x -l seconds -d 'how long the check may take, 60 by default'
 complete -c fretime_verilog -r -l program -d 'fretime, else that of this repository, else that of PATH'
 complete -c fretime_verilog -l version -d 'print the versions of fretime, Yosys and ABC, and end'

@@ -46,9 +46,10 @@ def stop_by_signals():
 
 
 def end_by(number):
-    """Ends this process by a signal, as who sent it expects."""
+    """Ends this process by a signal, as who sent it expects; else gives the status that a shell has for it."""
     signal.signal(number, signal.SIG_DFL)
     os.kill(os.getpid(), number)
+    return 128 + number
 
 
 def tool(names):
