@@ -74,7 +74,7 @@ install: all
 	for name in $(DOCUMENTS); do sed -E -f install/documents.sed $$name > $(DESTDIR)$(DOCDIR)/$$name; done
 	chmod 644 $(addprefix $(DESTDIR)$(DOCDIR)/,$(DOCUMENTS))
 	install -m 644 LICENSE-APACHE LICENSE-MIT $(DESTDIR)$(DOCDIR)
-	install -m 644 release/record $(DESTDIR)$(DOCDIR)/release
+	install -m 644 release/record release/versions $(DESTDIR)$(DOCDIR)/release
 	install -m 644 docs/reports.schema.json $(DESTDIR)$(DOCDIR)/docs
 	install -m 644 docs/pictures/*.svg $(DESTDIR)$(DOCDIR)/docs/pictures
 	install -m 644 examples/*.aag examples/*.py $(DESTDIR)$(DOCDIR)/examples
