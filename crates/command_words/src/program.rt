@@ -104,7 +104,7 @@ fn with_subcommand<'a>(
 /// The program without its commands.
 fn bare_program<'a>(alloc: Global) -> Command<'a> {
     described(alloc, &PROGRAM)
-        .version("0.7.1")
+        .version("0.8.0-dev")
         .subcommand_required(true)
 }
 
