@@ -97,6 +97,7 @@ class Tree:
         path.parent.mkdir(parents=True, exist_ok=True)
         path.write_text(text, encoding='utf-8')
         path.chmod(mode)
+        return path
 
     def record(self):
         """Writes the record of what stands in release/, as it is now."""
