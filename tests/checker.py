@@ -6,7 +6,8 @@ usage: tests/checker.py IN CERT [--keep NAME]... [--keep-latch PLACE]... [--merg
 
 Prints a line for each block, then how the blocks end. The status is 0 where each block shows that its set is least, 5 where one
 doesn't or blocks follow the end, 1 where a file is refused, 3 where one can't be read. Under a bound on levels a set may be least among
-those whose gates arrive within it. The word `verify` may stand before IN, as in the cases.
+those whose gates arrive within it, and no move makes a path longer than that, or than the longest one of IN. The word `verify` may stand
+before IN, as in the cases.
 """
 import argparse
 import heapq
@@ -224,15 +225,20 @@ def verify(c, blocks, bound):
     lines, c = [], cleaned(c)
     for k, block in enumerate(blocks):
         wrong = objection(c, block)
-        if wrong and (bound is None or objection(c, block, bound)):
+        if wrong and bound is not None and not objection(c, block, bound):
+            wrong = None
+        saves = block.count < len(c.known())
+        after = moved(c, set(block.gates)) if saves and not wrong else c
+        if after is not c and bound is not None and after.levels() > bound:
+            wrong = 'TooLong'
+        if wrong:
             return [*lines, f'block {k}: no, {wrong}'], 5
         lines.append(f'block {k}: yes, count {block.count}')
-        saves = block.count < len(c.known())
         if block is blocks[-1]:
             return [*lines, 'end open' if saves else 'end certified'], 0
         if not saves:
             return [*lines, 'blocks follow the end'], 5
-        c = cleaned(moved(c, set(block.gates)))
+        c = cleaned(after)
     return lines, 0
 
 
@@ -416,7 +422,7 @@ def main(words):
     parser.add_argument('--keep-latch', metavar='PLACE', action='append', default=[], type=int, help='the latch at this place, from 0, is held')
     parser.add_argument('--merge', action='store_true', help='latches that always agree were merged before the first frame')
     bounds = parser.add_mutually_exclusive_group()
-    bounds.add_argument('--levels', metavar='N', type=int, help='moves made no path longer than N gates')
+    bounds.add_argument('--levels', metavar='N', type=int, help='moves made no path longer than N gates, or than the longest of IN')
     bounds.add_argument('--no-longer', action='store_true', help='moves made no path longer than the longest of IN')
     given = parser.parse_args(words[1:] if words[:1] == ['verify'] else words)
     names = [os.fsencode(name) for name in given.keep]
@@ -424,7 +430,7 @@ def main(words):
         c, name_of = read(given.circuit, read_circuit)
         blocks = read(given.certificates, read_blocks)
         hold(given.circuit, c, name_of, names, given.keep_latch)
-        bound = c.levels() if given.no_longer else given.levels
+        bound = max(c.levels(), given.levels or 0) if given.no_longer or given.levels is not None else None
         c = merged(cleaned(c)) if given.merge else c
         lines, status = verify(c, blocks, bound)
         if not blocks:

@@ -172,6 +172,12 @@ def compare_small(rng, comparison):
         comparison.run(['witness', 'in', 'other', 'wit', *set(words) & {'--merge'}], {'in': data, 'other': retimed, 'wit': found})
 
 
+def under_another_bound(rng, held):
+    """The options of `verify`, with a bound on levels that the run may not have had, so that a move may be too long."""
+    words = [word for word in held if word != '--no-longer' and not word.startswith('--levels')]
+    return words + rng.choice([['--no-longer'], [f'--levels={rng.randint(0, 6)}']])
+
+
 def compare_certificates(rng, comparison):
     """What `--cert` writes, but for its routes, which may differ; what `verify`, the reference and the checker say of it, and of
     what the reference wrote; and of both when they are bent."""
@@ -187,6 +193,7 @@ def compare_certificates(rng, comparison):
     for written in filter(None, texts):
         compare_judges(comparison, written, held, data)
         compare_ends(rng, comparison, {'in': data, 'cert': written}, held, retimed)
+        compare_judges(comparison, written, under_another_bound(rng, held), data)
         for _ in range(2):
             compare_judges(comparison, random_files.bent(rng, written), held, data)
 

@@ -122,6 +122,17 @@ def verdict(c, held, block, bound):
     return 'Yes' if {block.count} == {len(border(c, set(gates), held)), len(block.routes)} else 'CountDiffers'
 
 
+def objection(c, held, block, bound):
+    """Why a block isn't confirmed, or Yes: one that passes over all passable gates, or over those within the bound, and whose move, where
+    it saves latches, makes no path longer than the bound."""
+    said = verdict(c, held, block, None)
+    if bound is None or said != 'Yes' and verdict(c, held, block, bound) != 'Yes':
+        return said
+    if block.count < c.known_latches() and moved(c, set(block.gates), held)[0].levels() > bound:
+        return 'TooLong'
+    return 'Yes'
+
+
 def audit(c, names, blocks, merge, bound):
     """The printed lines, the status, and the circuit that the blocks end in, None where something speaks against one."""
     c, held = start_of(c, held_latches(c, names), merge)
@@ -131,9 +142,7 @@ def audit(c, names, blocks, merge, bound):
             return [*lines, 'blocks follow the end'], 5, None
         if k:
             c, held = cleaned(*moved(c, set(blocks[k - 1].gates), held))
-        known, said = c.known_latches(), verdict(c, held, block, None)
-        if bound is not None and verdict(c, held, block, bound) == 'Yes':
-            said = 'Yes'
+        known, said = c.known_latches(), objection(c, held, block, bound)
         if said != 'Yes':
             return [*lines, f'block {k}: no, {said}'], 5, None
         lines.append(f'block {k}: yes, count {block.count}')

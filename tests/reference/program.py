@@ -202,8 +202,11 @@ def held_by(options):
 
 
 def bound_of(options, c):
-    """The greatest number of gates on a path that a move may make; None where there is no bound."""
-    return c.levels() if '--no-longer' in options else int(options['--levels'][0]) if '--levels' in options else None
+    """The greatest number of gates that a path may get: what is asked for, or the longest path of the circuit as it was read, if that
+    has more; None where there is no bound."""
+    if '--no-longer' not in options and '--levels' not in options:
+        return None
+    return max(c.levels(), int(options.get('--levels', ['0'])[0]))
 
 
 def no_such_latch(path, place):

@@ -32,11 +32,11 @@ filled (x ∷ xs) some = omega arith
 -- no more blocks are confirmed than there are
 pub audits-within : (bound : Option ℕ) (held : List ℕ) (c : Netlist) (blocks : List Certificate) (n : ℕ) (end : End) → Audits bound held c blocks n end → n ≤ length blocks
 audits-within bound _ _ _ _ _ (no_blocks held c) = omega arith
-audits-within bound _ _ _ _ _ (objected held c block rest objection verdict) = omega arith
-audits-within bound _ _ _ _ _ (open_end held c block saves) = omega arith
+audits-within bound _ _ _ _ _ (objected held c block rest objection objects) = omega arith
+audits-within bound _ _ _ _ _ (open_end held c block taken) = omega arith
 audits-within bound _ _ _ _ _ (certified_end held c block none) = omega arith
 audits-within bound _ _ _ _ _ (past_end held c block rest none follows) = omega arith
-audits-within bound _ _ _ _ _ (goes_on held now c d block rest n end saves follows next more) = omega (arith, audits-within bound now d rest n end more)
+audits-within bound _ _ _ _ _ (goes_on held now c d block rest n end taken follows next more) = omega (arith, audits-within bound now d rest n end more)
 
 -- the blocks below k are confirmed and saved latches, and this is the circuit of the k-th one, with these latches held; where there are blocks,
 -- there is a k-th
@@ -71,14 +71,14 @@ leads-next bound held now later first circuit d blocks k block within there goes
   onward = λ n end audits.
       let rest : List Certificate = drop (k + 1) blocks in
       let all : Audits bound now circuit (drop k blocks) (suc n) end =
-      subst (λ (bs : List Certificate). Audits bound now circuit bs (suc n) end) (sym (here blocks k block within there)) (goes_on now later circuit d block rest n end goes.saves goes.follows next audits) in
+      subst (λ (bs : List Certificate). Audits bound now circuit bs (suc n) end) (sym (here blocks k block within there)) (goes_on now later circuit d block rest n end goes.taken goes.follows next audits) in
       let same : k + suc n ≡ k + 1 + n = omega arith in
       subst (λ (m : ℕ). Audits bound held first blocks m end) same (leads.onward (suc n) end all);
   in_range = in_range;
   another = λ some. omega (arith, filled (drop (k + 1) blocks) goes.follows, length-drop (k + 1) blocks);
   makes = λ e ends.
       let rest : List Certificate = drop (k + 1) blocks in
-      leads.makes e (subst (λ (bs : List Certificate). EndIn bound now circuit bs e) (sym (here blocks k block within there)) (after_move now later circuit d e block rest goes.saves next ends));
+      leads.makes e (subst (λ (bs : List Certificate). EndIn bound now circuit bs e) (sym (here blocks k block within there)) (after_move now later circuit d e block rest goes.taken next ends));
 }
 
 -- what the audit finds from this block on ends, with k more confirmed, the audit of all blocks
@@ -157,7 +157,7 @@ replays-none bound held now first circuit blocks k made same past leads = record
 
 -- where the audit is open, the block that ended it saves latches
 pub still-saves : (bound : Option ℕ) (held : List ℕ) (c : Netlist) (block : Certificate) (rest : List Certificate) (n : ℕ) (end : End) → EndsWith bound held c block rest n end → end ≡ Open → Saves bound held c block
-still-saves bound held c block rest n end ends is_open = let is : EndsWith bound held c block rest n Open = subst (λ (e : End). EndsWith bound held c block rest n e) is_open ends in is.1
+still-saves bound held c block rest n end ends is_open = let is : EndsWith bound held c block rest n Open = subst (λ (e : End). EndsWith bound held c block rest n e) is_open ends in is.1.saves
 
 -- the audit of a replay
 pub replay-audit : (bound : Option ℕ) (held : List ℕ) (c : Netlist) (blocks : List Certificate) (replay : Replay) → IsReplay bound held c blocks replay → IsAudit bound held c blocks replay.audit
@@ -188,16 +188,16 @@ none-smaller bound held c d block shown many r closed = let least = shown.least.
 
 certified : (bound : Option ℕ) (held : List ℕ) (c : Netlist) (blocks : List Certificate) (n : ℕ) (end : End) → Audits bound held c blocks n end → end ≡ Certified → (n ≡ length blocks) × AreLeast bound held c blocks
 certified bound _ _ _ _ _ (no_blocks held c) e = absurd (cc)
-certified bound _ _ _ _ _ (objected held c block rest objection verdict) e = absurd (cc)
-certified bound _ _ _ _ _ (open_end held c block saves) e = absurd (cc)
+certified bound _ _ _ _ _ (objected held c block rest objection objects) e = absurd (cc)
+certified bound _ _ _ _ _ (open_end held c block taken) e = absurd (cc)
 certified bound _ _ _ _ _ (certified_end held c block none) e = (
     let shown = least-in bound held c block none.confirmed.passes in
     (refl, last held c shown.0 block shown.1 (none-smaller bound held c shown.0 block shown.1 none.no_fewer)))
 certified bound _ _ _ _ _ (past_end held c block rest none follows) e = absurd (cc)
-certified bound _ _ _ _ _ (goes_on held now c d block rest n end saves follows next more) e =
+certified bound _ _ _ _ _ (goes_on held now c d block rest n end taken follows next more) e =
     let after = certified bound now d rest n end more e in
-    let shown = least-in bound held c block saves.confirmed.passes in
-    (ap suc after.0, move held now c shown.0 d block rest shown.1 saves.fewer next after.1)
+    let shown = least-in bound held c block taken.saves.confirmed.passes in
+    (ap suc after.0, move held now c shown.0 d block rest shown.1 taken.saves.fewer taken.keeps next after.1)
 
 -- an audit that ends certified has confirmed all blocks, each with a least set, of which the last saves no latch
 pub certified-law : (bound : Option ℕ) (held : List ℕ) (c : Netlist) (blocks : List Certificate) (audit : Audit) → IsAudit bound held c blocks audit → audit.end ≡ Certified → IsCertified bound held c blocks audit

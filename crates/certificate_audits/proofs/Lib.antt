@@ -1,3 +1,4 @@
 pub mod AuditLaws
 pub mod UniqueLaws
 pub mod ReplayLaws
+pub mod LevelLaws

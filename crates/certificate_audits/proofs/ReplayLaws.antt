@@ -47,8 +47,8 @@ next-follows bound held c d block now valid saves next =
 end-follows : (bound : Option ℕ) (held : List ℕ) (c : Netlist) (blocks : List Certificate) (e : Netlist) → IsCircuit c → EndIn bound held c blocks e → Follows c e
 end-follows bound _ _ _ _ valid (no_more held c) = record { circuit = valid; streams = (all_free c.aig, same_streams-reflexive c) }
 end-follows bound _ _ _ _ valid (at_end held c block none) = record { circuit = valid; streams = (all_free c.aig, same_streams-reflexive c) }
-end-follows bound _ _ _ _ valid (after_move held now c d e block rest saves next more) =
-    let moved : Follows c d = next-follows bound held c d block now valid saves next in
+end-follows bound _ _ _ _ valid (after_move held now c d e block rest taken next more) =
+    let moved : Follows c d = next-follows bound held c d block now valid taken.saves next in
     follows-then c d e moved (end-follows bound now d rest e moved.circuit more)
 
 last-streams : (bound : Option ℕ) (held : List ℕ) (c first : Netlist) (blocks : List Certificate) (end : End) (last : Option Netlist) → Follows c first → IsLast bound held first blocks end last → IfSome last (HasStreamsOf c)

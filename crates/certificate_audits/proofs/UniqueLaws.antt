@@ -1,5 +1,5 @@
 -- There is one audit.
-use Rattle.std.proofs.Common.{ℕ, ◌≡◌, ◌≢◌, suc, List, [], ◌∷◌, Option, Some, None, refl, arith, ap, sym, ◌∙◌, subst}
+use Rattle.std.proofs.Common.{ℕ, ◌≡◌, ◌≢◌, ◌<◌, ◌≤◌, suc, List, [], ◌∷◌, Option, Some, None, refl, arith, ap, sym, ◌∙◌, subst}
 use Rattle.aig_graph.specs.Circuits.{Netlist}
 use Rattle.retimed_circuits.proofs.MergedRunLaws.{merges-one}
 use Rattle.retimed_circuits.proofs.RunLaws.{cleaned-one}
@@ -12,12 +12,15 @@ use Rattle.certificates.specs.Verdicts.{IsVerdict}
 use Rattle.retimed_circuits.specs.Bounded.{bounded}
 use Rattle.retimed_circuits.specs.Certified.{PassesWithin, passes_bounded, passes_whole}
 use Rattle.retimed_circuits.specs.Frames.{held_over, moved_over}
+use Rattle.retimed_circuits.specs.Levels.{levels}
+use Rattle.certificate_audits.specs.declared.outcome.BlockObjection.{BlockObjection}
+use Rattle.certificate_audits.specs.declared.outcome.BlockObjection.TheVariants.{Fails, TooLong}
 use Rattle.certificate_audits.specs.declared.judging.Finding.{Finding}
 use Rattle.certificate_audits.specs.declared.judging.Finding.TheVariants.{Objected, Fewer, NotFewer}
 use Rattle.certificate_audits.specs.declared.outcome.Audit.{Audit}
 use Rattle.certificate_audits.specs.declared.outcome.End.{End}
 use Rattle.certificate_audits.specs.declared.outcome.End.TheVariants as ending
-use Rattle.certificate_audits.specs.Audits.{FailsWithin, IsVerdictBy, Audits, IsNext, IsAudit, no_blocks, objected, open_end, certified_end, past_end, goes_on}
+use Rattle.certificate_audits.specs.Audits.{MoveBreaksBound, FailsWithin, IsVerdictBy, MoveKeepsBound, Objects, Audits, IsNext, IsAudit, no_blocks, objected, open_end, certified_end, past_end, goes_on}
 use Rattle.certificate_audits.specs.Findings.{IsFinding}
 use Rattle.certificate_audits.specs.Laws.{MergedAuditLaw}
 use Rattle.certificate_audits.proofs.AuditLaws.{replay-audit}
@@ -49,9 +52,16 @@ verdict-one c held cert (No CountDiffers) (No BadRoute) p q = absurd (q.1 p.1)
 verdict-one c held cert (No CountDiffers) (No UsedTwice) p q = absurd (q.2 p.2)
 verdict-one c held cert (No CountDiffers) (No CountDiffers) p q = refl
 
-abbrev finding_of : Verdict → Finding
-finding_of Yes = Fewer
-finding_of (No objection) = Objected objection
+abbrev objection_of : Verdict → BlockObjection
+objection_of Yes = TooLong
+objection_of (No objection) = Fails objection
+
+keeps-or-breaks : (bound : Option ℕ) (held : List ℕ) (c : Netlist) (block : Certificate) → MoveKeepsBound bound held c block → MoveBreaksBound bound held c block → ⊥
+keeps-or-breaks None held c block keeps breaks = breaks
+keeps-or-breaks (Some most) held c block keeps breaks =
+    let short : levels (moved_over held c block.gates) ≤ most = keeps in
+    let long : most < levels (moved_over held c block.gates) = breaks in
+    omega (arith, short, long)
 
 -- what passes doesn't fail
 passes-never-fails : (bound : ℕ) (held : List ℕ) (c : Netlist) (block : Certificate) (o : Objection) → PassesWithin bound held c block → FailsWithin bound held c block o → ⊥
@@ -70,15 +80,33 @@ module _ (bound : Option ℕ) (held : List ℕ) (c : Netlist) (block : Certifica
   one-verdict : (v w : Verdict) → IsVerdictBy bound held c block v → IsVerdictBy bound held c block w → v ≡ w
   one-verdict = verdict-by-one bound held c block
 
+  -- what passes isn't objected to by a test
+  never-fails : (o : Objection) → IsVerdictBy bound held c block Yes → IsVerdictBy bound held c block (No o) → ⊥
+  never-fails o p q = let clash : Yes ≡ No o = one-verdict Yes (No o) p q in absurd (cc)
+
+  -- a move that keeps the bound doesn't break it
+  never-longer : MoveKeepsBound bound held c block → MoveBreaksBound bound held c block → ⊥
+  never-longer = keeps-or-breaks bound held c block
+
+  objects-one : (o r : BlockObjection) → Objects bound held c block o → Objects bound held c block r → o ≡ r
+  objects-one (Fails o) (Fails r) p q = ap objection_of (one-verdict (No o) (No r) p q)
+  objects-one (Fails o) TooLong p q = absurd (never-fails o q.saves.confirmed.passes p)
+  objects-one TooLong (Fails r) p q = absurd (never-fails r p.saves.confirmed.passes q)
+  objects-one TooLong TooLong p q = refl
+
   finding-one : (f g : Finding) → IsFinding bound held c block f → IsFinding bound held c block g → f ≡ g
-  finding-one (Objected o) (Objected r) p q = ap finding_of (one-verdict (No o) (No r) p q)
-  finding-one (Objected o) Fewer p q = let clash : No o ≡ Yes = one-verdict (No o) Yes p q.confirmed.passes in absurd (cc)
-  finding-one (Objected o) NotFewer p q = let clash : No o ≡ Yes = one-verdict (No o) Yes p q.confirmed.passes in absurd (cc)
-  finding-one Fewer (Objected o) p q = let clash : No o ≡ Yes = one-verdict (No o) Yes q p.confirmed.passes in absurd (cc)
+  finding-one (Objected o) (Objected r) p q = ap Objected (objects-one o r p q)
+  finding-one (Objected (Fails o)) Fewer p q = absurd (never-fails o q.saves.confirmed.passes p)
+  finding-one (Objected TooLong) Fewer p q = absurd (never-longer q.keeps p.longer)
+  finding-one (Objected (Fails o)) NotFewer p q = absurd (never-fails o q.confirmed.passes p)
+  finding-one (Objected TooLong) NotFewer p q = absurd (omega (arith, p.saves.fewer, q.no_fewer))
+  finding-one Fewer (Objected (Fails o)) p q = absurd (never-fails o p.saves.confirmed.passes q)
+  finding-one Fewer (Objected TooLong) p q = absurd (never-longer p.keeps q.longer)
   finding-one Fewer Fewer p q = refl
-  finding-one Fewer NotFewer p q = absurd (omega (arith, p.fewer, q.no_fewer))
-  finding-one NotFewer (Objected o) p q = let clash : No o ≡ Yes = one-verdict (No o) Yes q p.confirmed.passes in absurd (cc)
-  finding-one NotFewer Fewer p q = absurd (omega (arith, q.fewer, p.no_fewer))
+  finding-one Fewer NotFewer p q = absurd (omega (arith, p.saves.fewer, q.no_fewer))
+  finding-one NotFewer (Objected (Fails o)) p q = absurd (never-fails o p.confirmed.passes q)
+  finding-one NotFewer (Objected TooLong) p q = absurd (omega (arith, q.saves.fewer, p.no_fewer))
+  finding-one NotFewer Fewer p q = absurd (omega (arith, q.saves.fewer, p.no_fewer))
   finding-one NotFewer NotFewer p q = refl
 
   -- the audit goes on behind the block
@@ -153,12 +181,12 @@ Viewed bound held c (block ∷ rest) m end = Found bound held c block rest m end
 
 viewed : (bound : Option ℕ) (held : List ℕ) (c : Netlist) (blocks : List Certificate) (m : ℕ) (end : End) → Audits bound held c blocks m end → Viewed bound held c blocks m end
 viewed bound _ _ _ _ _ (no_blocks held c) = (refl, refl)
-viewed bound _ _ _ _ _ (objected held c block rest objection verdict) = record { finding = Objected objection; is = verdict; after = (refl, refl) }
-viewed bound _ _ _ _ _ (open_end held c block saves) = record { finding = Fewer; is = saves; after = (refl, refl) }
+viewed bound _ _ _ _ _ (objected held c block rest objection objects) = record { finding = Objected objection; is = objects; after = (refl, refl) }
+viewed bound _ _ _ _ _ (open_end held c block taken) = record { finding = Fewer; is = taken; after = (refl, refl) }
 viewed bound _ _ _ _ _ (certified_end held c block none) = record { finding = NotFewer; is = none; after = (refl, refl) }
 viewed bound _ _ _ _ _ (past_end held c block rest none follows) = record { finding = NotFewer; is = none; after = past bound held c block rest follows }
-viewed bound _ _ _ _ _ (goes_on held now c d block rest n end saves follows next more) =
-    record { finding = Fewer; is = saves; after = onward bound held c block rest (suc n) end follows (record { d = d; now = now; n = n; next = next; more = more; count = refl }) }
+viewed bound _ _ _ _ _ (goes_on held now c d block rest n end taken follows next more) =
+    record { finding = Fewer; is = taken; after = onward bound held c block rest (suc n) end follows (record { d = d; now = now; n = n; next = next; more = more; count = refl }) }
 
 audits-one : (bound : Option ℕ) (blocks : List Certificate) (held : List ℕ) (c : Netlist) (n m : ℕ) (e f : End) → Audits bound held c blocks n e → Audits bound held c blocks m f → (n ≡ m) × (e ≡ f)
 audits-one bound [] held c n m e f p q = let one = viewed bound held c [] n e p in let other = viewed bound held c [] m f q in (one.0 ∙ sym other.0, one.1 ∙ sym other.1)

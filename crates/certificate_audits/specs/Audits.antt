@@ -1,5 +1,5 @@
 -- Audits: each block is judged for the circuit that the blocks before it make, under a bound on path length or none.
-use Rattle.std.specs.Prelude.{ℕ, suc, ◌≡◌, ◌<◌, ◌≤◌, ◌≢◌, List, [], ◌∷◌, Option, Some, None}
+use Rattle.std.specs.Prelude.{ℕ, suc, ◌≡◌, ◌<◌, ◌≤◌, ◌≢◌, ⊤, List, [], ◌∷◌, Option, Some, None}
 use Rattle.aig_graph.specs.Graph.{known_latches}
 use Rattle.aig_graph.specs.Circuits.{Netlist}
 use Rattle.aig_graph.specs.Closed.{IsClosedSet}
@@ -11,7 +11,10 @@ use Rattle.certificates.specs.Verdicts.{IsVerdict}
 use Rattle.retimed_circuits.specs.Bounded.{bounded}
 use Rattle.retimed_circuits.specs.Frames.{CleansTo, count_over, held_over, moved_over}
 use Rattle.retimed_circuits.specs.Certified.{PassesWithin}
+use Rattle.retimed_circuits.specs.Levels.{levels}
 use Rattle.certificate_audits.specs.declared.outcome.Audit.{Audit}
+use Rattle.certificate_audits.specs.declared.outcome.BlockObjection.{BlockObjection}
+use Rattle.certificate_audits.specs.declared.outcome.BlockObjection.TheVariants.{Fails, TooLong}
 use Rattle.certificate_audits.specs.declared.outcome.End.{End}
 use Rattle.certificate_audits.specs.declared.outcome.End.TheVariants.{NoBlocks, Certified, Open, BlocksFollow, Objected}
 
@@ -43,6 +46,31 @@ pub record SavesNone (bound : Option ℕ) (held : List ℕ) (c : Netlist) (block
   pub confirmed : IsConfirmed bound held c block
   pub no_fewer : known_latches c.aig ≤ block.count
 
+-- under a bound, the move over the block's gates makes no path longer than that
+abbrev pub MoveKeepsBound : Option ℕ → List ℕ → Netlist → Certificate → Type 0
+MoveKeepsBound None held c block = ⊤
+MoveKeepsBound (Some most) held c block = levels (moved_over held c block.gates) ≤ most
+
+-- it makes one that is longer
+abbrev pub MoveBreaksBound : Option ℕ → List ℕ → Netlist → Certificate → Type 0
+MoveBreaksBound None held c block = ⊥
+MoveBreaksBound (Some most) held c block = most < levels (moved_over held c block.gates)
+
+-- the block saves latches, and its move keeps the bound
+pub record IsMoveTaken (bound : Option ℕ) (held : List ℕ) (c : Netlist) (block : Certificate) : Type 0 where
+  pub saves : Saves bound held c block
+  pub keeps : MoveKeepsBound bound held c block
+
+-- the block saves latches, and its move breaks the bound
+pub record IsMoveTooLong (bound : Option ℕ) (held : List ℕ) (c : Netlist) (block : Certificate) : Type 0 where
+  pub saves : Saves bound held c block
+  pub longer : MoveBreaksBound bound held c block
+
+-- this speaks against the block
+abbrev pub Objects : Option ℕ → List ℕ → Netlist → Certificate → BlockObjection → Type 0
+Objects bound held c block (Fails objection) = IsVerdictBy bound held c block (No objection)
+Objects bound held c block TooLong = IsMoveTooLong bound held c block
+
 -- d is c with its latches moved over the block's gates, and cleaned; the held latches stand at now in d
 pub record IsNext (held : List ℕ) (c : Netlist) (block : Certificate) (d : Netlist) (now : List ℕ) : Type 0 where
   pub kept : List ℕ
@@ -51,12 +79,12 @@ pub record IsNext (held : List ℕ) (c : Netlist) (block : Certificate) (d : Net
 -- how many of the blocks, the first of which is for this circuit with these latches held, are confirmed one after another, and how that ends
 pub data Audits (bound : Option ℕ) : List ℕ → Netlist → List Certificate → ℕ → End → Type 0 where
   no_blocks : (held : List ℕ) (c : Netlist) → Audits bound held c [] 0 NoBlocks
-  objected : (held : List ℕ) (c : Netlist) (block : Certificate) (rest : List Certificate) (objection : Objection) → IsVerdictBy bound held c block (No objection)
+  objected : (held : List ℕ) (c : Netlist) (block : Certificate) (rest : List Certificate) (objection : BlockObjection) → Objects bound held c block objection
       → Audits bound held c (block ∷ rest) 0 (Objected objection)
-  open_end : (held : List ℕ) (c : Netlist) (block : Certificate) → Saves bound held c block → Audits bound held c (block ∷ []) 1 Open
+  open_end : (held : List ℕ) (c : Netlist) (block : Certificate) → IsMoveTaken bound held c block → Audits bound held c (block ∷ []) 1 Open
   certified_end : (held : List ℕ) (c : Netlist) (block : Certificate) → SavesNone bound held c block → Audits bound held c (block ∷ []) 1 Certified
   past_end : (held : List ℕ) (c : Netlist) (block : Certificate) (rest : List Certificate) → SavesNone bound held c block → rest ≢ [] → Audits bound held c (block ∷ rest) 1 BlocksFollow
-  goes_on : (held now : List ℕ) (c d : Netlist) (block : Certificate) (rest : List Certificate) (n : ℕ) (end : End) → Saves bound held c block → rest ≢ []
+  goes_on : (held now : List ℕ) (c d : Netlist) (block : Certificate) (rest : List Certificate) (n : ℕ) (end : End) → IsMoveTaken bound held c block → rest ≢ []
       → IsNext held c block d now → Audits bound now d rest n end → Audits bound held c (block ∷ rest) (suc n) end
 
 -- the audit of blocks, the first of which is for c cleaned, where these latches are held

@@ -2,29 +2,28 @@
 use Rattle.std.specs.Prelude.{ℕ, ◌≡◌, ◌≢◌, false, List, [], Option, MatchOption}
 use Rattle.aig_graph.specs.Circuits.{Netlist}
 use Rattle.certificates.specs.declared.certificate.Certificate.{Certificate}
-use Rattle.certificates.specs.declared.verdict.Verdict.TheVariants.{No}
 use Rattle.certificate_audits.specs.declared.judging.Finding.{Finding}
 use Rattle.certificate_audits.specs.declared.judging.Finding.TheVariants.{Objected, Fewer, NotFewer}
 use Rattle.certificate_audits.specs.declared.outcome.End.{End}
 use Rattle.certificate_audits.specs.declared.outcome.End.TheVariants as ends
-use Rattle.certificate_audits.specs.Audits.{IsNext, IsVerdictBy, Saves, SavesNone}
+use Rattle.certificate_audits.specs.Audits.{IsNext, IsMoveTaken, Objects, SavesNone}
 use Rattle.certificate_audits.specs.Ends.{is_accepted}
 
 abbrev pub IsFinding : Option ℕ → List ℕ → Netlist → Certificate → Finding → Type 0
-IsFinding bound held c block (Objected objection) = IsVerdictBy bound held c block (No objection)
-IsFinding bound held c block Fewer = Saves bound held c block
+IsFinding bound held c block (Objected objection) = Objects bound held c block objection
+IsFinding bound held c block Fewer = IsMoveTaken bound held c block
 IsFinding bound held c block NotFewer = SavesNone bound held c block
 
--- the audit doesn't end with the block: it saves latches, and others follow
+-- the audit doesn't end with the block: its move is taken, and others follow
 pub record GoesOn (bound : Option ℕ) (held : List ℕ) (c : Netlist) (block : Certificate) (rest : List Certificate) : Type 0 where
-  pub saves : Saves bound held c block
+  pub taken : IsMoveTaken bound held c block
   pub follows : rest ≢ []
 
 -- the audit ends with the block, which these others follow, so many being confirmed of it, and so
 abbrev pub EndsWith : Option ℕ → List ℕ → Netlist → Certificate → List Certificate → ℕ → End → Type 0
 EndsWith bound held c block rest n ends.NoBlocks = ⊥
-EndsWith bound held c block rest n (ends.Objected objection) = (n ≡ 0) × IsVerdictBy bound held c block (No objection)
-EndsWith bound held c block rest n ends.Open = (n ≡ 1) × Saves bound held c block × (rest ≡ [])
+EndsWith bound held c block rest n (ends.Objected objection) = (n ≡ 0) × Objects bound held c block objection
+EndsWith bound held c block rest n ends.Open = (n ≡ 1) × IsMoveTaken bound held c block × (rest ≡ [])
 EndsWith bound held c block rest n ends.Certified = (n ≡ 1) × SavesNone bound held c block × (rest ≡ [])
 EndsWith bound held c block rest n ends.BlocksFollow = (n ≡ 1) × SavesNone bound held c block × (rest ≢ [])
 

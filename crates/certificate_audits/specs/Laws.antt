@@ -9,10 +9,11 @@ use Rattle.aig_graph.specs.Move.{move_of}
 use Rattle.certificates.specs.declared.certificate.Certificate.{Certificate}
 use Rattle.retimed_circuits.specs.Bounded.{bounded}
 use Rattle.retimed_circuits.specs.Frames.{CleansTo}
+use Rattle.retimed_circuits.specs.RetimingLevels.{KeepsLevels}
 use Rattle.certificate_audits.specs.declared.outcome.Audit.{Audit}
 use Rattle.certificate_audits.specs.declared.outcome.End.TheVariants.{Certified}
 use Rattle.certificate_audits.specs.declared.outcome.Replay.{Replay}
-use Rattle.certificate_audits.specs.Audits.{IsAudit, IsNext}
+use Rattle.certificate_audits.specs.Audits.{IsAudit, IsNext, MoveKeepsBound}
 use Rattle.certificate_audits.specs.Replays.{IsMergedReplay, IsReplay}
 
 -- d is c or, under a bound, c bounded, of which the closed sets are those of c whose gates arrive within the bound
@@ -30,10 +31,11 @@ pub record IsLeastIn (bound : Option ℕ) (held : List ℕ) (c d : Netlist) (blo
 abbrev pub NoneSmallerIn : List ℕ → Netlist → Netlist → Type 0
 NoneSmallerIn held c d = (s : List ℕ) → IsClosedSet d.aig held s → known_latches c.aig ≤ border_size (move_of d held s)
 
--- c's latches move over the blocks' sets, one after another; each is least and saves latches, but for the last one: there, none does
+-- c's latches move over the blocks' sets, one after another; each is least, saves latches and keeps the bound, but for the last one: there, none
+-- saves latches
 pub data AreLeast (bound : Option ℕ) : List ℕ → Netlist → List Certificate → Type 0 where
   last : (held : List ℕ) (c d : Netlist) (block : Certificate) → IsLeastIn bound held c d block → NoneSmallerIn held c d → AreLeast bound held c (block ∷ [])
-  move : (held now : List ℕ) (c d e : Netlist) (block : Certificate) (rest : List Certificate) → IsLeastIn bound held c d block → block.count < known_latches c.aig → IsNext held c block e now
+  move : (held now : List ℕ) (c d e : Netlist) (block : Certificate) (rest : List Certificate) → IsLeastIn bound held c d block → block.count < known_latches c.aig → MoveKeepsBound bound held c block → IsNext held c block e now
       → AreLeast bound now e rest → AreLeast bound held c (block ∷ rest)
 
 -- what blocks show of a circuit whose audit ends certified
@@ -70,3 +72,11 @@ ReplayLaw bound held c blocks = (replay : Replay) → IsGraph c.aig → IsNetlis
 -- also where latches were merged first
 abbrev pub MergedReplayLaw : Option ℕ → List ℕ → Netlist → List Certificate → Type 0
 MergedReplayLaw bound held c blocks = (replay : Replay) → IsGraph c.aig → IsNetlist c → IsMergedReplay bound held c blocks replay → IfSome replay.last (HasStreamsOf c)
+
+-- what the blocks end in has no path longer than the bound, but for those that c has
+abbrev pub ReplayLevelLaw : Option ℕ → List ℕ → Netlist → List Certificate → Type 0
+ReplayLevelLaw bound held c blocks = (replay : Replay) → IsGraph c.aig → IsNetlist c → IsReplay bound held c blocks replay → IfSome replay.last (KeepsLevels bound c)
+
+-- also where latches were merged first
+abbrev pub MergedReplayLevelLaw : Option ℕ → List ℕ → Netlist → List Certificate → Type 0
+MergedReplayLevelLaw bound held c blocks = (replay : Replay) → IsGraph c.aig → IsNetlist c → IsMergedReplay bound held c blocks replay → IfSome replay.last (KeepsLevels bound c)

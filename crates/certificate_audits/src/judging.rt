@@ -1,22 +1,22 @@
 //! What one block shows of its circuit, and whether an audit ends with it.
-ghost use Rattle.std.specs.Prelude.{IfOk, MatchOption};
+ghost use Rattle.std.specs.Prelude.{◌<◌, All, IfOk, MatchOption, Some, length};
 ghost use Rattle.certificates.specs.Verdicts.{IsVerdict};
 ghost use Rattle.retimed_circuits.specs.Bounded.{bounded};
-ghost use Rattle.certificate_audits.specs.Audits.{IsVerdictBy};
+ghost use Rattle.certificate_audits.specs.Audits.{IsVerdictBy, Saves};
 ghost use Rattle.certificate_audits.specs.Findings.{EndsWith, GoesOn, IsFinding};
 
-use crate::moving::Stage;
-use crate::outcome::{Audit, End};
+use crate::moving::{Stage, moved_over};
+use crate::outcome::{Audit, BlockObjection, End};
 use aig_graph::{Circuit, Keep, NoMemory};
-use certificates::{Certificate, Objection, Verdict, check};
-use retimed_circuits::bounded;
+use certificates::{Certificate, Verdict, check};
+use retimed_circuits::{bounded, levels};
 use std::alloc::Global;
 
 #[derive(Clone, Copy)]
 pub(crate) enum Finding {
-    /// The certificate fails a test.
-    Objected(Objection),
-    /// The set is least, and there are fewer known latches after the move over it than before.
+    /// The block isn't confirmed.
+    Objected(BlockObjection),
+    /// The set is least, there are fewer known latches after the move over it than before, and that keeps the bound.
     Fewer,
     /// The set is least, and there aren't fewer.
     NotFewer,
@@ -61,6 +61,44 @@ fn verdict(
     }
 }
 
+/// Judges a block that saves latches, by the longest path after its move.
+fn judge_move(
+    alloc: Global,
+    stage: &Stage,
+    block: &Certificate,
+    most: u32,
+) -> Result<Finding, NoMemory>
+    requires in_range { All (λ j. j < length stage.now.circuit.aig.latches) stage.now.keep }
+    requires saves { Saves (Some most) stage.now.keep stage.now.circuit block.now }
+    ensures { IfOk result (IsFinding (Some most) stage.now.keep stage.now.circuit block.now) }
+{
+    let after = moved_over(alloc, stage, block)?;
+    let counted = levels(alloc, &after.circuit);
+    drop(after);
+    match counted {
+        Ok(high) if high <= most => Ok(Finding::Fewer),
+        Ok(_) => Ok(Finding::Objected(BlockObjection::TooLong)),
+        Err(error) => Err(error),
+    }
+}
+
+/// Judges a block that saves latches. Without a bound that costs nothing.
+fn judge_saving(
+    alloc: Global,
+    stage: &Stage,
+    block: &Certificate,
+    bound: Option<u32>,
+) -> Result<Finding, NoMemory>
+    requires in_range { All (λ j. j < length stage.now.circuit.aig.latches) stage.now.keep }
+    requires saves { Saves bound stage.now.keep stage.now.circuit block.now }
+    ensures { IfOk result (IsFinding bound stage.now.keep stage.now.circuit block.now) }
+{
+    match bound {
+        None => Ok(Finding::Fewer),
+        Some(most) => judge_move(alloc, stage, block, most),
+    }
+}
+
 /// Judges a block for its circuit.
 fn judge(
     alloc: Global,
@@ -68,14 +106,15 @@ fn judge(
     block: &Certificate,
     bound: Option<u32>,
 ) -> Result<Finding, NoMemory>
+    requires { All (λ j. j < length stage.now.circuit.aig.latches) stage.now.keep }
     ensures { IfOk result (IsFinding bound stage.now.keep stage.now.circuit block.now) }
 {
     // That it is a circuit is what its readers ensure.
     stage.circuit.known();
     let known = stage.circuit.aig().known_latches();
     match verdict(alloc, &stage.circuit, block, &stage.keep, bound)? {
-        Verdict::No(objection) => Ok(Finding::Objected(objection)),
-        Verdict::Yes if block.count < known => Ok(Finding::Fewer),
+        Verdict::No(objection) => Ok(Finding::Objected(BlockObjection::Fails(objection))),
+        Verdict::Yes if block.count < known => judge_saving(alloc, stage, block, bound),
         Verdict::Yes => Ok(Finding::NotFewer),
     }
 }
@@ -88,6 +127,7 @@ pub(crate) fn end_at(
     rest: &[Certificate],
     bound: Option<u32>,
 ) -> Result<Option<Audit>, NoMemory>
+    requires { All (λ j. j < length stage.now.circuit.aig.latches) stage.now.keep }
     ensures { IfOk result (λ found. MatchOption found
         (GoesOn bound stage.now.keep stage.now.circuit block.now rest.now)
         (λ audit. EndsWith bound stage.now.keep stage.now.circuit block.now rest.now

@@ -11,5 +11,5 @@ mod run;
 
 pub use laws::{audit_law, certified_law, merged_audit_laws, replay_laws};
 pub use merged::replay_merged;
-pub use outcome::{Audit, End, Replay};
+pub use outcome::{Audit, BlockObjection, End, Replay};
 pub use run::{audit_blocks, replay_blocks};

@@ -69,7 +69,11 @@ fn moved_stage(alloc: Global, stage: &Stage, set: &ClosedSet) -> Result<Stage, N
 }
 
 /// The same over the set of a block that saves latches.
-fn moved_over(alloc: Global, stage: &Stage, block: &Certificate) -> Result<Stage, NoMemory>
+pub(crate) fn moved_over(
+    alloc: Global,
+    stage: &Stage,
+    block: &Certificate,
+) -> Result<Stage, NoMemory>
     requires in_range { All (λ j. j < length stage.now.circuit.aig.latches) stage.now.keep }
     requires saves { (bound : Option ℕ) × Saves bound stage.now.keep stage.now.circuit block.now }
     ensures circuit { IfOk result (λ after. after.circuit

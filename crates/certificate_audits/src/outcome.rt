@@ -1,7 +1,30 @@
+//! What an audit finds: how many blocks are confirmed, how it ends, why a block isn't confirmed, and the circuit that the blocks end in.
 ghost use Rattle.std.specs.Prelude.{◌≡◌};
+ghost use Rattle.certificate_audits.specs.Ends.{block_objection_name};
 
 use aig_graph::Circuit;
 use certificates::Objection;
+
+/// Why a block isn't confirmed.
+#[derive(Clone, Copy, PartialEq, Eq)]
+pub enum BlockObjection {
+    /// The certificate fails a test.
+    Fails(Objection),
+    /// The set is least and saves latches, but the move over it makes a path longer than the bound.
+    TooLong,
+}
+
+impl BlockObjection {
+    /// Its name, as reports print it.
+    pub fn name(self) -> &'static str
+        ensures { result.now ≡ block_objection_name self }
+    {
+        match self {
+            BlockObjection::Fails(objection) => objection.name(),
+            BlockObjection::TooLong => "TooLong",
+        }
+    }
+}
 
 /// How an audit ended.
 #[derive(Clone, Copy, PartialEq, Eq)]
@@ -15,7 +38,7 @@ pub enum End {
     /// A block is confirmed and no closed set of its circuit needs fewer latches, but another block follows.
     BlocksFollow,
     /// A block isn't confirmed.
-    Objected(Objection),
+    Objected(BlockObjection),
 }
 
 impl End {

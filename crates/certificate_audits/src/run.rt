@@ -138,7 +138,7 @@ fn audit_held(
 /// further one for what the circuit is after its latches moved over the set of the block before, cleaned. The latches whose symbol
 /// has one of the names are held. It ends at the first block that isn't confirmed or that doesn't need fewer latches than there
 /// are, else at the last one. Under a bound on path length, as the run had it, a block is confirmed too whose set is least among those of
-/// gates that arrive within the bound.
+/// gates that arrive within the bound; and none is whose move makes a path longer than the bound.
 ///
 /// Each block takes the time of `check`; one that another follows also takes one move and one cleaning. Only one circuit is
 /// kept at a time.

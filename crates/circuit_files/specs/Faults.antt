@@ -2,13 +2,13 @@
 use Rattle.std.specs.Prelude.{ℕ, ◌≡◌, ◌⊎◌, ◌||◌, ◌<◌, Bool, false, List, [], ◌∷◌, length, get_or, codes}
 use Rattle.std.specs.Str.{bytes_eq}
 use Rattle.circuit_files.specs.declared.named_fault.Fault.{Fault}
-use Rattle.circuit_files.specs.declared.named_fault.Fault.TheVariants.{BadHeader, TooLarge, MaxIndex, BadLine, BadLiteral, DefinedTwice, Undefined, Cycle, BadReset, BadDelta, Truncated, BadSymbol, Trailing, Width, TooMany, NoSuchName, NoSuchLatch, NoSuchProperty, TooManyNodes, TooManySteps, NotAMap, NoSuchLiteral, SameFile, ShapesDiffer, NotClosed, BadRoute, UsedTwice, CountDiffers, NoMemory, Device}
+use Rattle.circuit_files.specs.declared.named_fault.Fault.TheVariants.{BadHeader, TooLarge, MaxIndex, BadLine, BadLiteral, DefinedTwice, Undefined, Cycle, BadReset, BadDelta, Truncated, BadSymbol, Trailing, Width, TooMany, NoSuchName, NoSuchLatch, NoSuchProperty, TooManyNodes, TooManySteps, NotAMap, NoSuchLiteral, SameFile, ShapesDiffer, NotClosed, BadRoute, UsedTwice, CountDiffers, TooLong, NoMemory, Device}
 
 unfoldable pub all_faults : List Fault
 all_faults =
     BadHeader ∷ TooLarge ∷ MaxIndex ∷ BadLine ∷ BadLiteral ∷ DefinedTwice ∷ Undefined ∷ Cycle ∷ BadReset ∷ BadDelta ∷ Truncated
     ∷ BadSymbol ∷ Trailing ∷ Width ∷ TooMany ∷ NoSuchName ∷ NoSuchLatch ∷ NoSuchProperty ∷ TooManyNodes ∷ TooManySteps ∷ NotAMap ∷ NoSuchLiteral ∷ SameFile ∷ ShapesDiffer ∷ NotClosed ∷ BadRoute ∷ UsedTwice
-    ∷ CountDiffers ∷ NoMemory ∷ Device ∷ []
+    ∷ CountDiffers ∷ TooLong ∷ NoMemory ∷ Device ∷ []
 
 abbrev pub name_of : Fault → List ℕ
 name_of BadHeader = codes "BadHeader"
@@ -39,6 +39,7 @@ name_of NotClosed = codes "NotClosed"
 name_of BadRoute = codes "BadRoute"
 name_of UsedTwice = codes "UsedTwice"
 name_of CountDiffers = codes "CountDiffers"
+name_of TooLong = codes "TooLong"
 name_of NoMemory = codes "NoMemory"
 name_of Device = codes "Device"
 

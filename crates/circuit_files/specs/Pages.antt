@@ -1,7 +1,7 @@
 -- The texts of the page of each fault.
 use Rattle.std.specs.Prelude.{ℕ, List, codes}
 use Rattle.circuit_files.specs.declared.named_fault.Fault.{Fault}
-use Rattle.circuit_files.specs.declared.named_fault.Fault.TheVariants.{BadHeader, TooLarge, MaxIndex, BadLine, BadLiteral, DefinedTwice, Undefined, Cycle, BadReset, BadDelta, Truncated, BadSymbol, Trailing, Width, TooMany, NoSuchName, NoSuchLatch, NoSuchProperty, TooManyNodes, TooManySteps, NotAMap, NoSuchLiteral, SameFile, ShapesDiffer, NotClosed, BadRoute, UsedTwice, CountDiffers, NoMemory, Device}
+use Rattle.circuit_files.specs.declared.named_fault.Fault.TheVariants.{BadHeader, TooLarge, MaxIndex, BadLine, BadLiteral, DefinedTwice, Undefined, Cycle, BadReset, BadDelta, Truncated, BadSymbol, Trailing, Width, TooMany, NoSuchName, NoSuchLatch, NoSuchProperty, TooManyNodes, TooManySteps, NotAMap, NoSuchLiteral, SameFile, ShapesDiffer, NotClosed, BadRoute, UsedTwice, CountDiffers, TooLong, NoMemory, Device}
 
 -- what the fault is
 abbrev pub meaning_of : Fault → List ℕ
@@ -33,6 +33,7 @@ meaning_of NotClosed = codes "The set of gates of a certificate isn't closed."
 meaning_of BadRoute = codes "A list of points of a certificate is no route."
 meaning_of UsedTwice = codes "Two routes of a certificate pass one variable."
 meaning_of CountDiffers = codes "The numbers of a certificate differ."
+meaning_of TooLong = codes "A move makes a path longer than the bound on levels."
 meaning_of NoMemory = codes "Memory was refused."
 meaning_of Device = codes "A file or a standard stream can't be opened, created, read or written."
 
@@ -66,6 +67,7 @@ rule_of NotClosed = codes "Its gates rise strictly. Each is a gate that latches 
 rule_of BadRoute = codes "A route goes from a known latch through gates that latches may pass to what no\nmove passes, by the steps of docs/CERTIFICATES.md."
 rule_of UsedTwice = codes "Over all routes no point v+ stands twice."
 rule_of CountDiffers = codes "The count that it states, the size of the border of its set and the number of\nits routes are one number."
+rule_of TooLong = codes "By the move over the set of a certificate no path gets more gates than --levels\nnames, or than the longest path of IN has. Its set is least all the same."
 rule_of NoMemory = codes "A run asks for memory as its circuit grows, and for none by a number of the\nheader alone. A refused request ends it with status 4, 'out of memory'. Files\nare as they were, but for the circuits of a batch that were done, and where\n'retime --json' lacked memory for its object alone, which is made last."
 rule_of Device = codes "The message names the path, or 'stdin' or 'stdout'. There is no such file or\nfolder, it may not be read or written by this user, it is a folder, the disk is\nfull, or nobody reads the pipe any more."
 
@@ -99,5 +101,6 @@ advice_of NotClosed = codes "See that the certificates are of this IN, and give 
 advice_of BadRoute = codes "See that the certificates are of this IN, and give what 'retime' got: --keep,\n--keep-latch, --merge. Else they are wrong: 'fretime retime IN OUT --cert FILE'\nwrites others."
 advice_of UsedTwice = codes "See that the certificates are of this IN, and give what 'retime' got: --keep,\n--keep-latch, --merge. Else they are wrong: 'fretime retime IN OUT --cert FILE'\nwrites others."
 advice_of CountDiffers = codes "See that the certificates are of this IN, and give what 'retime' got: --keep,\n--keep-latch, --merge. Else they are wrong: 'fretime retime IN OUT --cert FILE'\nwrites others."
+advice_of TooLong = codes "Give the bound that 'retime' got, or none. Certificates of a run that keeps it:\n'fretime retime IN OUT --no-longer --cert FILE', or with --levels."
 advice_of NoMemory = codes "See the limits of the shell: 'ulimit -v'. 'batch' with fewer --workers has fewer\ncircuits in memory at once."
 advice_of Device = codes "Look at the path: 'ls -l PATH', and at the room on its disk: 'df PATH'. An OUT\nthat was begun may have a part of the circuit: run again."

@@ -34,11 +34,12 @@ pub enum Fault {
     BadRoute,
     UsedTwice,
     CountDiffers,
+    TooLong,
     NoMemory,
     Device,
 }
 
-const FAULTS: [Fault; 30] = [
+const FAULTS: [Fault; 31] = [
     Fault::BadHeader,
     Fault::TooLarge,
     Fault::MaxIndex,
@@ -67,6 +68,7 @@ const FAULTS: [Fault; 30] = [
     Fault::BadRoute,
     Fault::UsedTwice,
     Fault::CountDiffers,
+    Fault::TooLong,
     Fault::NoMemory,
     Fault::Device,
 ];
@@ -113,6 +115,7 @@ impl Fault {
             Fault::BadRoute => "BadRoute",
             Fault::UsedTwice => "UsedTwice",
             Fault::CountDiffers => "CountDiffers",
+            Fault::TooLong => "TooLong",
             Fault::NoMemory => "NoMemory",
             Fault::Device => "Device",
         }

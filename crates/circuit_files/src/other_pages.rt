@@ -125,6 +125,14 @@ its routes are one number.",
     advice: CHECK_AGAIN,
 };
 
+pub const TOO_LONG: Page = Page {
+    meaning: "A move makes a path longer than the bound on levels.",
+    rule: "By the move over the set of a certificate no path gets more gates than --levels
+names, or than the longest path of IN has. Its set is least all the same.",
+    advice: "Give the bound that 'retime' got, or none. Certificates of a run that keeps it:
+'fretime retime IN OUT --no-longer --cert FILE', or with --levels.",
+};
+
 pub const NO_MEMORY: Page = Page {
     meaning: "Memory was refused.",
     rule: "A run asks for memory as its circuit grows, and for none by a number of the

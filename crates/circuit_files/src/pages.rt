@@ -51,6 +51,7 @@ fn page_of(fault: Fault) -> &'static Page
         Fault::BadRoute => &others::BAD_ROUTE,
         Fault::UsedTwice => &others::USED_TWICE,
         Fault::CountDiffers => &others::COUNT_DIFFERS,
+        Fault::TooLong => &others::TOO_LONG,
         Fault::NoMemory => &others::NO_MEMORY,
         Fault::Device => &others::DEVICE,
     }

@@ -37,6 +37,7 @@ impl Fault {
             | Fault::BadRoute
             | Fault::UsedTwice
             | Fault::CountDiffers
+            | Fault::TooLong
             | Fault::NoMemory
             | Fault::Device => None,
         }

@@ -33,7 +33,7 @@ const LEVELS: Argument = Argument(
     "levels",
     Number(0, (1 << 32) - 1),
     Apart("no-longer"),
-    "Let no move make a path of more than n gates",
+    "Let no path get more gates than n or the longest of IN",
 );
 
 const NO_LONGER: Argument = Argument(
@@ -327,7 +327,7 @@ pub(crate) const DOT: &[Argument] = &[
         "levels",
         Number(0, (1 << 32) - 1),
         WithApart("frame", "no-longer"),
-        "Let no move make a path of more than n gates",
+        "Let no path get more gates than n or the longest of IN",
     ),
     Argument(
         "no-longer",

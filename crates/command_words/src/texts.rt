@@ -42,9 +42,9 @@ not. A merged latch has more readers, so here and there fewer can move.
 
 A move makes paths longer: gates from behind a row of latches then stand in
 front of it. With --no-longer no path of OUT has more gates than the longest one
-of IN; with --levels no move makes a path of more than n gates. Each frame takes
-the least set of all gates if it keeps the bound, else the least of those within
-it.
+of IN; with --levels no path gets more than n gates, or than the longest one of
+IN. Each frame takes the least set of all gates if it keeps the bound, else the
+least of those within it.
 
 OUT is created once IN has been read and retimed: a circuit that is refused
 leaves OUT as it was.
@@ -150,7 +150,8 @@ circuit of its frame, without any flow.
 'yes' says that no set of gates leaves fewer latches than the certificate's. The
 circuit of the next frame is made from IN by the certificate's set. Say which
 latches were held, and give --merge, --levels and --no-longer, as for 'retime'.
-Under a bound on levels 'yes' says that no set of gates within it leaves fewer.
+Under a bound on levels 'yes' says that no set of all gates leaves fewer, or of
+those within it, and that no path gets longer than the bound by the move.
 
 With --out it compares OUT with what 'retime' writes of the circuit that all of
 them make of IN, byte for byte.";
@@ -400,9 +401,9 @@ BadDelta, Truncated, BadSymbol, Trailing. Of a stimulus or a witness: Width,
 TooMany, NoSuchProperty. Of random sequences: TooManySteps. Of names and
 pictures: NoSuchName, NoSuchLatch, TooManyNodes. Of maps and witness circuits:
 NotAMap, NoSuchLiteral. Of the list of a batch: SameFile. Of two circuits:
-ShapesDiffer. Of certificates: NotClosed, BadRoute, UsedTwice, CountDiffers. Of
-a run: NoMemory, Device. What a message says stands for a name too: 'shapes
-differ', 'out of memory', 'device'.
+ShapesDiffer. Of certificates: NotClosed, BadRoute, UsedTwice, CountDiffers,
+TooLong. Of a run: NoMemory, Device. What a message says stands for a name too:
+'shapes differ', 'out of memory', 'device'.
 
 Exit status: 0 done, 2 command line, or there is no such fault, 3 device, 4 out
 of memory.";

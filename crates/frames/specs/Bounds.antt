@@ -1,16 +1,20 @@
 -- How long paths may get, as a number of the circuit that was read.
-use Rattle.std.specs.Prelude.{ℕ, Option, Some, None}
+use Rattle.std.specs.Prelude.{ℕ, max, Option, Some, None, option_map}
 use Rattle.aig_graph.specs.Circuits.{Netlist}
 use Rattle.retimed_circuits.specs.Levels.{levels}
 use Rattle.frames.specs.declared.bound.PathBound.{PathBound}
 use Rattle.frames.specs.declared.bound.PathBound.TheVariants as bounds
 use Rattle.frames.specs.declared.options.Options.{Options}
 
--- the bound for c as it was read; none, as many levels as are named, or c's own
+-- how many gates a path may get in any circuit: no bound, so many, or none
+abbrev pub levels_named : PathBound → Option ℕ
+levels_named bounds.None = None
+levels_named (bounds.Levels most) = Some most
+levels_named bounds.NoLonger = Some 0
+
+-- the bound for c as it was read: no path gets more gates than are named, or than the longest path of c has
 abbrev pub bound_for : PathBound → Netlist → Option ℕ
-bound_for bounds.None c = None
-bound_for (bounds.Levels most) c = Some most
-bound_for bounds.NoLonger c = Some (levels c)
+bound_for bound c = option_map (λ most. max most (levels c)) (levels_named bound)
 
 abbrev pub bound_in : Options → Netlist → Option ℕ
 bound_in options c = bound_for options.bound c

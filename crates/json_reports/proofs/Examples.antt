@@ -7,6 +7,7 @@ use Rattle.counted_io.specs.declared.fault.ReadError.TheVariants.{BadHeader}
 use Rattle.reports.specs.declared.agreement.Agreement.TheVariants.{DiffersAt}
 use Rattle.reports.specs.declared.batch.JobReport.TheVariants.{Done, Refused}
 use Rattle.certificates.specs.declared.verdict.Objection.TheVariants.{BadRoute}
+use Rattle.certificate_audits.specs.declared.outcome.BlockObjection.TheVariants.{Fails}
 use Rattle.certificate_audits.specs.declared.outcome.End.TheVariants.{NoBlocks, Objected}
 use Rattle.reports.specs.declared.remaining_counts.Remaining.{Remaining}
 use Rattle.reports.specs.declared.statistics.Counts.{Counts}
@@ -40,7 +41,7 @@ stat_example : json_line (statistics_data (record { counts = two_latches; passab
 unfolding serde_json_on_literals digits
 stat_example = refl
 
-audit_example : json_line (audit_data [] (record { confirmed = 0; end = Objected BadRoute }) None (Some 3) 5)
+audit_example : json_line (audit_data [] (record { confirmed = 0; end = Objected (Fails BadRoute) }) None (Some 3) 5)
     ≡ codes "{\"bound\":3,\"command\":\"verify\",\"counts\":[],\"end\":\"Objected\",\"objection\":\"BadRoute\",\"out\":null,\"status\":5}\n"
 unfolding serde_json_on_literals digits
 audit_example = refl

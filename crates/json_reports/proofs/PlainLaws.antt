@@ -20,7 +20,7 @@ use Rattle.serde_json.specs.Data.{Data, null, string, object, Members, member, n
 use Rattle.serde_json.specs.View.{items_of, view}
 use Rattle.serde_json.specs.declared.value.Value.{Value}
 use Rattle.serde_json.specs.Written.{has_float, items_have_float, members_have_float}
-use Rattle.certificates.specs.Objections.{objection_name}
+use Rattle.certificate_audits.specs.Ends.{block_objection_name}
 use Rattle.json_reports.specs.Audits.{agreement_data, audit_data, block_data, objection_at}
 use Rattle.json_reports.specs.Batches.{batch_data, job_data}
 use Rattle.retimed_circuits.specs.declared.counts.MergeCounts.{MergeCounts}
@@ -138,7 +138,7 @@ plain-agreement (DiffersAt offset) = record { whole = refl; nests = omega arith 
 pub audit : (blocks : List Certificate) (a : Audit) (agreement : Option Agreement) (bound : Option ℕ) (status : ℕ) → IsPlain (audit_data blocks a agreement bound status)
 audit blocks a agreement bound status =
     is_plain {n = 2} (omega arith) (plain-object (plain-member (plain-or_null count plain-count bound) (plain-member (plain-string _) (plain-member (plain-array block_data _ (λ b. plain-count b.count))
-    (plain-member (plain-string _) (plain-member (plain-or_null (λ o. string (objection_name o)) (λ o. plain-string _) (objection_at a.end))
+    (plain-member (plain-string _) (plain-member (plain-or_null (λ o. string (block_objection_name o)) (λ o. plain-string _) (objection_at a.end))
     (plain-member (plain-or_null agreement_data plain-agreement agreement) (plain-member (plain-count status) plain-none))))))))
 
 plain-job : (report : JobReport) → Plain 2 (job_data report)

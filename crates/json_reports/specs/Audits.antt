@@ -1,8 +1,8 @@
 -- An audit of certificates, as an object.
 use Rattle.std.specs.Prelude.{ℕ, List, Option, Some, None, take, codes}
 use Rattle.certificates.specs.declared.certificate.Certificate.{Certificate}
-use Rattle.certificates.specs.declared.verdict.Objection.{Objection}
-use Rattle.certificates.specs.Objections.{objection_name}
+use Rattle.certificate_audits.specs.Ends.{block_objection_name}
+use Rattle.certificate_audits.specs.declared.outcome.BlockObjection.{BlockObjection}
 use Rattle.certificate_audits.specs.declared.outcome.Audit.{Audit}
 use Rattle.certificate_audits.specs.declared.outcome.End.{End}
 use Rattle.certificate_audits.specs.declared.outcome.End.TheVariants.{NoBlocks, Certified, Open, BlocksFollow, Objected}
@@ -19,7 +19,7 @@ end_name BlocksFollow = codes "BlocksFollow"
 end_name (Objected objection) = codes "Objected"
 
 -- why the block after the confirmed ones isn't confirmed
-abbrev pub objection_at : End → Option Objection
+abbrev pub objection_at : End → Option BlockObjection
 objection_at (Objected objection) = Some objection
 objection_at NoBlocks = None
 objection_at Certified = None
@@ -41,6 +41,6 @@ audit_data blocks audit agreement bound status =
     (member (codes "command") (string (codes "verify"))
     (member (codes "counts") (array_of block_data (take audit.confirmed blocks))
     (member (codes "end") (string (end_name audit.end))
-    (member (codes "objection") (or_null (λ objection. string (objection_name objection)) (objection_at audit.end))
+    (member (codes "objection") (or_null (λ objection. string (block_objection_name objection)) (objection_at audit.end))
     (member (codes "out") (or_null agreement_data agreement)
     (member (codes "status") (count status) no_members)))))))

@@ -1,7 +1,7 @@
 //! An audit of certificates, and what came of comparing a file with the circuit that they end in.
 ghost use Rattle.std.specs.Prelude.{◌≡◌, IfOk, OnOk, take};
 ghost use Rattle.serde_json.specs.View.{members_view, view};
-ghost use Rattle.certificates.specs.Objections.{objection_name};
+ghost use Rattle.certificate_audits.specs.Ends.{block_objection_name};
 ghost use Rattle.json_reports.specs.Audits.{agreement_data, audit_data, block_data, objection_at};
 ghost use Rattle.json_reports.specs.Audits as names;
 ghost use Rattle.json_reports.specs.Members.{array_of, or_null};
@@ -28,7 +28,7 @@ fn end_name(end: End) -> &'static str
 
 fn objection_value(alloc: Global, end: End) -> Result<Value, AllocError>
     ensures { IfOk result (λ v. view v
-        ≡ or_null (λ o. string (objection_name o)) (objection_at end)) }
+        ≡ or_null (λ o. string (block_objection_name o)) (objection_at end)) }
 {
     match end {
         End::Objected(objection) => Value::try_from_str(alloc, objection.name()),

@@ -1,11 +1,10 @@
 -- What the command `backward` does.
-use Rattle.std.specs.Prelude.{ℕ, ◌≡◌, true, false, List, Option, Some, None, Ok, unwrap_or}
+use Rattle.std.specs.Prelude.{◌≡◌, true, false, List, Option, Some, None, Ok, unwrap_or}
 use Rattle.counted_io.specs.Input.{Input}
 use Rattle.counted_io.specs.Output.{Output}
 use Rattle.aig_binary.specs.Spellings.{text_in}
 use Rattle.aig_binary.specs.declared.reading.SpeltCircuit.{SpeltCircuit}
-use Rattle.frames.specs.declared.bound.PathBound.{PathBound}
-use Rattle.frames.specs.declared.bound.PathBound.TheVariants as bounds
+use Rattle.frames.specs.Bounds.{levels_named}
 use Rattle.reports.specs.CircuitCounts.{counts}
 use Rattle.backward_retiming.specs.Answered.{IsAnswerTo}
 use Rattle.counted_io.specs.declared.target.Target.{Target}
@@ -18,15 +17,9 @@ use Rattle.command_endings.specs.Sources.{IsCircuitAt}
 use Rattle.map_commands.specs.Printing.{EndsPrintingMoves, SaysMoves}
 use Rattle.map_commands.specs.declared.answering.Answer.{Answer}
 
--- the most gates on a path, where the longest one that is read has fewer: with no path longer than that, none
-abbrev pub bound_of : PathBound → Option ℕ
-bound_of bounds.None = None
-bound_of bounds.NoLonger = Some 0
-bound_of (bounds.Levels levels) = Some levels
-
 -- the circuit that was read, moved backward as the task asks, with its map; what it had, and in which format both are written
 pub record IsBackwardAnswerOf (task : Moving) (spelt : SpeltCircuit) (answer : Answer) : Type 0 where
-  pub moved : IsAnswerTo spelt.circuit (held_by task.options spelt.circuit) (bound_of task.options.bound) answer.moved
+  pub moved : IsAnswerTo spelt.circuit (held_by task.options spelt.circuit) (levels_named task.options.bound) answer.moved
   pub before : answer.before ≡ counts spelt.circuit
   pub spelling : answer.spelling ≡ unwrap_or task.options.spelling spelt.spelling
 

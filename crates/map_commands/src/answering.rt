@@ -2,8 +2,8 @@
 ghost use Rattle.std.specs.Prelude.{◌≡◌, IfOk};
 ghost use Rattle.backward_retiming.specs.Answered.{IsAnswerTo};
 ghost use Rattle.command_endings.specs.HeldNames.{held_by};
-ghost use Rattle.map_commands.specs.Moving.{AnswersTask, IsBackwardAnswerOf, bound_of};
-ghost use Rattle.map_commands.specs.Moving as wanted;
+ghost use Rattle.frames.specs.Bounds.{levels_named};
+ghost use Rattle.map_commands.specs.Moving.{AnswersTask, IsBackwardAnswerOf};
 
 use aig_binary::{Spelling, SpeltCircuit};
 use aig_graph::Circuit;
@@ -12,7 +12,6 @@ use circuit_files::{Failure, circuit_at};
 use command_endings::held_latches;
 use command_line::Moving;
 use counted_io::CountedRead;
-use frames::PathBound;
 use reports::Counts;
 use std::alloc::Global;
 use std::rt::Files;
@@ -25,17 +24,6 @@ pub(crate) struct Answer {
     pub(crate) spelling: Spelling,
 }
 
-/// The most gates on a path of the new circuit, if the longest one that is read has fewer.
-fn bound_of(bound: PathBound) -> Option<u32>
-    ensures { result ≡ wanted.bound_of bound }
-{
-    match bound {
-        PathBound::None => None,
-        PathBound::NoLonger => Some(0),
-        PathBound::Levels(levels) => Some(levels),
-    }
-}
-
 /// Moves the latches of the circuit that are not held.
 fn moved<'a, W: MoveWatcher>(
     alloc: Global,
@@ -44,11 +32,11 @@ fn moved<'a, W: MoveWatcher>(
     watcher: &mut W,
 ) -> Result<MovedBack, Failure<'a>>
     ensures { IfOk result (IsAnswerTo circuit (held_by task.now.options circuit)
-        (wanted.bound_of task.now.options.bound)) }
+        (levels_named task.now.options.bound)) }
 {
     let options = MoveOptions {
         frames: task.options.frames,
-        levels: bound_of(task.options.bound),
+        levels: task.options.bound.levels(),
     };
     match held_latches(alloc, &circuit, task.input, &task.options) {
         Ok(keep) => {

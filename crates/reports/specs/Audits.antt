@@ -2,8 +2,8 @@
 use Rattle.std.specs.Prelude.{ℕ, List, [], ◌∷◌, ◌++◌, take, Option, decimal, codes}
 use Rattle.counted_io.specs.Line.{numbered_lines}
 use Rattle.certificates.specs.declared.certificate.Certificate.{Certificate}
-use Rattle.certificates.specs.declared.verdict.Objection.{Objection}
-use Rattle.certificates.specs.Objections.{objection_name}
+use Rattle.certificate_audits.specs.Ends.{block_objection_name}
+use Rattle.certificate_audits.specs.declared.outcome.BlockObjection.{BlockObjection}
 use Rattle.certificate_audits.specs.declared.outcome.Audit.{Audit}
 use Rattle.certificate_audits.specs.declared.outcome.End.{End}
 use Rattle.certificate_audits.specs.declared.outcome.End.TheVariants.{NoBlocks, Certified, Open, BlocksFollow, Objected}
@@ -15,8 +15,8 @@ abbrev pub block_line : ℕ → Certificate → List ℕ
 block_line number block = codes "block " ++ (decimal number ++ (codes ": yes, count " ++ (decimal block.count ++ 10 ∷ [])))
 
 -- the line of the block with this number, which isn't confirmed
-abbrev pub objection_line : ℕ → Objection → List ℕ
-objection_line number objection = codes "block " ++ (decimal number ++ (codes ": no, " ++ (objection_name objection ++ 10 ∷ [])))
+abbrev pub objection_line : ℕ → BlockObjection → List ℕ
+objection_line number objection = codes "block " ++ (decimal number ++ (codes ": no, " ++ (block_objection_name objection ++ 10 ∷ [])))
 
 abbrev pub end_text : ℕ → End → List ℕ
 end_text number NoBlocks = []

@@ -5,11 +5,11 @@ ghost use Rattle.counted_io.specs.Buffered.{Puts};
 ghost use Rattle.counted_io.specs.Line.{numbered_lines};
 ghost use Rattle.counted_io.specs.Output.{Writes};
 ghost use Rattle.reports.specs.Audits.{audit_text, block_line, end_text, objection_line};
-ghost use Rattle.certificates.specs.Objections.{objection_name};
+ghost use Rattle.certificate_audits.specs.Ends.{block_objection_name};
 
 use crate::agreement::{Agreement, put_agreement};
-use certificate_audits::{Audit, End};
-use certificates::{Certificate, Objection};
+use certificate_audits::{Audit, BlockObjection, End};
+use certificates::Certificate;
 use counted_io::{Buffered, CountedWrite, WriteError};
 
 /// Puts the line of a confirmed block, whose number counts from 0.
@@ -32,14 +32,14 @@ fn put_blocks<W: CountedWrite>(out: &mut Buffered<'_, W>, blocks: &[Certificate]
     }
 }
 
-fn put_name<W: CountedWrite>(out: &mut Buffered<'_, W>, objection: Objection)
-    ensures { Puts W.output out.old out.new (objection_name objection) }
+fn put_name<W: CountedWrite>(out: &mut Buffered<'_, W>, objection: BlockObjection)
+    ensures { Puts W.output out.old out.new (block_objection_name objection) }
 {
     out.put(objection.name().as_bytes());
 }
 
 /// Puts the line of a block that isn't confirmed, whose number counts from 0.
-fn put_objection<W: CountedWrite>(out: &mut Buffered<'_, W>, number: u64, objection: Objection)
+fn put_objection<W: CountedWrite>(out: &mut Buffered<'_, W>, number: u64, objection: BlockObjection)
     ensures { Puts W.output out.old out.new (objection_line number objection) }
 {
     out.put(b"block ");

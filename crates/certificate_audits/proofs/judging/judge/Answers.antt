@@ -6,8 +6,11 @@ use Rattle.certificate_audits.specs.Audits.{IsVerdictBy}
 use Rattle.certificate_audits.proofs.AuditLaws.{confirmed-by}
 use Rattle.certificate_audits.proofs.judging.judge.Goals as goal
 
-pub returns-in-Yes : goal.returns-in-Yes
-returns-in-Yes c =
+pub judge_saving-requires-clause-in_range : goal.judge_saving-requires-clause-in_range
+judge_saving-requires-clause-in_range c = c.requires
+
+pub judge_saving-requires-clause-saves : goal.judge_saving-requires-clause-saves
+judge_saving-requires-clause-saves c =
     let stage = c.args.stage.now in
     let V : Verdict → Type 0 = IsVerdictBy c.args.bound stage.keep stage.circuit c.args.block.now in
     let passes : V Yes = subst V c.in-Yes.is c.in_ok-objection.ensures in

@@ -60,6 +60,20 @@ loop-place-preserved c =
     leads-next c.args.bound c.args.first.keep stage.keep next.keep c.args.first.circuit stage.circuit next.circuit blocks k block c.loop-place-test.true c.index-blocks-place.is
     goes after.next after.in_range c.loop-place.invariant
 
+pub end_at-requires : goal.end_at-requires
+end_at-requires c = c.loop-place.invariant.in_range
+
+pub after_block-requires-clause-saves : goal.after_block-requires-clause-saves
+after_block-requires-clause-saves c =
+    let stage = c.loop-place.stage in
+    let block = c.index-blocks-place.result in
+    let blocks = c.args.blocks.now in
+    let k = c.loop-place.place in
+    let Q : List Certificate → Option Audit → Type 0 = λ rest found. MatchOption found (GoesOn c.args.bound stage.keep stage.circuit block rest) (λ audit. EndsWith c.args.bound stage.keep stage.circuit block rest audit.confirmed audit.end) in
+    let goes : GoesOn c.args.bound stage.keep stage.circuit block (drop (k + 1) blocks) =
+    subst (Q (drop (k + 1) blocks)) c.in-Ok-None.field-0-is (subst (λ (rest : List Certificate). Q rest c.in-Ok-None.field-0) (take_rest blocks (k + 1)) c.in-Ok-None.ensures) in
+    (c.args.bound, goes.taken.saves)
+
 pub after_block-requires-clause-in_range : goal.after_block-requires-clause-in_range
 after_block-requires-clause-in_range c = c.loop-place.invariant.in_range
 

@@ -86,6 +86,9 @@ returns-in-UsedTwice c = record { meaning = sym (ap meaning_of c.in-UsedTwice.is
 pub returns-in-CountDiffers : goal.returns-in-CountDiffers
 returns-in-CountDiffers c = record { meaning = sym (ap meaning_of c.in-CountDiffers.is); rule = sym (ap rule_of c.in-CountDiffers.is); advice = sym (ap advice_of c.in-CountDiffers.is) }
 
+pub returns-in-TooLong : goal.returns-in-TooLong
+returns-in-TooLong c = record { meaning = sym (ap meaning_of c.in-TooLong.is); rule = sym (ap rule_of c.in-TooLong.is); advice = sym (ap advice_of c.in-TooLong.is) }
+
 pub returns-in-NoMemory : goal.returns-in-NoMemory
 returns-in-NoMemory c = record { meaning = sym (ap meaning_of c.in-NoMemory.is); rule = sym (ap rule_of c.in-NoMemory.is); advice = sym (ap advice_of c.in-NoMemory.is) }
 
