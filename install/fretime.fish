@@ -140,5 +140,5 @@ complete -c fretime -n '__fish_seen_subcommand_from retime backward dot verify' 
 complete -c fretime -n '__fish_seen_subcommand_from dot' -x -l around -a '(__fretime_names ilobcjf)' \
     -d 'Draw the neighbourhood of what has this name alone'
 
-complete -c fretime -n '__fish_seen_subcommand_from explain' -f -a 'BadHeader TooLarge MaxIndex BadLine BadLiteral DefinedTwice Undefined Cycle BadReset BadDelta Truncated BadSymbol Trailing Width TooMany NoSuchProperty TooManySteps NoSuchName NoSuchLatch TooManyNodes NotAMap NoSuchLiteral SameFile ShapesDiffer NotClosed BadRoute UsedTwice CountDiffers NoMemory Device'
+complete -c fretime -n '__fish_seen_subcommand_from explain' -f -a 'BadHeader TooLarge MaxIndex BadLine BadLiteral DefinedTwice Undefined Cycle BadReset BadDelta Truncated BadSymbol Trailing Width TooMany NoSuchProperty TooManySteps NoSuchName NoSuchLatch TooManyNodes NotAMap NoSuchLiteral ShapesDiffer NotClosed BadRoute UsedTwice CountDiffers NoMemory Device'
 # end of commands and options

@@ -7,7 +7,7 @@ import generators
 
 PARTS = {
     'run', 'stdin', 'file', 'hex', 'escaped', 'made', 'folder', 'link', 'second', 'beginnings', 'pieces', 'limit', 'seconds',
-    'status', 'stdout', 'stderr', 'after', 'absent', 'blocks', 'verified',
+    'status', 'stdout', 'stderr', 'socket', 'after', 'absent', 'blocks', 'verified',
 }
 
 

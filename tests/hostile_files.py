@@ -132,9 +132,9 @@ def list_of_missing(count):
     return b''.join(b'missing\tout%d\n' % k for k in range(count))
 
 
-def list_with_one_twice(count):
-    """The same, but the last line writes the file of the first one, by another path."""
-    return list_of_missing(count - 1) + b'missing\t./out0\n'
+def list_with_itself(count):
+    """The same, but the last line writes the list, by another path."""
+    return list_of_missing(count - 1) + b'missing\t./list\n'
 
 
 def list_of_one(count):
@@ -193,7 +193,7 @@ MAKERS = {it.__name__: it for it in (
     justice_of_one, binary_outputs, symbols, commented, uncommented, long_name, long_line, no_newline, wide_step, nothing, chain,
     chain_in_binary, many_inputs, read_latches, route_each, listed_gates, long_route, blocks, announced_gates, announced_routes,
     free_latches, symbols_of_each_kind, steps, sequences, bad_input, witness_of_steps, witness_carried, long_property,
-    list_of_missing, list_with_one_twice, list_of_one,
+    list_of_missing, list_with_itself, list_of_one,
 )}
 
 

@@ -5,17 +5,30 @@ import stat
 # (what each path of a command is there for: it is read; it is read, and what is written may take its place; it is a circuit that is
 # made of that one; it is written)
 READ, ORIGINAL, REMADE, WRITTEN = 'read', 'original', 'remade', 'written'
+# (lines that are printed, and a line that is printed in place of what is written)
+LINES, INSTEAD = 'lines', 'instead'
 PATHS = {
     'retime': (('IN', ORIGINAL), ('OUT', REMADE)),
+    'batch': (('LIST', READ),),
+    'stat': (('IN', READ),),
     'convert': (('IN', ORIGINAL), ('OUT', REMADE)),
     'sim': (('IN', READ), ('STIM', READ)),
+    'same': (('A', READ), ('B', READ), ('STIM', READ)),
+    'verify': (('IN', READ), ('CERT', READ)),
+    'check': (('IN', READ), ('OUT', READ), ('MAP', READ)),
     'miter': (('IN', READ), ('OUT', READ), ('MAP', ORIGINAL), ('MITER', REMADE)),
     'product': (('IN', READ), ('OUT', READ), ('MAP', ORIGINAL), ('MODEL', REMADE), ('CERT', WRITTEN)),
     'lift': (('IN', READ), ('OUT', READ), ('MAP', READ), ('CERT', ORIGINAL), ('RESULT', REMADE)),
     'dot': (('IN', READ), ('OUT', WRITTEN)),
+    'witness': (('IN', READ), ('OUT', READ), ('WITNESS', READ)),
 }
 BESIDE = ('--map', '--cert', '--vcd', '--certificate')
-IS_WRITTEN = {REMADE, WRITTEN}
+READ_BESIDE = ('--kept', '--out', '--keep-from')
+PRINTING = {'batch', 'stat', 'sim', 'same', 'verify', 'check', 'witness'}
+IS_WRITTEN = {REMADE, WRITTEN, LINES, INSTEAD}
+# two that are written and may stand in one file
+TOGETHER = {(LINES, LINES), (REMADE, REMADE), (REMADE, INSTEAD), (WRITTEN, INSTEAD)}
+ASIDE = '/dev/stderr'
 # /dev/null, /dev/zero, /dev/full
 VOID = {os.makedev(1, 3), os.makedev(1, 5), os.makedev(1, 7)}
 
@@ -44,32 +57,50 @@ def identity(path):
     return ('bytes', found.st_dev, found.st_ino, name) if path else None
 
 
+def printed_by(command, options, written):
+    """What a command prints, where, and as what."""
+    if command in PRINTING:
+        return [('what is printed', LINES, '-')]
+    if command in ('miter', 'product', 'lift'):
+        return [('what is printed', INSTEAD, '-')]
+    if command != 'retime':
+        return []
+    lines = [('what is printed', LINES, ASIDE if '-' in [path for _, _, path in written] else '-')]
+    return lines + [('--progress', LINES, ASIDE)] * ('--progress' in options)
+
+
+def asked(use):
+    """A use of a file, and which file it is."""
+    streams = {True: '/dev/stdout', False: '/dev/stdin'}
+    return *use, identity(streams[use[1] in IS_WRITTEN] if use[2] == '-' else use[2])
+
+
 def uses(command, paths, options):
     """The files that are written, and those that are read: the argument, what it is for, the path, and which file it is."""
     found = [(name, role, path) for (name, role), path in zip(PATHS[command], paths)]
     found += [(name, WRITTEN, path) for name in BESIDE for path in options.get(name, [])]
-    prints = command == 'sim' or command == 'retime' and '-' not in [path for _, role, path in found if role in IS_WRITTEN]
-    printed = [('what is printed', WRITTEN, '-')] if prints else []
-    found = printed + found if command == 'sim' else found + printed
-    found += [('--keep-from', READ, path) for path in options.get('--keep-from', [])]
-    streams = {True: '/dev/stdout', False: '/dev/stdin'}
-    found = [(*use, identity(streams[use[1] in IS_WRITTEN] if use[2] == '-' else use[2])) for use in found]
-    return [use for use in found if use[1] in IS_WRITTEN], [use for use in found if use[1] not in IS_WRITTEN]
+    written = [use for use in found if use[1] in IS_WRITTEN]
+    printed = printed_by(command, options, written)
+    written = printed + written if command == 'sim' else written + printed
+    read = [use for use in found if use[1] not in IS_WRITTEN]
+    read += [(name, READ, path) for name in READ_BESIDE for path in options.get(name, [])]
+    return list(map(asked, written)), list(map(asked, read))
 
 
 def is_lost(first, second):
     """Whether something is lost by two uses of one file, of which the first is written."""
     kind, both = first[3][0], second[1] in IS_WRITTEN
+    together = (first[1], second[1]) in TOGETHER
     if kind == 'bytes':
-        return (first[1], second[1]) != (REMADE, ORIGINAL)
-    return both and (kind == 'pipe' or '-' in (first[2], second[2]))
+        takes_its_place = (first[1], second[1]) == (REMADE, ORIGINAL) and first[2] not in ('-', ASIDE)
+        return not takes_its_place and not together
+    if not both or together or ASIDE in (first[2], second[2]):
+        return False
+    return kind == 'pipe' or '-' in (first[2], second[2])
 
 
-def clash(command, paths, options):
+def first_clash(written, read):
     """What is said of the first two files that are one, and lose something; None where there are none."""
-    if command not in PATHS:
-        return None
-    written, read = uses(command, paths, options)
     for k, first in enumerate(written):
         for second in written[k + 1:] + read:
             if first[3] and first[3] == second[3] and is_lost(first, second):
@@ -79,13 +110,18 @@ def clash(command, paths, options):
     return None
 
 
-def repeat(paths):
-    """The place of the first of the paths that a list writes which is the file of one before it; None where each is one of its own."""
-    seen = set()
-    for k, path in enumerate(paths):
-        found = identity(path)
-        if found and found[0] != 'device':
-            if found in seen:
-                return k
-            seen.add(found)
+def clash(command, paths, options):
+    """The same of a command line."""
+    return first_clash(*uses(command, paths, options)) if command in PATHS else None
+
+
+def clash_of_list(path, entries):
+    """The same of the files of a list, line by line."""
+    printed, listed = asked(('what is printed', LINES, '-')), asked(('LIST', READ, path))
+    for input_path, output_path in entries:
+        # (in a line '-' is a file of that name)
+        output, read = (f'./{it}' if it == '-' else it for it in (output_path, input_path))
+        found = first_clash([printed, ('OUT', REMADE, output, identity(output))], [listed, ('IN', ORIGINAL, read, identity(read))])
+        if found:
+            return found
     return None

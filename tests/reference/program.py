@@ -6,7 +6,7 @@ from reference.certificates import audit, certificates, first_difference, read_b
 from reference.checks import are_fitting, checked, is_map
 from reference.circuit import text
 from reference.back_lifts import lifted_back
-from reference.clashes import clash, repeat
+from reference.clashes import clash, clash_of_list
 from reference.lifts import NoSuchLiteral, lifted
 from reference.maps import state_map
 from reference.merging import merge_counts
@@ -233,7 +233,7 @@ def retime(paths, options):
 
 
 def entries_of(path):
-    """The paths of each line of a list, of which no two write one file."""
+    """The paths of each line of a list."""
     data, at, found = bytes_of(path), 0, []
     lines = data.split(b'\n')
     for line in lines[:-1] if lines[-1] == b'' else lines:
@@ -243,12 +243,12 @@ def entries_of(path):
             raise Ends(1, f'{source_name(path)}: BadLine at {at}') from error
         if len(found) == LINES:
             raise Ends(1, f'{source_name(path)}: TooLarge at {at}')
-        found.append((at, input_path, output_path))
+        found.append((input_path, output_path))
         at += len(line) + 1
-    again = repeat(output_path for _, _, output_path in found)
-    if again is not None:
-        raise Ends(1, f'{source_name(path)}: SameFile at {found[again][0]}')
-    return [paths for _, *paths in found]
+    said = clash_of_list(path, found)
+    if said:
+        raise Ends(2, f'error: {said}')
+    return found
 
 
 def say(line):

@@ -4,9 +4,9 @@ use Rattle.std.specs.Str.{is_utf8}
 use Rattle.circuit_files.specs.Lists.{Paths}
 use Rattle.circuit_files.specs.declared.entry.Entry.{Entry}
 
--- where an entry's line begins, and the bytes of its paths
+-- the bytes of an entry's paths
 abbrev pub paths : Entry → Paths
-paths entry = record { at = entry.at; input = entry.input.now; output = entry.output.now }
+paths entry = record { input = entry.input.now; output = entry.output.now }
 
 -- the bytes, where they are UTF-8
 abbrev pub text_of : List ℕ → Option (List ℕ)

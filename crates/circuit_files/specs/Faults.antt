@@ -2,12 +2,12 @@
 use Rattle.std.specs.Prelude.{ℕ, ◌≡◌, ◌⊎◌, ◌||◌, ◌<◌, Bool, false, List, [], ◌∷◌, length, get_or, codes}
 use Rattle.std.specs.Str.{bytes_eq}
 use Rattle.circuit_files.specs.declared.named_fault.Fault.{Fault}
-use Rattle.circuit_files.specs.declared.named_fault.Fault.TheVariants.{BadHeader, TooLarge, MaxIndex, BadLine, BadLiteral, DefinedTwice, Undefined, Cycle, BadReset, BadDelta, Truncated, BadSymbol, Trailing, Width, TooMany, NoSuchName, NoSuchLatch, NoSuchProperty, TooManyNodes, TooManySteps, NotAMap, NoSuchLiteral, SameFile, ShapesDiffer, NotClosed, BadRoute, UsedTwice, CountDiffers, TooLong, NoMemory, Device}
+use Rattle.circuit_files.specs.declared.named_fault.Fault.TheVariants.{BadHeader, TooLarge, MaxIndex, BadLine, BadLiteral, DefinedTwice, Undefined, Cycle, BadReset, BadDelta, Truncated, BadSymbol, Trailing, Width, TooMany, NoSuchName, NoSuchLatch, NoSuchProperty, TooManyNodes, TooManySteps, NotAMap, NoSuchLiteral, ShapesDiffer, NotClosed, BadRoute, UsedTwice, CountDiffers, TooLong, NoMemory, Device}
 
 unfoldable pub all_faults : List Fault
 all_faults =
     BadHeader ∷ TooLarge ∷ MaxIndex ∷ BadLine ∷ BadLiteral ∷ DefinedTwice ∷ Undefined ∷ Cycle ∷ BadReset ∷ BadDelta ∷ Truncated
-    ∷ BadSymbol ∷ Trailing ∷ Width ∷ TooMany ∷ NoSuchName ∷ NoSuchLatch ∷ NoSuchProperty ∷ TooManyNodes ∷ TooManySteps ∷ NotAMap ∷ NoSuchLiteral ∷ SameFile ∷ ShapesDiffer ∷ NotClosed ∷ BadRoute ∷ UsedTwice
+    ∷ BadSymbol ∷ Trailing ∷ Width ∷ TooMany ∷ NoSuchName ∷ NoSuchLatch ∷ NoSuchProperty ∷ TooManyNodes ∷ TooManySteps ∷ NotAMap ∷ NoSuchLiteral ∷ ShapesDiffer ∷ NotClosed ∷ BadRoute ∷ UsedTwice
     ∷ CountDiffers ∷ TooLong ∷ NoMemory ∷ Device ∷ []
 
 abbrev pub name_of : Fault → List ℕ
@@ -33,7 +33,6 @@ name_of TooManyNodes = codes "TooManyNodes"
 name_of TooManySteps = codes "TooManySteps"
 name_of NotAMap = codes "NotAMap"
 name_of NoSuchLiteral = codes "NoSuchLiteral"
-name_of SameFile = codes "SameFile"
 name_of ShapesDiffer = codes "ShapesDiffer"
 name_of NotClosed = codes "NotClosed"
 name_of BadRoute = codes "BadRoute"

@@ -7,25 +7,24 @@ use Rattle.counted_io.specs.Reading.{read_lines}
 use Rattle.circuit_files.specs.declared.fault.ListError.{ListError}
 use Rattle.circuit_files.specs.declared.fault.ListError.TheVariants.{BadLine, TooLarge}
 
--- where a line begins; the path of a file to read, and that of the file to write
+-- the path of a file to read, and that of the file to write
 pub record Paths : Type 0 where
-  pub at : ℕ
   pub input : List ℕ
   pub output : List ℕ
 
--- the paths before and after the first tab of a line that begins at an offset: there is no other, and both are UTF-8
-abbrev pub paths_apart : ℕ → List ℕ → List ℕ → Option Paths
-paths_apart at input output =
-    if not (list_any (λ b. b == 9) output) && (is_utf8 input && is_utf8 output) then Some (record { at = at; input = input; output = output }) else None
+-- the paths before and after the first tab of a line: there is no other, and both are UTF-8
+abbrev pub paths_apart : List ℕ → List ℕ → Option Paths
+paths_apart input output =
+    if not (list_any (λ b. b == 9) output) && (is_utf8 input && is_utf8 output) then Some (record { input = input; output = output }) else None
 
 -- the paths before and after a place of a line
-abbrev pub paths_around : ℕ → List ℕ → Option ℕ → Option Paths
-paths_around at line None = None
-paths_around at line (Some tab) = paths_apart at (take tab line) (drop (tab + 1) line)
+abbrev pub paths_around : List ℕ → Option ℕ → Option Paths
+paths_around line None = None
+paths_around line (Some at) = paths_apart (take at line) (drop (at + 1) line)
 
 -- the paths of a line, where it is two with a tab between
-abbrev pub paths_of : ℕ → List ℕ → Option Paths
-paths_of at line = paths_around at line (position (λ b. b == 9) line)
+abbrev pub paths_of : List ℕ → Option Paths
+paths_of line = paths_around line (position (λ b. b == 9) line)
 
 -- the files after one more line with these paths, or its fault: it has none, or there are 2^20 lines before it
 abbrev pub with_line : ℕ → List Paths → Option Paths → Result (List Paths) ListError
@@ -34,7 +33,7 @@ with_line at files (Some paths) = if length files == 2 ^ 20 then Err (TooLarge a
 
 -- the files after one more line, which begins at an offset, or its fault
 abbrev pub read_line : ℕ → List Paths → List ℕ → Result (List Paths) ListError
-read_line at files line = with_line at files (paths_of at line)
+read_line at files line = with_line at files (paths_of line)
 
 -- the files of a list, or its first fault
 abbrev pub read_list : List ℕ → Result (List Paths) ListError

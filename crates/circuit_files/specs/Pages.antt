@@ -1,7 +1,7 @@
 -- The texts of the page of each fault.
 use Rattle.std.specs.Prelude.{ℕ, List, codes}
 use Rattle.circuit_files.specs.declared.named_fault.Fault.{Fault}
-use Rattle.circuit_files.specs.declared.named_fault.Fault.TheVariants.{BadHeader, TooLarge, MaxIndex, BadLine, BadLiteral, DefinedTwice, Undefined, Cycle, BadReset, BadDelta, Truncated, BadSymbol, Trailing, Width, TooMany, NoSuchName, NoSuchLatch, NoSuchProperty, TooManyNodes, TooManySteps, NotAMap, NoSuchLiteral, SameFile, ShapesDiffer, NotClosed, BadRoute, UsedTwice, CountDiffers, TooLong, NoMemory, Device}
+use Rattle.circuit_files.specs.declared.named_fault.Fault.TheVariants.{BadHeader, TooLarge, MaxIndex, BadLine, BadLiteral, DefinedTwice, Undefined, Cycle, BadReset, BadDelta, Truncated, BadSymbol, Trailing, Width, TooMany, NoSuchName, NoSuchLatch, NoSuchProperty, TooManyNodes, TooManySteps, NotAMap, NoSuchLiteral, ShapesDiffer, NotClosed, BadRoute, UsedTwice, CountDiffers, TooLong, NoMemory, Device}
 
 -- what the fault is
 abbrev pub meaning_of : Fault → List ℕ
@@ -27,7 +27,6 @@ meaning_of TooManyNodes = codes "A circuit of over 2000 nodes makes no picture t
 meaning_of TooManySteps = codes "So many random sequences, of so many steps, take too much memory."
 meaning_of NotAMap = codes "The circuit of a map of states has more than gates, outputs and constraints."
 meaning_of NoSuchLiteral = codes "A name of a witness circuit says a literal that OUT hasn't, or one twice."
-meaning_of SameFile = codes "Two lines of a list write one file."
 meaning_of ShapesDiffer = codes "Two circuits, or a map and its circuits, don't fit together."
 meaning_of NotClosed = codes "The set of gates of a certificate isn't closed."
 meaning_of BadRoute = codes "A list of points of a certificate is no route."
@@ -61,7 +60,6 @@ rule_of TooManyNodes = codes "Inputs, latches, gates and properties are nodes."
 rule_of TooManySteps = codes "All steps take 2^28 bytes at most, each 64 and one for each input; the choices\nfor free latches 2^28, one each; the trace 2^31 bits, one for each literal of a\nproperty, or with --vcd for each wave, and each step, for 256 sequences at least."
 rule_of NotAMap = codes "A map has no latch, bad state, justice property or fairness constraint. Its\ninputs are the latches of IN, its outputs those of OUT."
 rule_of NoSuchLiteral = codes "A name '= 12' of an input of CERT says the literal 12 of an input of OUT, one of\na latch that of a latch, and no two say the same. Literals are those of OUT in a\nbinary file."
-rule_of SameFile = codes "Each line of the list of a batch writes a file of its own, by whatever path: two\npaths lead to one file by './', a link or a second name, and also where the file\nisn't there yet. A line may write the file that it reads, or another line reads,\nsince all are read before."
 rule_of ShapesDiffer = codes "Both circuits have as many inputs, and as many outputs, bad states, constraints,\njustice properties of the same sizes and fairness literals; for 'same' as many\nfree latches too. A map has an input for each latch of IN and an output for each\nlatch of OUT, for 'lift --back' the other way round; IN has no free latch there."
 rule_of NotClosed = codes "Its gates rise strictly. Each is a gate that latches may pass, and each gate\nthat it reads is one of the set."
 rule_of BadRoute = codes "A route goes from a known latch through gates that latches may pass to what no\nmove passes, by the steps of docs/CERTIFICATES.md."
@@ -95,7 +93,6 @@ advice_of TooManyNodes = codes "Draw a neighbourhood: 'fretime dot IN OUT --arou
 advice_of TooManySteps = codes "Take fewer steps or sequences. For more of them run again with another --seed."
 advice_of NotAMap = codes "See that IN, OUT and MAP are given in this order: 'fretime retime IN OUT --map\nMAP' writes MAP."
 advice_of NoSuchLiteral = codes "See that CERT is a witness circuit for OUT, not for IN nor of another run."
-advice_of SameFile = codes "Give the line another path. Many lines may write to /dev/null."
 advice_of ShapesDiffer = codes "Compare what 'fretime stat' prints of both circuits and of MAP, and see that all\nare of one run and in the order of the command. Where 'retime' left free latches\nout, 'same' takes --kept LIST."
 advice_of NotClosed = codes "See that the certificates are of this IN, and give what 'retime' got: --keep,\n--keep-latch, --merge. Else they are wrong: 'fretime retime IN OUT --cert FILE'\nwrites others."
 advice_of BadRoute = codes "See that the certificates are of this IN, and give what 'retime' got: --keep,\n--keep-latch, --merge. Else they are wrong: 'fretime retime IN OUT --cert FILE'\nwrites others."

@@ -3,39 +3,36 @@ ghost use Rattle.std.specs.List.{list_any};
 ghost use Rattle.circuit_files.specs.Lists as lists;
 ghost use Rattle.circuit_files.specs.Entries.{paths, text_of};
 
-use counted_io::Line;
 use std::str;
 
 /// A line of a list.
 #[derive(Clone, Copy, Drop)]
 pub struct Entry<'a> {
-    /// The offset of its first byte.
-    pub at: u64,
     /// The path of the file that is read.
     pub input: &'a str,
     /// The path of the file that is written.
     pub output: &'a str,
 }
 
-/// The entry of a line.
-pub(crate) fn entry_of<'a>(line: &Line<'a>) -> Option<Entry<'a>>
-    ensures { option_map paths result ≡ lists.paths_of line.now.at line.now.text.now }
+/// The entry of a line, without its newline.
+pub(crate) fn entry_of(line: &[u8]) -> Option<Entry<'_>>
+    ensures { option_map paths result ≡ lists.paths_of line.now }
 {
-    match tab_at(line.text) {
-        Some(tab) => entry_around(line.at, &line.text[..tab], &line.text[tab + 1..]),
+    match tab_at(line) {
+        Some(at) => entry_around(&line[..at], &line[at + 1..]),
         None => None,
     }
 }
 
-/// The entry of the bytes before the first tab of the line at this offset, and after it.
-fn entry_around<'a>(at: u64, input: &'a [u8], output: &'a [u8]) -> Option<Entry<'a>>
-    ensures { option_map paths result ≡ lists.paths_apart at input.now output.now }
+/// The entry of the bytes before the first tab of a line, and after it.
+fn entry_around<'a>(input: &'a [u8], output: &'a [u8]) -> Option<Entry<'a>>
+    ensures { option_map paths result ≡ lists.paths_apart input.now output.now }
 {
     if has_tab(output) {
         return None;
     }
     match (as_text(input), as_text(output)) {
-        (Some(input), Some(output)) => Some(Entry { at, input, output }),
+        (Some(input), Some(output)) => Some(Entry { input, output }),
         _ => None,
     }
 }

@@ -12,9 +12,6 @@ pub enum ListError {
     /// There are more than 2^20 lines.
     #[error("TooLarge at {0}")]
     TooLarge(u64),
-    /// The file that a line writes is that of a line before it, by whatever paths.
-    #[error("SameFile at {0}")]
-    SameFile(u64),
     /// Memory was refused.
     #[error("out of memory")]
     NoMemory,
@@ -31,7 +28,6 @@ impl ListError {
             ListError::BadLine(_) => 1,
             ListError::TooLarge(_) => 2,
             ListError::NoMemory => 3,
-            ListError::SameFile(_) => 4,
         }
     }
 
@@ -42,7 +38,6 @@ impl ListError {
         match self {
             ListError::BadLine(_) => "BadLine",
             ListError::TooLarge(_) => "TooLarge",
-            ListError::SameFile(_) => "SameFile",
             ListError::NoMemory => "NoMemory",
         }
     }
@@ -52,7 +47,7 @@ impl ListError {
         ensures { result ≡ offset_of self }
     {
         match self {
-            ListError::BadLine(at) | ListError::TooLarge(at) | ListError::SameFile(at) => Some(at),
+            ListError::BadLine(at) | ListError::TooLarge(at) => Some(at),
             ListError::NoMemory => None,
         }
     }

@@ -28,7 +28,6 @@ pub enum Fault {
     TooManySteps,
     NotAMap,
     NoSuchLiteral,
-    SameFile,
     ShapesDiffer,
     NotClosed,
     BadRoute,
@@ -39,7 +38,7 @@ pub enum Fault {
     Device,
 }
 
-const FAULTS: [Fault; 31] = [
+const FAULTS: [Fault; 30] = [
     Fault::BadHeader,
     Fault::TooLarge,
     Fault::MaxIndex,
@@ -62,7 +61,6 @@ const FAULTS: [Fault; 31] = [
     Fault::TooManySteps,
     Fault::NotAMap,
     Fault::NoSuchLiteral,
-    Fault::SameFile,
     Fault::ShapesDiffer,
     Fault::NotClosed,
     Fault::BadRoute,
@@ -109,7 +107,6 @@ impl Fault {
             Fault::TooManySteps => "TooManySteps",
             Fault::NotAMap => "NotAMap",
             Fault::NoSuchLiteral => "NoSuchLiteral",
-            Fault::SameFile => "SameFile",
             Fault::ShapesDiffer => "ShapesDiffer",
             Fault::NotClosed => "NotClosed",
             Fault::BadRoute => "BadRoute",

@@ -72,15 +72,6 @@ property, or with --vcd for each wave, and each step, for 256 sequences at least
     advice: "Take fewer steps or sequences. For more of them run again with another --seed.",
 };
 
-pub const SAME_FILE: Page = Page {
-    meaning: "Two lines of a list write one file.",
-    rule: "Each line of the list of a batch writes a file of its own, by whatever path: two
-paths lead to one file by './', a link or a second name, and also where the file
-isn't there yet. A line may write the file that it reads, or another line reads,
-since all are read before.",
-    advice: "Give the line another path. Many lines may write to /dev/null.",
-};
-
 pub const SHAPES_DIFFER: Page = Page {
     meaning: "Two circuits, or a map and its circuits, don't fit together.",
     rule: "Both circuits have as many inputs, and as many outputs, bad states, constraints,

@@ -45,7 +45,6 @@ fn page_of(fault: Fault) -> &'static Page
         Fault::TooManySteps => &others::TOO_MANY_STEPS,
         Fault::NotAMap => &others::NOT_A_MAP,
         Fault::NoSuchLiteral => &others::NO_SUCH_LITERAL,
-        Fault::SameFile => &others::SAME_FILE,
         Fault::ShapesDiffer => &others::SHAPES_DIFFER,
         Fault::NotClosed => &others::NOT_CLOSED,
         Fault::BadRoute => &others::BAD_ROUTE,

@@ -34,7 +34,7 @@ fn read_line<'a>(entries: &mut Vec<Entry<'a>>, line: &Line<'a>) -> Result<(), Li
     ensures { Gives NoMemory (λ _. map paths entries.new.items) result
         (lists.read_line line.now.at (map paths entries.old.items) line.now.text.now) }
 {
-    let Some(entry) = entry_of(line) else {
+    let Some(entry) = entry_of(line.text) else {
         return Err(ListError::BadLine(line.at));
     };
     if entries.len() == MAX_LINES {

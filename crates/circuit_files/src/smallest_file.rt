@@ -31,7 +31,6 @@ impl Fault {
             | Fault::TooManySteps
             | Fault::NotAMap
             | Fault::NoSuchLiteral
-            | Fault::SameFile
             | Fault::ShapesDiffer
             | Fault::NotClosed
             | Fault::BadRoute

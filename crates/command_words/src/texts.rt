@@ -126,10 +126,10 @@ pub(crate) const BATCH_LONG_ABOUT: &str =
 file.
 
 A line of LIST is the path of a circuit, a tab, and the path of the file to
-write. All circuits are read before the first is retimed. The workers take them
-one at a time; what is written is the same for every number of workers. In a
-line '-' is a file of that name. No two lines may write one file, by whatever
-paths.";
+write. All circuits are read before the first is retimed, so a line may write
+what a line reads. The workers take them one at a time; what is written is the
+same for every number of workers. If two lines write one file, the later circuit
+stands. In a line '-' is a file of that name.";
 
 pub(crate) const BATCH_EXAMPLE: &str =
     "It prints a line for each circuit, in the order of the list, once its file is
@@ -400,10 +400,10 @@ MaxIndex, BadLine, BadLiteral, DefinedTwice, Undefined, Cycle, BadReset,
 BadDelta, Truncated, BadSymbol, Trailing. Of a stimulus or a witness: Width,
 TooMany, NoSuchProperty. Of random sequences: TooManySteps. Of names and
 pictures: NoSuchName, NoSuchLatch, TooManyNodes. Of maps and witness circuits:
-NotAMap, NoSuchLiteral. Of the list of a batch: SameFile. Of two circuits:
-ShapesDiffer. Of certificates: NotClosed, BadRoute, UsedTwice, CountDiffers,
-TooLong. Of a run: NoMemory, Device. What a message says stands for a name too:
-'shapes differ', 'out of memory', 'device'.
+NotAMap, NoSuchLiteral. Of two circuits: ShapesDiffer. Of certificates:
+NotClosed, BadRoute, UsedTwice, CountDiffers, TooLong. Of a run: NoMemory,
+Device. What a message says stands for a name too: 'shapes differ', 'out of
+memory', 'device'.
 
 Exit status: 0 done, 2 command line, or there is no such fault, 3 device, 4 out
 of memory.";

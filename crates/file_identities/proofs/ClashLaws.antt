@@ -55,7 +55,7 @@ pub first-end : (written read : List Asked) (i : ℕ) → length written ≤ i �
 first-end written read i past = at_drop_all (λ (xs : List Asked). first_clash xs read) written i past
 
 -- a search that finds nothing
-none_found : {X Y : Type 0} (p : X → Bool) (f : X → Y) (xs : List X) → option_map f (find p xs) ≡ None → All (λ x. p x ≡ false) xs
+pub none_found : {X Y : Type 0} (p : X → Bool) (f : X → Y) (xs : List X) → option_map f (find p xs) ≡ None → All (λ x. p x ≡ false) xs
 none_found p f [] none = λ k d within. absurd (omega (arith, within))
 none_found {X} {Y} p f (x ∷ xs) none = by_test (p x) refl none (none_found p f xs)
   where

@@ -1,3 +1,3 @@
 pub mod AskingLaws
 pub mod ClashLaws
-pub mod OutputLaws
+pub mod ListLaws

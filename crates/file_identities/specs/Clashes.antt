@@ -23,22 +23,60 @@ is_written roles.Original = false
 is_written roles.Read = false
 is_written roles.Remade = true
 is_written roles.Written = true
+is_written roles.Lines = true
+is_written roles.LineInstead = true
 
--- whether what is written may take the place of what is read
-abbrev pub replaces : Role → Role → Bool
-replaces roles.Remade roles.Original = true
-replaces _ _ = false
+-- whether two that are written may stand in one file: lines follow one another, of two circuits of a list the later one stands, and a line in
+-- place of what is written stands alone
+abbrev pub stand_together : Role → Role → Bool
+stand_together roles.Lines roles.Lines = true
+stand_together roles.Remade roles.Remade = true
+stand_together roles.Remade roles.LineInstead = true
+stand_together roles.Written roles.LineInstead = true
+stand_together _ _ = false
 
+-- whether `-` stands for it
 abbrev pub is_stream_place : Place → Bool
 is_stream_place places.Stdin = true
 is_stream_place places.Stdout = true
+is_stream_place places.Stderr = false
 is_stream_place (places.File path) = false
+
+abbrev pub is_stderr : Place → Bool
+is_stderr places.Stdin = false
+is_stderr places.Stdout = false
+is_stderr places.Stderr = true
+is_stderr (places.File path) = false
+
+-- whether a file is made anew there, in place of one that is there
+abbrev pub is_path : Place → Bool
+is_path places.Stdin = false
+is_path places.Stdout = false
+is_path places.Stderr = false
+is_path (places.File path) = true
+
+-- whether what is written there, in this role, may take the place of what is read
+abbrev pub replaces_at : Place → Role → Role → Bool
+replaces_at place roles.Remade roles.Original = is_path place
+replaces_at place _ _ = false
+
+-- whether what is written may take the place of what is read: a path is made anew, a stream isn't
+abbrev pub replaces : FileUse → FileUse → Bool
+replaces first second = replaces_at first.place first.role second.role
+
+-- whether the one or the other is standard error
+abbrev pub is_aside : FileUse → FileUse → Bool
+is_aside first second = is_stderr first.place || is_stderr second.place
+
+-- whether two that are written lose nothing as one pipe or device
+abbrev pub is_shared : FileUse → FileUse → Bool
+is_shared first second = stand_together first.role second.role || is_aside first second
 
 -- whether something is lost where the first of two, which is written, and the second are one file
 abbrev pub loses : Keeping → FileUse → FileUse → Bool
-loses Bytes first second = not (replaces first.role second.role)
-loses Pipe first second = is_written second.role
-loses Device first second = is_written second.role && (is_stream_place first.place || is_stream_place second.place)
+loses Bytes first second = not (replaces first second || stand_together first.role second.role)
+loses Pipe first second = is_written second.role && not (is_shared first second)
+loses Device first second = (is_written second.role && not (is_shared first second)) && (is_stream_place first.place || is_stream_place second.place)
 
 -- whether two paths lead to one file, or to one that would be made
 abbrev pub is_same : Identity → Identity → Bool

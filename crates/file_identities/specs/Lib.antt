@@ -1,3 +1,3 @@
 pub mod FileUses
 pub mod Clashes
-pub mod Outputs
+pub mod ListFiles

@@ -1,5 +1,6 @@
 //! The first two files of a command line that can't be one file and are.
-ghost use Rattle.std.specs.Prelude.{◌≡◌};
+ghost use Rattle.std.specs.Prelude.{◌≡◌, ◌∷◌, []};
+ghost use Rattle.file_identities.specs.Clashes.{clash_among};
 ghost use Rattle.file_identities.specs.Clashes as wanted;
 
 use crate::file_use::FileUse;
@@ -26,15 +27,23 @@ impl Debug for FileClash<'_> {
     }
 }
 
+/// Whether two that are written lose nothing as one pipe or device.
+fn is_shared(first: FileUse<'_>, second: FileUse<'_>) -> bool
+    ensures { result ≡ wanted.is_shared first.entry second.entry }
+{
+    first.role.stands_with(second.role) || first.is_aside(&second)
+}
+
 /// Whether something is lost where the first of two, which is written, and the second are one file.
 fn loses(keeping: Keeping, first: FileUse<'_>, second: FileUse<'_>) -> bool
     ensures { result ≡ wanted.loses keeping first.entry second.entry }
 {
     match keeping {
-        Keeping::Bytes => !first.role.replaces(second.role),
-        Keeping::Pipe => second.role.is_written(),
+        Keeping::Bytes => !(first.replaces(&second) || first.role.stands_with(second.role)),
+        Keeping::Pipe => second.role.is_written() && !is_shared(first, second),
         Keeping::Device => {
-            second.role.is_written() && (first.place.is_stream() || second.place.is_stream())
+            (second.role.is_written() && !is_shared(first, second))
+                && (first.place.is_stream() || second.place.is_stream())
         }
     }
 }
@@ -58,6 +67,17 @@ fn clash_of<'a>(first: &Asked<'a>, second: &Asked<'a>) -> FileClash<'a>
         FileClash::WrittenTwice(first.file, second.file)
     } else {
         FileClash::WrittenOver(first.file, second.file)
+    }
+}
+
+/// So, if they are one.
+pub(crate) fn pair_clash<'a>(first: &Asked<'a>, second: &Asked<'a>) -> Option<FileClash<'a>>
+    ensures { result ≡ clash_among first.now (second.now ∷ []) }
+{
+    if clash(first, second) {
+        Some(clash_of(first, second))
+    } else {
+        None
     }
 }
 

@@ -18,6 +18,18 @@ pub enum Argument {
     MapOption,
     /// The option for certificates.
     Cert,
+    /// The list of a batch.
+    List,
+    /// The first of two circuits that are compared.
+    First,
+    /// The second one.
+    Second,
+    /// The option for the list of the free latches that the second one has.
+    Kept,
+    /// The certificates that are read.
+    Certificates,
+    /// The option for the circuit in which certificates end.
+    OutOption,
     /// The stimulus.
     Stim,
     /// The option for waves.
@@ -34,9 +46,13 @@ pub enum Argument {
     WitnessFile,
     /// The witness circuit that is written.
     ResultFile,
+    /// The witness that is read.
+    Witness,
     /// The option for a file of names.
     KeepFrom,
-    /// None: what is printed on standard output.
+    /// The option for a line a frame.
+    Progress,
+    /// None: what is printed.
     Printed,
 }
 
@@ -49,6 +65,12 @@ impl Argument {
             Argument::Map => "MAP",
             Argument::MapOption => "--map",
             Argument::Cert => "--cert",
+            Argument::List => "LIST",
+            Argument::First => "A",
+            Argument::Second => "B",
+            Argument::Kept => "--kept",
+            Argument::Certificates => "CERT",
+            Argument::OutOption => "--out",
             Argument::Stim => "STIM",
             Argument::Vcd => "--vcd",
             Argument::MiterFile => "MITER",
@@ -57,7 +79,9 @@ impl Argument {
             Argument::CertificateFile => "CERT",
             Argument::WitnessFile => "CERT",
             Argument::ResultFile => "RESULT",
+            Argument::Witness => "WITNESS",
             Argument::KeepFrom => "--keep-from",
+            Argument::Progress => "--progress",
             Argument::Printed => "what is printed",
         }
     }
@@ -74,6 +98,10 @@ pub enum Role {
     Remade,
     /// It is written, and takes the place of nothing.
     Written,
+    /// Lines are printed there.
+    Lines,
+    /// A line is printed there, if nothing is written.
+    LineInstead,
 }
 
 impl Role {
@@ -82,16 +110,19 @@ impl Role {
     {
         match self {
             Role::Original | Role::Read => false,
-            Role::Remade | Role::Written => true,
+            Role::Remade | Role::Written | Role::Lines | Role::LineInstead => true,
         }
     }
 
-    /// Whether what is written may take the place of what is read.
-    pub(crate) fn replaces(self, other: Role) -> bool
-        ensures { result ≡ wanted.replaces self other }
+    /// Whether two that are written may stand in one file.
+    pub(crate) fn stands_with(self, other: Role) -> bool
+        ensures { result ≡ wanted.stand_together self other }
     {
         match (self, other) {
-            (Role::Remade, Role::Original) => true,
+            (Role::Lines, Role::Lines)
+            | (Role::Remade, Role::Remade)
+            | (Role::Remade, Role::LineInstead)
+            | (Role::Written, Role::LineInstead) => true,
             _ => false,
         }
     }
@@ -104,17 +135,39 @@ pub enum Place<'a> {
     Stdin,
     /// Standard output.
     Stdout,
+    /// Standard error.
+    Stderr,
     /// The path that was given.
     File(&'a str),
 }
 
 impl<'a> Place<'a> {
+    /// Whether it is the one that `-` stands for.
     pub(crate) fn is_stream(self) -> bool
         ensures { result ≡ wanted.is_stream_place self.entry }
     {
         match self {
             Place::Stdin | Place::Stdout => true,
-            Place::File(_) => false,
+            Place::Stderr | Place::File(_) => false,
+        }
+    }
+
+    pub(crate) fn is_stderr(self) -> bool
+        ensures { result ≡ wanted.is_stderr self.entry }
+    {
+        match self {
+            Place::Stderr => true,
+            Place::Stdin | Place::Stdout | Place::File(_) => false,
+        }
+    }
+
+    /// Whether a file is made anew there, in place of one that is there.
+    fn is_path(self) -> bool
+        ensures { result ≡ wanted.is_path self.entry }
+    {
+        match self {
+            Place::File(_) => true,
+            Place::Stdin | Place::Stdout | Place::Stderr => false,
         }
     }
 
@@ -123,6 +176,7 @@ impl<'a> Place<'a> {
         match self {
             Place::Stdin => "/dev/stdin",
             Place::Stdout => "/dev/stdout",
+            Place::Stderr => "/dev/stderr",
             Place::File(path) => path,
         }
     }
@@ -131,6 +185,7 @@ impl<'a> Place<'a> {
     fn word(self) -> &'a str {
         match self {
             Place::Stdin | Place::Stdout => "-",
+            Place::Stderr => "/dev/stderr",
             Place::File(path) => path,
         }
     }
@@ -145,6 +200,29 @@ pub struct FileUse<'a> {
     pub role: Role,
     /// Where it is.
     pub place: Place<'a>,
+}
+
+impl FileUse<'_> {
+    ghost use Rattle.std.specs.Prelude.{◌≡◌};
+    ghost use Rattle.file_identities.specs.Clashes as wanted;
+
+    /// Whether what is written may take the place of what is read: a path is made anew, a stream
+    /// isn't.
+    pub(crate) fn replaces(&self, other: &FileUse<'_>) -> bool
+        ensures { result ≡ wanted.replaces self.now other.now }
+    {
+        match (self.role, other.role) {
+            (Role::Remade, Role::Original) => self.place.is_path(),
+            _ => false,
+        }
+    }
+
+    /// Whether the one or the other is standard error.
+    pub(crate) fn is_aside(&self, other: &FileUse<'_>) -> bool
+        ensures { result ≡ wanted.is_aside self.now other.now }
+    {
+        self.place.is_stderr() || other.place.is_stderr()
+    }
 }
 
 impl Display for FileUse<'_> {

@@ -5,7 +5,10 @@ ghost use Rattle.file_identities.specs.FileUses as wanted;
 
 use crate::file_use::{Argument, FileUse, Place, Role};
 use crate::identity::{Asked, ask};
-use command_line::{Asking, Lifting, Moving, Retiming, Stimuli, Task};
+use command_line::{
+    Asking, Carrying, Checking, Comparison, Lifting, Moving, Retiming, Shown, Stimuli, Task,
+    Verification,
+};
 use counted_io::{Source, Target};
 use std::alloc::{AllocError, Global};
 use std::rt::Files;
@@ -29,7 +32,7 @@ fn place_of_target(target: Target<'_>) -> Place<'_>
 }
 
 /// A file that is read.
-fn reading(argument: Argument, source: Source<'_>) -> FileUse<'_>
+pub(crate) fn reading(argument: Argument, source: Source<'_>) -> FileUse<'_>
     ensures { result ≡ wanted.reading argument source.entry }
 {
     FileUse {
@@ -82,22 +85,65 @@ fn writing_if_asked(argument: Argument, target: Option<Target<'_>>) -> Option<Fi
     }
 }
 
-/// What is printed on standard output.
-fn printed<'a>() -> FileUse<'a>
-    ensures { result ≡ wanted.printed_use }
+/// The same of a file that is read.
+fn reading_if_asked(argument: Argument, source: Option<Source<'_>>) -> Option<FileUse<'_>>
+    ensures { result ≡ wanted.reading_if_asked argument source.entry }
 {
-    FileUse {
-        argument: Argument::Printed,
-        role: Role::Written,
-        place: Place::Stdout,
+    match source {
+        Some(source) => Some(reading(argument, source)),
+        None => None,
     }
 }
 
-/// The lines of a run, unless they go to standard error.
-fn printed_unless<'a>(is_aside: bool) -> Option<FileUse<'a>>
-    ensures { result ≡ (if is_aside then None else Some wanted.printed_use) }
+/// Lines that are printed.
+fn lines_at<'a>(argument: Argument, place: Place<'a>) -> FileUse<'a>
+    ensures { result ≡ wanted.lines_at argument place.entry }
 {
-    if is_aside { None } else { Some(printed()) }
+    FileUse {
+        argument,
+        role: Role::Lines,
+        place,
+    }
+}
+
+/// What is printed on standard output.
+pub(crate) fn printed<'a>() -> FileUse<'a>
+    ensures { result ≡ wanted.printed_use }
+{
+    lines_at(Argument::Printed, Place::Stdout)
+}
+
+/// The lines of a run: on standard error, if standard output is given a file.
+fn printed_beside<'a>(is_aside: bool) -> FileUse<'a>
+    ensures { result ≡ wanted.printed_beside is_aside }
+{
+    let place = if is_aside {
+        Place::Stderr
+    } else {
+        Place::Stdout
+    };
+    lines_at(Argument::Printed, place)
+}
+
+/// The lines of `--progress`.
+fn progress_of<'a>(shown: Shown) -> Option<FileUse<'a>>
+    ensures { result ≡ wanted.progress_of shown }
+{
+    match shown {
+        Shown::EachFrame => Some(lines_at(Argument::Progress, Place::Stderr)),
+        Shown::OnTerminal | Shown::Nothing => None,
+    }
+}
+
+/// The line that two circuits can't be compared.
+fn shapes<'a>() -> FileUse<'a>
+    ensures { result ≡ wanted.shapes_use }
+{
+    FileUse {
+        argument: Argument::Printed,
+        role: Role::LineInstead,
+        place: Place::Stdout,
+    }
 }
 
 /// A stimulus, where one is read.
@@ -145,32 +191,41 @@ fn ask_all<'a, R: Files>(
     Ok(files)
 }
 
+/// So many files of a task, each of which there may be.
+type Uses<'a> = [Option<FileUse<'a>>; 5];
+
 /// One file.
-fn one(file: FileUse<'_>) -> [Option<FileUse<'_>>; 4]
-    ensures { result ≡ Some file.entry ∷ None ∷ None ∷ None ∷ [] }
+fn one(file: FileUse<'_>) -> Uses<'_>
+    ensures { result ≡ Some file.entry ∷ None ∷ None ∷ None ∷ None ∷ [] }
 {
-    [Some(file), None, None, None]
+    [Some(file), None, None, None, None]
 }
 
 /// A file, and one that there may be.
-fn two<'a>(first: FileUse<'a>, second: Option<FileUse<'a>>) -> [Option<FileUse<'a>>; 4]
-    ensures { result ≡ Some first.entry ∷ second.entry ∷ None ∷ None ∷ [] }
+fn two<'a>(first: FileUse<'a>, second: Option<FileUse<'a>>) -> Uses<'a>
+    ensures { result ≡ Some first.entry ∷ second.entry ∷ None ∷ None ∷ None ∷ [] }
 {
-    [Some(first), second, None, None]
+    [Some(first), second, None, None, None]
 }
 
-fn read_by_asking<'a>(asking: &Asking<'a>) -> [Option<FileUse<'a>>; 4]
+/// Two files, and one that there may be.
+fn three<'a>(first: FileUse<'a>, second: FileUse<'a>, third: Option<FileUse<'a>>) -> Uses<'a>
+    ensures { result ≡ Some first.entry ∷ Some second.entry ∷ third.entry ∷ None ∷ None ∷ [] }
+{
+    [Some(first), Some(second), third, None, None]
+}
+
+fn read_by_asking<'a>(asking: &Asking<'a>) -> Uses<'a>
     ensures { given result ≡ wanted.read_by_asking asking.now }
 {
-    [
-        Some(reading(Argument::In, asking.input)),
-        Some(reading(Argument::Out, asking.retimed)),
+    three(
+        reading(Argument::In, asking.input),
+        reading(Argument::Out, asking.retimed),
         Some(original(Argument::Map, asking.map)),
-        None,
-    ]
+    )
 }
 
-fn read_by_lifting<'a>(lifting: &Lifting<'a>) -> [Option<FileUse<'a>>; 4]
+fn read_by_lifting<'a>(lifting: &Lifting<'a>) -> Uses<'a>
     ensures { given result ≡ wanted.read_by_lifting lifting.now }
 {
     [
@@ -178,33 +233,86 @@ fn read_by_lifting<'a>(lifting: &Lifting<'a>) -> [Option<FileUse<'a>>; 4]
         Some(reading(Argument::Out, lifting.retimed)),
         Some(reading(Argument::Map, lifting.map)),
         Some(original(Argument::WitnessFile, lifting.witness)),
+        None,
     ]
 }
 
-fn written_by_retiming<'a>(retiming: &Retiming<'a>) -> [Option<FileUse<'a>>; 4]
+fn read_by_comparison<'a>(comparison: &Comparison<'a>) -> Uses<'a>
+    ensures { given result ≡ wanted.read_by_comparison comparison.now }
+{
+    [
+        Some(reading(Argument::First, comparison.first)),
+        Some(reading(Argument::Second, comparison.second)),
+        stimulus_of(comparison.stimuli),
+        reading_if_asked(Argument::Kept, comparison.kept),
+        None,
+    ]
+}
+
+fn read_by_verification<'a>(verification: &Verification<'a>) -> Uses<'a>
+    ensures { given result ≡ wanted.read_by_verification verification.now }
+{
+    three(
+        reading(Argument::In, verification.input),
+        reading(Argument::Certificates, verification.certificates),
+        reading_if_asked(Argument::OutOption, verification.retimed),
+    )
+}
+
+fn read_by_checking<'a>(checking: &Checking<'a>) -> Uses<'a>
+    ensures { given result ≡ wanted.read_by_checking checking.now }
+{
+    three(
+        reading(Argument::In, checking.input),
+        reading(Argument::Out, checking.retimed),
+        Some(reading(Argument::Map, checking.map)),
+    )
+}
+
+fn read_by_carrying<'a>(carrying: &Carrying<'a>) -> Uses<'a>
+    ensures { given result ≡ wanted.read_by_carrying carrying.now }
+{
+    three(
+        reading(Argument::In, carrying.input),
+        reading(Argument::Out, carrying.retimed),
+        Some(reading(Argument::Witness, carrying.witness)),
+    )
+}
+
+fn written_by_retiming<'a>(retiming: &Retiming<'a>) -> Uses<'a>
     ensures { given result ≡ wanted.written_by_retiming retiming.now }
 {
     [
         Some(remade(Argument::Out, retiming.output)),
         writing_if_asked(Argument::MapOption, retiming.map),
         writing_if_asked(Argument::Cert, retiming.certificates),
-        printed_unless(retiming.takes_stdout()),
+        Some(printed_beside(retiming.takes_stdout())),
+        progress_of(retiming.shown),
     ]
 }
 
-fn written_by_moving<'a>(moving: &Moving<'a>) -> [Option<FileUse<'a>>; 4]
+fn written_by_moving<'a>(moving: &Moving<'a>) -> Uses<'a>
     ensures { given result ≡ wanted.written_by_moving moving.now }
 {
     [
         Some(remade(Argument::Out, moving.output)),
         writing_if_asked(Argument::MapOption, moving.map),
-        printed_unless(moving.takes_stdout()),
+        Some(printed_beside(moving.takes_stdout())),
+        progress_of(moving.shown),
         None,
     ]
 }
 
+/// A circuit that is made of others, a certificate of it, and the line in place of both.
+fn made<'a>(circuit: FileUse<'a>, certificate: Option<FileUse<'a>>) -> Uses<'a>
+    ensures { result ≡ Some circuit.entry ∷ certificate.entry ∷ Some wanted.shapes_use
+        ∷ None ∷ None ∷ [] }
+{
+    [Some(circuit), certificate, Some(shapes()), None, None]
+}
+
 /// The files that a task writes, none of which is asked for yet.
-fn uses_written<'a>(task: &Task<'a>) -> [Option<FileUse<'a>>; 4]
+fn uses_written<'a>(task: &Task<'a>) -> Uses<'a>
     ensures { given result ≡ wanted.written_by task.now }
 {
     match task {
@@ -215,26 +323,26 @@ fn uses_written<'a>(task: &Task<'a>) -> [Option<FileUse<'a>>; 4]
             two(printed(), writing_if_asked(Argument::Vcd, simulation.waves))
         }
         Task::Miter(asking) => {
-            two(
+            made(
                 remade(Argument::MiterFile, asking.output),
                 writing_if_asked(Argument::Certificate, asking.certificate),
             )
         }
         Task::Product(asking) => {
-            two(
+            made(
                 remade(Argument::ModelFile, asking.output),
                 writing_if_asked(Argument::CertificateFile, asking.certificate),
             )
         }
-        Task::Lift(lifting) => one(remade(Argument::ResultFile, lifting.output)),
+        Task::Lift(lifting) => made(remade(Argument::ResultFile, lifting.output), None),
         Task::Dot(drawing) => one(writing(Argument::Out, drawing.output)),
         Task::Batch(_)
         | Task::Stat(_)
         | Task::Same(_)
         | Task::Verify(_)
         | Task::Check(_)
-        | Task::Witness(_)
-        | Task::Explain(_) => [None, None, None, None],
+        | Task::Witness(_) => one(printed()),
+        Task::Explain(_) => [None, None, None, None, None],
     }
 }
 
@@ -250,13 +358,15 @@ pub(crate) fn written_by<'a, R: Files>(
     ask_all(rt, alloc, &uses_written(task))
 }
 
-/// The files that a task reads that writes one, beside files of names, none of which is asked for yet.
-fn uses_read<'a>(task: &Task<'a>) -> [Option<FileUse<'a>>; 4]
+/// The files that a task reads beside files of names, none of which is asked for yet.
+fn uses_read<'a>(task: &Task<'a>) -> Uses<'a>
     ensures { given result ≡ wanted.others_read_by task.now }
 {
     match task {
         Task::Retime(retiming) => one(original(Argument::In, retiming.input)),
         Task::Backward(moving) => one(original(Argument::In, moving.input)),
+        Task::Batch(batch) => one(reading(Argument::List, batch.list)),
+        Task::Stat(counting) => one(reading(Argument::In, counting.input)),
         Task::Convert(input, _, _) => one(original(Argument::In, *input)),
         Task::Sim(simulation) => {
             two(
@@ -264,17 +374,15 @@ fn uses_read<'a>(task: &Task<'a>) -> [Option<FileUse<'a>>; 4]
                 stimulus_of(simulation.stimuli),
             )
         }
+        Task::Same(comparison) => read_by_comparison(comparison),
+        Task::Verify(verification) => read_by_verification(verification),
+        Task::Check(checking) => read_by_checking(checking),
         Task::Miter(asking) => read_by_asking(asking),
         Task::Product(asking) => read_by_asking(asking),
         Task::Lift(lifting) => read_by_lifting(lifting),
         Task::Dot(drawing) => one(reading(Argument::In, drawing.input)),
-        Task::Batch(_)
-        | Task::Stat(_)
-        | Task::Same(_)
-        | Task::Verify(_)
-        | Task::Check(_)
-        | Task::Witness(_)
-        | Task::Explain(_) => [None, None, None, None],
+        Task::Witness(carrying) => read_by_carrying(carrying),
+        Task::Explain(_) => [None, None, None, None, None],
     }
 }
 

@@ -66,7 +66,6 @@ fn are_of_files(alloc: Global) -> bool {
             &ListError::TooLarge(greatest),
             "TooLarge at 4294967296",
         )
-        & is_spelt(alloc, &ListError::SameFile(12), "SameFile at 12")
         & is_spelt(alloc, &read, "BadLine at 18")
         & is_spelt(alloc, &retimed, "no latch has name 1")
         & is_spelt(alloc, &BytesError::Write(WriteError::Device), "device")

@@ -1,5 +1,7 @@
 -- How a batch ends.
-use Rattle.std.proofs.Common.{◌≡◌, ◌⊎◌, Bool, List, [], ◌∷◌, fold, inl, inr, sym, ◌∙◌, subst}
+use Rattle.std.proofs.Common.{◌≡◌, ◌⊎◌, Bool, List, [], ◌∷◌, fold, inl, inr, refl, sym, ◌∙◌, subst}
+use Rattle.clap.specs.declared.error.kind.ErrorKind.{ErrorKind}
+use Rattle.clap.specs.declared.error.kind.ErrorKind.TheVariants.{ArgumentConflict, DisplayHelp, DisplayVersion, OutOfMemory}
 use Rattle.counted_io.specs.Output.{Output}
 use Rattle.reports.specs.declared.batch.JobReport.{JobReport}
 use Rattle.reports.specs.declared.batch.JobReport.TheVariants as reports
@@ -46,7 +48,7 @@ listed json Refused files old new is p = inr (record { files = files; printed = 
 listed json Memory files old new is p = inr (record { files = files; printed = p })
 listed json Device files old new is p = tt
 listed json ShapesDiffer files old new is p = is
-listed json CommandLine files old new is p = is
+listed json CommandLine files old new is p = absurd is
 listed json Differ files old new is p = is
 listed json Unconfirmed files old new is p = is
 
@@ -80,3 +82,16 @@ pub of_late_failure : (json : Bool) (f : Failure) (ended : Outcome) (old mid new
 of_late_failure json f ended old mid new is (inl device) p = subst (λ (e : Outcome). PrintsList json e old new) (sym (is ∙ device)) tt
 of_late_failure json f ended old mid new is (inr memory) p =
     of_failure json f ended old new is (subst (λ (s : Output). PrintsFailure json (outcome_of f) s new) memory.1 p)
+
+is_help : (k : ErrorKind) → k ≡ ArgumentConflict → k ≡ DisplayHelp → ⊥
+is_help k conflict help = cc
+
+is_version : (k : ErrorKind) → k ≡ ArgumentConflict → k ≡ DisplayVersion → ⊥
+is_version k conflict version = cc
+
+-- where two files of a line are one
+pub of_clash : (json : Bool) (ended : Outcome) (k : ErrorKind) (old : Output) → (k ≡ ArgumentConflict) ⊎ (k ≡ OutOfMemory) → (k ≡ OutOfMemory → ⊥)
+    → ((k ≡ OutOfMemory → ⊥) → (k ≡ DisplayHelp → ⊥) → (k ≡ DisplayVersion → ⊥) → ended ≡ CommandLine) → PrintsList json ended old old
+of_clash json ended k old (inl conflict) other mistake =
+    subst (λ (e : Outcome). PrintsList json e old old) (sym (mistake other (is_help k conflict) (is_version k conflict))) refl
+of_clash json ended k old (inr memory) other mistake = absurd (other memory)

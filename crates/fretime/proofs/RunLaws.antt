@@ -85,8 +85,8 @@ where_refused Unconfirmed old new p is = absurd (omega (arith, is))
 -- at status 2
 pub where_unasked : (o : Outcome) (old new : Output) → MayPrint o old new → status_of o ≡ 2 → new ≡ old
 where_unasked CommandLine old new (inl same) is = same
-where_unasked CommandLine old new (inr (inl p)) is = absurd p
-where_unasked CommandLine old new (inr (inr p)) is = absurd p
+where_unasked CommandLine old new (inr (inl same)) is = same
+where_unasked CommandLine old new (inr (inr same)) is = same
 where_unasked Refused old new p is = absurd (omega (arith, is))
 where_unasked ShapesDiffer old new p is = absurd (omega (arith, is))
 where_unasked Done old new p is = absurd (omega (arith, is))

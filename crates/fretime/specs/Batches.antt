@@ -60,13 +60,14 @@ pub record PrintsFiles (json : Bool) (ended : Outcome) (old new : Output) : Type
   pub files : List JobReport
   pub printed : Printed json files ended old new
 
--- a batch prints all its files, or, where it was refused or memory was wanting before that, what a failure prints
+-- a batch prints all its files, or, where it was refused or memory was wanting before that, what a failure prints; nothing, where two files of a
+-- line are one
 abbrev pub PrintsList : Bool → Outcome → Output → Output → Type 0
 PrintsList json Done old new = PrintsFiles json Done old new
 PrintsList json Refused old new = PrintsFailure json Refused old new ⊎ PrintsFiles json Refused old new
 PrintsList json Memory old new = PrintsFailure json Memory old new ⊎ PrintsFiles json Memory old new
 PrintsList json Device old new = Unit {0}
 PrintsList json ShapesDiffer old new = ⊥
-PrintsList json CommandLine old new = ⊥
+PrintsList json CommandLine old new = new ≡ old
 PrintsList json Differ old new = ⊥
 PrintsList json Unconfirmed old new = ⊥

@@ -1,5 +1,5 @@
 //! The command `batch`.
-ghost use Rattle.std.specs.Prelude.{◌≡◌, ◌<◌, ◌≤◌, ◌⊎◌, ◌+◌, All, false, IfErr, IfOk, MatchResult, OnOk, codes, length, map};
+ghost use Rattle.std.specs.Prelude.{◌≡◌, ◌<◌, ◌≤◌, ◌⊎◌, ◌+◌, All, false, IfErr, IfOk, MatchResult, OnOk, codes, None, length, map};
 ghost use Rattle.counted_io.specs.Output.{WritesAll};
 ghost use Rattle.reports.specs.Batches.{job_line};
 ghost use Rattle.circuit_files.specs.Outcomes.{outcome_of};
@@ -8,22 +8,29 @@ ghost use Rattle.fretime.specs.Answers.{FailsAt, IsOfInput, IsOfOutputs, IsWritt
 ghost use Rattle.fretime.specs.Reporting.{PrintsFailure, SaysFailureBy};
 ghost use Rattle.fretime.specs.Batches.{AreOutcomesFor, Printed, PrintsList};
 ghost use Rattle.fretime.specs.Batches as wanted;
-ghost use Rattle.file_identities.specs.Outputs.{HaveOwnFiles};
+ghost use Rattle.clap.specs.Values.{kind_of};
+ghost use Rattle.clap.specs.declared.error.kind.ErrorKind.TheVariants.{ArgumentConflict, OutOfMemory};
+ghost use Rattle.file_identities.specs.ListFiles.{IsListClash};
 
 use crate::answers::{Answer, answers_of, write_answer};
 use crate::batch_object::finish_as_object;
+use crate::clashes::list_clash_error;
 use crate::reporting::{report_failure_as, told_of};
+use crate::usage::report_usage;
 use batch_pool::{Job, run_batch};
 use circuit_files::{
-    Entry, Failure, ListError, Outcome, bytes_at, bytes_of_file, give_hint, read_list,
+    Entry, Failure, Message, Outcome, bytes_at, bytes_of_file, give_hint, read_list,
 };
+use clap::Error;
+use clap::error::ErrorKind;
 use command_endings::run_options;
 use command_line::Batch;
-use counted_io::{CountedRead, CountedWrite, Streams};
-use file_identities::check_outputs;
+use counted_io::{CountedRead, CountedWrite, Source, Streams};
+use file_identities::repeated_output;
 use pulse::{Crew, OpenGate};
 use reports::{JobReport, print_job};
 use std::alloc::Global;
+use std::fmt::Write;
 use std::rt::Files;
 use std::thread::Threads;
 
@@ -232,12 +239,12 @@ fn finish_entries<'a, R: Files, O: CountedWrite>(
     alloc: Global,
     entries: &'a [Entry<'a>],
     outcomes: &'a [batch_pool::Outcome],
-    json: bool,
+    task: &Batch<'_>,
     out: &mut O,
 ) -> Result<Outcome, Failure<'a>>
     requires each { length outcomes.now ≡ length entries.now }
-    requires own { HaveOwnFiles entries.now }
-    ensures ok { IfOk result (λ ended. Printed json (map wanted.report_of outcomes.now) ended
+    requires apart { IsListClash task.now.list entries.now None }
+    ensures ok { IfOk result (λ ended. Printed task.now.json (map wanted.report_of outcomes.now) ended
         (O.output out.old) (O.output out.new)) }
     ensures written { OnOk result (All (IsWritten R.File.contents) outcomes.now) }
     ensures err { IfErr result (λ failure. (outcome_of failure ≡ Device)
@@ -245,7 +252,7 @@ fn finish_entries<'a, R: Files, O: CountedWrite>(
 {
     match answers_of(alloc, entries, outcomes) {
         Ok(answers) => {
-            let finished = finish(rt, alloc, answers.as_slice(), json, out);
+            let finished = finish(rt, alloc, answers.as_slice(), task.json, out);
             drop(answers);
             finished
         }
@@ -284,16 +291,16 @@ fn finish_or_refuse<R: Files, I, O: CountedWrite, E: CountedWrite>(
     streams: &mut Streams<I, O, E>,
 ) -> Outcome
     requires each { length outcomes.now ≡ length entries.now }
-    requires own { HaveOwnFiles entries.now }
+    requires apart { IsListClash task.now.list entries.now None }
     ensures { PrintsList task.now.json result (O.output streams.old.out) (O.output streams.new.out) }
 {
-    match finish_entries(rt, alloc, entries, outcomes, task.json, &mut streams.out) {
+    match finish_entries(rt, alloc, entries, outcomes, task, &mut streams.out) {
         Ok(ended) => ended,
         Err(failure) => refuse(rt, alloc, task, failure, true, streams),
     }
 }
 
-/// Does the jobs of the entries, each of which writes a file of its own.
+/// Does the jobs of the entries, no two of whose files are one, so that something would be lost.
 fn retime_entries<R: Files + Threads + Sync, I, O: CountedWrite, E: CountedWrite>(
     rt: &R,
     alloc: Global,
@@ -301,7 +308,7 @@ fn retime_entries<R: Files + Threads + Sync, I, O: CountedWrite, E: CountedWrite
     task: &Batch<'_>,
     streams: &mut Streams<I, O, E>,
 ) -> Outcome
-    requires { HaveOwnFiles entries.now }
+    requires { IsListClash task.now.list entries.now None }
     ensures { PrintsList task.now.json result (O.output streams.old.out) (O.output streams.new.out) }
 {
     match outcomes(rt, alloc, entries, task) {
@@ -314,21 +321,50 @@ fn retime_entries<R: Files + Threads + Sync, I, O: CountedWrite, E: CountedWrite
     }
 }
 
-/// Refuses a list: nothing was written.
-fn refuse_list<R: Files, I, O: CountedWrite, E: CountedWrite>(
+/// Refuses a line of which two files are one: nothing was written.
+fn refuse_clash<R: Files, I, O: CountedWrite, E: CountedWrite>(
     rt: &R,
     alloc: Global,
-    error: ListError,
+    error: Error,
     task: &Batch<'_>,
     streams: &mut Streams<I, O, E>,
 ) -> Outcome
+    requires { (kind_of error ≡ ArgumentConflict) ⊎ (kind_of error ≡ OutOfMemory) }
     ensures { PrintsList task.now.json result (O.output streams.old.out) (O.output streams.new.out) }
 {
-    let failure = Failure::of_list(error, task.list.name());
-    refuse(rt, alloc, task, failure, false, streams)
+    if error.kind() == ErrorKind::OutOfMemory {
+        drop(error);
+        return refuse(rt, alloc, task, Failure::Memory, false, streams);
+    }
+    let outcome = report_usage(&error, streams.is_terminal, &mut streams.err);
+    drop(error);
+    outcome
 }
 
-/// Does the jobs of the entries, unless two of them write one file.
+/// Tells a terminal that a line writes the file of a line before it.
+fn tell_repeat<R: Files, E: CountedWrite>(
+    rt: &R,
+    alloc: Global,
+    entries: &[Entry<'_>],
+    list: Source<'_>,
+    is_terminal: bool,
+    err: &mut E,
+) {
+    if !is_terminal {
+        return;
+    }
+    if let Some(line) = repeated_output(rt, alloc, entries) {
+        let mut message = Message::new(err, true);
+        let _ = writeln!(
+            message,
+            "{}: line {line} writes the file of a line before it: the later circuit stands",
+            list.name()
+        );
+        message.send();
+    }
+}
+
+/// Does the jobs of the entries, unless two files of a line are one.
 fn retime_apart<R: Files + Threads + Sync, I, O: CountedWrite, E: CountedWrite>(
     rt: &R,
     alloc: Global,
@@ -338,9 +374,13 @@ fn retime_apart<R: Files + Threads + Sync, I, O: CountedWrite, E: CountedWrite>(
 ) -> Outcome
     ensures { PrintsList task.now.json result (O.output streams.old.out) (O.output streams.new.out) }
 {
-    match check_outputs(rt, alloc, entries) {
-        Ok(()) => retime_entries(rt, alloc, entries, task, streams),
-        Err(error) => refuse_list(rt, alloc, error, task, streams),
+    match list_clash_error(rt, alloc, task.list, entries) {
+        Some(error) => refuse_clash(rt, alloc, error, task, streams),
+        None => {
+            let is_terminal = streams.is_terminal;
+            tell_repeat(rt, alloc, entries, task.list, is_terminal, &mut streams.err);
+            retime_entries(rt, alloc, entries, task, streams)
+        }
     }
 }
 
@@ -360,12 +400,17 @@ fn retime_lines<R: Files + Threads + Sync, I, O: CountedWrite, E: CountedWrite>(
             drop(entries);
             ended
         }
-        Err(error) => refuse_list(rt, alloc, error, task, streams),
+        Err(error) => {
+            let failure = Failure::of_list(error, task.list.name());
+            refuse(rt, alloc, task, failure, false, streams)
+        }
     }
 }
 
-/// Reads a list, of which no two lines may write one file, and all its files, of which `-` is one as any other, and retimes them; then, job by job, writes its circuit and
-/// prints its line, or writes all and prints one object. Reports why it ended before that, and returns how the run ends.
+/// Reads a list and all its files, of which `-` is one as any other, and retimes them; then, job by
+/// job, writes its circuit and prints its line, or writes all and prints one object. Reports why it
+/// ended before that, also if two files of a line are one, so that something would be lost, and
+/// returns how the run ends.
 pub fn retime_list<R: Files + Threads + Sync, I: CountedRead, O: CountedWrite, E: CountedWrite>(
     rt: &R,
     alloc: Global,

@@ -10,6 +10,7 @@ mod clashes;
 mod explaining;
 mod reporting;
 mod run;
+mod usage;
 mod written;
 
 use counted_io::{Counted, CountedRead, CountedWrite, Streams};

@@ -3,10 +3,8 @@
 ghost use Rattle.std.specs.Prelude.{◌≡◌, ◌≢◌, ◌⊎◌, ◌≤◌, IfOk};
 ghost use Rattle.std.specs.IoError.{error_kind};
 ghost use Rattle.std.specs.declared.io.ErrorKind.TheVariants as kinds;
-ghost use Rattle.clap.specs.Values.{kind_of};
-ghost use Rattle.clap.specs.declared.error.kind.ErrorKind.TheVariants.{DisplayHelp, DisplayVersion, OutOfMemory};
 ghost use Rattle.circuit_files.specs.WrittenFiles.{IsFileGiven};
-ghost use Rattle.circuit_files.specs.declared.outcome.Outcome.TheVariants.{Done, Refused, CommandLine, Memory};
+ghost use Rattle.circuit_files.specs.declared.outcome.Outcome.TheVariants.{Refused, Memory};
 ghost use Rattle.command_endings.specs.Printing.{Prints, ending};
 ghost use Rattle.commands.specs.Verifying.{PrintsAuditOf};
 ghost use Rattle.fretime.specs.Runs.{Does, MayGive, MayPrint, PrintsFilesOrRefusal, PrintsShapes};
@@ -15,9 +13,8 @@ use crate::batch::retime_list;
 use crate::clashes::clash_error;
 use crate::explaining::explain;
 use crate::reporting::{report_failure, reported};
+use crate::usage::refuse_line;
 use circuit_files::{Failure, Message, Outcome};
-use clap::Error;
-use clap::error::ErrorKind;
 use command_endings::{NameFile, hold_names, read_name_files};
 use command_line::{Task, Verification, parse_arguments};
 use commands::{convert, print_retimed, print_statistics, print_verification, write_picture};
@@ -94,38 +91,6 @@ fn run_task<
         Task::Witness(carrying) => print_witness_back(rt, alloc, carrying, stdin, out),
         Task::Explain(name) => explain(alloc, *name, streams),
     }
-}
-
-/// Prints help, the version, or what is wrong with the arguments, and returns how the run ends. A failed write changes
-/// nothing.
-fn report_usage<E: CountedWrite>(error: &Error, is_terminal: bool, err: &mut E) -> Outcome
-    ensures ends { (result ≡ Done) ⊎ (result ≡ CommandLine) ⊎ (result ≡ Memory) }
-    ensures memory { kind_of error.now ≡ OutOfMemory → result ≡ Memory }
-    ensures shown { (kind_of error.now ≡ DisplayHelp) ⊎ (kind_of error.now ≡ DisplayVersion)
-        → result ≡ Done }
-    ensures mistake { kind_of error.now ≢ OutOfMemory → kind_of error.now ≢ DisplayHelp
-        → kind_of error.now ≢ DisplayVersion → result ≡ CommandLine }
-{
-    if error.kind() == ErrorKind::OutOfMemory {
-        return report_failure(Failure::Memory, is_terminal, err);
-    }
-    let mut message = Message::new(err, is_terminal);
-    let _ = write!(message, "{error}");
-    message.send();
-    if error.use_stderr() {
-        Outcome::CommandLine
-    } else {
-        Outcome::Done
-    }
-}
-
-/// The same, and lets it go.
-fn refuse_line<E: CountedWrite>(error: Error, is_terminal: bool, err: &mut E) -> Outcome
-    ensures { (result ≡ Done) ⊎ (result ≡ CommandLine) ⊎ (result ≡ Memory) }
-{
-    let outcome = report_usage(&error, is_terminal, err);
-    drop(error);
-    outcome
 }
 
 /// Reports that the command-line arguments can't be read (out of memory, or not UTF-8), and returns the exit status. A

@@ -68,9 +68,6 @@ returns-in-NotAMap c = record { meaning = sym (ap meaning_of c.in-NotAMap.is); r
 pub returns-in-NoSuchLiteral : goal.returns-in-NoSuchLiteral
 returns-in-NoSuchLiteral c = record { meaning = sym (ap meaning_of c.in-NoSuchLiteral.is); rule = sym (ap rule_of c.in-NoSuchLiteral.is); advice = sym (ap advice_of c.in-NoSuchLiteral.is) }
 
-pub returns-in-SameFile : goal.returns-in-SameFile
-returns-in-SameFile c = record { meaning = sym (ap meaning_of c.in-SameFile.is); rule = sym (ap rule_of c.in-SameFile.is); advice = sym (ap advice_of c.in-SameFile.is) }
-
 pub returns-in-ShapesDiffer : goal.returns-in-ShapesDiffer
 returns-in-ShapesDiffer c = record { meaning = sym (ap meaning_of c.in-ShapesDiffer.is); rule = sym (ap rule_of c.in-ShapesDiffer.is); advice = sym (ap advice_of c.in-ShapesDiffer.is) }
 

@@ -7,7 +7,7 @@ use Rattle.fretime.proofs.batch.finish_entries.Goals as goal
 pub returns-in-Ok-clause-ok : goal.returns-in-Ok-clause-ok
 returns-in-Ok-clause-ok g c =
     let are = subst (λ (answers : List Answer). AreAnswersOf c.args.entries.now c.args.outcomes.now answers) (sym c.as_slice.ensures.value) c.in-Ok.ensures in
-    printed_of c.args.json c.args.entries.now c.args.outcomes.now c.as_slice.result.now _ _ c.finish-finished.result are c.finish-finished.ensures.ok
+    printed_of c.args.task.now.json c.args.entries.now c.args.outcomes.now c.as_slice.result.now _ _ c.finish-finished.result are c.finish-finished.ensures.ok
 
 pub returns-in-Ok-clause-written : goal.returns-in-Ok-clause-written
 returns-in-Ok-clause-written g c =
