@@ -171,8 +171,16 @@ def of_certificates(stored):
         yield [what, f'{span(values)} times as long' if values else '', verdict(values, limit)]
 
 
+def of_networks(stored):
+    """Hints that don't show a set cost a network and its flow, which no answer tells."""
+    counts = {entry['circuit']: entry['network'] for entry in stored['circuits'] if entry.get('network') is not None}
+    needed = ', '.join(f'`{circuit}` {count}' for circuit, count in counts.items() if count)
+    shown = f'on {len(counts)} circuits {needed or "none"}' if counts else ''
+    return ['no set found by a network', shown, verdict(counts.values(), 0)]
+
+
 def aims(stored):
-    rows = [*of_node_frames(stored), of_time(stored, 'multiplier 64', '`multiplier 64`', 1, None),
+    rows = [*of_node_frames(stored), of_networks(stored), of_time(stored, 'multiplier 64', '`multiplier 64`', 1, None),
             of_time(stored, TEN_MILLION, '10^7 gates with two frames', 20, 1200), of_abc(stored), *of_certificates(stored)]
     return table(['Aim', 'Measured', ''], rows)
 

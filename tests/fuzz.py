@@ -409,9 +409,10 @@ def circuit_of(family):
 
 
 def without_times(text):
-    """A report without what its run took."""
+    """A report without what was measured of its run."""
     report = json.loads(text or b'{}')
-    report.pop('microseconds', None)
+    for name in ('microseconds', 'network'):
+        report.pop(name, None)
     return report
 
 

@@ -4,20 +4,21 @@
 use crate::cut::Cut;
 use crate::gathering::{PartFlow, gathered};
 use crate::part_flows::Part;
+use crate::shares::{CutFlow, Shares};
 use aig_graph::Memory;
 use pulse::{Crew, OpenGate, PhaseGate};
 use std::alloc::{AllocError, Global};
 use std::sync::atomic::{AtomicU64, Ordering};
 use std::thread;
 use std::thread::Threads;
-use unit_flows::GateFlow;
 use unit_starts::narrow;
 
-/// The flows of parts, and the memory for them.
+/// The flows of parts, the memory for them, and how many each worker found.
 #[derive(Drop)]
 struct Found {
     memory: Memory,
     flows: Vec<PartFlow>,
+    drawn: Vec<usize>,
 }
 
 impl Found {
@@ -26,6 +27,7 @@ impl Found {
         Found {
             memory: Memory::of(alloc),
             flows: Vec::new(alloc),
+            drawn: Vec::new(alloc),
         }
     }
 
@@ -65,6 +67,7 @@ impl Found {
 
     /// Takes what a worker found.
     fn take(&mut self, found: &mut Found) {
+        self.memory.push(&mut self.drawn, found.flows.len());
         let is_taken = self.flows.append(&mut found.flows).is_ok();
         self.memory.refuse_if(found.memory.is_refused() | !is_taken);
     }
@@ -112,13 +115,26 @@ pub(crate) fn flow_of_parts<R: Threads + Sync, G: PhaseGate>(
     memory: &mut Memory,
     cut: &Cut,
     crew: &Crew<G>,
-) -> Vec<GateFlow> {
+) -> CutFlow {
     let mut found = Found::none(memory.alloc());
     found.bring_drawn(rt, cut, crew);
     found.bring_large(rt, cut, crew);
     memory.refuse_if(found.memory.is_refused());
     let workers = crew.workers() as usize;
-    let flows = gathered(rt, memory, cut, found.flows.as_slice(), workers);
-    drop(found);
-    flows
+    let (gates, gathering) = gathered(rt, memory, cut, found.flows.as_slice(), workers);
+    let Found {
+        memory: own,
+        flows,
+        drawn,
+    } = found;
+    drop(own);
+    drop(flows);
+    CutFlow {
+        gates,
+        shares: Shares {
+            joining: cut.parts.workers(),
+            drawing: drawn,
+            gathering,
+        },
+    }
 }

@@ -3,6 +3,7 @@
 use crate::cut::Cut;
 use crate::ranges::{border, count_before, entries};
 use aig_graph::Memory;
+use std::sync::atomic::{AtomicU64, Ordering};
 use std::thread;
 use std::thread::Threads;
 use unit_flows::GateFlow;
@@ -40,16 +41,20 @@ fn put(cut: &Cut, found: &PartFlow, first: usize, table: &mut [GateFlow]) {
     put_at(table, begin, entries(places, from, to), flows);
 }
 
-/// The flow at each gate of a region, of which these parts are found, by so many workers. Where no part has a gate, nothing flows.
+/// Puts the flow at each gate of a region, of which these parts are found, in its place, by
+/// `workers` workers. If no part has a gate, nothing flows there. Returns how many of them had a
+/// range of gates, too.
 pub(crate) fn gathered<R: Threads + Sync>(
     rt: &R,
     memory: &mut Memory,
     cut: &Cut,
     found: &[PartFlow],
     workers: usize,
-) -> Vec<GateFlow> {
+) -> (Vec<GateFlow>, usize) {
     let gates = cut.region.gates.len();
+    let ranges = AtomicU64::new(0);
     let work = |first: usize, range: &mut [GateFlow]| {
+        ranges.fetch_add(1, Ordering::SeqCst);
         for k in 0..found.len() {
             put(cut, &found[k], first, range);
         }
@@ -57,5 +62,5 @@ pub(crate) fn gathered<R: Threads + Sync>(
     let mut table = memory.table(GateFlow::none(), gates);
     let range = border(1, workers, gates).max(1);
     thread::for_each_chunk_mut(rt, table.as_mut_slice(), range, &work);
-    table
+    (table, ranges.load(Ordering::SeqCst) as usize)
 }

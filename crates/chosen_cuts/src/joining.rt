@@ -131,16 +131,29 @@ impl Stretch {
     }
 }
 
-/// Stretches that come one after another, joined.
-fn joined(memory: &mut Memory, stretches: Result<Vec<Stretch>, AllocError>) -> Vec<u32> {
+/// A forest, and how many workers made a stretch of it.
+#[derive(Drop)]
+pub(crate) struct Forest {
+    pub above: Vec<u32>,
+    pub workers: usize,
+}
+
+/// Joins stretches that come one after another.
+fn joined(memory: &mut Memory, stretches: Result<Vec<Stretch>, AllocError>) -> Forest {
     let Ok(mut stretches) = stretches else {
-        return memory.refused_list();
+        return Forest {
+            above: memory.refused_list(),
+            workers: 0,
+        };
     };
-    let mut forest = memory.nothing();
+    let mut above = memory.nothing();
     for k in 0..stretches.len() {
-        stretches[k].append_to(memory, &mut forest);
+        stretches[k].append_to(memory, &mut above);
     }
-    forest
+    Forest {
+        above,
+        workers: stretches.len(),
+    }
 }
 
 /// The forest of a region's components, by so many workers: 4 bytes a latch and gate. A place points to itself where it is the first of its component,
@@ -150,7 +163,7 @@ pub(crate) fn forest_of<R: Threads + Sync>(
     memory: &mut Memory,
     region: &Region,
     workers: usize,
-) -> Vec<u32> {
+) -> Forest {
     let alloc = memory.alloc();
     let work = |worker: usize| -> Stretch { Stretch::of_worker(alloc, region, worker, workers) };
     joined(memory, thread::map_indices(rt, alloc, workers, &work))

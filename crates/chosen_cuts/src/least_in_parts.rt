@@ -5,12 +5,13 @@ ghost use Rattle.aig_graph.specs.Chosen.{IsChosen};
 use crate::bringing::flow_of_parts;
 use crate::cut::Cut;
 use crate::parts::Parts;
+use crate::shares::CutFlow;
 use crate::sizes::Sizes;
 use aig_graph::{Choice, Circuit, ClosedSet, Keep, Memory, NoMemory};
 use pulse::{Crew, PhaseGate};
 use std::alloc::Global;
 use std::thread::Threads;
-use unit_flows::{Frame, GateFlow, UnitFlow, shown_chosen};
+use unit_flows::{Frame, UnitFlow, shown_chosen};
 use unit_pulses::chosen_least_brought;
 use unit_starts::Region;
 
@@ -26,7 +27,7 @@ fn flow_by_parts<R: Threads + Sync, G: PhaseGate>(
     region: Region,
     crew: &Crew<G>,
     sizes: Sizes,
-) -> Option<Vec<GateFlow>> {
+) -> Option<CutFlow> {
     let workers = crew.workers();
     let parts = Parts::of(rt, memory, &region, sizes.part, workers as usize);
     let flow = if !memory.is_refused() & are_worth(&parts) {
@@ -46,7 +47,7 @@ fn cut_flow<R: Threads + Sync, G: PhaseGate>(
     region: Region,
     crew: &Crew<G>,
     sizes: Sizes,
-) -> Result<Option<Vec<GateFlow>>, NoMemory> {
+) -> Result<Option<CutFlow>, NoMemory> {
     if crew.workers() < 2 || region.places() < sizes.circuit {
         return Ok(None);
     }
@@ -59,19 +60,40 @@ fn cut_flow<R: Threads + Sync, G: PhaseGate>(
     }
 }
 
+/// Brings a flow of a frame of which none is known, a hint as below, by its parts. Returns none if
+/// the crew is one worker, or the frame is small, or has one part that is nearly all of it.
+///
+/// # Errors
+///
+/// `NoMemory` if a table or a thread's memory is refused.
+pub fn flow_in_parts<R: Threads + Sync, G: PhaseGate>(
+    rt: &R,
+    alloc: Global,
+    frame: &Frame,
+    crew: &Crew<G>,
+    sizes: Sizes,
+) -> Result<Option<CutFlow>, NoMemory> {
+    cut_flow(rt, alloc, Region::of(frame), crew, sizes)
+}
+
 /// The chosen least set of a frame, where this flow shows it, which is kept.
 fn shown_by(
     alloc: Global,
     frame: &Frame,
     choice: Choice,
-    found: Vec<GateFlow>,
+    found: CutFlow,
     flow: &mut UnitFlow,
 ) -> Result<Option<ClosedSet>, NoMemory>
     ensures { IfOk result (λ shown. IfSome shown (IsChosen choice frame.now.circuit.now
         frame.now.keep.now)) }
 {
     let UnitFlow { gates, spare } = flow;
-    *gates = found;
+    let CutFlow {
+        gates: brought,
+        shares,
+    } = found;
+    drop(shares);
+    *gates = brought;
     shown_chosen(alloc, frame, choice, gates.as_slice(), spare)
 }
 
@@ -94,7 +116,7 @@ pub fn chosen_by_sizes<R: Threads + Sync, G: PhaseGate>(
         frame.now.keep.now)) }
 {
     let cut = if flow.gates.is_empty() {
-        cut_flow(rt, alloc, Region::of(frame), crew, sizes)
+        flow_in_parts(rt, alloc, frame, crew, sizes)
     } else {
         Ok(None)
     };

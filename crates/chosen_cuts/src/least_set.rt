@@ -198,8 +198,9 @@ fn chosen_by_flow<G: PhaseGate>(
 /// this flow did at the circuit's gates. They are hints: the set is the same whatever they say. Where the records want certificates, one
 /// of the set is added to them, which passes all tests of `certificates::check`.
 ///
-/// Where a flow of units shows the set, and its units' ways pass those tests, no network is made. Else a maximum flow of the circuit's network is,
-/// from nothing; what is made on the way (the network, its flow, for the smallest set the routes of the flow) is dropped.
+/// Where a flow of units shows the set, and its units' ways pass those tests, no network is made.
+/// Else a maximum flow of the circuit's network is, from nothing, and the records count it; what is
+/// made on the way (the network, its flow, for the smallest set the routes of the flow) is dropped.
 ///
 /// # Errors
 ///
@@ -218,7 +219,10 @@ pub fn chosen_least_along<G: PhaseGate>(
 {
     match by_units(rt, alloc, circuit, keep, choice, crew, records) {
         Ok(Some(set)) => Ok(set),
-        Ok(None) => chosen_by_flow(rt, alloc, circuit, keep, choice, crew, records),
+        Ok(None) => {
+            records.count_network();
+            chosen_by_flow(rt, alloc, circuit, keep, choice, crew, records)
+        }
         Err(error) => Err(error),
     }
 }

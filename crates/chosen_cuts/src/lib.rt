@@ -25,9 +25,11 @@ mod part_flows;
 mod parts;
 mod ranges;
 mod records;
+mod shares;
 mod sizes;
 
-pub use least_in_parts::{chosen_by_sizes, chosen_least_in_parts};
+pub use least_in_parts::{chosen_by_sizes, chosen_least_in_parts, flow_in_parts};
 pub use least_set::chosen_least_along;
 pub use records::Records;
+pub use shares::{CutFlow, Shares};
 pub use sizes::Sizes;

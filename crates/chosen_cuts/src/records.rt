@@ -18,6 +18,8 @@ pub struct Records {
     pub certify: bool,
     /// The certificates of the sets that were found, in order.
     pub certificates: Vec<Certificate>,
+    /// How many sets a maximum flow of a network found, since no flow of units showed them.
+    pub networks: u32,
 }
 
 impl Records {
@@ -39,7 +41,15 @@ impl Records {
             spare: SpareTables::none(alloc),
             certify,
             certificates: Vec::new(alloc),
+            networks: 0,
         }
+    }
+
+    /// Counts a set that a network finds.
+    pub(crate) fn count_network(&mut self)
+        ensures { AddsNone self.old self.new }
+    {
+        self.networks = self.networks.saturating_add(1);
     }
 
     /// Takes the flow and its tables out.

@@ -58,8 +58,9 @@ unfoldable pub frames_in : List Lap → List FrameTimes
 frames_in [] = []
 frames_in (lap ∷ laps) = option_to_list (look_of lap laps) ++ frames_in laps
 
-abbrev pub times_of : List Lap → Times
-times_of laps = record { reading = time_in Reading laps; cleaning = time_in Cleaning laps; frames = frames_in laps; writing = time_in Writing laps }
+-- what was measured of a run of these parts, in which networks found so many sets
+abbrev pub times_of : ℕ → List Lap → Times
+times_of networks laps = record { reading = time_in Reading laps; cleaning = time_in Cleaning laps; frames = frames_in laps; writing = time_in Writing laps; networks = networks }
 
 -- the part that went on has ended at the time that the clock told, its time is the last one, and the next one is counted from there
 pub record EndsPart (old new : Stopwatch) : Type 0 where
@@ -69,8 +70,8 @@ pub record EndsPart (old new : Stopwatch) : Type 0 where
 abbrev pub IsEnded : Stopwatch → Stopwatch → Type 0
 IsEnded old new = new.has_failed ≡ false → EndsPart old new
 
--- the last part has ended so, and these are the times of all parts
+-- the last part has ended so, and these are the times of all parts, with how many sets networks found
 pub record IsStopped (watch : Stopwatch) (times : Times) : Type 0 where
   pub last : Stopwatch
   pub ended : EndsPart watch last
-  pub told : times ≡ times_of last.laps.items
+  pub told : times ≡ times_of watch.networks last.laps.items

@@ -125,9 +125,9 @@ fn frames_in(alloc: Global, laps: &[Lap]) -> Result<Vec<FrameTimes>, AllocError>
     Ok(frames)
 }
 
-/// The times of a run of these parts.
-pub(crate) fn times_of(alloc: Global, laps: &[Lap]) -> Result<Times, AllocError>
-    ensures { IfOk result (λ times. times ≡ wanted.times_of laps.now) }
+/// Returns what was measured of a run of these parts, in which networks found so many sets.
+pub(crate) fn times_of(alloc: Global, laps: &[Lap], networks: u32) -> Result<Times, AllocError>
+    ensures { IfOk result (λ times. times ≡ wanted.times_of networks laps.now) }
 {
     let frames = frames_in(alloc, laps)?;
     Ok(Times {
@@ -135,5 +135,6 @@ pub(crate) fn times_of(alloc: Global, laps: &[Lap]) -> Result<Times, AllocError>
         cleaning: time_in(Part::Cleaning, laps),
         frames: Sequence::from_vec(frames),
         writing: time_in(Part::Writing, laps),
+        networks,
     })
 }

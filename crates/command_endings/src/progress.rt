@@ -129,7 +129,8 @@ impl<'a, R: Clock, E: CountedWrite> Progress<'a, R, E> {
         }
     }
 
-    /// Shows no more of the run, which has ended, and returns how long its parts took, where that was measured.
+    /// Shows no more of the run, which has ended, and returns what was measured of it, if anything
+    /// was.
     pub fn end(&mut self) -> Option<Times> {
         self.clear();
         match mem::replace(&mut self.watch, None) {
@@ -188,6 +189,12 @@ impl<R: Clock, E: CountedWrite> FrameWatcher for Progress<'_, R, E> {
             watch.enter(self.clock, stage);
         }
         self.show_stage(stage);
+    }
+
+    fn count_networks(&mut self, networks: u32) {
+        if let Some(watch) = &mut self.watch {
+            watch.count_networks(networks);
+        }
     }
 }
 

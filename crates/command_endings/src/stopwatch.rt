@@ -1,4 +1,4 @@
-//! Takes the time of the parts of a run.
+//! Takes the time of the parts of a run, and keeps how many sets networks found.
 ghost use Rattle.std.specs.Prelude.{◌≡◌, [], true, false, IfSome};
 ghost use Rattle.std.specs.Duration.{as_nanos};
 ghost use Rattle.command_endings.specs.Laps.{IsEnded, IsStopped, microseconds_of, part_of};
@@ -24,6 +24,7 @@ pub(crate) struct Stopwatch {
     part: Part,
     since: Instant,
     laps: Vec<Lap>,
+    networks: u32,
     has_failed: bool,
 }
 
@@ -40,6 +41,7 @@ impl Stopwatch {
             part: Part::Reading,
             since,
             laps: Vec::new(alloc),
+            networks: 0,
             has_failed: false,
         })
     }
@@ -75,16 +77,26 @@ impl Stopwatch {
         self.part = Part::of(stage);
     }
 
+    /// Keeps how many sets networks found.
+    pub(crate) fn count_networks(&mut self, networks: u32)
+        ensures networks { self.new.networks ≡ networks }
+        ensures laps { self.new.laps ≡ self.old.laps }
+        ensures failed { self.new.has_failed ≡ self.old.has_failed }
+    {
+        self.networks = networks;
+    }
+
     /// The last part ends.
     pub(crate) fn stop<R: Clock>(self, clock: &R) -> Option<Times>
         ensures { IfSome result (IsStopped self) }
     {
+        let networks = self.networks;
         let mut watch = self;
         watch.end_part(clock);
         if watch.has_failed {
             return None;
         }
-        match times_of(watch.alloc, watch.laps.as_slice()) {
+        match times_of(watch.alloc, watch.laps.as_slice(), networks) {
             Ok(times) => Some(times),
             Err(_) => None,
         }

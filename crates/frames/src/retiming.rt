@@ -217,7 +217,10 @@ pub(crate) fn run_to_end<F: RunFollower + Drop, G: PhaseGate, V: FrameWatcher>(
 {
     let mut records = Records::new(alloc, options.certify);
     match all_frames(rt, alloc, start, options, crew, &mut records, watcher) {
-        Ok(run) => Ok(certified(run, records)),
+        Ok(run) => {
+            watcher.count_networks(records.networks);
+            Ok(certified(run, records))
+        }
         Err(error) => {
             drop(records);
             Err(error)

@@ -31,6 +31,11 @@ pub trait FrameWatcher {
 
     fn enter(&mut self, stage: Stage<'_>)
         ensures { Notifies was_notified self.old self.new (notification_of stage.entry ∷ []) };
+
+    /// Hears, after the last frame, how many sets of the run a maximum flow of a network found,
+    /// since no flow of units showed them. This is no stage.
+    fn count_networks(&mut self, networks: u32)
+        ensures { Notifies was_notified self.old self.new [] };
 }
 
 /// A watcher that sees nothing.
@@ -41,4 +46,6 @@ impl FrameWatcher for NoWatcher {
     ghost was_notified = { λ _ _. ⊤ };
 
     fn enter(&mut self, _stage: Stage<'_>) {}
+
+    fn count_networks(&mut self, _networks: u32) {}
 }

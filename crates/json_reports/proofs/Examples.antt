@@ -76,8 +76,8 @@ one_left = record {
   is_least = true;
 }
 
-retime_example : json_line (retiming_data (record { circuit = one_latch; kept_free = []; read_latches = 2; merged = None; frames = record { before = 2; after = 1; moved = 1 } ∷ []; certificates = [] }) (record { counted = Some 1; bound = Some 2 }) one_left (Some (record { reading = 120; cleaning = 7; frames = record { looking = 40; moving = 5 } ∷ []; writing = 60 })) (Some (record { gates = 3; constraints = 2 })))
-    ≡ codes "{\"after\":{\"bad\":0,\"constraints\":0,\"fairness\":0,\"free\":0,\"gates\":1,\"inputs\":2,\"justice\":0,\"known\":1,\"latches\":1,\"levels\":1,\"outputs\":1},\"before\":{\"latches\":2,\"levels\":1},\"bound\":2,\"command\":\"retime\",\"frames\":[{\"after\":1,\"before\":2,\"gates\":1}],\"free_kept\":[],\"held_back\":{\"free\":0,\"held\":0,\"least\":true,\"passable\":0,\"read_elsewhere\":1,\"too_long\":0},\"map\":{\"constraints\":2,\"gates\":3},\"merged\":null,\"microseconds\":{\"cleaning\":7,\"frames\":[{\"looking\":40,\"moving\":5}],\"reading\":120,\"writing\":60},\"status\":0}\n"
+retime_example : json_line (retiming_data (record { circuit = one_latch; kept_free = []; read_latches = 2; merged = None; frames = record { before = 2; after = 1; moved = 1 } ∷ []; certificates = [] }) (record { counted = Some 1; bound = Some 2 }) one_left (Some (record { reading = 120; cleaning = 7; frames = record { looking = 40; moving = 5 } ∷ []; writing = 60; networks = 0 })) (Some (record { gates = 3; constraints = 2 })))
+    ≡ codes "{\"after\":{\"bad\":0,\"constraints\":0,\"fairness\":0,\"free\":0,\"gates\":1,\"inputs\":2,\"justice\":0,\"known\":1,\"latches\":1,\"levels\":1,\"outputs\":1},\"before\":{\"latches\":2,\"levels\":1},\"bound\":2,\"command\":\"retime\",\"frames\":[{\"after\":1,\"before\":2,\"gates\":1}],\"free_kept\":[],\"held_back\":{\"free\":0,\"held\":0,\"least\":true,\"passable\":0,\"read_elsewhere\":1,\"too_long\":0},\"map\":{\"constraints\":2,\"gates\":3},\"merged\":null,\"microseconds\":{\"cleaning\":7,\"frames\":[{\"looking\":40,\"moving\":5}],\"reading\":120,\"writing\":60},\"network\":0,\"status\":0}\n"
 unfolding serde_json_on_literals digits
 retime_example = refl
 

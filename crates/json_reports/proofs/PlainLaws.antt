@@ -30,7 +30,7 @@ use Rattle.json_reports.specs.Faults.{fault_data, fault_offset}
 use Rattle.json_reports.specs.Lines.{IsPlain, PrintsLine, PrintsMade}
 use Rattle.json_reports.specs.Members.{count, array_of, or_null}
 use Rattle.json_reports.specs.Refusals.{refusal_data}
-use Rattle.json_reports.specs.Retimings.{frame_data, held_back_data, retiming_data}
+use Rattle.json_reports.specs.Retimings.{networks_of, frame_data, held_back_data, retiming_data}
 use Rattle.json_reports.specs.Timings.{frame_times_data, times_data}
 use Rattle.json_reports.specs.declared.fault.Fault.{Fault}
 use Rattle.json_reports.specs.declared.fault.Fault.TheVariants as faults
@@ -128,7 +128,8 @@ pub retiming : (r : Retimed) (levels : ReadLevels) (left : Remaining) (times : O
 retiming r levels left times mapped =
     is_plain {n = 4} (omega arith) (plain-object (plain-member (plain-circuit left.counts) (plain-member (plain-object (plain-member (plain-count r.read_latches) (plain-member (plain-or_null count plain-count levels.counted) plain-none)))
     (plain-member (plain-or_null count plain-count levels.bound) (plain-member (plain-string _) (plain-member (plain-array frame_data r.frames plain-frame) (plain-member (plain-array count r.kept_free plain-count) (plain-member (plain-held_back left.held_back left.is_least)
-    (plain-member (plain-or_null map_data plain-map mapped) (plain-member (plain-or_null merge_data plain-merge r.merged) (plain-member (plain-or_null times_data plain-times times) (plain-member (plain-count 0) plain-none))))))))))))
+    (plain-member (plain-or_null map_data plain-map mapped) (plain-member (plain-or_null merge_data plain-merge r.merged) (plain-member (plain-or_null times_data plain-times times)
+    (plain-member (plain-or_null count plain-count (networks_of times)) (plain-member (plain-count 0) plain-none)))))))))))))
 
 plain-agreement : (agreement : Agreement) → Plain 1 (agreement_data agreement)
 plain-agreement Same = record { whole = refl; nests = omega arith }

@@ -1,5 +1,5 @@
 -- A retimed circuit and its frames, as an object.
-use Rattle.std.specs.Prelude.{ℕ, Bool, Option, codes}
+use Rattle.std.specs.Prelude.{ℕ, Bool, Option, codes, option_map}
 use Rattle.reports.specs.declared.held_back.HeldBack.{HeldBack}
 use Rattle.reports.specs.declared.remaining_counts.Remaining.{Remaining}
 use Rattle.retimed_circuits.specs.declared.report.FrameReport.{FrameReport}
@@ -31,6 +31,10 @@ held_back_data h is_least =
     (member (codes "read_elsewhere") (count h.read_elsewhere)
     (member (codes "too_long") (or_null count h.too_long) no_members))))))
 
+-- how many sets a network found, where that was measured with the times
+abbrev pub networks_of : Option Times → Option ℕ
+networks_of times = option_map (λ t. t.networks) times
+
 abbrev pub retiming_data : Retimed → ReadLevels → Remaining → Option Times → Option MapCounts → Data
 retiming_data r levels left times mapped =
     object (member (codes "after") (circuit_data left.counts)
@@ -43,4 +47,5 @@ retiming_data r levels left times mapped =
     (member (codes "map") (or_null map_data mapped)
     (member (codes "merged") (or_null merge_data r.merged)
     (member (codes "microseconds") (or_null times_data times)
-    (member (codes "status") (count 0) no_members)))))))))))
+    (member (codes "network") (or_null count (networks_of times))
+    (member (codes "status") (count 0) no_members))))))))))))

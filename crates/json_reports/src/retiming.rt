@@ -4,6 +4,7 @@ ghost use Rattle.serde_json.specs.Data.{no_members, object};
 ghost use Rattle.serde_json.specs.View.{members_view, view};
 ghost use Rattle.json_reports.specs.Members.{array_of, count};
 ghost use Rattle.json_reports.specs.Retimings.{before_data, frame_data, held_back_data, retiming_data};
+ghost use Rattle.json_reports.specs.Retimings as told;
 
 use crate::counts::{MapCounts, ReadLevels, circuit_object, map_value, merged_value};
 use crate::members::{Scalar, put_made, put_scalars, scalars_object, wide};
@@ -80,6 +81,16 @@ fn held_back_object(
     )
 }
 
+/// Returns how many sets a network found, if that was measured.
+fn networks_of(times: Option<&Times>) -> Option<u32>
+    ensures { result ≡ told.networks_of (option_map (λ t. t.now) times.entry) }
+{
+    match times {
+        Some(times) => Some(times.networks),
+        None => None,
+    }
+}
+
 /// Puts the members of a retiming into an object that has none.
 fn put_retiming(
     members: &mut Map<String, Value>,
@@ -118,14 +129,17 @@ fn put_retiming(
         &[
             ("bound", Scalar::CountIfAny(wide(levels.bound))),
             ("command", Scalar::Text("retime")),
+            ("network", Scalar::CountIfAny(wide(networks_of(times)))),
             ("status", Scalar::Count(0)),
         ],
     )
 }
 
-/// What `retime` prints: each frame, the levels of the circuit that was read and the bound on levels, what the written one has and why no
-/// more latches go, the places of the free latches that stayed among those of the circuit that was read, what the map of states has and
-/// how many latches were merged, where these were asked for, and how long the parts of the run took, where that was measured.
+/// What `retime` prints: each frame, the levels of the circuit that was read and the bound on
+/// levels, what the written one has and why no more latches go, the places of the free latches that
+/// stayed among those of the circuit that was read, what the map of states has and how many latches
+/// were merged, where these were asked for, and how long the parts of the run took and how many
+/// sets a network found, where that was measured.
 ///
 /// # Errors
 ///

@@ -18,7 +18,7 @@ pub struct FrameTimes {
     pub moving: u64,
 }
 
-/// How long the parts of a run took, in microseconds.
+/// What was measured of a run: how long its parts took, in microseconds, and what found its sets.
 #[derive(Drop)]
 pub struct Times {
     /// Reading the file, to a circuit.
@@ -30,6 +30,8 @@ pub struct Times {
     pub frames: Sequence<FrameTimes>,
     /// Writing the circuit.
     pub writing: u64,
+    /// How many sets a maximum flow of a network found, since no flow of units showed them.
+    pub networks: u32,
 }
 
 fn frame_object(alloc: Global, times: FrameTimes) -> Result<Value, AllocError>

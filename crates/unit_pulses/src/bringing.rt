@@ -1,6 +1,7 @@
 //! Rounds of new labels and pulses, until no unit that is left can come to the sink.
 
 use crate::active::list_actives;
+use crate::marked_flow::MarkedFlow;
 use crate::nodes::Nodes;
 use crate::phases::{Passage, pulse_alone, pulse_by_crew};
 use crate::search::Search;
@@ -8,9 +9,8 @@ use crate::sharing::{Parts, Sharing};
 use aig_graph::{Memory, NoMemory};
 use pulse::PhaseGate;
 use std::alloc::Global;
-use std::mem;
 use std::thread::Threads;
-use unit_flows::{GateFlow, NodeMarks};
+use unit_flows::GateFlow;
 use unit_starts::Region;
 
 /// After so many rounds what is left is left to the network.
@@ -121,15 +121,15 @@ fn bring_in<R: Threads + Sync, G: PhaseGate>(
     drop(pulses);
 }
 
-/// The flow that pulses make of one. Where there are marks, they have each node from which units can come to the sink.
+/// Returns the flow that pulses make of one.
 fn brought<R: Threads + Sync, G: PhaseGate>(
     rt: &R,
     memory: &mut Memory,
     region: &Region,
-    marks: Option<NodeMarks>,
     sharing: Sharing<G>,
-    known: Vec<GateFlow>,
+    flow: MarkedFlow,
 ) -> Vec<GateFlow> {
+    let (known, marks) = flow.into_parts();
     let mut search = match &marks {
         Some(marks) => Search::new(memory, region, marks.before.as_slice(), known),
         None => Search::new(memory, region, &[], known),
@@ -139,26 +139,24 @@ fn brought<R: Threads + Sync, G: PhaseGate>(
     search.into_flows()
 }
 
-/// Brings the units that a flow leaves to the sink, as far as they can come there, where the marks, if there are any, have each node from which
-/// they can: 16 bytes a latch and gate, and 4 for each place of a gate in the list of a fan-in.
+/// Brings the units that a flow leaves to the sink, as far as they can come there: 16 bytes a latch
+/// and gate, and 4 for each place of a gate in the list of a fan-in.
 ///
 /// # Errors
 ///
-/// `NoMemory` where a table is refused; then `flows` is none.
+/// `NoMemory` if a table is refused.
 pub(crate) fn bring<R: Threads + Sync, G: PhaseGate>(
     rt: &R,
     alloc: Global,
     region: &Region,
-    marks: Option<NodeMarks>,
     sharing: Sharing<G>,
-    flows: &mut Vec<GateFlow>,
-) -> Result<(), NoMemory> {
+    flow: MarkedFlow,
+) -> Result<Vec<GateFlow>, NoMemory> {
     let mut memory = Memory::of(alloc);
-    let known = mem::replace(flows, memory.nothing());
-    *flows = brought(rt, &mut memory, region, marks, sharing, known);
+    let flows = brought(rt, &mut memory, region, sharing, flow);
     if memory.is_refused() {
-        flows.clear();
+        drop(flows);
         return Err(NoMemory);
     }
-    Ok(())
+    Ok(flows)
 }

@@ -49,11 +49,40 @@ fn clear_gone(region: &Region, flows: &[GateFlow], waits: &mut [bool]) {
     }
 }
 
-/// A gate takes a unit that waits after a fan-in, and it goes through. Whether it leaves after the gate, which is at this place.
-fn take(region: &Region, waits: &mut [bool], place: u32, gate: &Gate, flow: &mut GateFlow) -> bool {
+/// How many units an extension moved, and how many of these came to the sink.
+#[derive(Clone, Copy)]
+pub(crate) struct Extension {
+    pub taken: usize,
+    pub brought: usize,
+}
+
+impl Extension {
+    const NONE: Extension = Extension {
+        taken: 0,
+        brought: 0,
+    };
+
+    /// Counts a unit that a gate took.
+    fn count(&mut self, leaves: bool) {
+        self.taken = self.taken.saturating_add(1);
+        if leaves {
+            self.brought = self.brought.saturating_add(1);
+        }
+    }
+}
+
+/// Lets the gate at a place take a unit that waits after a fan-in, if there is one, and counts it.
+fn take(
+    region: &Region,
+    waits: &mut [bool],
+    place: u32,
+    gate: &Gate,
+    flow: &mut GateFlow,
+    extension: &mut Extension,
+) {
     let second = takes(waits, region.place(gate.rhs0));
     if !second && !takes(waits, region.place(gate.rhs1)) {
-        return false;
+        return;
     }
     flow.note_up(second);
     flow.through = true;
@@ -62,10 +91,10 @@ fn take(region: &Region, waits: &mut [bool], place: u32, gate: &Gate, flow: &mut
     if place < waits.len() {
         waits[place] = !leaves;
     }
-    leaves
+    extension.count(leaves);
 }
 
-/// Units that wait go on to gates that nothing goes through: a byte a latch and gate. How many come to the sink.
+/// Lets units that wait go on to gates that nothing goes through: a byte a latch and gate.
 ///
 /// # Errors
 ///
@@ -74,7 +103,7 @@ pub(crate) fn extend(
     alloc: Global,
     region: &Region,
     flows: &mut [GateFlow],
-) -> Result<usize, NoMemory> {
+) -> Result<Extension, NoMemory> {
     let Ok(mut waits) = vec![in alloc; false; region.places()] else {
         return Err(NoMemory);
     };
@@ -83,19 +112,26 @@ pub(crate) fn extend(
     Ok(take_all(region, waits.as_mut_slice(), flows))
 }
 
-/// Each gate that nothing goes through takes a unit that waits, if one does. How many come to the sink.
-fn take_all(region: &Region, waits: &mut [bool], flows: &mut [GateFlow]) -> usize {
+/// Lets each gate that nothing goes through take a unit that waits, if one does.
+fn take_all(region: &Region, waits: &mut [bool], flows: &mut [GateFlow]) -> Extension {
     let gates = region.gates;
     let mut place = narrow(region.latches.len());
-    let mut brought = 0usize;
+    let mut extension = Extension::NONE;
     for k in 0..flows.len() {
         if k < gates.len() {
-            let takes = region.is_passable(place as usize) & !flows[k].through;
-            if takes && take(region, waits, place, &gates[k], &mut flows[k]) {
-                brought = brought.saturating_add(1);
+            let is_free = region.is_passable(place as usize) & !flows[k].through;
+            if is_free {
+                take(
+                    region,
+                    waits,
+                    place,
+                    &gates[k],
+                    &mut flows[k],
+                    &mut extension,
+                );
             }
         }
         place = place.wrapping_add(1);
     }
-    brought
+    extension
 }

@@ -4,75 +4,48 @@ ghost use Rattle.std.specs.Prelude.{IfOk, IfSome};
 ghost use Rattle.aig_graph.specs.Chosen.{IsChosen};
 
 use crate::bringing::bring;
-use crate::extending::extend;
+use crate::marked_flow::MarkedFlow;
 use crate::sharing::Sharing;
 use aig_graph::{Choice, ClosedSet, NoMemory};
 use pulse::{Crew, PhaseGate};
 use std::alloc::Global;
 use std::mem;
 use std::thread::Threads;
-use unit_flows::{Frame, GateFlow, NodeMarks, SpareTables, UnitFlow, shown_chosen};
+use unit_flows::{Frame, GateFlow, SpareTables, UnitFlow, shown_chosen};
 use unit_starts::{Region, Started, start_along, start_in};
 
 /// Fewer units cost less by pulses than a judge that may say no.
 const MANY_BROUGHT: usize = 64;
 
-/// By more of a start along the last flow, where that brings many units.
+/// Finds the set by more of a start along the last flow, if that brings many units.
 fn shown_by_more(
     alloc: Global,
     frame: &Frame,
     choice: Choice,
-    flow: &mut UnitFlow,
+    left: &mut MarkedFlow,
+    spare: &mut SpareTables,
 ) -> Result<Option<ClosedSet>, NoMemory>
     ensures { IfOk result (λ shown. IfSome shown (IsChosen choice frame.now.circuit.now
         frame.now.keep.now)) }
 {
-    let UnitFlow { gates, spare } = flow;
-    let Ok(brought) = extend(alloc, &Region::of(frame), gates.as_mut_slice()) else {
+    let Ok(brought) = left.extend(alloc, &Region::of(frame), &mut *spare) else {
         return Err(NoMemory);
     };
     if brought < MANY_BROUGHT {
         return Ok(None);
     }
-    shown_chosen(alloc, frame, choice, gates.as_slice(), spare)
+    shown_chosen(alloc, frame, choice, left.flows(), spare)
 }
 
-/// By a start, or by more of it, where it was one along the last flow.
-fn started(
-    alloc: Global,
-    frame: &Frame,
-    choice: Choice,
-    flow: &mut UnitFlow,
-) -> Result<Started, NoMemory>
-    ensures { IfOk result (λ started. IfSome started.set (IsChosen choice frame.now.circuit.now
-        frame.now.keep.now)) }
-{
-    let is_first = flow.gates.is_empty();
-    let Ok(started) = start_along(alloc, frame, choice, &mut *flow) else {
-        return Err(NoMemory);
-    };
-    if is_first | started.set.is_some() {
-        return Ok(started);
-    }
-    let Started { marks, .. } = started;
-    match shown_by_more(alloc, frame, choice, flow) {
-        Ok(set) => Ok(Started { set, marks }),
-        Err(error) => {
-            drop(marks);
-            Err(error)
-        }
-    }
-}
-
-/// By pulses of a crew from what a flow leaves, where the marks, if there are any, have each node from which units can come to the sink. The spare
-/// tables are given back before: pulses need many.
+/// Finds the set by pulses of a crew from what a flow leaves, and keeps the flow that they make.
+/// The spare tables are given back before: pulses need many.
 fn shown_by_pulses<R: Threads + Sync, G: PhaseGate>(
     rt: &R,
     alloc: Global,
     frame: &Frame,
     choice: Choice,
-    marks: Option<NodeMarks>,
     sharing: Sharing<G>,
+    left: MarkedFlow,
     flow: &mut UnitFlow,
 ) -> Result<Option<ClosedSet>, NoMemory>
     ensures { IfOk result (λ shown. IfSome shown (IsChosen choice frame.now.circuit.now
@@ -80,10 +53,58 @@ fn shown_by_pulses<R: Threads + Sync, G: PhaseGate>(
 {
     let UnitFlow { gates, spare } = flow;
     drop(mem::replace(spare, SpareTables::none(alloc)));
-    if bring(rt, alloc, &Region::of(frame), marks, sharing, gates).is_err() {
+    let Ok(brought) = bring(rt, alloc, &Region::of(frame), sharing, left) else {
         return Err(NoMemory);
-    }
+    };
+    *gates = brought;
     shown_chosen(alloc, frame, choice, gates.as_slice(), spare)
+}
+
+/// Finds the set by what goes on from a start along the last flow: by more of it, or by pulses.
+fn shown_further<R: Threads + Sync, G: PhaseGate>(
+    rt: &R,
+    alloc: Global,
+    frame: &Frame,
+    choice: Choice,
+    sharing: Sharing<G>,
+    left: MarkedFlow,
+    flow: &mut UnitFlow,
+) -> Result<Option<ClosedSet>, NoMemory>
+    ensures { IfOk result (λ shown. IfSome shown (IsChosen choice frame.now.circuit.now
+        frame.now.keep.now)) }
+{
+    let mut left = left;
+    match shown_by_more(alloc, frame, choice, &mut left, &mut flow.spare) {
+        Ok(Some(set)) => {
+            flow.gates = left.into_flows();
+            Ok(Some(set))
+        }
+        Ok(None) => shown_by_pulses(rt, alloc, frame, choice, sharing, left, flow),
+        Err(error) => {
+            drop(left);
+            Err(error)
+        }
+    }
+}
+
+/// Finds the set by pulses from the sources, which leave each unit after its latch.
+fn shown_from_sources<R: Threads + Sync, G: PhaseGate>(
+    rt: &R,
+    alloc: Global,
+    frame: &Frame,
+    choice: Choice,
+    sharing: Sharing<G>,
+    flow: &mut UnitFlow,
+) -> Result<Option<ClosedSet>, NoMemory>
+    ensures { IfOk result (λ shown. IfSome shown (IsChosen choice frame.now.circuit.now
+        frame.now.keep.now)) }
+{
+    let gates = frame.circuit.aig().gates().len();
+    let Ok(none) = vec![in alloc; GateFlow::none(); gates] else {
+        return Err(NoMemory);
+    };
+    let left = MarkedFlow::new(none, None);
+    shown_by_pulses(rt, alloc, frame, choice, sharing, left, flow)
 }
 
 /// The chosen least set of a frame, where a flow of units shows it: that of a start along `flow`, what the last flow did at the circuit's gates, or
@@ -108,26 +129,26 @@ pub fn chosen_least_brought<R: Threads + Sync, G: PhaseGate>(
     ensures { IfOk result (λ shown. IfSome shown (IsChosen choice frame.now.circuit.now
         frame.now.keep.now)) }
 {
-    let aig = frame.circuit.aig();
-    let sharing = Sharing::of(crew, aig.latches_and_gates(), flow.gates.is_empty());
+    let is_first = flow.gates.is_empty();
+    let places = frame.circuit.aig().latches_and_gates();
+    let sharing = Sharing::of(crew, places, is_first);
     if sharing.from_sources {
-        let Ok(none) = vec![in alloc; GateFlow::none(); aig.gates().len()] else {
-            return Err(NoMemory);
-        };
-        drop(mem::replace(&mut flow.gates, none));
-        return shown_by_pulses(rt, alloc, frame, choice, None, sharing, flow);
+        return shown_from_sources(rt, alloc, frame, choice, sharing, flow);
     }
-    let Ok(Started { set, marks }) = started(alloc, frame, choice, &mut *flow) else {
+    let Ok(Started { set, marks }) = start_along(alloc, frame, choice, &mut *flow) else {
         return Err(NoMemory);
     };
-    match set {
-        Some(set) => {
-            if let Some(marks) = marks {
-                flow.spare.keep_marks(marks);
-            }
-            Ok(Some(set))
+    if let Some(set) = set {
+        if let Some(marks) = marks {
+            flow.spare.keep_marks(marks);
         }
-        None => shown_by_pulses(rt, alloc, frame, choice, marks, sharing, flow),
+        return Ok(Some(set));
+    }
+    let left = MarkedFlow::new(mem::replace(&mut flow.gates, Vec::new(alloc)), marks);
+    if is_first {
+        shown_by_pulses(rt, alloc, frame, choice, sharing, left, flow)
+    } else {
+        shown_further(rt, alloc, frame, choice, sharing, left, flow)
     }
 }
 
@@ -147,9 +168,9 @@ pub fn first_flow<R: Threads + Sync, G: PhaseGate>(
     let Ok(leaves) = start_in(alloc, region, &mut flows) else {
         return Err(NoMemory);
     };
-    let sharing = Sharing::of_started(crew);
-    if leaves && bring(rt, alloc, region, None, sharing, &mut flows).is_err() {
-        return Err(NoMemory);
+    if !leaves {
+        return Ok(flows);
     }
-    Ok(flows)
+    let sharing = Sharing::of_started(crew);
+    bring(rt, alloc, region, sharing, MarkedFlow::new(flows, None))
 }

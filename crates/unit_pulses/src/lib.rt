@@ -13,6 +13,7 @@ mod extending;
 mod fan_ins;
 mod labels;
 mod least_set;
+mod marked_flow;
 mod nodes;
 mod parts;
 mod phases;
@@ -24,3 +25,5 @@ mod sharing;
 mod spots;
 
 pub use least_set::{chosen_least_brought, first_flow};
+pub use parts::Range;
+pub use sharing::pulse_ranges;

@@ -103,7 +103,7 @@ pub(crate) struct Kept {
 
 /// The places that a worker owns, from the first up to the end.
 #[derive(Clone, Copy)]
-pub(crate) struct Range {
+pub struct Range {
     pub first: u32,
     pub end: u32,
 }
@@ -117,7 +117,7 @@ fn border(worker: u32, workers: u32, places: usize) -> u32 {
 
 impl Range {
     /// The range of a worker, one of so many that share so many places.
-    pub fn of(worker: u32, workers: u32, places: usize) -> Range {
+    pub(crate) fn of(worker: u32, workers: u32, places: usize) -> Range {
         Range {
             first: border(worker, workers, places),
             end: border(worker.saturating_add(1), workers, places),
@@ -125,7 +125,7 @@ impl Range {
     }
 
     /// Whether a place is one of them.
-    pub fn has(&self, place: u32) -> bool {
+    pub(crate) fn has(&self, place: u32) -> bool {
         (self.first <= place) & (place < self.end)
     }
 }

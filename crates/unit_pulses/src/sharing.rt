@@ -3,9 +3,10 @@
 //! a tenth of such a run; by all of a crew it would be more than half, and on a circuit of some hundred places as much for nothing.
 
 use crate::nodes::Nodes;
-use crate::parts::{Delivery, Part};
-use aig_graph::Memory;
+use crate::parts::{Delivery, Part, Range};
+use aig_graph::{Memory, NoMemory};
 use pulse::{Crew, PhaseGate};
+use std::alloc::Global;
 
 /// So many active nodes make a pulse worth its two forks.
 const MANY_ACTIVE: usize = 4096;
@@ -76,4 +77,26 @@ impl Parts {
         }
         Parts { parts, deliveries }
     }
+}
+
+/// Returns the range of places that each worker owns in a pulse that `workers` workers share, in
+/// worker order.
+///
+/// # Errors
+///
+/// `NoMemory` if a table is refused.
+pub fn pulse_ranges(alloc: Global, workers: u32, places: usize) -> Result<Vec<Range>, NoMemory> {
+    let mut memory = Memory::of(alloc);
+    let Parts { parts, deliveries } = Parts::among(&mut memory, workers, places);
+    drop(deliveries);
+    let mut ranges = memory.nothing();
+    for k in 0..parts.len() {
+        memory.push(&mut ranges, parts[k].range);
+    }
+    drop(parts);
+    if memory.is_refused() {
+        drop(ranges);
+        return Err(NoMemory);
+    }
+    Ok(ranges)
 }

@@ -2,7 +2,8 @@ use Rattle.std.proofs.Common.{◌≡◌, List, ℕ, sym, subst}
 use Rattle.retimed_circuits.specs.declared.report.Retimed.{Retimed}
 use Rattle.frames.specs.Following.{IsRetimedFrom}
 use Rattle.frames.proofs.FrameLaws.{ended, with_certificates}
-use Rattle.frames.proofs.StageLaws.{same-looks}
+use Rattle.frames.specs.Stages.{looks_of}
+use Rattle.frames.proofs.StageLaws.{notifies-same, same-looks}
 use Rattle.frames.proofs.retiming.run_to_end.Goals as goal
 
 pub all_frames-requires-clause-begun : goal.all_frames-requires-clause-begun
@@ -42,4 +43,9 @@ returns-in-Ok-clause-retimed g c = λ read d held kept start.
 pub returns-in-Ok-clause-notified : goal.returns-in-Ok-clause-notified
 returns-in-Ok-clause-notified g c =
     let whole = c.certified.ensures in
-    same-looks g.V.FrameWatcher.was_notified c.args.watcher.now c.all_frames.new.watcher c.args.options.now.max_frames c.in-Ok.run'.retimed c.certified.result.retimed whole.frames whole.circuit c.in-Ok.ensures.notified
+    let was_notified = g.V.FrameWatcher.was_notified in
+    let run = c.in-Ok.run'.retimed in
+    let limit = c.args.options.now.max_frames in
+    let counted = c.count_networks.new.self in
+    same-looks was_notified c.args.watcher.now counted limit run c.certified.result.retimed whole.frames whole.circuit
+    (notifies-same was_notified c.args.watcher.now c.all_frames.new.watcher counted (looks_of limit run) c.in-Ok.ensures.notified c.count_networks.ensures)

@@ -16,4 +16,6 @@ returns c =
           (and_then _ _ _ (c.in_ok-put_made-2.ensures _ c.before_object-before.ensures)
           (and_then _ _ _ (c.in_ok-put_made.ensures _ c.circuit_object.ensures) empty)))))))),
       c.wide.ensures,
+      c.wide-2.ensures,
+      c.networks_of.ensures,
     ) at scalars))
