@@ -218,8 +218,72 @@ def bare_sequences(count):
     return '=\n' * count
 
 
+def decoder_gates(first, high, low):
+    """The four gates of two literals, or of one of them or both negated, from a first literal on."""
+    return [f'{first + 2 * k} {high + k // 2} {low + k % 2}\n' for k in range(4)]
+
+
+def decoder_rows(length):
+    """The four gates of two inputs, with a row of so many latches behind each. Those of the first row start at 1."""
+    first_gate = 6 + 8 * length
+    lines = [header(2, 4 * length, 4, 4), '2\n4\n']
+    for row in range(4):
+        own = 6 + 2 * row * length
+        lines.append(f'{own} {first_gate + 2 * row}{"" if row else " 1"}\n')
+        lines += [f'{own + 2 * k} {own + 2 * k - 2}{"" if row else " 1"}\n' for k in range(1, length)]
+    lines += [f'{4 + 2 * (row + 1) * length}\n' for row in range(4)]
+    return ''.join([*lines, *decoder_gates(first_gate, 4, 2)])
+
+
+def decoder_rows_moved(length):
+    """The same with the rows before the gates. Both inputs were 1 at each step, so each latch starts at 1; those of a frame stand behind
+    those of the frame before, which they read."""
+    first_gate = 6 + 4 * length
+    lines = [header(2, 2 * length, 4, 4), '2\n4\n']
+    lines += [f'{6 + 2 * k} {2 + 2 * k} 1\n' for k in range(2 * length)]
+    lines += [f'{first_gate + 2 * row}\n' for row in range(4)]
+    return ''.join([*lines, *decoder_gates(first_gate, first_gate - 2, first_gate - 4)])
+
+
+def decoder_rows_map(length):
+    """The map of the latter's states to those of the former: a latch of a row is the row's gate, of the latches that are as far from the
+    inputs as it was from its gate. The gates of the last frame come first."""
+    first_gate = 2 + 4 * length
+    lines = [header(2 * length, 0, 4 * length, 4 * length)]
+    lines += [f'{2 + 2 * k}\n' for k in range(2 * length)]
+    lines += [f'{first_gate + 8 * (length - 1 - k) + 2 * row}\n' for row in range(4) for k in range(length)]
+    for k in range(length):
+        step = length - 1 - k
+        lines += decoder_gates(first_gate + 8 * k, 4 + 4 * step, 2 + 4 * step)
+    return ''.join(lines)
+
+
+def decoder_rows_frames(length):
+    """The lines of `backward` there: each frame takes four latches, and leaves two."""
+    lines = [f'frame {k + 1}: {4 * length - 2 * k} to {4 * length - 2 * k - 2}\n' for k in range(length)]
+    return ''.join([*lines, f'latches {4 * length} to {2 * length}\n'])
+
+
+def rows_before_gate(length):
+    """A gate of two rows of so many latches, each row behind an input."""
+    last = 4 + 4 * length
+    lines = [header(2, 2 * length, 1, 1), '2\n4\n']
+    for row in range(2):
+        own = 6 + 2 * row * length
+        lines += [f'{own + 2 * k} {own + 2 * k - 2 if k else 2 + 2 * row}\n' for k in range(length)]
+    return ''.join([*lines, f'{last + 2}\n{last + 2} {last} {4 + 2 * length}\n'])
+
+
+def rows_before_gate_moved(length):
+    """The same with a row of so many latches behind the gate, of which the output reads the one that was put first."""
+    gate = 6 + 2 * length
+    lines = [header(2, length, 1, 1), '2\n4\n']
+    return ''.join([*lines, *(f'{6 + 2 * k} {8 + 2 * k}\n' for k in range(length)), f'6\n{gate} 4 2\n'])
+
+
 GENERATORS = {it.__name__: it for it in (
     chain, chain_in_binary, pair_then_chain, pair_then_chain_moved, backward, refused_early, outputs, properties, drawn_properties,
     ones, printed_ones, waves_of_ones,    zeros, empty, long_literal, alternating_stimulus, alternating_trace, sequences, bare_sequences, entries, entries_and_a_bad_one,
-    shift_registers, shift_register,
+    shift_registers, shift_register, decoder_rows, decoder_rows_moved, decoder_rows_map, decoder_rows_frames, rows_before_gate,
+    rows_before_gate_moved,
 )}

@@ -189,11 +189,31 @@ def many_inputs(gates):
     return f'aig {2**28 - 1} {inputs} 0 0 {gates}\n'.encode() + (delta(2 * inputs + 2 - 4) + delta(2)) * gates
 
 
+def decoder_rows(length):
+    """A row of so many latches behind each of four gates."""
+    return generators.made('decoder_rows', length)
+
+
+def decoder_rows_moved(length):
+    """The same, moved backward."""
+    return generators.made('decoder_rows_moved', length)
+
+
+def rows_before_gate(length):
+    """A row of so many latches before each fan-in of a gate."""
+    return generators.made('rows_before_gate', length)
+
+
+def rows_before_gate_moved(length):
+    """The same, retimed."""
+    return generators.made('rows_before_gate_moved', length)
+
+
 MAKERS = {it.__name__: it for it in (
     justice_of_one, binary_outputs, symbols, commented, uncommented, long_name, long_line, no_newline, wide_step, nothing, chain,
     chain_in_binary, many_inputs, read_latches, route_each, listed_gates, long_route, blocks, announced_gates, announced_routes,
     free_latches, symbols_of_each_kind, steps, sequences, bad_input, witness_of_steps, witness_carried, long_property,
-    list_of_missing, list_with_itself, list_of_one,
+    list_of_missing, list_with_itself, list_of_one, decoder_rows, decoder_rows_moved, rows_before_gate, rows_before_gate_moved,
 )}
 
 

@@ -1,11 +1,56 @@
-//! The map of all frames, from the maps of each: the last frame's first, so that the gates of each stand once.
+//! The map of all frames, from what each of them changed. Latches and gates have names, by which a map says what became of the latches that went:
+//! of those that stay it says nothing. The last frame's comes first, so that the gates of each stand once.
 
 use crate::copies::{set_literal, standing};
-use crate::rebuilding::{FrameMap, all_standing};
 use crate::shared::{Shared, pair_at};
 use aig_graph::Memory;
-use backward_sets::{Literal, Pair, number};
-use std::mem;
+use backward_sets::{Draft, DraftLatch, Literal, Pair, number};
+
+/// A latch that went in a frame, and what it holds by what is there after it.
+#[derive(Clone, Copy)]
+pub(crate) struct Gone {
+    pub latch: u32,
+    pub by: Literal,
+}
+
+impl Gone {
+    /// What stands where none went.
+    pub const NONE: Gone = Gone {
+        latch: 0,
+        by: Literal::FALSE,
+    };
+
+    /// Whether it is still there as it is.
+    pub fn stays(self) -> bool {
+        self.by == Literal::of(self.latch)
+    }
+}
+
+/// What the latches that went in a frame hold, by those after it: gates over these, and a literal for each. Variables are names, and the
+/// gates have those from the first on.
+pub(crate) struct FrameMap {
+    pub first: u32,
+    pub gates: Vec<Pair>,
+    pub gone: Vec<Gone>,
+}
+
+impl Drop for FrameMap {
+    // written out: docs/PROOFS.md, Drops and exits
+    fn drop(self) {
+        let FrameMap {
+            first: _first,
+            gates: _gates,
+            gone: _gone,
+        } = self;
+    }
+}
+
+impl FrameMap {
+    /// The first name that nothing has after the frame.
+    pub fn names(&self) -> u32 {
+        self.first.wrapping_add(number(self.gates.len()))
+    }
+}
 
 /// Gates over the latches after all frames, which have the variables from 1 on, and a literal for each latch of the first draft.
 #[derive(Drop)]
@@ -14,42 +59,32 @@ pub(crate) struct WholeMap {
     pub outputs: Vec<Literal>,
 }
 
-/// Puts what stands for latches after the constant, and then what stands for the gates of a frame's map.
-fn put_stands(stands: &mut [Literal], state: &[Literal], gates: &mut Shared, pairs: &[Pair]) {
-    for place in 0..state.len() {
-        set_literal(stands, number(place).wrapping_add(1), state[place]);
+/// Puts the literals of latches, which have the variables from 1 on, by name.
+fn put_latches(stands: &mut [Literal], latches: &[DraftLatch]) {
+    for place in 0..latches.len() {
+        let own = Literal::of(number(place).wrapping_add(1));
+        set_literal(stands, latches[place].name, own);
     }
-    let first = number(state.len()).wrapping_add(1);
+}
+
+/// Puts what stands for the gates of a frame's map.
+fn put_gates(stands: &mut [Literal], gates: &mut Shared, map: &FrameMap) {
+    let pairs = map.gates.as_slice();
     for place in 0..number(pairs.len()) {
         let pair = pair_at(pairs, place);
         let lit = gates.and(
             standing(stands, pair.larger),
             standing(stands, pair.smaller),
         );
-        set_literal(stands, first.wrapping_add(place), lit);
+        set_literal(stands, map.first.wrapping_add(place), lit);
     }
 }
 
-/// What the latches of before a frame hold, where these literals stand for those after it.
-fn through(
-    memory: &mut Memory,
-    gates: &mut Shared,
-    map: &FrameMap,
-    state: &[Literal],
-) -> Vec<Literal> {
-    let many = state
-        .len()
-        .saturating_add(1)
-        .saturating_add(map.gates.len());
-    let mut stands = memory.table(Literal::FALSE, many);
-    put_stands(stands.as_mut_slice(), state, gates, map.gates.as_slice());
-    all_standing(memory, stands.as_slice(), map.outputs.as_slice())
-}
-
-/// The literals of latches, which have the variables from 1 on.
-fn number_latches(state: &mut [Literal]) {
-    for place in 0..state.len() {
-        state[place] = Literal::of(number(place).wrapping_add(1));
+/// Puts what stands for the latches that went in a frame.
+fn put_gone(stands: &mut [Literal], gone: &[Gone]) {
+    for place in 0..gone.len() {
+        let own = standing(stands, gone[place].by);
+        set_literal(stands, gone[place].latch, own);
     }
 }
 
@@ -62,15 +97,30 @@ fn count_gates(maps: &[FrameMap]) -> usize {
     count
 }
 
-/// The map of frames of which the last leaves so many latches.
-pub(crate) fn composed(memory: &mut Memory, maps: &[FrameMap], latches: u32) -> WholeMap {
-    let mut outputs = memory.table(Literal::FALSE, latches as usize);
-    number_latches(outputs.as_mut_slice());
-    let mut gates = Shared::after(memory, latches.wrapping_add(1), count_gates(maps));
-    for place in (0..maps.len()).rev() {
-        let before = through(memory, &mut gates, &maps[place], outputs.as_slice());
-        drop(mem::replace(&mut outputs, before));
+/// Puts what stands for the first latches, whose names begin with 1.
+fn put_outputs(stands: &[Literal], outputs: &mut [Literal]) {
+    for place in 0..outputs.len() {
+        outputs[place] = standing(stands, Literal::of(number(place).wrapping_add(1)));
     }
+}
+
+/// The map of frames that lead from so many latches to a draft.
+pub(crate) fn composed(
+    memory: &mut Memory,
+    maps: &[FrameMap],
+    first: usize,
+    draft: &Draft,
+) -> WholeMap {
+    let mut stands = memory.table(Literal::FALSE, draft.names as usize);
+    let mut outputs = memory.table(Literal::FALSE, first);
+    let after = draft.many_latches().wrapping_add(1);
+    let mut gates = Shared::after(memory, after, count_gates(maps));
+    put_latches(stands.as_mut_slice(), draft.latches.as_slice());
+    for place in (0..maps.len()).rev() {
+        put_gates(stands.as_mut_slice(), &mut gates, &maps[place]);
+        put_gone(stands.as_mut_slice(), maps[place].gone.as_slice());
+    }
+    put_outputs(stands.as_slice(), outputs.as_mut_slice());
     WholeMap {
         gates: gates.into_gates(),
         outputs,

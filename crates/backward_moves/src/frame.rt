@@ -2,8 +2,9 @@
 //! latches, or ways get too long, some gates are frozen, and the flow is asked again.
 
 use crate::again::Again;
+use crate::composing::FrameMap;
 use crate::levels::{freeze_long, levels_of};
-use crate::rebuilding::{FrameMap, Rebuilt, rebuild};
+use crate::rebuilding::{Rebuilt, rebuild};
 use aig_graph::Memory;
 use backward_sets::{
     Bordered, Draft, Guide, Wish, Wishes, border_of, count_marks, freeze_losers, guide_of,

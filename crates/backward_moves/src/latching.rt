@@ -17,7 +17,7 @@ const GOES: u32 = VERSIONS + 1;
 #[derive(Drop)]
 pub(crate) struct Latching {
     /// The variable of the first.
-    first: u32,
+    pub first: u32,
     /// Room for all that are put.
     pub latches: Vec<DraftLatch>,
     /// How many were put.
@@ -26,6 +26,8 @@ pub(crate) struct Latching {
     pub copies: Vec<Literal>,
     /// By latch of before what becomes of it, and then the new number of one that doesn't take part.
     pub places: Vec<u32>,
+    /// The first name that nothing has yet.
+    pub names: u32,
 }
 
 /// Has a latch that takes part serve for the copy of what it reads, if that is in the border and none does yet.
@@ -51,12 +53,14 @@ fn reset_for(version: Version, latch: &DraftLatch) -> DraftReset {
 }
 
 /// A new latch for a variable.
-fn new_latch(var: u32) -> DraftLatch {
+fn new_latch(var: u32, name: u32) -> DraftLatch {
     DraftLatch {
         next: Literal::of(var),
         reset: DraftReset::Any,
         origin: None,
         held: false,
+        name,
+        list: 0,
     }
 }
 
@@ -82,6 +86,17 @@ impl Latching {
             many: 0,
             copies,
             places,
+            names: draft.names,
+        }
+    }
+
+    /// The name of the latch at a place.
+    pub fn name_at(&self, place: u32) -> u32 {
+        let place = place as usize;
+        if place < self.latches.len() {
+            self.latches[place].name
+        } else {
+            0
         }
     }
 
@@ -111,6 +126,8 @@ impl Latching {
             reset: reset_for(version, latch),
             origin: latch.origin,
             held: latch.held,
+            name: latch.name,
+            list: latch.list,
         });
     }
 
@@ -131,7 +148,8 @@ impl Latching {
             let version = Version::of(place);
             let lit = copy_of(self.copies.as_slice(), var, version);
             if version.is_wished(wish) & (lit.code == Literal::NONE.code) {
-                self.put(&new_latch(var), version);
+                self.put(&new_latch(var, self.names), version);
+                self.names = self.names.wrapping_add(1);
             }
         }
     }
@@ -156,6 +174,7 @@ impl Latching {
             many,
             copies,
             places: _places,
+            names: _names,
         } = self;
         latches.truncate(many as usize);
         (latches, copies)

@@ -1,11 +1,12 @@
 //! Frames until none saves a latch.
 
 use crate::again::Again;
-use crate::composing::{WholeMap, composed};
+use crate::composing::{FrameMap, WholeMap, composed};
 use crate::frame::{FrameCounts, Moved, next_frame};
 use crate::levels::levels_of;
 use crate::reading::{Inputs, draft_of, stands_of};
-use crate::rebuilding::FrameMap;
+use crate::rows::Rows;
+use crate::staying::{Staying, staying_of};
 use crate::sweeping::sweep;
 use crate::watching::{MoveStage, MoveWatcher};
 use aig_graph::{Aig, Circuit, Keep, Lit, Memory, NoMemory, property_literals};
@@ -31,6 +32,17 @@ pub struct Drafted {
     pub map_gates: Vec<Pair>,
     pub map_outputs: Vec<Literal>,
     pub frames: Vec<FrameCounts>,
+    /// Why no more latches go.
+    pub staying: Staying,
+}
+
+/// What comes of moving latches.
+#[derive(Drop)]
+pub enum Moves {
+    /// A draft with fewer latches.
+    Drafted(Drafted),
+    /// No frame leaves fewer: why latches stay.
+    Unmoved(Staying),
 }
 
 impl Drafted {
@@ -43,6 +55,7 @@ impl Drafted {
             map_gates: _map_gates,
             map_outputs: _map_outputs,
             frames,
+            staying: _staying,
         } = self;
         frames
     }
@@ -62,6 +75,7 @@ struct Run {
     inputs: Inputs,
     draft: Draft,
     again: Again,
+    rows: Rows,
     maps: Vec<FrameMap>,
     frames: Vec<FrameCounts>,
 }
@@ -73,6 +87,7 @@ impl Drop for Run {
             inputs: _inputs,
             draft: _draft,
             again: _again,
+            rows: _rows,
             maps: _maps,
             frames: _frames,
         } = self;
@@ -113,23 +128,28 @@ impl Run {
         let inputs = Inputs::of(memory, circuit, properties);
         let mut draft = draft_of(memory, circuit, keep, &inputs, properties);
         drop(sweep(memory, &mut draft));
+        let mut again = Again::none(memory);
+        let mut rows = Rows::none(memory);
+        rows.keep_up(memory, &mut draft, &mut again);
         Run {
             inputs,
             draft,
-            again: Again::none(memory),
+            again,
+            rows,
             maps: memory.nothing(),
             frames: memory.nothing(),
         }
     }
 
-    /// Notes what a frame did.
+    /// Notes what a frame did. The latches that were left out took part in it, and stayed.
     fn note(&mut self, memory: &mut Memory, counts: FrameCounts, map: FrameMap) {
-        if self.frames.push(counts).is_err() {
-            memory.refuse();
-        }
-        if self.maps.push(map).is_err() {
-            memory.refuse();
-        }
+        let counts = FrameCounts {
+            before: counts.before.wrapping_add(self.rows.many()),
+            after: counts.after.wrapping_add(self.rows.many()),
+            ..counts
+        };
+        memory.push(&mut self.frames, counts);
+        memory.push(&mut self.maps, map);
     }
 
     /// Goes on from what a frame made.
@@ -143,6 +163,7 @@ impl Run {
         drop(mem::replace(&mut self.draft, draft));
         drop(mem::replace(&mut self.again, again));
         self.note(memory, counts, map);
+        self.rows.keep_up(memory, &mut self.draft, &mut self.again);
     }
 
     /// Takes one frame, if it saves a latch. Whether it does, and no memory was refused.
@@ -160,7 +181,7 @@ impl Run {
     fn looking(&self) -> MoveStage {
         MoveStage::Looking {
             taken: self.frames.len(),
-            latches: known_latches(self.draft.latches.as_slice()),
+            latches: known_latches(self.draft.latches.as_slice()).wrapping_add(self.rows.many()),
             gates: self.draft.gates.len(),
         }
     }
@@ -173,20 +194,34 @@ impl Run {
         }
     }
 
-    /// Takes frames until none saves a latch, or memory is refused.
+    /// Takes frames until none saves a latch, or memory is refused. Whether that is so, and they don't end by their limit.
     fn advance_all<W: MoveWatcher>(
+        &mut self,
+        memory: &mut Memory,
+        frames: u32,
+        bound: Option<u32>,
+        watcher: &mut W,
+    ) -> bool {
+        for _ in 0..frames {
+            watcher.begin(self.looking());
+            if !self.advance(memory, bound) {
+                return true;
+            }
+        }
+        false
+    }
+
+    /// Takes frames, and gives all latches back that were left out. Why the latches stay that are left.
+    fn move_all<W: MoveWatcher>(
         &mut self,
         memory: &mut Memory,
         options: &MoveOptions,
         watcher: &mut W,
-    ) {
+    ) -> Staying {
         let bound = self.bound(memory, options);
-        for _ in 0..options.frames {
-            watcher.begin(self.looking());
-            if !self.advance(memory, bound) {
-                return;
-            }
-        }
+        let is_least = self.advance_all(memory, options.frames, bound, watcher);
+        self.rows.restore(memory, &mut self.draft, &mut self.again);
+        staying_of(memory, &self.draft, bound, is_least)
     }
 
     /// Makes the draft one of the first circuit.
@@ -197,11 +232,12 @@ impl Run {
     }
 
     /// The draft of the first circuit, with what stands for what its properties read, and a map.
-    fn into_drafted(self, stands: Vec<Literal>, map: WholeMap) -> Drafted {
+    fn into_drafted(self, stands: Vec<Literal>, map: WholeMap, staying: Staying) -> Drafted {
         let Run {
             inputs: _inputs,
             draft,
             again: _again,
+            rows: _rows,
             maps: _maps,
             frames,
         } = self;
@@ -217,19 +253,27 @@ impl Run {
             map_gates,
             map_outputs,
             frames,
+            staying,
         }
     }
 
     /// What the run ends in, where frames were taken.
-    fn finished(mut self, memory: &mut Memory, aig: &Aig, properties: &[Lit]) -> Drafted {
+    fn finished(
+        mut self,
+        memory: &mut Memory,
+        aig: &Aig,
+        properties: &[Lit],
+        staying: Staying,
+    ) -> Drafted {
         self.restore();
         let stands = stands_of(memory, aig, properties, self.draft.observed.as_slice());
-        let map = composed(memory, self.maps.as_slice(), self.draft.many_latches());
-        self.into_drafted(stands, map)
+        let first = aig.latches().len();
+        let map = composed(memory, self.maps.as_slice(), first, &self.draft);
+        self.into_drafted(stands, map, staying)
     }
 }
 
-/// The draft of a circuit whose properties read these literals; none where no frame was taken, or memory was refused.
+/// What comes of a circuit whose properties read these literals, unless memory was refused.
 fn moved_draft<W: MoveWatcher>(
     memory: &mut Memory,
     circuit: &Circuit,
@@ -237,24 +281,24 @@ fn moved_draft<W: MoveWatcher>(
     properties: &[Lit],
     options: &MoveOptions,
     watcher: &mut W,
-) -> Option<Drafted> {
+) -> Moves {
     let mut run = Run::new(memory, circuit, keep, properties);
     if memory.is_refused() {
-        return None;
+        return Moves::Unmoved(Staying::NONE);
     }
-    run.advance_all(memory, options, watcher);
+    let staying = run.move_all(memory, options, watcher);
     if memory.is_refused() {
-        return None;
+        return Moves::Unmoved(Staying::NONE);
     }
     watcher.begin(MoveStage::Checking);
     if run.frames.is_empty() {
-        None
+        Moves::Unmoved(staying)
     } else {
-        Some(run.finished(memory, circuit.aig(), properties))
+        Moves::Drafted(run.finished(memory, circuit.aig(), properties, staying))
     }
 }
 
-/// Moves the latches of a circuit backward that aren't held, as long as that saves some. None where no frame does.
+/// Moves the latches of a circuit backward that aren't held, as long as that saves some.
 ///
 /// # Errors
 ///
@@ -265,16 +309,16 @@ pub fn draft_moves<W: MoveWatcher>(
     keep: &Keep,
     options: &MoveOptions,
     watcher: &mut W,
-) -> Result<Option<Drafted>, NoMemory> {
+) -> Result<Moves, NoMemory> {
     let mut memory = Memory::of(alloc);
     let Ok(properties) = property_literals(alloc, circuit.props()) else {
         return Err(NoMemory);
     };
     let properties = properties.as_slice();
-    let drafted = moved_draft(&mut memory, circuit, keep, properties, options, watcher);
+    let moves = moved_draft(&mut memory, circuit, keep, properties, options, watcher);
     if memory.is_refused() {
         Err(NoMemory)
     } else {
-        Ok(drafted)
+        Ok(moves)
     }
 }

@@ -139,6 +139,8 @@ fn latch_of(inputs: &Inputs, keep: &Keep, latch: &Latch, position: u32) -> Draft
         },
         origin: Some(position),
         held: keep.has(position),
+        name: position.wrapping_add(1),
+        list: 0,
     }
 }
 
@@ -182,6 +184,7 @@ fn blank(memory: &mut Memory, aig: &Aig, inputs: u32, properties: usize) -> Draf
         latches,
         gates,
         observed,
+        names: number(aig.latches().len()).wrapping_add(1),
     }
 }
 

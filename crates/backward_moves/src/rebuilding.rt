@@ -1,7 +1,8 @@
 //! The draft after a frame, and the map of its states to those before it. Behind the latches stand copies of the set's gates, which read the
-//! latches; in the map stand the same copies, whose variables are lower, since it has no inputs but the latches. What read a latch reads the copy of what the latch read.
+//! latches; in the map stand the same copies, whose variables are names. What read a latch reads the copy of what the latch read.
 
 use crate::again::marks_of;
+use crate::composing::{FrameMap, Gone};
 use crate::copies::{
     VERSIONS, Version, copy_of, literal_at, need_of, set_copy, set_literal, standing,
 };
@@ -12,22 +13,6 @@ use aig_graph::Memory;
 use backward_sets::{
     Bordered, Draft, DraftLatch, Literal, Pair, Wish, Wishes, entry, has_mark, wish_of,
 };
-
-/// What the latches of before a frame hold, by those after it: gates over these, which have the variables from 1 on, and a literal for each.
-pub(crate) struct FrameMap {
-    pub gates: Vec<Pair>,
-    pub outputs: Vec<Literal>,
-}
-
-impl Drop for FrameMap {
-    // written out: docs/PROOFS.md, Drops and exits
-    fn drop(self) {
-        let FrameMap {
-            gates: _gates,
-            outputs: _outputs,
-        } = self;
-    }
-}
 
 /// A draft and its map, with the copies of the variables of before.
 #[derive(Drop)]
@@ -76,39 +61,10 @@ fn room(draft: &Draft, set: &Bordered, wishes: &[Wish]) -> usize {
     many
 }
 
-/// The literal where so many variables fewer stand before it. The constant stays.
-fn lowered(lit: Literal, many: u32) -> Literal {
-    if lit.var() == 0 {
-        lit
-    } else {
-        Literal::of(lit.var().wrapping_sub(many)).signed_as(lit)
-    }
-}
-
 /// Latches read from now on what stands for what they read.
 fn redirect(latches: &mut [DraftLatch], stands: &[Literal]) {
     for place in 0..latches.len() {
         latches[place].next = standing(stands, latches[place].next);
-    }
-}
-
-/// Puts what stands for the latches of a draft, where its inputs are left out.
-fn lower_latches(draft: &Draft, stands: &[Literal], outputs: &mut [Literal]) {
-    for place in 0..draft.many_latches() {
-        let own = literal_at(stands, draft.first_latch().wrapping_add(place));
-        set_literal(outputs, place, lowered(own, draft.inputs));
-    }
-}
-
-/// Puts gates where so many variables fewer stand before them.
-fn lower_gates(gates: &Shared, many: u32, lower: &mut [Pair]) {
-    for place in 0..gates.many() {
-        let pair = gates.gate(place);
-        let pair = Pair {
-            larger: lowered(pair.larger, many),
-            smaller: lowered(pair.smaller, many),
-        };
-        set_pair(lower, place, pair);
     }
 }
 
@@ -122,11 +78,7 @@ fn put_standing(stands: &[Literal], lits: &[Literal], all: &mut [Literal]) {
 }
 
 /// The literals that stand for these.
-pub(crate) fn all_standing(
-    memory: &mut Memory,
-    stands: &[Literal],
-    lits: &[Literal],
-) -> Vec<Literal> {
+fn all_standing(memory: &mut Memory, stands: &[Literal], lits: &[Literal]) -> Vec<Literal> {
     let mut all = memory.table(Literal::FALSE, lits.len());
     put_standing(stands, lits, all.as_mut_slice());
     all
@@ -232,13 +184,73 @@ impl Side {
         redirect(self.latching.latches.as_mut_slice(), stands);
     }
 
+    /// The literal of the name that a copy has, of which the first gate has this one.
+    fn named(&self, first: u32, lit: Literal) -> Literal {
+        let latches = &self.latching;
+        let place = lit.var().wrapping_sub(latches.first);
+        let name = if lit.var() == 0 {
+            0
+        } else if place < latches.many {
+            latches.name_at(place)
+        } else {
+            place.wrapping_sub(latches.many).wrapping_add(first)
+        };
+        Literal::of(name).signed_as(lit)
+    }
+
+    /// Puts the gates so far, by name.
+    fn name_gates(&self, first: u32, named: &mut [Pair]) {
+        for place in 0..self.gates.many() {
+            let pair = self.gates.gate(place);
+            let pair = Pair {
+                larger: self.named(first, pair.larger),
+                smaller: self.named(first, pair.smaller),
+            };
+            set_pair(named, place, pair);
+        }
+    }
+
+    /// What the latch at a place of before becomes, by name.
+    fn gone_at(&self, first: u32, draft: &Draft, stands: &[Literal], place: u32) -> Gone {
+        let own = literal_at(stands, draft.first_latch().wrapping_add(place));
+        Gone {
+            latch: draft.latch(place).name,
+            by: self.named(first, own),
+        }
+    }
+
+    /// How many latches of before went.
+    fn count_gone(&self, first: u32, draft: &Draft, stands: &[Literal]) -> usize {
+        let mut many = 0usize;
+        for place in 0..draft.many_latches() {
+            let gone = self.gone_at(first, draft, stands, place);
+            if !gone.stays() {
+                many = many.wrapping_add(1);
+            }
+        }
+        many
+    }
+
+    /// Puts the latches of before that went.
+    fn put_gone(&self, first: u32, draft: &Draft, stands: &[Literal], all: &mut [Gone]) {
+        let mut many = 0usize;
+        for place in 0..draft.many_latches() {
+            let gone = self.gone_at(first, draft, stands, place);
+            if !gone.stays() && many < all.len() {
+                all[many] = gone;
+                many = many.wrapping_add(1);
+            }
+        }
+    }
+
     /// The map of the states after a frame to those before it, where no gates stand here yet but the copies of the set's.
     fn map(&self, memory: &mut Memory, draft: &Draft, stands: &[Literal]) -> FrameMap {
+        let first = self.latching.names;
         let mut gates = memory.table(Pair::NONE, self.gates.many() as usize);
-        let mut outputs = memory.table(Literal::FALSE, draft.latches.len());
-        lower_gates(&self.gates, draft.inputs, gates.as_mut_slice());
-        lower_latches(draft, stands, outputs.as_mut_slice());
-        FrameMap { gates, outputs }
+        let mut gone = memory.table(Gone::NONE, self.count_gone(first, draft, stands));
+        self.name_gates(first, gates.as_mut_slice());
+        self.put_gone(first, draft, stands, gone.as_mut_slice());
+        FrameMap { first, gates, gone }
     }
 
     /// Puts all gates, and what stands for the variables of before. The map of the states after a frame to those before it.
@@ -267,6 +279,7 @@ impl Side {
                 latches,
                 gates: gates.into_gates(),
                 observed,
+                names: map.names(),
             },
             map,
             copies,

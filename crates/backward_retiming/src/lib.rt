@@ -10,5 +10,5 @@ mod retiming;
 mod sealing;
 mod seals;
 
-pub use backward_moves::{Drafted, FrameCounts, MoveOptions, MoveStage, MoveWatcher};
+pub use backward_moves::{Drafted, FrameCounts, MoveOptions, MoveStage, MoveWatcher, Staying};
 pub use retiming::{MovedBack, move_as_drafted, move_back};

@@ -7,7 +7,7 @@ use crate::drawing::{drawn_circuit, drawn_map};
 use crate::seals::SealError;
 use aig_graph::{Circuit, Keep, NoMemory};
 use backward_circuits::{is_moved_back, wires};
-use backward_moves::{Drafted, FrameCounts, MoveOptions, MoveWatcher, draft_moves};
+use backward_moves::{Drafted, FrameCounts, MoveOptions, MoveWatcher, Moves, Staying, draft_moves};
 use std::alloc::Global;
 
 /// What a circuit becomes: the new circuit, the map of its states to those of the first one, and what each frame did.
@@ -16,6 +16,8 @@ pub struct MovedBack {
     pub circuit: Circuit,
     pub map: Circuit,
     pub frames: Vec<FrameCounts>,
+    /// Why no more latches go, as the search found it.
+    pub staying: Staying,
     /// Whether nothing was found that the judge refused.
     pub is_shown: bool,
 }
@@ -75,7 +77,12 @@ fn judged(
 }
 
 /// The circuit itself.
-fn unmoved(alloc: Global, circuit: Circuit, is_shown: bool) -> Result<MovedBack, NoMemory>
+fn unmoved(
+    alloc: Global,
+    circuit: Circuit,
+    staying: Staying,
+    is_shown: bool,
+) -> Result<MovedBack, NoMemory>
     ensures { IfOk result (λ moved. (held : List ℕ) (bound : Option ℕ)
         → IsAnswerTo circuit held bound moved) }
 {
@@ -85,6 +92,7 @@ fn unmoved(alloc: Global, circuit: Circuit, is_shown: bool) -> Result<MovedBack,
             circuit,
             map,
             frames: Vec::new(alloc),
+            staying,
             is_shown,
         }),
         Err(error) => {
@@ -100,10 +108,12 @@ fn moved_by(drawing: Drawing, drafted: Drafted) -> MovedBack
     ensures map { result.map ≡ drawing.map }
 {
     let Drawing { circuit, map } = drawing;
+    let staying = drafted.staying;
     MovedBack {
         circuit,
         map,
         frames: drafted.into_frames(),
+        staying,
         is_shown: true,
     }
 }
@@ -128,8 +138,9 @@ pub fn move_as_drafted(
             Ok(moved_by(drawing, drafted))
         }
         Ok(None) => {
+            let staying = drafted.staying;
             drop(drafted);
-            unmoved(alloc, circuit, false)
+            unmoved(alloc, circuit, staying, false)
         }
         Err(error) => {
             drop(circuit);
@@ -156,8 +167,10 @@ pub fn move_back<W: MoveWatcher>(
     ensures { IfOk result (IsAnswerTo circuit keep.now options.now.levels) }
 {
     match draft_moves(alloc, &circuit, keep, options, watcher) {
-        Ok(Some(drafted)) => move_as_drafted(alloc, circuit, keep, options.levels, drafted),
-        Ok(None) => unmoved(alloc, circuit, true),
+        Ok(Moves::Drafted(drafted)) => {
+            move_as_drafted(alloc, circuit, keep, options.levels, drafted)
+        }
+        Ok(Moves::Unmoved(staying)) => unmoved(alloc, circuit, staying, true),
         Err(error) => {
             drop(circuit);
             Err(error)

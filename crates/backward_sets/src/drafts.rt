@@ -39,6 +39,10 @@ pub struct DraftLatch {
     pub reset: DraftReset,
     pub origin: Option<u32>,
     pub held: bool,
+    /// A number that nothing else of a run has. Latches stand by rising names.
+    pub name: u32,
+    /// One more than the number of a list of latches that are left out before it in its row; 0 where there is none.
+    pub list: u32,
 }
 
 impl DraftLatch {
@@ -48,6 +52,8 @@ impl DraftLatch {
         reset: DraftReset::Free,
         origin: None,
         held: true,
+        name: 0,
+        list: 0,
     };
 
     /// Whether it may move: its reset isn't free, and it isn't held.
@@ -88,6 +94,8 @@ pub struct Draft {
     pub gates: Vec<Pair>,
     /// The literals of properties, in their order.
     pub observed: Vec<Literal>,
+    /// The first name that nothing has yet. Names begin with 1.
+    pub names: u32,
 }
 
 impl Drop for Draft {
@@ -98,6 +106,7 @@ impl Drop for Draft {
             latches: _latches,
             gates: _gates,
             observed: _observed,
+            names: _names,
         } = self;
     }
 }
@@ -110,6 +119,7 @@ impl Draft {
             latches,
             gates,
             observed: _observed,
+            names: _names,
         } = self;
         (latches, gates)
     }

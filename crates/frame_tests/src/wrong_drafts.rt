@@ -1,7 +1,7 @@
 //! Drafts of which each has one thing wrong: none is taken, and the circuit stays what it is.
 use aag_text::read_aag;
 use aig_graph::{Circuit, Keep, Memory};
-use backward_moves::Drafted;
+use backward_moves::{Drafted, Staying};
 use backward_retiming::move_as_drafted;
 use backward_sets::{DraftLatch, DraftReset, Literal, Pair};
 use std::alloc::Global;
@@ -75,6 +75,8 @@ fn put_latches(numbers: &Numbers, latches: &mut [DraftLatch]) {
             reset: DraftReset::of(one),
             origin: None,
             held: false,
+            name: 0,
+            list: 0,
         };
     }
 }
@@ -102,6 +104,7 @@ fn blank(memory: &mut Memory) -> Drafted {
         map_gates: memory.table(Pair::NONE, 4),
         map_outputs: memory.table(Literal::FALSE, 4),
         frames: memory.nothing(),
+        staying: Staying::NONE,
     }
 }
 

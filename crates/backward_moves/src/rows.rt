@@ -1,0 +1,282 @@
+//! What is left out of a draft: the middles of long rows. In a frame they stay as they are, so that a frame looks at their ends alone. From where
+//! latches go a row gives some back, and where new ones come it gets longer.
+
+use crate::again::Again;
+use crate::links::Links;
+use crate::relaying::relay;
+use aig_graph::Memory;
+use backward_sets::{Draft, DraftLatch, Literal, number, set_mark};
+
+/// How many latches stay at either end of a row of which some are left out.
+const NEAR: u32 = 16;
+
+/// Latches come back where fewer than these stand before them. The steps of a guide are as many.
+const LEAST: u32 = 4;
+
+/// A row gets shorter that has so many latches in the draft.
+const MOST: u32 = 48;
+
+/// A latch that is left out, and one more than the number of the next in its list; 0 at the end.
+#[derive(Clone, Copy)]
+struct Hidden {
+    latch: DraftLatch,
+    after: u32,
+}
+
+/// The latches that are left out before another one, in their order: one more than the numbers of the first and the last.
+#[derive(Clone, Copy)]
+struct List {
+    front: u32,
+    back: u32,
+    many: u32,
+}
+
+impl List {
+    /// None.
+    const NONE: List = List {
+        front: 0,
+        back: 0,
+        many: 0,
+    };
+}
+
+/// The latches that are left out.
+#[derive(Drop)]
+pub(crate) struct Rows {
+    /// Those that came back too.
+    hidden: Vec<Hidden>,
+    lists: Vec<List>,
+    many: u32,
+}
+
+/// Puts a latch at a place.
+fn set_latch(latches: &mut [DraftLatch], place: u32, latch: DraftLatch) {
+    let place = place as usize;
+    if place < latches.len() {
+        latches[place] = latch;
+    }
+}
+
+/// What follows a hidden latch in its list.
+fn set_after(hidden: &mut [Hidden], number: u32, after: u32) {
+    let place = number.wrapping_sub(1) as usize;
+    if place < hidden.len() {
+        let latch = hidden[place].latch;
+        hidden[place] = Hidden { latch, after };
+    }
+}
+
+/// Puts a list.
+fn set_list(lists: &mut [List], number: u32, list: List) {
+    let place = number.wrapping_sub(1) as usize;
+    if place < lists.len() {
+        lists[place] = list;
+    }
+}
+
+impl Rows {
+    /// No latch is left out.
+    pub fn none(memory: &mut Memory) -> Rows {
+        Rows {
+            hidden: memory.nothing(),
+            lists: memory.nothing(),
+            many: 0,
+        }
+    }
+
+    /// How many latches are left out.
+    pub fn many(&self) -> u32 {
+        self.many
+    }
+
+    /// The list with a number from 1 on, and none at 0.
+    fn list_at(&self, number: u32) -> List {
+        let place = number.wrapping_sub(1) as usize;
+        if place < self.lists.len() {
+            self.lists[place]
+        } else {
+            List::NONE
+        }
+    }
+
+    /// The hidden latch with a number from 1 on.
+    fn hidden_at(&self, number: u32) -> Hidden {
+        let place = number.wrapping_sub(1) as usize;
+        if place < self.hidden.len() {
+            self.hidden[place]
+        } else {
+            Hidden {
+                latch: DraftLatch::NONE,
+                after: 0,
+            }
+        }
+    }
+
+    /// A list with those of another one after it.
+    fn joined(&mut self, list: List, other: List) -> List {
+        if list.many == 0 {
+            return other;
+        }
+        if other.many == 0 {
+            return list;
+        }
+        set_after(self.hidden.as_mut_slice(), list.back, other.front);
+        List {
+            front: list.front,
+            back: other.back,
+            many: list.many.wrapping_add(other.many),
+        }
+    }
+
+    /// A list with the latches that are left out before another one after it, and then that one.
+    fn appended(&mut self, memory: &mut Memory, list: List, latch: DraftLatch) -> List {
+        let before = self.list_at(latch.list);
+        let list = self.joined(list, before);
+        memory.push(&mut self.hidden, Hidden { latch, after: 0 });
+        self.many = self.many.wrapping_add(1);
+        let own = number(self.hidden.len());
+        let last = List {
+            front: own,
+            back: own,
+            many: 1,
+        };
+        self.joined(list, last)
+    }
+
+    /// A latch has the list before it, and reads the one at a place for now.
+    fn hold(&mut self, memory: &mut Memory, draft: &mut Draft, place: u32, list: List, from: u32) {
+        let latch = draft.latch(place);
+        let before = self.list_at(latch.list);
+        let list = self.joined(list, before);
+        memory.push(&mut self.lists, list);
+        let from = draft.first_latch().wrapping_add(from);
+        let held = DraftLatch {
+            next: Literal::of(from).signed_as(latch.next),
+            list: number(self.lists.len()),
+            ..latch
+        };
+        set_latch(draft.latches.as_mut_slice(), place, held);
+    }
+
+    /// Leaves out the middle of the row that begins with a latch, if it is long. Whether it is.
+    fn shorten(
+        &mut self,
+        memory: &mut Memory,
+        draft: &mut Draft,
+        links: &Links,
+        first: u32,
+        hides: &mut [bool],
+    ) -> bool {
+        let length = links.length(draft, first);
+        if length < MOST {
+            return false;
+        }
+        let mut at = first;
+        for _ in 1..NEAR {
+            at = links.next(draft, at);
+        }
+        let from = at;
+        let mut list = List::NONE;
+        for _ in NEAR..length.wrapping_sub(NEAR) {
+            at = links.next(draft, at);
+            list = self.appended(memory, list, draft.latch(at));
+            set_mark(hides, at, true);
+        }
+        self.hold(memory, draft, links.next(draft, at), list, from);
+        true
+    }
+
+    /// Gives back some of the latches that are left out before the one at a place. Their variables come after all others for now.
+    fn give_back(
+        &mut self,
+        memory: &mut Memory,
+        draft: &mut Draft,
+        place: u32,
+        most: u32,
+        back: &mut Vec<DraftLatch>,
+    ) {
+        let latch = draft.latch(place);
+        let mut list = self.list_at(latch.list);
+        let mut from = latch.next.var();
+        for _ in 0..most.min(list.many) {
+            let Hidden { latch: own, after } = self.hidden_at(list.front);
+            let next = Literal::of(from).signed_as(own.next);
+            from = draft.end().wrapping_add(number(back.len()));
+            memory.push(
+                back,
+                DraftLatch {
+                    next,
+                    list: 0,
+                    ..own
+                },
+            );
+            list = List {
+                front: after,
+                back: list.back,
+                many: list.many.wrapping_sub(1),
+            };
+            self.many = self.many.wrapping_sub(1);
+        }
+        set_list(self.lists.as_mut_slice(), latch.list, list);
+        let held = DraftLatch {
+            next: Literal::of(from).signed_as(latch.next),
+            list: if list.many > 0 { latch.list } else { 0 },
+            ..latch
+        };
+        set_latch(draft.latches.as_mut_slice(), place, held);
+    }
+
+    /// Gives latches back to the row that begins with a latch, where too few stand before those that are left out.
+    fn lengthen(
+        &mut self,
+        memory: &mut Memory,
+        draft: &mut Draft,
+        links: &Links,
+        first: u32,
+        back: &mut Vec<DraftLatch>,
+    ) {
+        let mut at = first;
+        for before in 0..LEAST {
+            if draft.latch(at).list > 0 {
+                self.give_back(memory, draft, at, NEAR.wrapping_sub(before), back);
+                return;
+            }
+            at = links.next(draft, at);
+        }
+    }
+
+    /// Gives latches back, or else leaves some out, where rows have changed.
+    pub fn keep_up(&mut self, memory: &mut Memory, draft: &mut Draft, again: &mut Again) {
+        let links = Links::of(memory, draft);
+        let mut hides = memory.table(false, draft.latches.len());
+        let mut back: Vec<DraftLatch> = memory.nothing();
+        let mut changes = false;
+        for place in 0..draft.many_latches() {
+            if links.is_first(place) {
+                self.lengthen(memory, draft, &links, place, &mut back);
+            }
+        }
+        if back.is_empty() {
+            for place in 0..draft.many_latches() {
+                if links.is_first(place) {
+                    let shorter = self.shorten(memory, draft, &links, place, hides.as_mut_slice());
+                    changes = changes | shorter;
+                }
+            }
+        }
+        if changes | !back.is_empty() {
+            relay(memory, draft, again, back.as_slice(), hides.as_slice());
+        }
+    }
+
+    /// Gives all latches back.
+    pub fn restore(&mut self, memory: &mut Memory, draft: &mut Draft, again: &mut Again) {
+        let mut back: Vec<DraftLatch> = memory.nothing();
+        for place in 0..draft.many_latches() {
+            if draft.latch(place).list > 0 {
+                self.give_back(memory, draft, place, u32::MAX, &mut back);
+            }
+        }
+        relay(memory, draft, again, back.as_slice(), &[]);
+    }
+}
