@@ -4,8 +4,8 @@ pub mod Entries
 pub mod Codes
 pub mod Outcomes
 pub mod Reading
-pub mod LazyFiles
 pub mod WrittenFiles
+pub mod Laws
 pub mod Faults
 pub mod Files
 pub mod Lines

@@ -1,27 +1,37 @@
 -- What the files of a run are given.
-use Rattle.std.specs.Prelude.{ℕ, ◌≡◌, List, Option, Some, None}
-use Rattle.std.specs.Option.{option_and_then}
-use Rattle.counted_io.specs.Counted.{counted_failures, counted_inner}
-use Rattle.counted_io.specs.declared.counted.Counted.{Counted}
+use Rattle.std.specs.Prelude.{ℕ, ◌≡◌, ◌≢◌, List, [], ◌∷◌, ◌++◌, length, Option, Some, None}
+use Rattle.std.specs.Io.KnownBytes.{Appends}
 use Rattle.counted_io.specs.Output.{Output, WritesAll}
 use Rattle.counted_io.specs.declared.target.Target.{Target}
 use Rattle.counted_io.specs.declared.target.Target.TheVariants as targets
-use Rattle.circuit_files.specs.declared.lazy_file.LazyFile.{LazyFile}
 
--- it is the file with this path that is written to
-abbrev pub HasPath : {R F D : Type 0} → Counted (LazyFile R F D) → List ℕ → Type 0
-HasPath writer path = (counted_inner writer).path.now ≡ path
+-- by the contents of files, and by what it is that one was made at a path
+module _ {F : Type 0} (contents : F → Option (List ℕ)) (IsMade : F → List ℕ → Type 0) where
+  -- this file was made at the path, and a text was appended to it since
+  pub record HasGrown (path text : List ℕ) (file : F) : Type 0 where
+    pub made : F
+    pub at : IsMade made path
+    pub appends : Appends (contents made) (contents file) text
 
--- what the file has, where that is known, and how many writes to it failed
-abbrev pub output_of : {R F D : Type 0} → (F → Option (List ℕ)) → Counted (LazyFile R F D) → Output
-output_of contents writer = record { bytes = option_and_then contents (counted_inner writer).file; failures = counted_failures writer }
+  -- what a writer has taken is in its file; it makes none for no bytes
+  abbrev pub HasTaken : List ℕ → List ℕ → Option F → Type 0
+  HasTaken path given None = given ≡ []
+  HasTaken path given (Some file) = HasGrown path given file
 
--- the file with this path was opened, and given all of this text, by the contents of files
-pub record IsFileGiven (R : Type 0) {F : Type 0} (D : Type 0) (contents : F → Option (List ℕ)) (path text : List ℕ) : Type 0 where
-  pub opened : Counted (LazyFile R F D)
-  pub given : Counted (LazyFile R F D)
-  pub at : HasPath opened path
-  pub writes : WritesAll (output_of contents opened) (output_of contents given) text
+  -- a file was made at the path, all of this text was appended to it, and it was let go like that
+  pub record IsWholeFile (IsLetGo : F → Type 0) (path text : List ℕ) : Type 0 where
+    pub file : F
+    pub grown : HasGrown path text file
+    pub let_go : IsLetGo file
+
+  -- there is such a file, unless the text is empty
+  pub record IsFileGiven (IsLetGo : F → Type 0) (path text : List ℕ) : Type 0 where
+    pub whole : text ≢ [] → ∥ IsWholeFile IsLetGo path text ∥₁
+
+-- what a writer is known to hold: the path of its file, with its length before it, and then what the file was given. So whoever lends it to
+-- a function that writes to any writer knows that it comes back with its path
+abbrev pub account : List ℕ → List ℕ → List ℕ
+account path given = length path ∷ path ++ given
 
 -- all of this text was written, by what it means that a file was given one: to standard output, or to a file, which leaves standard output as it was
 abbrev pub IsTargetGiven : (List ℕ → List ℕ → Type 0) → Target → Output → Output → List ℕ → Type 0

@@ -9,19 +9,18 @@ ghost use Rattle.circuit_files.specs.declared.outcome.Outcome.TheVariants.{Devic
 
 use aig_binary::{Spelling, write};
 use aig_graph::Circuit;
-use circuit_files::{Failure, file_at};
+use circuit_files::{Failure, OutputFiles, close, file_at};
 use counted_io::{CountedWrite, Target, WriteError};
-use std::rt::Files;
 
 /// Writes the circuit to a file or to standard output.
-fn put_circuit<R: Files, O: CountedWrite>(
+fn put_circuit<R: OutputFiles, O: CountedWrite>(
     rt: &R,
     circuit: &Circuit,
     spelling: Spelling,
     output: Target<'_>,
     out: &mut O,
 ) -> Result<(), WriteError>
-    ensures given { OnOk result (IsTargetGiven (IsFileGiven R R.Dir R.File.contents) output.entry
+    ensures given { OnOk result (IsTargetGiven (IsFileGiven R.Output.contents R.is_made R.is_let_go) output.entry
         (O.output out.old) (O.output out.new) (text_in spelling circuit.now)) }
     ensures stdout { is_stdout output.entry ≡ true → Writes (O.output out.old)
         (O.output out.new) result (text_in spelling circuit.now) }
@@ -31,20 +30,22 @@ fn put_circuit<R: Files, O: CountedWrite>(
         Target::Stdout => write(circuit, spelling, out),
         Target::File(path) => {
             let mut writer = file_at(rt, path);
-            write(circuit, spelling, &mut writer)
+            let written = write(circuit, spelling, &mut writer);
+            close(writer);
+            written
         }
     }
 }
 
 /// Writes the circuit to a file or to standard output, of which one is named where that failed. A file is made at its first byte.
-pub fn write_circuit<'a, R: Files, O: CountedWrite>(
+pub fn write_circuit<'a, R: OutputFiles, O: CountedWrite>(
     rt: &R,
     circuit: &Circuit,
     spelling: Spelling,
     output: Target<'a>,
     out: &mut O,
 ) -> Result<(), Failure<'a>>
-    ensures given { OnOk result (IsTargetGiven (IsFileGiven R R.Dir R.File.contents) output.entry
+    ensures given { OnOk result (IsTargetGiven (IsFileGiven R.Output.contents R.is_made R.is_let_go) output.entry
         (O.output out.old) (O.output out.new) (text_in spelling circuit.now)) }
     ensures stdout { is_stdout output.entry ≡ true → Writes (O.output out.old)
         (O.output out.new) result (text_in spelling circuit.now) }

@@ -77,7 +77,7 @@ is_answer task options spelt old new r keep answer retimed same levels map has_m
 pub mapped_answer : (task : Retiming) (options : Options) (spelt : SpeltCircuit) (old new : Output) (mapped : Mapped) (answer : Answered) → answer.retimed ≡ mapped.retimed → answer.keep ≡ mapped.keep
     → answer.levels ≡ levels_reported task spelt.circuit → answer.map ≡ Some mapped.map → is_some task.map ≡ true → IsMappedOf options spelt old new mapped → IsAnswerTo task options spelt old new answer
 mapped_answer task options spelt old new mapped answer retimed same levels made asked is =
-    let map = subst (λ (m : Option SpeltMap). IsMapOf options spelt mapped.retimed m) (sym made) (is.map, is.spelling) in
+    let map = subst (λ (m : Option SpeltMap). IsMapOf options spelt mapped.retimed m) (sym made) (is.map, is.free, is.spelling) in
     is_answer task options spelt old new mapped.retimed mapped.keep answer retimed same levels map (ap is_some made ∙ sym asked) is.held is.written
 
 -- what goes to no standard output leaves it as it was

@@ -7,7 +7,7 @@ use Rattle.ascii_file.specs.Laws.{IsWithinLimits}
 use Rattle.counted_io.specs.declared.spelling.Spelling.{Spelling}
 use Rattle.aig_binary.specs.declared.reading.SpeltCircuit.{SpeltCircuit}
 use Rattle.aig_binary.specs.Ending.{Spells}
-use Rattle.retimed_circuits.specs.MapCircuits.{IsMapCircuit}
+use Rattle.retimed_circuits.specs.MapCircuits.{FreeStay, IsMapCircuit}
 use Rattle.retimed_circuits.specs.declared.report.Retimed.{Retimed}
 use Rattle.frames.specs.Answering.{IsAnswer, IsAnswered, ReadsBack, text_for}
 use Rattle.frames.specs.Retiming.{IsRetimedHeld}
@@ -36,10 +36,10 @@ pub record IsPipe (task : Retiming) : Type 0 where
   pub alone : writes_stdout task.certificates ≡ false
   pub map_aside : writes_stdout task.map ≡ false
 
--- a map, where there is one, is that of the run: from the circuit that was read to the one that is written, in its spelling
+-- a map, where there is one, is that of the run: from the circuit that was read to the one that is written, whose free latches stay, in its spelling
 abbrev pub IsMapOf : Options → SpeltCircuit → Retimed → Option SpeltMap → Type 0
 IsMapOf options spelt r None = Unit {0}
-IsMapOf options spelt r (Some m) = IsMapCircuit spelt.circuit r.circuit r.kept_free m.circuit × (m.spelling ≡ unwrap_or options.spelling spelt.spelling)
+IsMapOf options spelt r (Some m) = IsMapCircuit spelt.circuit r.circuit r.kept_free m.circuit × FreeStay spelt.circuit r.circuit m.circuit × (m.spelling ≡ unwrap_or options.spelling spelt.spelling)
 
 -- of a circuit that was read, this is the answer by the options, which is read back; its held latches stand where it is said, its levels are reported, and its map is made, where that is asked for
 pub record IsAnswerOf (task : Retiming) (options : Options) (spelt : SpeltCircuit) (answer : Answer) : Type 0 where

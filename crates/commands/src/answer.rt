@@ -15,7 +15,7 @@ ghost use Rattle.commands.specs.RetimingTasks.{AreOptionsFor, HasFailed, IsFailu
 
 use aig_binary::{Spelling, SpeltCircuit};
 use aig_graph::{Circuit, Keep, NoMemory};
-use circuit_files::{Failure, file_at};
+use circuit_files::{Failure, OutputFiles, close, file_at};
 use command_endings::{missing_latch, missing_name};
 use command_line::{Retiming, RetimingOptions};
 use counted_io::{CountedWrite, ReadError, Source, Target, WriteError};
@@ -25,7 +25,6 @@ use mapped_answers::{AnswerError, Mapped, SpeltMap, retime_spelt_mapped, write_s
 use pulse::{Crew, OpenGate};
 use retimed_circuits::levels;
 use std::alloc::Global;
-use std::rt::Files;
 use std::thread::Threads;
 
 /// The most workers of a crew.
@@ -243,13 +242,13 @@ pub(crate) fn retime_to<'a, R: Threads + Sync, W: CountedWrite, V: FrameWatcher>
 }
 
 /// Writes a map to what it is written to.
-fn write_map<R: Files, O: CountedWrite>(
+fn write_map<R: OutputFiles, O: CountedWrite>(
     rt: &R,
     map: &SpeltMap,
     target: Target<'_>,
     out: &mut O,
 ) -> Result<(), WriteError>
-    ensures given { OnOk result (IsTargetGiven (IsFileGiven R R.Dir R.File.contents) target.entry
+    ensures given { OnOk result (IsTargetGiven (IsFileGiven R.Output.contents R.is_made R.is_let_go) target.entry
         (O.output out.old) (O.output out.new) (text_in map.now.spelling map.now.circuit)) }
     ensures file { is_stdout target.entry ≡ false → O.output out.new ≡ O.output out.old }
 {
@@ -257,19 +256,21 @@ fn write_map<R: Files, O: CountedWrite>(
         Target::Stdout => write_state_map(&map.circuit, map.spelling, out),
         Target::File(path) => {
             let mut writer = file_at(rt, path);
-            write_state_map(&map.circuit, map.spelling, &mut writer)
+            let written = write_state_map(&map.circuit, map.spelling, &mut writer);
+            close(writer);
+            written
         }
     }
 }
 
 /// Writes the map where it is asked for.
-pub(crate) fn map_written<'a, R: Files, O: CountedWrite>(
+pub(crate) fn map_written<'a, R: OutputFiles, O: CountedWrite>(
     rt: &R,
     task: &Retiming<'a>,
     answer: &Answer,
     out: &mut O,
 ) -> Result<(), Failure<'a>>
-    ensures written { OnOk result (WritesMap (IsFileGiven R R.Dir R.File.contents) task.now.map
+    ensures written { OnOk result (WritesMap (IsFileGiven R.Output.contents R.is_made R.is_let_go) task.now.map
         answer.now.map (O.output out.old) (O.output out.new)) }
     ensures file { writes_stdout task.now.map ≡ false → O.output out.new ≡ O.output out.old }
     ensures err { IfErr result (HasFailed task.now.map) }

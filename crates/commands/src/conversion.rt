@@ -7,7 +7,7 @@ ghost use Rattle.commands.specs.Pipes.{Converts};
 ghost use Rattle.command_endings.specs.Printing.{Prints, ending};
 
 use aig_binary::Spelling;
-use circuit_files::{Failure, Outcome, circuit_at};
+use circuit_files::{Failure, Outcome, OutputFiles, circuit_at};
 use command_endings::write_circuit;
 use counted_io::{CountedRead, CountedWrite, Source, Target};
 use std::alloc::Global;
@@ -30,7 +30,7 @@ fn spelling_for(read: Spelling, chosen: Option<Spelling>) -> Spelling
 }
 
 /// Reads a circuit, and writes it in the chosen spelling, else in the one that wasn't read.
-pub fn convert<'a, R: Files, I: CountedRead, O: CountedWrite>(
+pub fn convert<'a, R: Files + OutputFiles, I: CountedRead, O: CountedWrite>(
     rt: &R,
     alloc: Global,
     input: Source<'a>,
@@ -39,7 +39,7 @@ pub fn convert<'a, R: Files, I: CountedRead, O: CountedWrite>(
     stdin: &mut I,
     out: &mut O,
 ) -> Result<Outcome, Failure<'a>>
-    ensures converts { IfOk result (λ _. Converts (IsFileGiven R R.Dir R.File.contents) spelling
+    ensures converts { IfOk result (λ _. Converts (IsFileGiven R.Output.contents R.is_made R.is_let_go) spelling
         input.entry output.entry (I.input stdin.old) (O.output out.old) (O.output out.new)) }
     ensures prints { Prints (ending result) (O.output out.old) (O.output out.new) }
 {

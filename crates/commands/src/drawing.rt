@@ -11,7 +11,7 @@ ghost use Rattle.command_endings.specs.Printing.{Prints, ending};
 
 use crate::scene::{Scene, scene_for};
 use aig_graph::NoMemory;
-use circuit_files::{Failure, Outcome, file_at};
+use circuit_files::{Failure, Outcome, OutputFiles, close, file_at};
 use command_line::Drawing;
 use counted_io::{CountedRead, CountedWrite, Streams, Target, write_all};
 use frames::PathBound;
@@ -85,14 +85,14 @@ fn draw<'a, W: CountedWrite>(
 }
 
 /// Writes the picture of a scene to what the task writes. A file is made at the picture's first byte.
-fn draw_to<'a, R: Files, O: CountedWrite>(
+fn draw_to<'a, R: OutputFiles, O: CountedWrite>(
     rt: &R,
     alloc: Global,
     scene: &Scene,
     task: &Drawing<'a>,
     out: &mut O,
 ) -> Result<(), Failure<'a>>
-    ensures given { OnOk result (IsTargetGiven (IsFileGiven R R.Dir R.File.contents)
+    ensures given { OnOk result (IsTargetGiven (IsFileGiven R.Output.contents R.is_made R.is_let_go)
         task.now.output (O.output out.old) (O.output out.new) (picture_of task.now scene.now)) }
     ensures file { is_stdout task.now.output ≡ false → O.output out.new ≡ O.output out.old }
     ensures prints { IfErr result (λ failure. Prints (outcome_of failure) (O.output out.old)
@@ -102,7 +102,9 @@ fn draw_to<'a, R: Files, O: CountedWrite>(
         Target::Stdout => draw(alloc, scene, task, out),
         Target::File(path) => {
             let mut writer = file_at(rt, path);
-            draw(alloc, scene, task, &mut writer)
+            let drawn = draw(alloc, scene, task, &mut writer);
+            close(writer);
+            drawn
         }
     }
 }
@@ -128,7 +130,7 @@ fn tell_no_frame<E: CountedWrite>(scene: &Scene, task: &Drawing<'_>, is_terminal
 /// error is a terminal, it is told there that no frame helps, if one was to be shown.
 pub fn write_picture<
     'a,
-    R: Files + Threads + Sync,
+    R: Files + OutputFiles + Threads + Sync,
     I: CountedRead,
     O: CountedWrite,
     E: CountedWrite,
@@ -138,7 +140,7 @@ pub fn write_picture<
     task: &Drawing<'a>,
     streams: &mut Streams<I, O, E>,
 ) -> Result<Outcome, Failure<'a>>
-    ensures picture { IfOk result (PrintsPicture (IsFileGiven R R.Dir R.File.contents) task.now
+    ensures picture { IfOk result (PrintsPicture (IsFileGiven R.Output.contents R.is_made R.is_let_go) task.now
         (I.input streams.old.stdin) (I.input streams.new.stdin) (O.output streams.old.out) (O.output streams.new.out)) }
     ensures file { is_stdout task.now.output ≡ false → O.output streams.new.out ≡ O.output streams.old.out }
     ensures prints { Prints (ending result) (O.output streams.old.out) (O.output streams.new.out) }

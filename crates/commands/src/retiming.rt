@@ -16,7 +16,7 @@ use crate::answer::{Answer, map_counts, map_written, retime_to};
 use aig_binary::{Spelling, SpeltCircuit};
 use aig_graph::{Keep, NoMemory, Sequence};
 use certificates::{CertFile, Certificate, Choice, write_cert};
-use circuit_files::{Failure, Outcome, circuit_at, file_at};
+use circuit_files::{Failure, Outcome, OutputFiles, circuit_at, close, file_at};
 use command_endings::{Progress, ended, run_options};
 use command_line::{Retiming, Shown};
 use counted_io::{CountedRead, CountedWrite, Streams, Target, WriteError, write_all};
@@ -30,7 +30,7 @@ use std::thread::Threads;
 use std::time::Clock;
 
 /// Writes the circuit that was read, retimed, to what the task writes.
-fn retime_by<'a, R: Files + Threads + Sync, O: CountedWrite, V: FrameWatcher>(
+fn retime_by<'a, R: OutputFiles + Threads + Sync, O: CountedWrite, V: FrameWatcher>(
     rt: &R,
     alloc: Global,
     task: &Retiming<'a>,
@@ -40,7 +40,7 @@ fn retime_by<'a, R: Files + Threads + Sync, O: CountedWrite, V: FrameWatcher>(
     watcher: &mut V,
 ) -> Result<Answer, Failure<'a>>
     requires { AreOptionsFor task.now options.now }
-    ensures answer { IfOk result (IsAnswerAt (IsFileGiven R R.Dir R.File.contents) task.now
+    ensures answer { IfOk result (IsAnswerAt (IsFileGiven R.Output.contents R.is_made R.is_let_go) task.now
         options.now spelt (O.output out.old) (O.output out.new)) }
     ensures file { is_stdout task.now.output ≡ false → O.output out.new ≡ O.output out.old }
     ensures prints { IfErr result (λ failure. Prints (outcome_of failure) (O.output out.old)
@@ -50,13 +50,21 @@ fn retime_by<'a, R: Files + Threads + Sync, O: CountedWrite, V: FrameWatcher>(
         Target::Stdout => retime_to(rt, alloc, task, options, spelt, out, watcher),
         Target::File(path) => {
             let mut writer = file_at(rt, path);
-            retime_to(rt, alloc, task, options, spelt, &mut writer, watcher)
+            let answer = retime_to(rt, alloc, task, options, spelt, &mut writer, watcher);
+            close(writer);
+            answer
         }
     }
 }
 
 /// Reads what the task reads, and writes it, retimed, to what it writes.
-fn retime_read<'a, R: Files + Threads + Sync, I: CountedRead, O: CountedWrite, V: FrameWatcher>(
+fn retime_read<
+    'a,
+    R: Files + OutputFiles + Threads + Sync,
+    I: CountedRead,
+    O: CountedWrite,
+    V: FrameWatcher,
+>(
     rt: &R,
     alloc: Global,
     task: &Retiming<'a>,
@@ -66,7 +74,7 @@ fn retime_read<'a, R: Files + Threads + Sync, I: CountedRead, O: CountedWrite, V
     watcher: &mut V,
 ) -> Result<Answer, Failure<'a>>
     requires { AreOptionsFor task.now options.now }
-    ensures answer { IfOk result (WritesAnswer (IsFileGiven R R.Dir R.File.contents) task.now
+    ensures answer { IfOk result (WritesAnswer (IsFileGiven R.Output.contents R.is_made R.is_let_go) task.now
         (I.input stdin.old) (O.output out.old) (O.output out.new)) }
     ensures file { is_stdout task.now.output ≡ false → O.output out.new ≡ O.output out.old }
     ensures prints { IfErr result (λ failure. Prints (outcome_of failure) (O.output out.old)
@@ -78,7 +86,13 @@ fn retime_read<'a, R: Files + Threads + Sync, I: CountedRead, O: CountedWrite, V
     }
 }
 
-fn retimed<'a, R: Files + Threads + Sync, I: CountedRead, O: CountedWrite, V: FrameWatcher>(
+fn retimed<
+    'a,
+    R: Files + OutputFiles + Threads + Sync,
+    I: CountedRead,
+    O: CountedWrite,
+    V: FrameWatcher,
+>(
     rt: &R,
     alloc: Global,
     task: &Retiming<'a>,
@@ -86,7 +100,7 @@ fn retimed<'a, R: Files + Threads + Sync, I: CountedRead, O: CountedWrite, V: Fr
     out: &mut O,
     watcher: &mut V,
 ) -> Result<Answer, Failure<'a>>
-    ensures answer { IfOk result (WritesAnswer (IsFileGiven R R.Dir R.File.contents) task.now
+    ensures answer { IfOk result (WritesAnswer (IsFileGiven R.Output.contents R.is_made R.is_let_go) task.now
         (I.input stdin.old) (O.output out.old) (O.output out.new)) }
     ensures file { is_stdout task.now.output ≡ false → O.output out.new ≡ O.output out.old }
     ensures prints { IfErr result (λ failure. Prints (outcome_of failure) (O.output out.old)
@@ -113,14 +127,14 @@ fn put_certificates<W: CountedWrite>(
 }
 
 /// Writes the certificates of a retiming by this choice to what they are written to.
-fn write_certificates<R: Files, O: CountedWrite>(
+fn write_certificates<R: OutputFiles, O: CountedWrite>(
     rt: &R,
     choice: Choice,
     blocks: Sequence<Certificate>,
     target: Target<'_>,
     out: &mut O,
 ) -> Result<(), WriteError>
-    ensures given { OnOk result (IsTargetGiven (IsFileGiven R R.Dir R.File.contents) target.entry
+    ensures given { OnOk result (IsTargetGiven (IsFileGiven R.Output.contents R.is_made R.is_let_go) target.entry
         (O.output out.old) (O.output out.new)
         (file_text (record { choice = choice; blocks = blocks }))) }
     ensures file { is_stdout target.entry ≡ false → O.output out.new ≡ O.output out.old }
@@ -129,20 +143,22 @@ fn write_certificates<R: Files, O: CountedWrite>(
         Target::Stdout => put_certificates(choice, blocks, out),
         Target::File(path) => {
             let mut file = file_at(rt, path);
-            put_certificates(choice, blocks, &mut file)
+            let written = put_certificates(choice, blocks, &mut file);
+            close(file);
+            written
         }
     }
 }
 
 /// Writes the certificates where they are asked for; they are taken out of the retiming.
-fn certify<'a, R: Files, O: CountedWrite>(
+fn certify<'a, R: OutputFiles, O: CountedWrite>(
     rt: &R,
     alloc: Global,
     task: &Retiming<'a>,
     retimed: &mut Retimed,
     out: &mut O,
 ) -> Result<(), Failure<'a>>
-    ensures written { OnOk result (WritesCertificates (IsFileGiven R R.Dir R.File.contents)
+    ensures written { OnOk result (WritesCertificates (IsFileGiven R.Output.contents R.is_made R.is_let_go)
         task.now.certificates (blocks_text task.now retimed.old) (O.output out.old)
         (O.output out.new)) }
     ensures file { writes_stdout task.now.certificates ≡ false
@@ -161,14 +177,14 @@ fn certify<'a, R: Files, O: CountedWrite>(
 }
 
 /// Writes the map and the certificates where they are asked for.
-fn write_beside<'a, R: Files, O: CountedWrite>(
+fn write_beside<'a, R: OutputFiles, O: CountedWrite>(
     rt: &R,
     alloc: Global,
     task: &Retiming<'a>,
     answer: &mut Answer,
     out: &mut O,
 ) -> Result<(), Failure<'a>>
-    ensures written { OnOk result (WritesBeside (IsFileGiven R R.Dir R.File.contents) task.now
+    ensures written { OnOk result (WritesBeside (IsFileGiven R.Output.contents R.is_made R.is_let_go) task.now
         answer.old (O.output out.old) (O.output out.new)) }
     ensures file { writes_stdout task.now.map ≡ false → writes_stdout task.now.certificates
         ≡ false → O.output out.new ≡ O.output out.old }
@@ -222,7 +238,7 @@ fn with_times(answer: Answer, times: Option<Times>) -> Timed
 /// Writes the circuit, and then the map and the certificates. Shows on standard error how far the run is, until the circuit is written.
 fn certified<
     'a,
-    R: Files + Threads + Sync + Clock,
+    R: Files + OutputFiles + Threads + Sync + Clock,
     I: CountedRead,
     O: CountedWrite,
     E: CountedWrite,
@@ -232,7 +248,7 @@ fn certified<
     task: &Retiming<'a>,
     streams: &mut Streams<I, O, E>,
 ) -> Result<Timed, Failure<'a>>
-    ensures reported { IfOk result (λ timed. IsReportOf (IsFileGiven R R.Dir R.File.contents) task.now
+    ensures reported { IfOk result (λ timed. IsReportOf (IsFileGiven R.Output.contents R.is_made R.is_let_go) task.now
         (I.input streams.old.stdin) (O.output streams.old.out) (O.output streams.new.out) timed.retimed timed.keep
         timed.levels timed.map) }
     ensures file { takes_stdout task.now ≡ false → O.output streams.new.out ≡ O.output streams.old.out }
@@ -403,7 +419,7 @@ fn print_frames<'a, O: CountedWrite, E: CountedWrite>(
 /// Shows how far the run is as the task asks, and on a terminal why no more latches go.
 pub fn print_retimed<
     'a,
-    R: Files + Threads + Sync + Clock,
+    R: Files + OutputFiles + Threads + Sync + Clock,
     I: CountedRead,
     O: CountedWrite,
     E: CountedWrite,
@@ -413,7 +429,7 @@ pub fn print_retimed<
     task: &Retiming<'a>,
     streams: &mut Streams<I, O, E>,
 ) -> Result<Outcome, Failure<'a>>
-    ensures frames { IfOk result (λ ended. PrintsRetiming (IsFileGiven R R.Dir R.File.contents)
+    ensures frames { IfOk result (λ ended. PrintsRetiming (IsFileGiven R.Output.contents R.is_made R.is_let_go)
         task.now streams.old.is_terminal (I.input streams.old.stdin) (O.output streams.old.out) (O.output streams.new.out)
         (E.output streams.new.err) (Ok ended)) }
     ensures pipe { IfOk result (λ _. IsPipe task.now

@@ -1,8 +1,8 @@
 -- The files of a batch, one after another: their outcomes beside their outputs, and that each circuit was written.
-use Rattle.std.proofs.Common.{ℕ, ◌+◌, ◌<◌, ◌≤◌, ◌≡◌, Bool, List, [], ◌∷◌, ◌++◌, All, Option, Result, Ok, Err, length, map, take, get_or, refl, sym, ap, ap₂, ◌∙◌, subst, arith}
+use Rattle.std.proofs.Common.{ℕ, ◌+◌, ◌<◌, ◌≤◌, ◌≡◌, Bool, List, [], ◌∷◌, ◌++◌, All, Result, Ok, Err, length, map, take, get_or, refl, sym, ap, ap₂, ◌∙◌, subst, arith}
 use Rattle.std.specs.Prelude.{IfOk, OnOk}
 use Rattle.std.proofs.lemmas.List.{get_or_default, map-append, map_more, take_all, take_more}
-use Rattle.std.proofs.lemmas.List.Elements.{All-map, All-more}
+use Rattle.std.proofs.lemmas.List.Elements.{All-more}
 use Rattle.counted_io.specs.Output.{Output}
 use Rattle.circuit_files.specs.declared.entry.Entry.{Entry}
 use Rattle.batch_pool.specs.declared.job.Outcome.{Outcome as JobOutcome}
@@ -10,7 +10,7 @@ use Rattle.reports.specs.declared.batch.JobReport.{JobReport}
 use Rattle.circuit_files.specs.declared.outcome.Outcome.{Outcome}
 use Rattle.circuit_files.specs.declared.outcome.Failure.{Failure}
 use Rattle.fretime.specs.declared.answers.Answer.{Answer}
-use Rattle.fretime.specs.Answers.{AreAnswersOf, IsOfInput, IsWritten, NamesFile, report_at}
+use Rattle.fretime.specs.Answers.{AreAllWritten, AreAnswersOf, IsOfInput, IsWritten, NamesFile, report_at}
 use Rattle.fretime.specs.Batches.{Printed, report_of}
 
 -- the file that this entry reads is named
@@ -18,10 +18,9 @@ pub of_input : (entries : List Entry) (k : ℕ) (d : Entry) (failure : Failure) 
 of_input entries k d failure within names = record { one = get_or entries k d; listed = (k, within, get_or_default entries k (get_or entries k d) d within); is = names }
 
 -- one more circuit was written
-pub one_more_written : {F : Type 0} (contents : F → Option (List ℕ)) (answers : List Answer) (k : ℕ) (a : Answer) → k < length answers → a ≡ get_or answers k a
-    → All (λ x. IsWritten contents x.outcome.now) (take k answers) → IsWritten contents a.outcome.now → All (λ x. IsWritten contents x.outcome.now) (take (k + 1) answers)
-one_more_written contents answers k a within there before is =
-    All-more (λ (x : Answer). IsWritten contents x.outcome.now) answers k a within before (subst (λ (x : Answer). IsWritten contents x.outcome.now) there is)
+pub one_more_written : (FileGiven : List ℕ → List ℕ → Type 0) (answers : List Answer) (k : ℕ) (a : Answer) → k < length answers → a ≡ get_or answers k a
+    → All (IsWritten FileGiven) (take k answers) → IsWritten FileGiven a → All (IsWritten FileGiven) (take (k + 1) answers)
+one_more_written FileGiven answers k a within there before is = All-more (IsWritten FileGiven) answers k a within before (subst (IsWritten FileGiven) there is)
 
 reports_at : (answers : List Answer) → map report_at answers ≡ map report_of (map (λ (a : Answer). a.outcome.now) answers)
 reports_at [] = refl
@@ -35,11 +34,10 @@ printed_of json entries outcomes answers old new (Ok ended) are printed =
 printed_of json entries outcomes answers old new (Err failure) are printed = tt
 
 -- and what was written of them
-pub written_of : {F : Type 0} (contents : F → Option (List ℕ)) (entries : List Entry) (outcomes : List JobOutcome) (answers : List Answer) (result : Result Outcome Failure)
-    → AreAnswersOf entries outcomes answers → OnOk result (All (λ x. IsWritten contents x.outcome.now) answers) → OnOk result (All (IsWritten contents) outcomes)
-written_of contents entries outcomes answers (Ok ended) are written =
-    subst (λ (os : List JobOutcome). All (IsWritten contents) os) are.outcomes_are (All-map (IsWritten contents) (λ (a : Answer). a.outcome.now) answers written)
-written_of contents entries outcomes answers (Err failure) are written = tt
+pub written_of : (FileGiven : List ℕ → List ℕ → Type 0) (entries : List Entry) (outcomes : List JobOutcome) (answers : List Answer) (result : Result Outcome Failure)
+    → AreAnswersOf entries outcomes answers → OnOk result (All (IsWritten FileGiven) answers) → OnOk result (AreAllWritten FileGiven entries outcomes)
+written_of FileGiven entries outcomes answers (Ok ended) are written = record { answers = answers; are = are; written = written }
+written_of FileGiven entries outcomes answers (Err failure) are written = tt
 
 -- the report of one file more
 pub one_more_report : (answers : List Answer) (k : ℕ) (a : Answer) (old new : List JobReport) (r : JobReport) → k < length answers → a ≡ get_or answers k a → r ≡ report_at a

@@ -1,6 +1,5 @@
 -- The files of a batch: which outcome goes to which path, that a circuit was written, and which of them a failure is of.
-use Rattle.std.specs.Prelude.{ℕ, ◌≡◌, ◌⊎◌, Contains, List, Option, map, codes}
-use Rattle.std.specs.Io.KnownBytes.{Appends}
+use Rattle.std.specs.Prelude.{ℕ, ◌≡◌, ◌⊎◌, All, Contains, List, map, codes}
 use Rattle.circuit_files.specs.declared.entry.Entry.{Entry}
 use Rattle.batch_pool.specs.declared.job.Outcome.{Outcome as JobOutcome}
 use Rattle.batch_pool.specs.declared.job.Outcome.TheVariants as jobs
@@ -20,19 +19,23 @@ pub record AreAnswersOf (entries : List Entry) (outcomes : List JobOutcome) (ans
 abbrev pub report_at : Answer → JobReport
 report_at answer = report_of answer.outcome.now
 
--- a file was made, and the whole text was appended to it
-pub record IsGiven {F : Type 0} (contents : F → Option (List ℕ)) (text : List ℕ) : Type 0 where
-  pub made : F
-  pub after : F
-  pub appends : Appends (contents made) (contents after) text
+-- a circuit that was retimed was written to this path, by what it means that a file was given a text
+abbrev pub IsWrittenTo : (List ℕ → List ℕ → Type 0) → List ℕ → JobOutcome → Type 0
+IsWrittenTo FileGiven path (jobs.Done text before after frames) = FileGiven path text.items
+IsWrittenTo FileGiven path (jobs.Refused fault) = Unit {0}
+IsWrittenTo FileGiven path jobs.NoMemory = Unit {0}
+IsWrittenTo FileGiven path (jobs.NoSuchName place) = Unit {0}
+IsWrittenTo FileGiven path (jobs.NoSuchLatch place) = Unit {0}
 
--- so was the text of a circuit that was retimed
-abbrev pub IsWritten : {F : Type 0} → (F → Option (List ℕ)) → JobOutcome → Type 0
-IsWritten contents (jobs.Done text before after frames) = IsGiven contents text.items
-IsWritten contents (jobs.Refused fault) = Unit {0}
-IsWritten contents jobs.NoMemory = Unit {0}
-IsWritten contents (jobs.NoSuchName place) = Unit {0}
-IsWritten contents (jobs.NoSuchLatch place) = Unit {0}
+-- so was that of an answer to its path
+abbrev pub IsWritten : (List ℕ → List ℕ → Type 0) → Answer → Type 0
+IsWritten FileGiven answer = IsWrittenTo FileGiven answer.output.now answer.outcome.now
+
+-- the circuits of all outcomes were written, each to the output of its entry
+pub record AreAllWritten (FileGiven : List ℕ → List ℕ → Type 0) (entries : List Entry) (outcomes : List JobOutcome) : Type 0 where
+  pub answers : List Answer
+  pub are : AreAnswersOf entries outcomes answers
+  pub written : All (IsWritten FileGiven) answers
 
 -- this is so of one of them
 pub record IsOfOne {X : Type 0} (Is : X → Type 0) (xs : List X) : Type 0 where

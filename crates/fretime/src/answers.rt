@@ -1,15 +1,13 @@
 //! What becomes of the files of a batch, each beside the path of the file that its circuit is written to. A batch finishes its files
 //! by these pairs alone, so no circuit can go to the file of another.
 ghost use Rattle.std.specs.Prelude.{◌≡◌, All, IfErr, IfOk, OnOk, length};
-ghost use Rattle.circuit_files.specs.declared.outcome.Failure.TheVariants as fails;
-ghost use Rattle.fretime.specs.Answers.{AreAnswersOf, FailsAt, IsGiven, IsOfOutput, IsWritten};
+ghost use Rattle.circuit_files.specs.WrittenFiles.{IsFileGiven};
+ghost use Rattle.fretime.specs.Answers.{AreAnswersOf, FailsAt, IsOfOutput, IsWritten};
 
 use batch_pool::Outcome;
-use circuit_files::{Entry, Failure};
-use counted_io::{Counted, write_all};
+use circuit_files::{Entry, Failure, OutputFiles, close, file_at};
+use counted_io::write_all;
 use std::alloc::{AllocError, Global};
-use std::fs::File;
-use std::rt::Files;
 
 /// What became of a file, and the path of the file that its circuit is written to.
 #[derive(Clone, Copy, Drop)]
@@ -35,38 +33,24 @@ pub fn answers_of<'a>(
     Ok(answers)
 }
 
-/// Makes the file with this path, or empties it where it is there.
-fn created<'a, R: Files>(rt: &R, path: &'a str) -> Result<R::File, Failure<'a>>
-    ensures { IfErr result (λ failure. failure ≡ fails.Device path.entry) }
+/// Writes the bytes to the file with this path, which is made at the first of them.
+fn write_file<'a, R: OutputFiles>(rt: &R, path: &'a str, bytes: &[u8]) -> Result<(), Failure<'a>>
+    ensures given { OnOk result (IsFileGiven R.Output.contents R.is_made R.is_let_go path.now
+        bytes.now) }
+    ensures err { IfErr result (FailsAt path.now) }
 {
-    match File::create(rt, path) {
-        Ok(file) => Ok(file),
+    let mut writer = file_at(rt, path);
+    let written = write_all(&mut writer, bytes);
+    close(writer);
+    match written {
+        Ok(()) => Ok(()),
         Err(_) => Err(Failure::Device(path)),
     }
 }
 
-/// Makes the file with this path, and writes the bytes to it.
-fn write_file<'a, R: Files>(rt: &R, path: &'a str, bytes: &[u8]) -> Result<(), Failure<'a>>
-    ensures given { OnOk result (IsGiven R.File.contents bytes.now) }
-    ensures err { IfErr result (FailsAt path.now) }
-{
-    match created(rt, path) {
-        Ok(file) => {
-            let mut writer = Counted::new(file);
-            let written = write_all(&mut writer, bytes);
-            drop(writer);
-            match written {
-                Ok(()) => Ok(()),
-                Err(_) => Err(Failure::Device(path)),
-            }
-        }
-        Err(failure) => Err(failure),
-    }
-}
-
 /// Writes the circuit of a file that was retimed.
-pub fn write_answer<'a, R: Files>(rt: &R, answer: &Answer<'a>) -> Result<(), Failure<'a>>
-    ensures written { OnOk result (IsWritten R.File.contents answer.now.outcome.now) }
+pub fn write_answer<'a, R: OutputFiles>(rt: &R, answer: &Answer<'a>) -> Result<(), Failure<'a>>
+    ensures written { OnOk result (IsWritten (IsFileGiven R.Output.contents R.is_made R.is_let_go) answer.now) }
     ensures err { IfErr result (FailsAt answer.now.output.now) }
 {
     match answer.outcome {
@@ -79,8 +63,8 @@ pub fn write_answer<'a, R: Files>(rt: &R, answer: &Answer<'a>) -> Result<(), Fai
 }
 
 /// Writes the circuits of all files that were retimed, in their order.
-pub fn write_answers<'a, R: Files>(rt: &R, answers: &[Answer<'a>]) -> Result<(), Failure<'a>>
-    ensures written { OnOk result (All (λ answer. IsWritten R.File.contents answer.outcome.now)
+pub fn write_answers<'a, R: OutputFiles>(rt: &R, answers: &[Answer<'a>]) -> Result<(), Failure<'a>>
+    ensures written { OnOk result (All (IsWritten (IsFileGiven R.Output.contents R.is_made R.is_let_go))
         answers.now) }
     ensures err { IfErr result (IsOfOutput answers.now) }
 {

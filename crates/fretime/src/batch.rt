@@ -3,8 +3,9 @@ ghost use Rattle.std.specs.Prelude.{◌≡◌, ◌<◌, ◌≤◌, ◌⊎◌, �
 ghost use Rattle.counted_io.specs.Output.{WritesAll};
 ghost use Rattle.reports.specs.Batches.{job_line};
 ghost use Rattle.circuit_files.specs.Outcomes.{outcome_of};
+ghost use Rattle.circuit_files.specs.WrittenFiles.{IsFileGiven};
 ghost use Rattle.circuit_files.specs.declared.outcome.Outcome.TheVariants.{Device, Memory};
-ghost use Rattle.fretime.specs.Answers.{FailsAt, IsOfInput, IsOfOutputs, IsWritten, NamesFile, report_at};
+ghost use Rattle.fretime.specs.Answers.{AreAllWritten, FailsAt, IsOfInput, IsOfOutputs, IsWritten, NamesFile, report_at};
 ghost use Rattle.fretime.specs.Reporting.{PrintsFailure, SaysFailureBy};
 ghost use Rattle.fretime.specs.Batches.{AreOutcomesFor, Printed, PrintsList};
 ghost use Rattle.fretime.specs.Batches as wanted;
@@ -19,7 +20,7 @@ use crate::reporting::{report_failure_as, told_of};
 use crate::usage::report_usage;
 use batch_pool::{Job, run_batch};
 use circuit_files::{
-    Entry, Failure, Message, Outcome, bytes_at, bytes_of_file, give_hint, read_list,
+    Entry, Failure, Message, Outcome, OutputFiles, bytes_at, bytes_of_file, give_hint, read_list,
 };
 use clap::Error;
 use clap::error::ErrorKind;
@@ -149,7 +150,7 @@ fn print_report<'a, O: CountedWrite>(
 }
 
 /// Writes the circuit of a job, and then prints its line.
-fn finish_job<'a, R: Files, O: CountedWrite>(
+fn finish_job<'a, R: OutputFiles, O: CountedWrite>(
     rt: &R,
     answer: &Answer<'a>,
     number: u64,
@@ -157,7 +158,7 @@ fn finish_job<'a, R: Files, O: CountedWrite>(
 ) -> Result<JobReport, Failure<'a>>
     ensures ok { IfOk result (λ report. (report ≡ report_at answer.now)
         × WritesAll (O.output out.old) (O.output out.new) (job_line number report)) }
-    ensures written { OnOk result (IsWritten R.File.contents answer.now.outcome.now) }
+    ensures written { OnOk result (IsWritten (IsFileGiven R.Output.contents R.is_made R.is_let_go) answer.now) }
     ensures named { IfErr result (λ failure. FailsAt answer.now.output.now failure
         ⊎ FailsAt (codes "stdout") failure) }
     ensures quiet { IfErr result (λ failure. (O.output out.new ≡ O.output out.old)
@@ -192,14 +193,14 @@ pub(crate) fn after(ended: Outcome, report: JobReport) -> Outcome
 }
 
 /// Writes the circuits and prints the lines of all jobs in their order, and returns how the batch ends.
-fn finish_jobs<'a, R: Files, O: CountedWrite>(
+fn finish_jobs<'a, R: OutputFiles, O: CountedWrite>(
     rt: &R,
     answers: &[Answer<'a>],
     out: &mut O,
 ) -> Result<Outcome, Failure<'a>>
     ensures ok { IfOk result (λ ended. Printed false (map report_at answers.now) ended
         (O.output out.old) (O.output out.new)) }
-    ensures written { OnOk result (All (λ answer. IsWritten R.File.contents answer.outcome.now)
+    ensures written { OnOk result (All (IsWritten (IsFileGiven R.Output.contents R.is_made R.is_let_go))
         answers.now) }
     ensures named { IfErr result (IsOfOutputs answers.now) }
 {
@@ -212,7 +213,7 @@ fn finish_jobs<'a, R: Files, O: CountedWrite>(
 }
 
 /// Writes the circuits of all jobs, prints the files as an object of JSON or in lines, and returns how the batch ends.
-fn finish<'a, R: Files, O: CountedWrite>(
+fn finish<'a, R: OutputFiles, O: CountedWrite>(
     rt: &R,
     alloc: Global,
     answers: &[Answer<'a>],
@@ -221,7 +222,7 @@ fn finish<'a, R: Files, O: CountedWrite>(
 ) -> Result<Outcome, Failure<'a>>
     ensures ok { IfOk result (λ ended. Printed json (map report_at answers.now) ended
         (O.output out.old) (O.output out.new)) }
-    ensures written { OnOk result (All (λ answer. IsWritten R.File.contents answer.outcome.now)
+    ensures written { OnOk result (All (IsWritten (IsFileGiven R.Output.contents R.is_made R.is_let_go))
         answers.now) }
     ensures err { IfErr result (λ failure. (outcome_of failure ≡ Device)
         ⊎ ((outcome_of failure ≡ Memory) × (O.output out.new ≡ O.output out.old))) }
@@ -234,7 +235,7 @@ fn finish<'a, R: Files, O: CountedWrite>(
 }
 
 /// Writes and prints what became of the files of the entries, and returns how the batch ends.
-fn finish_entries<'a, R: Files, O: CountedWrite>(
+fn finish_entries<'a, R: OutputFiles, O: CountedWrite>(
     rt: &R,
     alloc: Global,
     entries: &'a [Entry<'a>],
@@ -246,7 +247,8 @@ fn finish_entries<'a, R: Files, O: CountedWrite>(
     requires apart { IsListClash task.now.list entries.now None }
     ensures ok { IfOk result (λ ended. Printed task.now.json (map wanted.report_of outcomes.now) ended
         (O.output out.old) (O.output out.new)) }
-    ensures written { OnOk result (All (IsWritten R.File.contents) outcomes.now) }
+    ensures written { OnOk result (AreAllWritten (IsFileGiven R.Output.contents R.is_made R.is_let_go)
+        entries.now outcomes.now) }
     ensures err { IfErr result (λ failure. (outcome_of failure ≡ Device)
         ⊎ ((outcome_of failure ≡ Memory) × (O.output out.new ≡ O.output out.old))) }
 {
@@ -282,7 +284,7 @@ fn refuse<R: Files, I, O: CountedWrite, E: CountedWrite>(
 }
 
 /// Writes and prints what became of the files of the entries, or reports why that failed.
-fn finish_or_refuse<R: Files, I, O: CountedWrite, E: CountedWrite>(
+fn finish_or_refuse<R: Files + OutputFiles, I, O: CountedWrite, E: CountedWrite>(
     rt: &R,
     alloc: Global,
     entries: &[Entry<'_>],
@@ -301,7 +303,7 @@ fn finish_or_refuse<R: Files, I, O: CountedWrite, E: CountedWrite>(
 }
 
 /// Does the jobs of the entries, no two of whose files are one, so that something would be lost.
-fn retime_entries<R: Files + Threads + Sync, I, O: CountedWrite, E: CountedWrite>(
+fn retime_entries<R: Files + OutputFiles + Threads + Sync, I, O: CountedWrite, E: CountedWrite>(
     rt: &R,
     alloc: Global,
     entries: &[Entry<'_>],
@@ -365,7 +367,7 @@ fn tell_repeat<R: Files, E: CountedWrite>(
 }
 
 /// Does the jobs of the entries, unless two files of a line are one.
-fn retime_apart<R: Files + Threads + Sync, I, O: CountedWrite, E: CountedWrite>(
+fn retime_apart<R: Files + OutputFiles + Threads + Sync, I, O: CountedWrite, E: CountedWrite>(
     rt: &R,
     alloc: Global,
     entries: &[Entry<'_>],
@@ -385,7 +387,7 @@ fn retime_apart<R: Files + Threads + Sync, I, O: CountedWrite, E: CountedWrite>(
 }
 
 /// Does the jobs of a list's bytes.
-fn retime_lines<R: Files + Threads + Sync, I, O: CountedWrite, E: CountedWrite>(
+fn retime_lines<R: Files + OutputFiles + Threads + Sync, I, O: CountedWrite, E: CountedWrite>(
     rt: &R,
     alloc: Global,
     bytes: &[u8],
@@ -411,12 +413,12 @@ fn retime_lines<R: Files + Threads + Sync, I, O: CountedWrite, E: CountedWrite>(
 /// job, writes its circuit and prints its line, or writes all and prints one object. Reports why it
 /// ended before that, also if two files of a line are one, so that something would be lost, and
 /// returns how the run ends.
-pub fn retime_list<R: Files + Threads + Sync, I: CountedRead, O: CountedWrite, E: CountedWrite>(
-    rt: &R,
-    alloc: Global,
-    task: &Batch<'_>,
-    streams: &mut Streams<I, O, E>,
-) -> Outcome
+pub fn retime_list<
+    R: Files + OutputFiles + Threads + Sync,
+    I: CountedRead,
+    O: CountedWrite,
+    E: CountedWrite,
+>(rt: &R, alloc: Global, task: &Batch<'_>, streams: &mut Streams<I, O, E>) -> Outcome
     ensures { PrintsList task.now.json result (O.output streams.old.out) (O.output streams.new.out) }
 {
     match bytes_at(rt, alloc, task.list, &mut streams.stdin) {

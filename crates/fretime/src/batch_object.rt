@@ -1,6 +1,7 @@
 //! The files of a batch as an object of JSON.
 ghost use Rattle.std.specs.Prelude.{◌≡◌, ◌⊎◌, All, IfErr, IfOk, OnOk, true, fold, map};
 ghost use Rattle.circuit_files.specs.Outcomes.{outcome_of};
+ghost use Rattle.circuit_files.specs.WrittenFiles.{IsFileGiven};
 ghost use Rattle.circuit_files.specs.declared.outcome.Outcome.TheVariants.{Device, Done, Memory};
 ghost use Rattle.fretime.specs.Answers.{IsWritten, report_at};
 ghost use Rattle.fretime.specs.Batches.{Printed};
@@ -8,12 +9,11 @@ ghost use Rattle.fretime.specs.Batches as wanted;
 
 use crate::answers::{Answer, write_answers};
 use crate::batch::{after, report_of};
-use circuit_files::{Failure, Outcome};
+use circuit_files::{Failure, Outcome, OutputFiles};
 use command_endings::print_batch;
 use counted_io::CountedWrite;
 use reports::JobReport;
 use std::alloc::{AllocError, Global};
-use std::rt::Files;
 
 /// What is printed of the files.
 fn reports_of(alloc: Global, answers: &[Answer<'_>]) -> Result<Vec<JobReport>, AllocError>
@@ -53,7 +53,7 @@ fn print_files<'a, O: CountedWrite>(
 }
 
 /// Writes the circuits of all jobs in their order, then prints the files as an object, and returns how the batch ends.
-pub fn finish_as_object<'a, R: Files, O: CountedWrite>(
+pub fn finish_as_object<'a, R: OutputFiles, O: CountedWrite>(
     rt: &R,
     alloc: Global,
     answers: &[Answer<'a>],
@@ -61,7 +61,7 @@ pub fn finish_as_object<'a, R: Files, O: CountedWrite>(
 ) -> Result<Outcome, Failure<'a>>
     ensures ok { IfOk result (λ ended. Printed true (map report_at answers.now) ended
         (O.output out.old) (O.output out.new)) }
-    ensures written { OnOk result (All (λ answer. IsWritten R.File.contents answer.outcome.now)
+    ensures written { OnOk result (All (IsWritten (IsFileGiven R.Output.contents R.is_made R.is_let_go))
         answers.now) }
     ensures err { IfErr result (λ failure. (outcome_of failure ≡ Device)
         ⊎ ((outcome_of failure ≡ Memory) × (O.output out.new ≡ O.output out.old))) }

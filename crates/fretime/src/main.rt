@@ -13,6 +13,7 @@ mod run;
 mod usage;
 mod written;
 
+use circuit_files::OutputFiles;
 use counted_io::{Counted, CountedRead, CountedWrite, Streams};
 use run::{report_unreadable_arguments, run_words};
 use std::env::Env;
@@ -38,7 +39,7 @@ fn is_dumb<R: Env + AllocGlobal>(rt: &R) -> bool {
 
 /// Runs the program on the command-line arguments, and returns the exit status.
 fn run_program<
-    R: Env + AllocGlobal + Files + Threads + Sync + Clock,
+    R: Env + AllocGlobal + Files + OutputFiles + Threads + Sync + Clock,
     I: CountedRead,
     O: CountedWrite,
     E: CountedWrite,

@@ -14,7 +14,7 @@ use crate::clashes::clash_error;
 use crate::explaining::explain;
 use crate::reporting::{report_failure, reported};
 use crate::usage::refuse_line;
-use circuit_files::{Failure, Message, Outcome};
+use circuit_files::{Failure, Message, Outcome, OutputFiles};
 use command_endings::{NameFile, hold_names, read_name_files};
 use command_line::{Task, Verification, parse_arguments};
 use commands::{convert, print_retimed, print_statistics, print_verification, write_picture};
@@ -55,7 +55,7 @@ fn verify<'a, R: Files, I: CountedRead, O: CountedWrite, E: CountedWrite>(
 /// Does what the command line asks for.
 fn run_task<
     'a,
-    R: Files + Threads + Sync + Clock,
+    R: Files + OutputFiles + Threads + Sync + Clock,
     I: CountedRead,
     O: CountedWrite,
     E: CountedWrite,
@@ -65,7 +65,7 @@ fn run_task<
     task: &Task<'a>,
     streams: &mut Streams<I, O, E>,
 ) -> Result<Outcome, Failure<'a>>
-    ensures does { IfOk result (Does (IsFileGiven R R.Dir R.File.contents) task.now
+    ensures does { IfOk result (Does (IsFileGiven R.Output.contents R.is_made R.is_let_go) task.now
         streams.old.is_terminal (I.input streams.old.stdin) (I.input streams.new.stdin)
         (O.output streams.old.out) (O.output streams.new.out) (E.output streams.new.err)) }
     ensures prints { MayGive result (O.output streams.old.out) (O.output streams.new.out) }
@@ -111,7 +111,7 @@ pub fn report_unreadable_arguments<E: CountedWrite>(error: &io::Error, err: &mut
 /// Does a task, unless the names that it holds couldn't be had, reports why it failed, and returns how the run ends.
 fn finish_task<
     'a,
-    R: Files + Threads + Sync + Clock,
+    R: Files + OutputFiles + Threads + Sync + Clock,
     I: CountedRead,
     O: CountedWrite,
     E: CountedWrite,
@@ -145,7 +145,7 @@ fn with_names<'a>(
 
 /// Does a task with the names of the files that it names, and returns how the run ends.
 fn run_with_names<
-    R: Files + Threads + Sync + Clock,
+    R: Files + OutputFiles + Threads + Sync + Clock,
     I: CountedRead,
     O: CountedWrite,
     E: CountedWrite,
@@ -169,12 +169,12 @@ fn run_with_names<
 }
 
 /// Does a task, unless two of its files are one, and returns how the run ends.
-fn run_apart<R: Files + Threads + Sync + Clock, I: CountedRead, O: CountedWrite, E: CountedWrite>(
-    rt: &R,
-    alloc: Global,
-    task: Task<'_>,
-    streams: &mut Streams<I, O, E>,
-) -> Outcome
+fn run_apart<
+    R: Files + OutputFiles + Threads + Sync + Clock,
+    I: CountedRead,
+    O: CountedWrite,
+    E: CountedWrite,
+>(rt: &R, alloc: Global, task: Task<'_>, streams: &mut Streams<I, O, E>) -> Outcome
     ensures { MayPrint result (O.output streams.old.out) (O.output streams.new.out) }
 {
     match clash_error(rt, alloc, &task) {
@@ -197,12 +197,12 @@ fn without_flag_of_help(words: &[String]) -> &[String] {
 }
 
 /// Does what the arguments ask for, and returns how the run ends.
-fn run_line<R: Files + Threads + Sync + Clock, I: CountedRead, O: CountedWrite, E: CountedWrite>(
-    rt: &R,
-    alloc: Global,
-    words: &[String],
-    streams: &mut Streams<I, O, E>,
-) -> Outcome
+fn run_line<
+    R: Files + OutputFiles + Threads + Sync + Clock,
+    I: CountedRead,
+    O: CountedWrite,
+    E: CountedWrite,
+>(rt: &R, alloc: Global, words: &[String], streams: &mut Streams<I, O, E>) -> Outcome
     ensures { MayPrint result (O.output streams.old.out) (O.output streams.new.out) }
 {
     match parse_arguments(alloc, without_flag_of_help(words)) {
@@ -219,7 +219,7 @@ fn run_line<R: Files + Threads + Sync + Clock, I: CountedRead, O: CountedWrite, 
 /// a failed write there doesn't change the status. On a terminal a refused circuit's line at fault follows, and a retiming shows how
 /// far it is. The texts on standard error are only tested.
 pub fn run_words<
-    R: Files + Threads + Sync + Clock,
+    R: Files + OutputFiles + Threads + Sync + Clock,
     I: CountedRead,
     O: CountedWrite,
     E: CountedWrite,

@@ -14,7 +14,7 @@ use crate::back_lift::lifted_back;
 use crate::given::{Given, given_for};
 use crate::made::{Made, write_made};
 use aig_graph::Circuit;
-use circuit_files::{Failure, Outcome};
+use circuit_files::{Failure, Outcome, OutputFiles};
 use command_line::Lifting;
 use counted_io::{CountedRead, CountedWrite, ReadError};
 use map_checks::{are_fitting, is_map};
@@ -118,14 +118,14 @@ fn lifted_for<'a>(alloc: Global, given: &Given, task: &Lifting<'a>) -> Result<Ma
 
 /// Reads a circuit, the one that was made of it, a map of the states of the first to those of the second, and a witness circuit for the
 /// second, in this order, and writes the witness circuit for the first. A file is made once all that can be refused was found right.
-pub fn write_lifted<'a, R: Files, I: CountedRead, O: CountedWrite>(
+pub fn write_lifted<'a, R: Files + OutputFiles, I: CountedRead, O: CountedWrite>(
     rt: &R,
     alloc: Global,
     task: &Lifting<'a>,
     stdin: &mut I,
     out: &mut O,
 ) -> Result<Outcome, Failure<'a>>
-    ensures lift { IfOk result (PrintsLift (IsFileGiven R R.Dir R.File.contents) task.now
+    ensures lift { IfOk result (PrintsLift (IsFileGiven R.Output.contents R.is_made R.is_let_go) task.now
         (I.input stdin.old) (I.input stdin.new) (O.output out.old) (O.output out.new)) }
     ensures prints { Prints (ending result) (O.output out.old) (O.output out.new) }
 {

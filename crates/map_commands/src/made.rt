@@ -6,11 +6,10 @@ ghost use Rattle.map_commands.specs.Making.{EndsMaking};
 
 use aig_binary::Spelling;
 use aig_graph::Circuit;
-use circuit_files::{Failure, Outcome};
+use circuit_files::{Failure, Outcome, OutputFiles};
 use command_endings::{ended, write_circuit};
 use counted_io::{CountedWrite, Target};
 use reports::print_shapes_differ;
-use std::rt::Files;
 
 /// What is made of circuits and a map.
 #[derive(Drop)]
@@ -22,14 +21,14 @@ pub(crate) enum Made {
 }
 
 /// Writes what is made, or prints that the circuits and the map don't fit together.
-pub(crate) fn write_made<'a, R: Files, O: CountedWrite>(
+pub(crate) fn write_made<'a, R: OutputFiles, O: CountedWrite>(
     rt: &R,
     made: &Made,
     spelling: Spelling,
     output: Target<'a>,
     out: &mut O,
 ) -> Result<Outcome, Failure<'a>>
-    ensures written { IfOk result (EndsMaking (IsFileGiven R R.Dir R.File.contents) made.now
+    ensures written { IfOk result (EndsMaking (IsFileGiven R.Output.contents R.is_made R.is_let_go) made.now
         spelling output.entry (O.output out.old) (O.output out.new)) }
     ensures prints { Prints (ending result) (O.output out.old) (O.output out.new) }
 {

@@ -13,7 +13,7 @@ use crate::given::{Mapped, mapped_for};
 use crate::made::{Made, write_made};
 use crate::products::write_product;
 use aig_graph::Circuit;
-use circuit_files::{Failure, Outcome};
+use circuit_files::{Failure, Outcome, OutputFiles};
 use command_line::Asking;
 use counted_io::{CountedRead, CountedWrite, ReadError};
 use map_checks::{are_fitting, is_map};
@@ -67,14 +67,14 @@ fn miter_for<'a>(alloc: Global, mapped: &Mapped, task: &Asking<'a>) -> Result<Ma
 
 /// Reads a circuit, the one that was made of it, and a map of the states of the first to those of the second, in this order, and writes
 /// the miter of the map. A file is made once all that can be refused was found right.
-fn write_questions<'a, R: Files, I: CountedRead, O: CountedWrite>(
+fn write_questions<'a, R: Files + OutputFiles, I: CountedRead, O: CountedWrite>(
     rt: &R,
     alloc: Global,
     task: &Asking<'a>,
     stdin: &mut I,
     out: &mut O,
 ) -> Result<Outcome, Failure<'a>>
-    ensures miter { IfOk result (PrintsMiter (IsFileGiven R R.Dir R.File.contents) task.now
+    ensures miter { IfOk result (PrintsMiter (IsFileGiven R.Output.contents R.is_made R.is_let_go) task.now
         (I.input stdin.old) (I.input stdin.new) (O.output out.old) (O.output out.new)) }
     ensures prints { Prints (ending result) (O.output out.old) (O.output out.new) }
 {
@@ -93,14 +93,14 @@ fn write_questions<'a, R: Files, I: CountedRead, O: CountedWrite>(
 }
 
 /// Does what `miter` is to do: it writes the miter of a map or, where a certificate is asked for, both circuits side by side with that.
-pub fn write_miter<'a, R: Files, I: CountedRead, O: CountedWrite>(
+pub fn write_miter<'a, R: Files + OutputFiles, I: CountedRead, O: CountedWrite>(
     rt: &R,
     alloc: Global,
     task: &Asking<'a>,
     stdin: &mut I,
     out: &mut O,
 ) -> Result<Outcome, Failure<'a>>
-    ensures miter { IfOk result (PrintsAsked (IsFileGiven R R.Dir R.File.contents)
+    ensures miter { IfOk result (PrintsAsked (IsFileGiven R.Output.contents R.is_made R.is_let_go)
         task.now.certificate task.now (I.input stdin.old) (I.input stdin.new) (O.output out.old)
         (O.output out.new)) }
     ensures prints { Prints (ending result) (O.output out.old) (O.output out.new) }

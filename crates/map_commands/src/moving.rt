@@ -11,7 +11,7 @@ ghost use Rattle.map_commands.specs.Moving.{AnswersTask, PrintsMoves, WritesIfAs
 use crate::answering::{Answer, answer_for};
 use crate::printing::print_answer;
 use backward_retiming::{MoveStage, MoveWatcher};
-use circuit_files::{Failure, Outcome};
+use circuit_files::{Failure, Outcome, OutputFiles};
 use command_endings::{Progress, write_circuit};
 use command_line::Moving;
 use counted_io::{CountedRead, CountedWrite, Streams};
@@ -20,13 +20,13 @@ use std::rt::Files;
 use std::time::Clock;
 
 /// Writes the map of an answer where it is asked for.
-fn write_map<'a, R: Files, O: CountedWrite>(
+fn write_map<'a, R: OutputFiles, O: CountedWrite>(
     rt: &R,
     task: &Moving<'a>,
     answer: &Answer,
     out: &mut O,
 ) -> Result<(), Failure<'a>>
-    ensures written { OnOk result (WritesIfAsked (IsFileGiven R R.Dir R.File.contents)
+    ensures written { OnOk result (WritesIfAsked (IsFileGiven R.Output.contents R.is_made R.is_let_go)
         task.now.map (text_in answer.now.spelling answer.now.moved.map) (O.output out.old)
         (O.output out.new)) }
     ensures file { writes_stdout task.now.map ≡ false → O.output out.new ≡ O.output out.old }
@@ -39,13 +39,13 @@ fn write_map<'a, R: Files, O: CountedWrite>(
 }
 
 /// Writes the circuit of an answer, and then its map.
-fn write_answer<'a, R: Files, O: CountedWrite>(
+fn write_answer<'a, R: OutputFiles, O: CountedWrite>(
     rt: &R,
     task: &Moving<'a>,
     answer: &Answer,
     out: &mut O,
 ) -> Result<(), Failure<'a>>
-    ensures written { OnOk result (WritesMoves (IsFileGiven R R.Dir R.File.contents) task.now
+    ensures written { OnOk result (WritesMoves (IsFileGiven R.Output.contents R.is_made R.is_let_go) task.now
         answer.now (O.output out.old) (O.output out.new)) }
     ensures file { moving_takes_stdout task.now ≡ false
         → O.output out.new ≡ O.output out.old }
@@ -58,7 +58,7 @@ fn write_answer<'a, R: Files, O: CountedWrite>(
 }
 
 /// Reads a circuit, moves its latches backward, and writes it, and its map where that is asked for. The watcher is notified of each stage.
-fn write_moved<'a, R: Files, I: CountedRead, O: CountedWrite, W: MoveWatcher>(
+fn write_moved<'a, R: Files + OutputFiles, I: CountedRead, O: CountedWrite, W: MoveWatcher>(
     rt: &R,
     alloc: Global,
     task: &Moving<'a>,
@@ -67,7 +67,7 @@ fn write_moved<'a, R: Files, I: CountedRead, O: CountedWrite, W: MoveWatcher>(
     watcher: &mut W,
 ) -> Result<Answer, Failure<'a>>
     ensures answer { IfOk result (AnswersTask task.now (I.input stdin.old) (I.input stdin.new)) }
-    ensures written { IfOk result (λ answer. WritesMoves (IsFileGiven R R.Dir R.File.contents)
+    ensures written { IfOk result (λ answer. WritesMoves (IsFileGiven R.Output.contents R.is_made R.is_let_go)
         task.now answer (O.output out.old) (O.output out.new)) }
     ensures file { OnOk result (moving_takes_stdout task.now ≡ false
         → O.output out.new ≡ O.output out.old) }
@@ -86,14 +86,20 @@ fn write_moved<'a, R: Files, I: CountedRead, O: CountedWrite, W: MoveWatcher>(
 }
 
 /// The same. Shows on standard error how far the run is, until all is written.
-fn write_shown<'a, R: Files + Clock, I: CountedRead, O: CountedWrite, E: CountedWrite>(
+fn write_shown<
+    'a,
+    R: Files + OutputFiles + Clock,
+    I: CountedRead,
+    O: CountedWrite,
+    E: CountedWrite,
+>(
     rt: &R,
     alloc: Global,
     task: &Moving<'a>,
     streams: &mut Streams<I, O, E>,
 ) -> Result<Answer, Failure<'a>>
     ensures answer { IfOk result (AnswersTask task.now (I.input streams.old.stdin) (I.input streams.new.stdin)) }
-    ensures written { IfOk result (λ answer. WritesMoves (IsFileGiven R R.Dir R.File.contents)
+    ensures written { IfOk result (λ answer. WritesMoves (IsFileGiven R.Output.contents R.is_made R.is_let_go)
         task.now answer (O.output streams.old.out) (O.output streams.new.out)) }
     ensures file { OnOk result (moving_takes_stdout task.now ≡ false
         → O.output streams.new.out ≡ O.output streams.old.out) }
@@ -124,13 +130,19 @@ fn write_shown<'a, R: Files + Clock, I: CountedRead, O: CountedWrite, E: Counted
 /// taken, as an object of JSON or in lines.
 ///
 /// Shows how far the run is as the task asks.
-pub fn print_moves<'a, R: Files + Clock, I: CountedRead, O: CountedWrite, E: CountedWrite>(
+pub fn print_moves<
+    'a,
+    R: Files + OutputFiles + Clock,
+    I: CountedRead,
+    O: CountedWrite,
+    E: CountedWrite,
+>(
     rt: &R,
     alloc: Global,
     task: &Moving<'a>,
     streams: &mut Streams<I, O, E>,
 ) -> Result<Outcome, Failure<'a>>
-    ensures moves { IfOk result (PrintsMoves (IsFileGiven R R.Dir R.File.contents) task.now
+    ensures moves { IfOk result (PrintsMoves (IsFileGiven R.Output.contents R.is_made R.is_let_go) task.now
         (I.input streams.old.stdin) (I.input streams.new.stdin) (O.output streams.old.out) (O.output streams.new.out)
         (E.output streams.new.err)) }
     ensures prints { Prints (ending result) (O.output streams.old.out) (O.output streams.new.out) }

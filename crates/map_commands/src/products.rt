@@ -12,7 +12,7 @@ ghost use Rattle.counted_io.specs.Streams.{target_name};
 use crate::given::{Mapped, mapped_for};
 use aig_binary::Spelling;
 use aig_graph::Circuit;
-use circuit_files::{Failure, Outcome};
+use circuit_files::{Failure, Outcome, OutputFiles};
 use command_endings::{ended, write_circuit};
 use command_line::Asking;
 use counted_io::{CountedRead, CountedWrite, ReadError, Target};
@@ -124,7 +124,7 @@ fn shown_for<'a>(
 }
 
 /// Writes the model, and then the witness circuit.
-fn write_both<'a, R: Files, O: CountedWrite>(
+fn write_both<'a, R: OutputFiles, O: CountedWrite>(
     rt: &R,
     machines: &Machines,
     spelling: Spelling,
@@ -132,7 +132,7 @@ fn write_both<'a, R: Files, O: CountedWrite>(
     certificate: Target<'a>,
     out: &mut O,
 ) -> Result<Outcome, Failure<'a>>
-    ensures written { IfOk result (EndsWritingBoth (IsFileGiven R R.Dir R.File.contents)
+    ensures written { IfOk result (EndsWritingBoth (IsFileGiven R.Output.contents R.is_made R.is_let_go)
         machines.now spelling output.entry certificate.entry (O.output out.old)
         (O.output out.new)) }
     ensures prints { Prints (ending result) (O.output out.old) (O.output out.new) }
@@ -147,7 +147,7 @@ fn write_both<'a, R: Files, O: CountedWrite>(
 }
 
 /// Writes what is made, or prints that the circuits and the map don't fit together.
-fn write_shown<'a, R: Files, O: CountedWrite>(
+fn write_shown<'a, R: OutputFiles, O: CountedWrite>(
     rt: &R,
     shown: &Shown,
     spelling: Spelling,
@@ -155,7 +155,7 @@ fn write_shown<'a, R: Files, O: CountedWrite>(
     certificate: Target<'a>,
     out: &mut O,
 ) -> Result<Outcome, Failure<'a>>
-    ensures written { IfOk result (EndsShowing (IsFileGiven R R.Dir R.File.contents) shown.now
+    ensures written { IfOk result (EndsShowing (IsFileGiven R.Output.contents R.is_made R.is_let_go) shown.now
         spelling output.entry certificate.entry (O.output out.old) (O.output out.new)) }
     ensures prints { Prints (ending result) (O.output out.old) (O.output out.new) }
 {
@@ -169,7 +169,7 @@ fn write_shown<'a, R: Files, O: CountedWrite>(
 
 /// Reads a circuit, the one that was made of it, and a map of the states of the first to those of the second, in this order, and writes
 /// both side by side as a model, and the witness circuit for it. Files are made once all that can be refused was found right.
-pub(crate) fn write_product<'a, R: Files, I: CountedRead, O: CountedWrite>(
+pub(crate) fn write_product<'a, R: Files + OutputFiles, I: CountedRead, O: CountedWrite>(
     rt: &R,
     alloc: Global,
     task: &Asking<'a>,
@@ -177,7 +177,7 @@ pub(crate) fn write_product<'a, R: Files, I: CountedRead, O: CountedWrite>(
     stdin: &mut I,
     out: &mut O,
 ) -> Result<Outcome, Failure<'a>>
-    ensures product { IfOk result (PrintsProduct (IsFileGiven R R.Dir R.File.contents)
+    ensures product { IfOk result (PrintsProduct (IsFileGiven R.Output.contents R.is_made R.is_let_go)
         certificate.entry task.now (I.input stdin.old) (I.input stdin.new) (O.output out.old)
         (O.output out.new)) }
     ensures prints { Prints (ending result) (O.output out.old) (O.output out.new) }

@@ -1,5 +1,5 @@
 -- What is printed of a trace and of waves, by how the run ends.
-use Rattle.std.proofs.Common.{ℕ, ◌≡◌, true, false, List, Some, IfOk, Result, Ok, Err, refl, sym, subst}
+use Rattle.std.proofs.Common.{ℕ, ◌≡◌, true, false, List, Some, IfOk, OnOk, Result, Ok, Err, refl, sym, subst}
 use Rattle.std.proofs.lemmas.Result.{IfOk-weaker}
 use Rattle.aig_graph.specs.Circuits.{Netlist}
 use Rattle.aig_binary.specs.declared.reading.SpeltCircuit.{SpeltCircuit}
@@ -10,6 +10,7 @@ use Rattle.counted_io.specs.Streams.{is_stdout}
 use Rattle.counted_io.specs.declared.target.Target.{Target}
 use Rattle.counted_io.specs.declared.target.Target.TheVariants as targets
 use Rattle.command_line.specs.declared.task.Simulation.{Simulation}
+use Rattle.circuit_files.specs.WrittenFiles.{IsTargetGiven}
 use Rattle.circuit_files.specs.declared.outcome.Outcome.{Outcome}
 use Rattle.circuit_files.specs.declared.outcome.Outcome.TheVariants.{Done}
 use Rattle.circuit_files.specs.declared.outcome.Failure.{Failure}
@@ -17,7 +18,7 @@ use Rattle.command_endings.specs.Printing.{EndsPrinting, EndsWith, Prints, endin
 use Rattle.command_endings.specs.Sources.{IsCircuitAt}
 use Rattle.command_endings.proofs.PrintingLaws.{of_device}
 use Rattle.simulation_commands.specs.Dumping.{dump_of}
-use Rattle.simulation_commands.specs.Simulating.{IsCaseOf, IsCaseWith, PrintsTrace, lines_of, printed}
+use Rattle.simulation_commands.specs.Simulating.{IsCaseOf, IsCaseWith, IsDumped, PrintsTrace, lines_of, printed}
 use Rattle.simulation_commands.specs.declared.simulation.Case.{Case}
 
 -- the lines come after the dump, where that went to standard output, and else alone
@@ -35,11 +36,19 @@ pub lines_print_after : (lines : List ℕ) (old mid new : Output) (result : Resu
 lines_print_after lines old mid new (Ok ended) p = subst (λ (e : Outcome). Prints e old new) (sym p.0) tt
 lines_print_after lines old mid new (Err failure) p = of_device failure old new p.0
 
+-- the file of a target was given the dump
+pub dumped_to : (FileGiven : List ℕ → List ℕ → Type 0) (target : Target) (dump : List ℕ) (old mid : Output) (result : Result Outcome Failure)
+    → IsTargetGiven FileGiven target old mid dump → OnOk result (IsDumped FileGiven (Some target) dump)
+dumped_to FileGiven targets.Stdout dump old mid (Ok ended) given = tt
+dumped_to FileGiven (targets.File path) dump old mid (Ok ended) given = given.1
+dumped_to FileGiven target dump old mid (Err failure) given = tt
+
 -- of what is read, that is what was printed
-pub prints_trace : (task : Simulation) (given : Case) (before after : Input) (old new : Output) (result : Result Outcome Failure)
-    → IsCaseOf task before after given → IfOk result (EndsWith Done (printed task.waves (dump_of given) (lines_of given)) old new)
-    → IfOk result (PrintsTrace task before after old new)
-prints_trace task given before after old new result is p = IfOk-weaker result _ _ (λ ended prints. record { given = given; is = is; prints = prints }) p
+pub prints_trace : (FileGiven : List ℕ → List ℕ → Type 0) (task : Simulation) (given : Case) (before after : Input) (old new : Output) (result : Result Outcome Failure)
+    → IsCaseOf task before after given → OnOk result (IsDumped FileGiven task.waves (dump_of given)) → IfOk result (EndsWith Done (printed task.waves (dump_of given) (lines_of given)) old new)
+    → IfOk result (PrintsTrace FileGiven task before after old new)
+prints_trace FileGiven task given before after old new (Ok ended) is dumped prints = record { given = given; is = is; dumped = dumped; prints = prints }
+prints_trace FileGiven task given before after old new (Err failure) is dumped prints = tt
 
 -- a circuit that was read, and what it is simulated under
 pub case_of : (c : Netlist) (task : Simulation) (spelt : SpeltCircuit) (before between after : Input) (result : Result Case Failure)

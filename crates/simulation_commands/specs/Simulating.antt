@@ -48,8 +48,15 @@ printed None dump lines = lines
 printed (Some targets.Stdout) dump lines = dump ++ lines
 printed (Some (targets.File path)) dump lines = lines
 
--- of what is read, that was printed
-pub record PrintsTrace (task : Simulation) (before after : Input) (old new : Output) (ended : Outcome) : Type 0 where
+-- the file that a dump goes to was given it, by what it means that a file was given a text
+abbrev pub IsDumped : (List ℕ → List ℕ → Type 0) → Option Target → List ℕ → Type 0
+IsDumped FileGiven None dump = Unit {0}
+IsDumped FileGiven (Some targets.Stdout) dump = Unit {0}
+IsDumped FileGiven (Some (targets.File path)) dump = FileGiven path.now dump
+
+-- of what is read, the waves were written where they are asked for, and that was printed
+pub record PrintsTrace (FileGiven : List ℕ → List ℕ → Type 0) (task : Simulation) (before after : Input) (old new : Output) (ended : Outcome) : Type 0 where
   pub given : Case
   pub is : IsCaseOf task before after given
+  pub dumped : IsDumped FileGiven task.waves (dump_of given)
   pub prints : EndsWith Done (printed task.waves (dump_of given) (lines_of given)) old new ended

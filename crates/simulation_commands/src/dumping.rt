@@ -1,11 +1,12 @@
 //! The waves of what is simulated: their names, room for their values, and how a dump of them is written.
-ghost use Rattle.std.specs.Prelude.{◌≡◌, true, false, IfErr, IfOk, MatchResult};
+ghost use Rattle.std.specs.Prelude.{◌≡◌, true, false, IfErr, IfOk, MatchResult, OnOk};
 ghost use Rattle.counted_io.specs.Output.{Writes};
 ghost use Rattle.reports.specs.WaveMoments.{IsWaveRoomFor};
 ghost use Rattle.reports.specs.WaveNames as named;
 ghost use Rattle.reports.specs.WaveProbes as probes;
 ghost use Rattle.counted_io.specs.Streams.{is_stdout, target_name};
 ghost use Rattle.circuit_files.specs.Outcomes.{IsAbout, outcome_of};
+ghost use Rattle.circuit_files.specs.WrittenFiles.{IsFileGiven, IsTargetGiven};
 ghost use Rattle.circuit_files.specs.declared.outcome.Outcome.TheVariants.{Device};
 ghost use Rattle.circuit_files.specs.declared.outcome.Failure.TheVariants.{Memory};
 ghost use Rattle.simulation_commands.specs.Dumping.{AreWavesOf, IsFailureToShow, IsShownOf, dump_of};
@@ -14,12 +15,11 @@ ghost use Rattle.simulation_commands.specs.Dumping as wanted;
 use crate::room::is_too_long;
 use crate::simulation::Case;
 use aig_graph::{Circuit, Sequence};
-use circuit_files::{Failure, LazyFile};
+use circuit_files::{Failure, OutputFiles, close, file_at};
 use command_line::{Simulation, Stimuli};
-use counted_io::{Counted, CountedWrite, Target, WriteError};
+use counted_io::{CountedWrite, Target, WriteError};
 use reports::{WaveRoom, probed, wave_names, write_waves};
 use std::alloc::Global;
-use std::rt::Files;
 
 /// A circuit that has waves as its outputs, and room for simulating it.
 #[derive(Drop)]
@@ -147,8 +147,34 @@ fn put_dump<W: CountedWrite>(
     )
 }
 
+/// Writes a dump of waves to a file or to standard output.
+fn put_waves<R: OutputFiles, O: CountedWrite>(
+    rt: &R,
+    given: &Case,
+    waves: &mut Waves,
+    target: Target<'_>,
+    out: &mut O,
+) -> Result<(), WriteError>
+    requires { AreWavesOf given.now waves.old }
+    ensures given { OnOk result (IsTargetGiven (IsFileGiven R.Output.contents R.is_made R.is_let_go)
+        target.entry (O.output out.old) (O.output out.new) (dump_of given.now)) }
+    ensures stdout { is_stdout target.entry ≡ true → Writes (O.output out.old)
+        (O.output out.new) result (dump_of given.now) }
+    ensures file { is_stdout target.entry ≡ false → O.output out.new ≡ O.output out.old }
+{
+    match target {
+        Target::Stdout => put_dump(given, waves, out),
+        Target::File(path) => {
+            let mut writer = file_at(rt, path);
+            let written = put_dump(given, waves, &mut writer);
+            close(writer);
+            written
+        }
+    }
+}
+
 /// Writes a dump of waves to a file or to standard output, of which one is named where that failed. A file is made at its first byte.
-pub(crate) fn write_dump<'a, R: Files, O: CountedWrite>(
+pub(crate) fn write_dump<'a, R: OutputFiles, O: CountedWrite>(
     rt: &R,
     given: &Case,
     waves: &mut Waves,
@@ -156,22 +182,15 @@ pub(crate) fn write_dump<'a, R: Files, O: CountedWrite>(
     out: &mut O,
 ) -> Result<(), Failure<'a>>
     requires { AreWavesOf given.now waves.old }
+    ensures given { OnOk result (IsTargetGiven (IsFileGiven R.Output.contents R.is_made R.is_let_go)
+        target.entry (O.output out.old) (O.output out.new) (dump_of given.now)) }
     ensures stdout { is_stdout target.entry ≡ true → Writes (O.output out.old)
         (O.output out.new) result (dump_of given.now) }
     ensures file { is_stdout target.entry ≡ false → O.output out.new ≡ O.output out.old }
     ensures err { IfErr result (λ failure. (outcome_of failure ≡ Device)
         × IsAbout (target_name target.entry) failure) }
 {
-    let written = match target {
-        Target::Stdout => put_dump(given, waves, out),
-        Target::File(path) => {
-            let mut writer = Counted::new(LazyFile::new(rt, path));
-            let put = put_dump(given, waves, &mut writer);
-            drop(writer);
-            put
-        }
-    };
-    match written {
+    match put_waves(rt, given, waves, target, out) {
         Ok(()) => Ok(()),
         Err(_) => Err(Failure::Device(target.name())),
     }

@@ -1,19 +1,20 @@
 //! The command `sim`.
-ghost use Rattle.std.specs.Prelude.{◌≡◌, IfOk, MatchResult, Some};
+ghost use Rattle.std.specs.Prelude.{◌≡◌, IfOk, MatchResult, OnOk, Some};
 ghost use Rattle.reports.specs.Simulating.{IsRoomFor};
 ghost use Rattle.reports.specs.Traces.{trace_text};
+ghost use Rattle.circuit_files.specs.WrittenFiles.{IsFileGiven};
 ghost use Rattle.circuit_files.specs.declared.outcome.Outcome.TheVariants.{Done};
 ghost use Rattle.circuit_files.specs.declared.outcome.Failure.TheVariants.{Memory};
 ghost use Rattle.command_endings.specs.Printing.{EndsPrinting, EndsWith, Prints, ending};
 ghost use Rattle.simulation_commands.specs.Dumping.{AreWavesOf, dump_of};
-ghost use Rattle.simulation_commands.specs.Simulating.{AreLinesFor, IsCaseOf, IsCaseWith, PrintsTrace, lines_of, printed};
+ghost use Rattle.simulation_commands.specs.Simulating.{AreLinesFor, IsCaseOf, IsCaseWith, IsDumped, PrintsTrace, lines_of, printed};
 
 use crate::dumping::{Waves, waves_of, write_dump};
 use crate::reading::read_circuit;
 use crate::room::is_small;
 use crate::stimuli::stimuli_for;
 use aig_graph::Circuit;
-use circuit_files::{Failure, Outcome};
+use circuit_files::{Failure, Outcome, OutputFiles};
 use command_endings::ended;
 use command_line::Simulation;
 use counted_io::{CountedRead, CountedWrite, Target};
@@ -151,7 +152,7 @@ fn print_trace_of<'a, R: Threads + Sync, O: CountedWrite>(
 }
 
 /// Writes waves once there is the trace of what is simulated, or room for it, and then prints that.
-fn print_with_waves<'a, R: Files + Threads + Sync, O: CountedWrite>(
+fn print_with_waves<'a, R: OutputFiles + Threads + Sync, O: CountedWrite>(
     rt: &R,
     alloc: Global,
     given: &Case,
@@ -160,6 +161,8 @@ fn print_with_waves<'a, R: Files + Threads + Sync, O: CountedWrite>(
     out: &mut O,
 ) -> Result<Outcome, Failure<'a>>
     requires { AreWavesOf given.now waves.old }
+    ensures dumped { OnOk result (IsDumped (IsFileGiven R.Output.contents R.is_made R.is_let_go)
+        (Some target.entry) (dump_of given.now)) }
     ensures printed { IfOk result (EndsWith Done (printed (Some target.entry) (dump_of given.now)
         (lines_of given.now)) (O.output out.old) (O.output out.new)) }
     ensures prints { Prints (ending result) (O.output out.old) (O.output out.new) }
@@ -177,7 +180,7 @@ fn print_with_waves<'a, R: Files + Threads + Sync, O: CountedWrite>(
 }
 
 /// Writes the waves of what is simulated, and then prints its trace. Nothing is written before there is room for both.
-fn print_with<'a, R: Files + Threads + Sync, O: CountedWrite>(
+fn print_with<'a, R: OutputFiles + Threads + Sync, O: CountedWrite>(
     rt: &R,
     alloc: Global,
     given: &Case,
@@ -185,6 +188,8 @@ fn print_with<'a, R: Files + Threads + Sync, O: CountedWrite>(
     target: Target<'a>,
     out: &mut O,
 ) -> Result<Outcome, Failure<'a>>
+    ensures dumped { OnOk result (IsDumped (IsFileGiven R.Output.contents R.is_made R.is_let_go)
+        (Some target.entry) (dump_of given.now)) }
     ensures printed { IfOk result (EndsWith Done (printed (Some target.entry) (dump_of given.now)
         (lines_of given.now)) (O.output out.old) (O.output out.new)) }
     ensures prints { Prints (ending result) (O.output out.old) (O.output out.new) }
@@ -201,13 +206,15 @@ fn print_with<'a, R: Files + Threads + Sync, O: CountedWrite>(
 }
 
 /// Prints the trace of what is simulated, and before that writes its waves where the task asks for them.
-fn print_case<'a, R: Files + Threads + Sync, O: CountedWrite>(
+fn print_case<'a, R: OutputFiles + Threads + Sync, O: CountedWrite>(
     rt: &R,
     alloc: Global,
     given: &Case,
     task: &Simulation<'a>,
     out: &mut O,
 ) -> Result<Outcome, Failure<'a>>
+    ensures dumped { OnOk result (IsDumped (IsFileGiven R.Output.contents R.is_made R.is_let_go)
+        task.now.waves (dump_of given.now)) }
     ensures printed { IfOk result (EndsWith Done (printed task.now.waves (dump_of given.now)
         (lines_of given.now)) (O.output out.old) (O.output out.new)) }
     ensures prints { Prints (ending result) (O.output out.old) (O.output out.new) }
@@ -220,15 +227,20 @@ fn print_case<'a, R: Files + Threads + Sync, O: CountedWrite>(
 
 /// Reads a circuit, and then a stimulus where the task has no random sequences, writes the waves where they are asked for, and prints
 /// the trace. A file is made once nothing but a device can fail.
-pub fn print_simulation<'a, R: Files + Threads + Sync, I: CountedRead, O: CountedWrite>(
+pub fn print_simulation<
+    'a,
+    R: Files + OutputFiles + Threads + Sync,
+    I: CountedRead,
+    O: CountedWrite,
+>(
     rt: &R,
     alloc: Global,
     task: &Simulation<'a>,
     stdin: &mut I,
     out: &mut O,
 ) -> Result<Outcome, Failure<'a>>
-    ensures trace { IfOk result (PrintsTrace task.now (I.input stdin.old) (I.input stdin.new)
-        (O.output out.old) (O.output out.new)) }
+    ensures trace { IfOk result (PrintsTrace (IsFileGiven R.Output.contents R.is_made R.is_let_go)
+        task.now (I.input stdin.old) (I.input stdin.new) (O.output out.old) (O.output out.new)) }
     ensures prints { Prints (ending result) (O.output out.old) (O.output out.new) }
 {
     match case_for(rt, alloc, task, stdin) {

@@ -1,4 +1,5 @@
 use Rattle.std.proofs.lemmas.Result.{on_ok_weaker}
+use Rattle.circuit_files.proofs.FileLaws.{whole_text}
 use Rattle.circuit_files.proofs.TargetLaws.{to_file, to_stdout}
 use Rattle.commands.proofs.drawing.draw_to.Goals as goal
 
@@ -7,5 +8,5 @@ returns-in-Stdout-clause-given g c = on_ok_weaker c.draw.result (λ writes. to_s
 
 pub returns-in-File-clause-given : goal.returns-in-File-clause-given
 returns-in-File-clause-given g c =
-    on_ok_weaker c.draw-in-File.result
-    (λ writes. to_file _ _ c.in-File.path _ _ c.in-File.is (record { opened = c.file_at-writer.result; given = c.draw-in-File.new.writer; at = c.file_at-writer.ensures; writes = writes })) c.draw-in-File.ensures.picture
+    on_ok_weaker c.draw-drawn.result
+    (λ writes. to_file _ _ c.in-File.path _ _ c.in-File.is (whole_text _ _ _ _ _ _ _ _ _ c.file_at-writer.ensures.path c.file_at-writer.ensures.given c.close.ensures writes.bytes)) c.draw-drawn.ensures.picture

@@ -1,4 +1,5 @@
 use Rattle.std.proofs.lemmas.Result.{IfOk-weaker}
+use Rattle.circuit_files.proofs.FileLaws.{whole_text}
 use Rattle.circuit_files.proofs.TargetLaws.{to_file, to_stdout}
 use Rattle.commands.proofs.retiming.retime_by.Goals as goal
 
@@ -8,6 +9,6 @@ returns-in-Stdout-clause-answer g c =
 
 pub returns-in-File-clause-answer : goal.returns-in-File-clause-answer
 returns-in-File-clause-answer g c =
-    IfOk-weaker c.retime_to-in-File.result _ _
-    (λ answer to. record { of = to.of; writes = to_file _ _ c.in-File.path _ _ c.in-File.is (record { opened = c.file_at-writer.result; given = c.retime_to-in-File.new.writer; at = c.file_at-writer.ensures; writes = to.writes }) })
-    c.retime_to-in-File.ensures.answer
+    IfOk-weaker c.retime_to-answer.result _ _
+    (λ answer to. record { of = to.of; writes = to_file _ _ c.in-File.path _ _ c.in-File.is (whole_text _ _ _ _ _ _ _ _ _ c.file_at-writer.ensures.path c.file_at-writer.ensures.given c.close.ensures to.writes.bytes) })
+    c.retime_to-answer.ensures.answer

@@ -1,4 +1,5 @@
 use Rattle.std.proofs.Common.{List, sym, subst}
+use Rattle.circuit_files.specs.WrittenFiles.{IsFileGiven}
 use Rattle.fretime.specs.declared.answers.Answer.{Answer}
 use Rattle.fretime.specs.Answers.{AreAnswersOf}
 use Rattle.fretime.proofs.AnswerLaws.{printed_of, written_of}
@@ -12,4 +13,4 @@ returns-in-Ok-clause-ok g c =
 pub returns-in-Ok-clause-written : goal.returns-in-Ok-clause-written
 returns-in-Ok-clause-written g c =
     let are = subst (λ (answers : List Answer). AreAnswersOf c.args.entries.now c.args.outcomes.now answers) (sym c.as_slice.ensures.value) c.in-Ok.ensures in
-    written_of g.R.File.Write.contents c.args.entries.now c.args.outcomes.now c.as_slice.result.now c.finish-finished.result are c.finish-finished.ensures.written
+    written_of (IsFileGiven g.R.Output.Write.contents g.R.OutputFiles.is_made g.R.OutputFiles.is_let_go) c.args.entries.now c.args.outcomes.now c.as_slice.result.now c.finish-finished.result are c.finish-finished.ensures.written

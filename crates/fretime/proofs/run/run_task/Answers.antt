@@ -9,7 +9,7 @@ use Rattle.fretime.proofs.run.run_task.Goals as goal
 pub returns-in-Retime-clause-does : goal.returns-in-Retime-clause-does
 returns-in-Retime-clause-does g c =
     let D : Task → Outcome → Type 0 = λ task ended.
-    Does (IsFileGiven g.row.R.Denot {F = g.row.R-File.Denot} g.row.R-Dir.Denot g.R.File.Write.contents) task c.args.streams.now.is_terminal
+    Does (IsFileGiven g.R.Output.Write.contents g.R.OutputFiles.is_made g.R.OutputFiles.is_let_go) task c.args.streams.now.is_terminal
     (g.I.CountedRead.input c.args.streams.now.stdin) (g.I.CountedRead.input c.print_retimed.new.streams.stdin)
     (g.O.CountedWrite.output c.args.streams.now.out) (g.O.CountedWrite.output c.print_retimed.new.streams.out) (g.E.CountedWrite.output c.print_retimed.new.streams.err) ended in
     subst (λ (task : Task). IfOk c.print_retimed.result (D task)) (sym c.in-Retime.is)

@@ -1,8 +1,13 @@
 use Rattle.command_endings.proofs.PrintingLaws.{failing, of_device}
 use Rattle.simulation_commands.specs.Dumping.{dump_of}
 use Rattle.simulation_commands.specs.Simulating.{lines_of}
-use Rattle.simulation_commands.proofs.WaveLaws.{lines_after_dump, lines_print_after}
+use Rattle.simulation_commands.proofs.WaveLaws.{dumped_to, lines_after_dump, lines_print_after}
 use Rattle.simulation_commands.proofs.simulation.print_with_waves.Goals as goal
+
+pub returns-in-Ok-write_dump-clause-dumped : goal.returns-in-Ok-write_dump-clause-dumped
+returns-in-Ok-write_dump-clause-dumped g c =
+    let out = g.O.CountedWrite.output in
+    dumped_to _ c.args.target (dump_of c.args.given.now) (out c.args.out.now) (out c.write_dump.new.out) c.print_lines.result c.in-Ok-write_dump.ensures.given
 
 pub returns-in-Ok-write_dump-clause-printed : goal.returns-in-Ok-write_dump-clause-printed
 returns-in-Ok-write_dump-clause-printed g c =

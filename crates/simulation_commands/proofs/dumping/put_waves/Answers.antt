@@ -1,0 +1,12 @@
+use Rattle.std.proofs.lemmas.Result.{on_ok_weaker}
+use Rattle.circuit_files.proofs.FileLaws.{whole_text}
+use Rattle.circuit_files.proofs.TargetLaws.{to_file, to_stdout}
+use Rattle.simulation_commands.proofs.dumping.put_waves.Goals as goal
+
+pub returns-in-Stdout-clause-given : goal.returns-in-Stdout-clause-given
+returns-in-Stdout-clause-given g c = on_ok_weaker c.put_dump.result (λ writes. to_stdout _ _ _ _ _ c.in-Stdout.is writes) c.put_dump.ensures.ok
+
+pub returns-in-File-clause-given : goal.returns-in-File-clause-given
+returns-in-File-clause-given g c =
+    on_ok_weaker c.put_dump-written.result
+    (λ writes. to_file _ _ c.in-File.path _ _ c.in-File.is (whole_text _ _ _ _ _ _ _ _ _ c.file_at-writer.ensures.path c.file_at-writer.ensures.given c.close.ensures writes.bytes)) c.put_dump-written.ensures.ok
