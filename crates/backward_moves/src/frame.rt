@@ -3,13 +3,12 @@
 
 use crate::again::Again;
 use crate::composing::FrameMap;
-use crate::levels::{freeze_long, levels_of};
 use crate::rebuilding::{Rebuilt, rebuild};
 use aig_graph::Memory;
 use backward_sets::{
-    Bordered, Draft, Guide, Wish, Wishes, border_of, count_marks, freeze_losers, guide_of,
-    has_mark, is_closed, justify, least_set, movable, number, set_mark, starts_of, wish_of,
-    wishes_of,
+    Bordered, Draft, Guide, Wish, Wishes, border_of, count_marks, freeze_long, freeze_losers,
+    guide_of, has_mark, is_closed, justify, least_set, levels_of, movable, number, set_mark,
+    starts_of, wish_of, wishes_of,
 };
 
 /// How often a flow is asked in a frame.

@@ -3,14 +3,13 @@
 use crate::again::Again;
 use crate::composing::{FrameMap, WholeMap, composed};
 use crate::frame::{FrameCounts, Moved, next_frame};
-use crate::levels::levels_of;
 use crate::reading::{Inputs, draft_of, stands_of};
-use crate::rows::Rows;
 use crate::staying::{Staying, staying_of};
 use crate::sweeping::sweep;
 use crate::watching::{MoveStage, MoveWatcher};
 use aig_graph::{Aig, Circuit, Keep, Lit, Memory, NoMemory, property_literals};
-use backward_sets::{Draft, DraftLatch, DraftReset, Literal, Pair};
+use backward_rows::Rows;
+use backward_sets::{Draft, DraftLatch, DraftReset, Literal, Pair, levels_of};
 use std::alloc::Global;
 use std::mem;
 
@@ -130,7 +129,7 @@ impl Run {
         drop(sweep(memory, &mut draft));
         let mut again = Again::none(memory);
         let mut rows = Rows::none(memory);
-        rows.keep_up(memory, &mut draft, &mut again);
+        rows.keep_up(memory, &mut draft, &mut again.marks);
         Run {
             inputs,
             draft,
@@ -163,7 +162,8 @@ impl Run {
         drop(mem::replace(&mut self.draft, draft));
         drop(mem::replace(&mut self.again, again));
         self.note(memory, counts, map);
-        self.rows.keep_up(memory, &mut self.draft, &mut self.again);
+        self.rows
+            .keep_up(memory, &mut self.draft, &mut self.again.marks);
     }
 
     /// Takes one frame, if it saves a latch. Whether it does, and no memory was refused.
@@ -220,7 +220,8 @@ impl Run {
     ) -> Staying {
         let bound = self.bound(memory, options);
         let is_least = self.advance_all(memory, options.frames, bound, watcher);
-        self.rows.restore(memory, &mut self.draft, &mut self.again);
+        self.rows
+            .restore(memory, &mut self.draft, &mut self.again.marks);
         staying_of(memory, &self.draft, bound, is_least)
     }
 

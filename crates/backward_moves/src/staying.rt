@@ -1,8 +1,7 @@
 //! Why latches stay where they are, counted when the frames have ended.
 
-use crate::levels::freeze_long;
 use aig_graph::Memory;
-use backward_sets::{Draft, DraftLatch, DraftReset, count_marks, has_mark, movable};
+use backward_sets::{Draft, DraftLatch, DraftReset, count_marks, freeze_long, has_mark, movable};
 
 /// How many latches stay, and for what: the numbers add up to all.
 #[derive(Clone, Copy)]

@@ -30,6 +30,7 @@ mod reasons;
 mod returns;
 mod showing;
 mod smallest_file;
+mod spelling;
 
 pub use entry::Entry;
 pub use fault::ListError;
@@ -48,3 +49,4 @@ pub use page::Page;
 pub use read::read_list;
 pub use returns::tell_returns;
 pub use showing::{printable, shown_line};
+pub use spelling::tell_spelling;

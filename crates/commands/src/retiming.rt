@@ -19,7 +19,7 @@ use certificates::{CertFile, Certificate, Choice, write_cert};
 use circuit_files::{Failure, Outcome, OutputFiles, circuit_at, close, file_at};
 use command_endings::{Progress, ended, run_options};
 use command_line::{Retiming, Shown};
-use counted_io::{CountedRead, CountedWrite, Streams, Target, WriteError, write_all};
+use counted_io::{CountedRead, CountedWrite, Streams, Target, WriteError};
 use frames::{FrameWatcher, Options, Retimed};
 use json_reports::{MapCounts, ReadLevels, Times};
 use reports::{Remaining, print_remaining, print_retiming};
@@ -351,20 +351,7 @@ fn print_as<'a, W: CountedWrite>(
     }
 }
 
-/// What a terminal is told where a file of binary name is written in ASCII, as the circuit that was read.
-const STILL_ASCII: &[u8] = b"written in ASCII, as IN is: --binary writes binary\n";
-
-/// Whether the circuit is written in ASCII, because it was read so, to a file that is named as a binary one.
-fn is_still_ascii(task: &Retiming<'_>, timed: &Timed) -> bool {
-    let is_named_binary = match task.output {
-        Target::File(path) => path.ends_with(".aig"),
-        Target::Stdout => false,
-    };
-    is_named_binary && task.options.spelling.is_none() && timed.spelling == Spelling::Ascii
-}
-
-/// Tells on a terminal why no more latches go, and where a file has another spelling than its name says, unless somebody asks for an object
-/// or for quiet. What can't be told changes nothing.
+/// Tells on a terminal why no more latches go, unless somebody asks for an object or for quiet. What can't be told changes nothing.
 fn tell_remaining<E: CountedWrite>(
     alloc: Global,
     task: &Retiming<'_>,
@@ -378,9 +365,6 @@ fn tell_remaining<E: CountedWrite>(
     if is_terminal && !task.json && task.shown != Shown::Nothing {
         if let Ok(left) = remaining(alloc, task, timed) {
             let _ = print_remaining(&left, err);
-        }
-        if is_still_ascii(task, timed) {
-            let _ = write_all(err, STILL_ASCII);
         }
     }
 }

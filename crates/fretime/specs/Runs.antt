@@ -40,7 +40,7 @@ MayGive (Err failure) old new = Prints (outcome_of failure) old new
 abbrev pub Does : (List ℕ → List ℕ → Type 0) → Task → Bool → Input → Input → Output → Output → Output → Outcome → Type 0
 Does FileGiven (Retime retiming) is_terminal before after old new said ended = PrintsRetiming FileGiven retiming is_terminal before old new said (Ok ended)
     × (IsPipe retiming → WritesPipe retiming before old new)
-Does FileGiven (Backward moving) is_terminal before after old new said ended = PrintsMoves FileGiven moving before after old new said ended
+Does FileGiven (Backward moving) is_terminal before after old new said ended = PrintsMoves FileGiven moving is_terminal before after old new said ended
 Does FileGiven (Batch batch) is_terminal before after old new said ended = PrintsList batch.json ended old new
 Does FileGiven (Stat counting) is_terminal before after old new said ended = PrintsStatistics counting before after old new ended
 Does FileGiven (Convert input output spelling) is_terminal before after old new said ended = Converts FileGiven spelling input output before old new

@@ -1,8 +1,9 @@
 //! What a terminal is told where a command did its work, and what it found may be owed to how it was called.
-use circuit_files::{Fault, Outcome, tell_page};
-use command_line::{Task, Verification};
-use counted_io::{Buffered, CountedWrite};
+use circuit_files::{Fault, Outcome, tell_page, tell_spelling};
+use command_line::{Shown, Task, Verification};
+use counted_io::{Buffered, CountedWrite, Spelling, Target};
 use frames::PathBound;
+use std::rt::Files;
 
 /// The options of `retime` that bear on certificates and that 'verify' wasn't given; `None` where it has all of them.
 fn missing_options(task: &Verification<'_>) -> Option<&'static [u8]> {
@@ -32,8 +33,47 @@ fn tell_missing<E: CountedWrite>(task: &Verification<'_>, err: &mut E) {
     }
 }
 
+/// The file of a circuit whose spelling wasn't chosen.
+fn unchosen<'a>(output: Target<'a>, spelling: Option<Spelling>) -> Option<&'a str> {
+    match (output, spelling) {
+        (Target::File(path), None) => Some(path),
+        _ => None,
+    }
+}
+
+/// Whether a run of frames tells more than its lines.
+fn tells(shown: Shown, json: bool) -> bool {
+    shown != Shown::Nothing && !json
+}
+
+/// The file of the circuit that a task writes, where its spelling wasn't chosen, and neither quiet nor an object was asked for.
+fn unchosen_of<'a>(task: &Task<'a>) -> Option<&'a str> {
+    match task {
+        Task::Retime(retiming) => {
+            if tells(retiming.shown, retiming.json) {
+                unchosen(retiming.output, retiming.options.spelling)
+            } else {
+                None
+            }
+        }
+        Task::Backward(moving) => {
+            if tells(moving.shown, moving.json) {
+                unchosen(moving.output, moving.options.spelling)
+            } else {
+                None
+            }
+        }
+        Task::Convert(_, output, spelling) => unchosen(*output, *spelling),
+        Task::Miter(asking) => unchosen(asking.output, asking.spelling),
+        Task::Product(asking) => unchosen(asking.output, asking.spelling),
+        Task::Lift(lifting) => unchosen(lifting.output, lifting.spelling),
+        _ => None,
+    }
+}
+
 /// Says on a terminal what may help. A failed write changes nothing.
-pub(crate) fn advise<E: CountedWrite>(
+pub(crate) fn advise<R: Files, E: CountedWrite>(
+    rt: &R,
     task: &Task<'_>,
     outcome: Outcome,
     is_terminal: bool,
@@ -47,6 +87,11 @@ pub(crate) fn advise<E: CountedWrite>(
         Outcome::Unconfirmed => {
             if let Task::Verify(verification) = task {
                 tell_missing(verification, err);
+            }
+        }
+        Outcome::Done => {
+            if let Some(path) = unchosen_of(task) {
+                tell_spelling(rt, path, err);
             }
         }
         _ => {}

@@ -208,7 +208,7 @@ pub fn reported<'a, R: Files, I, O: CountedWrite, E: CountedWrite>(
     tell_of_list(rt, task, is_terminal, &mut streams.err);
     match ended {
         Ok(outcome) => {
-            advise(task, outcome, is_terminal, &mut streams.err);
+            advise(rt, task, outcome, is_terminal, &mut streams.err);
             outcome
         }
         Err(failure) => {

@@ -23,6 +23,7 @@ pub use commands::{
 pub use counts::{MapCounts, ReadLevels, circuit_object, statistics_object};
 pub use difference::{difference_object, shapes_object};
 pub use fault::Fault;
+pub use members::{count_value, wide};
 pub use printing::{PrintError, print_object};
 pub use refusal::{Refusal, refusal_object};
 pub use retiming::retiming_object;

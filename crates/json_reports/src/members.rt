@@ -21,7 +21,7 @@ pub(crate) enum Scalar<'a> {
 }
 
 /// The number in 64 bits, where there is one.
-pub(crate) fn wide(number: Option<u32>) -> Option<u64>
+pub fn wide(number: Option<u32>) -> Option<u64>
     ensures { result ≡ number }
 {
     match number {
@@ -30,7 +30,8 @@ pub(crate) fn wide(number: Option<u32>) -> Option<u64>
     }
 }
 
-fn count_value(number: Option<u64>) -> Value
+/// The number, or null where there is none.
+pub fn count_value(number: Option<u64>) -> Value
     ensures { view result ≡ or_null count number }
 {
     match number {

@@ -1,5 +1,5 @@
 -- What a move backward gives standard output.
-use Rattle.std.proofs.Common.{◌≡◌, ◌||◌, true, false, List, ℕ, Result, Ok, Err, ◌∙◌}
+use Rattle.std.proofs.Common.{◌≡◌, ◌||◌, Bool, true, false, List, ℕ, Result, Ok, Err, ◌∙◌, subst, sym}
 use Rattle.std.specs.Result.{IfOk}
 use Rattle.std.proofs.lemmas.Bool.{or_parts}
 use Rattle.counted_io.specs.Input.{Input}
@@ -24,10 +24,10 @@ kept task old mid new first second neither =
 stays_quiet : (mid new : Output) (result : Result Outcome Failure) → EndsAside Done mid new result → new ≡ mid
 stays_quiet mid new result aside = aside.quiet
 
-module _ (FileGiven : List ℕ → List ℕ → Type 0) (task : Moving) (before after : Input) (old mid new : Output) where
+module _ (FileGiven : List ℕ → List ℕ → Type 0) (task : Moving) (is_terminal : Bool) (before after : Input) (old mid new : Output) where
   if_printed : (shown said : Output) (answer : Answer) (result : Result Outcome Failure) → AnswersTask task before after answer → WritesMoves FileGiven task answer old mid
-      → (moving_takes_stdout task ≡ true → new ≡ mid) → (moving_takes_stdout task ≡ true → SaysMoves task answer shown said)
-      → (moving_takes_stdout task ≡ false → EndsPrintingMoves task.json task answer mid new result) → IfOk result (PrintsMoves FileGiven task before after old new said)
+      → (moving_takes_stdout task ≡ true → new ≡ mid) → (moving_takes_stdout task ≡ true → is_terminal ≡ false → SaysMoves task answer shown said)
+      → (moving_takes_stdout task ≡ false → EndsPrintingMoves task.json task answer mid new result) → IfOk result (PrintsMoves FileGiven task is_terminal before after old new said)
   if_printed shown said answer (Ok ended) answers written quiet says moves = record {
     answer = answer;
     answers = answers;
@@ -41,8 +41,10 @@ module _ (FileGiven : List ℕ → List ℕ → Type 0) (task : Moving) (before 
   if_printed shown said answer (Err failure) answers written quiet says moves = tt
 
   -- what was done is printed of the answer that was written
-  pub prints_moves : (shown said : Output) (answer : Answer) (result : Result Outcome Failure) → AnswersTask task before after answer → WritesMoves FileGiven task answer old mid
-      → (moving_takes_stdout task ≡ true → EndsAside Done mid new result) → (moving_takes_stdout task ≡ true → SaysMoves task answer shown said)
-      → (moving_takes_stdout task ≡ false → EndsPrintingMoves task.json task answer mid new result) → IfOk result (PrintsMoves FileGiven task before after old new said)
-  prints_moves shown said answer result answers written aside says moves =
-      if_printed shown said answer result answers written (λ taken. stays_quiet mid new result (aside taken)) says moves
+  pub prints_moves : (shown told said : Output) (answer : Answer) (result : Result Outcome Failure) → AnswersTask task before after answer → WritesMoves FileGiven task answer old mid
+      → (moving_takes_stdout task ≡ true → EndsAside Done mid new result) → (moving_takes_stdout task ≡ true → SaysMoves task answer shown told)
+      → (moving_takes_stdout task ≡ false → EndsPrintingMoves task.json task answer mid new result) → (is_terminal ≡ false → said ≡ told)
+      → IfOk result (PrintsMoves FileGiven task is_terminal before after old new said)
+  prints_moves shown told said answer result answers written aside says moves still =
+      if_printed shown said answer result answers written (λ taken. stays_quiet mid new result (aside taken))
+      (λ taken quiet. subst (SaysMoves task answer shown) (sym (still quiet)) (says taken)) moves

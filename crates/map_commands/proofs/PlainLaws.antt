@@ -8,11 +8,12 @@ use Rattle.serde_json.specs.Data.{Data, object, Members, member, no_members, dep
 use Rattle.serde_json.specs.View.{items_of}
 use Rattle.serde_json.specs.Written.{has_float, items_have_float, members_have_float}
 use Rattle.backward_moves.specs.declared.frame.FrameCounts.{FrameCounts}
+use Rattle.backward_moves.specs.declared.staying.Staying.{Staying}
 use Rattle.json_reports.specs.Lines.{IsPlain}
-use Rattle.json_reports.specs.Members.{array_of}
+use Rattle.json_reports.specs.Members.{array_of, count, or_null}
 use Rattle.counted_io.specs.declared.target.Target.{Target}
 use Rattle.command_line.specs.declared.task.Moving.{Moving}
-use Rattle.map_commands.specs.Printing.{backward_frame_data, map_data_for, moves_data}
+use Rattle.map_commands.specs.Printing.{backward_frame_data, map_data_for, moves_data, reported_bound, staying_data, staying_with}
 use Rattle.map_commands.specs.declared.answering.Answer.{Answer}
 
 -- it nests at most so many levels
@@ -48,12 +49,23 @@ plain-map : (target : Option Target) (m : Netlist) → Plain 3 (map_data_for tar
 plain-map None m = record { whole = refl; nests = omega arith }
 plain-map (Some target) m = record { whole = refl; nests = omega arith }
 
+plain-or_null : (o : Option ℕ) → Plain 3 (or_null count o)
+plain-or_null None = record { whole = refl; nests = omega arith }
+plain-or_null (Some n) = record { whole = refl; nests = omega arith }
+
+plain-with : (s : Staying) (o : Option ℕ) → Plain 3 (staying_with s (or_null count o))
+plain-with s None = record { whole = refl; nests = omega arith }
+plain-with s (Some n) = record { whole = refl; nests = omega arith }
+
+plain-staying : (s : Staying) → Plain 3 (staying_data s)
+plain-staying s = plain-with s s.too_long
+
 is_plain : {ms : Members} → PlainMembers 3 ms → IsPlain (object ms)
 is_plain p = record { whole = p.whole; nests = omega (arith, p.nests) }
 
 -- the object of a move
 pub moves : (task : Moving) (answer : Answer) (after : Counts) → IsPlain (moves_data task answer after)
 moves task answer after =
-    is_plain (plain-member record { whole = refl; nests = omega arith } (plain-member record { whole = refl; nests = omega arith } (plain-member record { whole = refl; nests = omega arith }
-    (plain-member (plain-frames answer.moved.frames.items) (plain-member (plain-map task.map answer.moved.map) (plain-member record { whole = refl; nests = omega arith }
-    (plain-member record { whole = refl; nests = omega arith } plain-none)))))))
+    is_plain (plain-member record { whole = refl; nests = omega arith } (plain-member record { whole = refl; nests = omega arith } (plain-member (plain-or_null (reported_bound task.options.bound answer.before))
+    (plain-member record { whole = refl; nests = omega arith } (plain-member (plain-frames answer.moved.frames.items) (plain-member (plain-staying answer.moved.staying) (plain-member (plain-map task.map answer.moved.map)
+    (plain-member record { whole = refl; nests = omega arith } (plain-member record { whole = refl; nests = omega arith } plain-none)))))))))

@@ -1,5 +1,5 @@
 -- What the command `backward` does.
-use Rattle.std.specs.Prelude.{◌≡◌, true, false, List, Option, Some, None, Ok, unwrap_or}
+use Rattle.std.specs.Prelude.{ℕ, ◌≡◌, Bool, true, false, List, Option, Some, None, Ok, unwrap_or}
 use Rattle.counted_io.specs.Input.{Input}
 use Rattle.counted_io.specs.Output.{Output}
 use Rattle.aig_binary.specs.Spellings.{text_in}
@@ -41,8 +41,8 @@ pub record WritesMoves (FileGiven : List ℕ → List ℕ → Type 0) (task : Mo
   pub mapping : WritesIfAsked FileGiven task.map (text_in answer.spelling answer.moved.map) between new
 
 -- the answer of what the task reads was written, and then it was printed what was done: on standard output, or, where a circuit or a map went there, on
--- standard error
-pub record PrintsMoves (FileGiven : List ℕ → List ℕ → Type 0) (task : Moving) (before after : Input) (old new said : Output) (ended : Outcome) : Type 0 where
+-- standard error, of which a terminal is told more
+pub record PrintsMoves (FileGiven : List ℕ → List ℕ → Type 0) (task : Moving) (is_terminal : Bool) (before after : Input) (old new said : Output) (ended : Outcome) : Type 0 where
   pub answer : Answer
   pub answers : AnswersTask task before after answer
   pub between : Output
@@ -50,4 +50,4 @@ pub record PrintsMoves (FileGiven : List ℕ → List ℕ → Type 0) (task : Mo
   pub printed : moving_takes_stdout task ≡ false → EndsPrintingMoves task.json task answer between new (Ok ended)
   pub quiet : moving_takes_stdout task ≡ true → new ≡ between
   pub shown : Output
-  pub aside : moving_takes_stdout task ≡ true → SaysMoves task answer shown said
+  pub aside : moving_takes_stdout task ≡ true → is_terminal ≡ false → SaysMoves task answer shown said

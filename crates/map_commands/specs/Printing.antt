@@ -1,15 +1,18 @@
 -- What the command `backward` prints.
 use Rattle.std.specs.Prelude.{ℕ, Bool, true, false, List, [], ◌∷◌, ◌++◌, Option, Some, None, Result, length, decimal, codes}
+use Rattle.frames.specs.declared.bound.PathBound.{PathBound}
+use Rattle.frames.specs.declared.bound.PathBound.TheVariants as bounds
 use Rattle.aig_graph.specs.Circuits.{Netlist}
 use Rattle.counted_io.specs.Line.{numbered_lines}
 use Rattle.counted_io.specs.Output.{Output}
 use Rattle.backward_moves.specs.declared.frame.FrameCounts.{FrameCounts}
+use Rattle.backward_moves.specs.declared.staying.Staying.{Staying}
 use Rattle.reports.specs.CircuitCounts.{counts}
 use Rattle.reports.specs.declared.statistics.Counts.{Counts}
 use Rattle.serde_json.specs.Data.{Data, boolean, null, string, object, member, no_members}
 use Rattle.reports.specs.Retimings.{change}
 use Rattle.json_reports.specs.Counts.{circuit_data}
-use Rattle.json_reports.specs.Members.{array_of, count}
+use Rattle.json_reports.specs.Members.{array_of, count, or_null}
 use Rattle.counted_io.specs.declared.target.Target.{Target}
 use Rattle.command_line.specs.declared.task.Moving.{Moving}
 use Rattle.circuit_files.specs.declared.outcome.Outcome.{Outcome}
@@ -51,16 +54,40 @@ abbrev pub map_data_for : Option Target → Netlist → Data
 map_data_for None m = null
 map_data_for (Some target) m = map_circuit_data m
 
--- what the written circuit has and what the one had that was read, each frame, what the map has, and whether nothing was found that the judge refused
+-- the most gates on a path that the run was to leave, where it had a bound, by what the circuit had that was read
+abbrev pub reported_bound : PathBound → Counts → Option ℕ
+reported_bound bounds.None before = None
+reported_bound bounds.NoLonger before = Some before.levels
+reported_bound (bounds.Levels levels) before = Some levels
+
+-- how many latches stay and for what, and how many gates may move; what is told of those behind a gate on too long a path is given
+abbrev pub staying_with : Staying → Data → Data
+staying_with s too_long =
+    object (member (codes "behind_no_gate") (count s.behind_no_gate)
+    (member (codes "could_move") (count s.could_move)
+    (member (codes "free") (count s.free)
+    (member (codes "held") (count s.held)
+    (member (codes "least") (boolean s.is_least)
+    (member (codes "movable") (count s.movable)
+    (member (codes "read_elsewhere") (count s.read_elsewhere)
+    (member (codes "too_long") too_long no_members))))))))
+
+-- the same, where those are counted under a bound alone
+abbrev pub staying_data : Staying → Data
+staying_data s = staying_with s (or_null count s.too_long)
+
+-- what the written circuit has and what the one had that was read, the bound, each frame, why no more latches go, what the map has, and whether nothing was found that the judge refused
 abbrev pub moves_data : Moving → Answer → Counts → Data
 moves_data task answer after =
     object (member (codes "after") (circuit_data after)
     (member (codes "before") (circuit_data answer.before)
+    (member (codes "bound") (or_null count (reported_bound task.options.bound answer.before))
     (member (codes "command") (string (codes "backward"))
     (member (codes "frames") (array_of backward_frame_data answer.moved.frames.items)
+    (member (codes "held_back") (staying_data answer.moved.staying)
     (member (codes "map") (map_data_for task.map answer.moved.map)
     (member (codes "shown") (boolean answer.moved.is_shown)
-    (member (codes "status") (count 0) no_members)))))))
+    (member (codes "status") (count 0) no_members)))))))))
 
 -- how printing it ends, as an object of JSON where that is asked for, else in lines
 abbrev pub EndsPrintingMoves : Bool → Moving → Answer → Output → Output → Result Outcome Failure → Type 0

@@ -16,6 +16,7 @@ mod object;
 mod obligations;
 mod printing;
 mod products;
+mod staying;
 
 pub use check::print_check;
 pub use lift::write_lifted;

@@ -10,6 +10,7 @@ ghost use Rattle.map_commands.specs.Moving.{AnswersTask, PrintsMoves, WritesIfAs
 
 use crate::answering::{Answer, answer_for};
 use crate::printing::print_answer;
+use crate::staying::tell_staying;
 use backward_retiming::{MoveStage, MoveWatcher};
 use circuit_files::{Failure, Outcome, OutputFiles};
 use command_endings::{Progress, write_circuit};
@@ -129,7 +130,7 @@ fn write_shown<
 /// Reads a circuit, moves its latches backward, writes it, and its map where that is asked for, and then prints the frames that were
 /// taken, as an object of JSON or in lines.
 ///
-/// Shows how far the run is as the task asks.
+/// Shows how far the run is as the task asks, and on a terminal why no more latches go.
 pub fn print_moves<
     'a,
     R: Files + OutputFiles + Clock,
@@ -143,13 +144,15 @@ pub fn print_moves<
     streams: &mut Streams<I, O, E>,
 ) -> Result<Outcome, Failure<'a>>
     ensures moves { IfOk result (PrintsMoves (IsFileGiven R.Output.contents R.is_made R.is_let_go) task.now
-        (I.input streams.old.stdin) (I.input streams.new.stdin) (O.output streams.old.out) (O.output streams.new.out)
+        streams.old.is_terminal (I.input streams.old.stdin) (I.input streams.new.stdin) (O.output streams.old.out) (O.output streams.new.out)
         (E.output streams.new.err)) }
     ensures prints { Prints (ending result) (O.output streams.old.out) (O.output streams.new.out) }
 {
+    let is_terminal = streams.is_terminal;
     match write_shown(rt, alloc, task, streams) {
         Ok(answer) => {
             let ended = print_answer(alloc, task, &answer, &mut streams.out, &mut streams.err);
+            tell_staying(task, &answer, is_terminal, &mut streams.err);
             drop(answer);
             ended
         }

@@ -3,12 +3,14 @@ ghost use Rattle.std.specs.Prelude.{◌≡◌, IfOk, OnOk};
 ghost use Rattle.serde_json.specs.Data.{no_members, object, put};
 ghost use Rattle.serde_json.specs.View.{members_view, view};
 ghost use Rattle.json_reports.specs.Members.{array_of, count};
-ghost use Rattle.map_commands.specs.Printing.{backward_frame_data, map_circuit_data, map_data_for, moves_data};
+ghost use Rattle.map_commands.specs.Printing.{backward_frame_data, map_circuit_data, map_data_for, moves_data, staying_data};
+ghost use Rattle.map_commands.specs.Printing as wanted;
 
 use crate::answering::Answer;
-use backward_moves::FrameCounts;
+use backward_moves::{FrameCounts, Staying};
 use command_line::Moving;
-use json_reports::circuit_object;
+use frames::PathBound;
+use json_reports::{circuit_object, count_value, wide};
 use reports::Counts;
 use serde_json::{Map, Value};
 use std::alloc::{AllocError, Global};
@@ -93,6 +95,47 @@ fn map_value(alloc: Global, task: &Moving<'_>, answer: &Answer) -> Result<Value,
     }
 }
 
+/// The bound on paths that is reported.
+fn reported_bound(task: &Moving<'_>, answer: &Answer) -> Option<u64>
+    ensures { result ≡ wanted.reported_bound task.now.options.bound answer.now.before }
+{
+    match task.options.bound {
+        PathBound::None => None,
+        PathBound::NoLonger => Some(answer.before.levels),
+        PathBound::Levels(levels) => Some(u64::from(levels)),
+    }
+}
+
+/// Puts how many latches stay, and for what, into an object that has no member.
+fn put_staying(
+    members: &mut Map<String, Value>,
+    alloc: Global,
+    staying: &Staying,
+) -> Result<(), AllocError>
+    ensures { OnOk result (members_view members.old.entries ≡ no_members
+        → object (members_view members.new.entries) ≡ staying_data staying.now) }
+{
+    let behind_none = u64::from(staying.behind_no_gate);
+    let elsewhere = u64::from(staying.read_elsewhere);
+    put_count(members, alloc, "behind_no_gate", behind_none)?;
+    put_count(members, alloc, "could_move", u64::from(staying.could_move))?;
+    put_count(members, alloc, "free", u64::from(staying.free))?;
+    put_count(members, alloc, "held", u64::from(staying.held))?;
+    serde_json::put(members, alloc, "least", Value::from(staying.is_least))?;
+    put_count(members, alloc, "movable", u64::from(staying.movable))?;
+    put_count(members, alloc, "read_elsewhere", elsewhere)?;
+    let too_long = count_value(wide(staying.too_long));
+    serde_json::put(members, alloc, "too_long", too_long)
+}
+
+fn staying_object(alloc: Global, staying: &Staying) -> Result<Value, AllocError>
+    ensures { IfOk result (λ v. view v ≡ staying_data staying.now) }
+{
+    let mut members = Map::new(alloc);
+    put_staying(&mut members, alloc, staying)?;
+    Ok(Value::Object(members))
+}
+
 /// Puts the members of a move into an object that has none; `after` is what the written circuit has.
 fn put_moves(
     members: &mut Map<String, Value>,
@@ -113,6 +156,8 @@ fn put_moves(
         "before",
         circuit_object(alloc, &answer.before)?,
     )?;
+    let bound = count_value(reported_bound(task, answer));
+    serde_json::put(members, alloc, "bound", bound)?;
     serde_json::put(
         members,
         alloc,
@@ -124,6 +169,12 @@ fn put_moves(
         alloc,
         "frames",
         frames_array(alloc, moved.frames.as_slice())?,
+    )?;
+    serde_json::put(
+        members,
+        alloc,
+        "held_back",
+        staying_object(alloc, &moved.staying)?,
     )?;
     serde_json::put(members, alloc, "map", map_value(alloc, task, answer)?)?;
     serde_json::put(members, alloc, "shown", Value::from(moved.is_shown))?;

@@ -1,11 +1,11 @@
 //! What is left out of a draft: the middles of long rows. In a frame they stay as they are, so that a frame looks at their ends alone. From where
 //! latches go a row gives some back, and where new ones come it gets longer.
 
-use crate::again::Again;
 use crate::links::Links;
 use crate::relaying::relay;
 use aig_graph::Memory;
 use backward_sets::{Draft, DraftLatch, Literal, number, set_mark};
+use std::mem;
 
 /// How many latches stay at either end of a row of which some are left out.
 const NEAR: u32 = 16;
@@ -42,11 +42,15 @@ impl List {
 
 /// The latches that are left out.
 #[derive(Drop)]
-pub(crate) struct Rows {
+pub struct Rows {
     /// Those that came back too.
     hidden: Vec<Hidden>,
     lists: Vec<List>,
     many: u32,
+    /// Those that come back now.
+    back: Vec<DraftLatch>,
+    /// By place of a latch whether it is left out now.
+    hides: Vec<bool>,
 }
 
 /// Puts a latch at a place.
@@ -81,6 +85,8 @@ impl Rows {
             hidden: memory.nothing(),
             lists: memory.nothing(),
             many: 0,
+            back: memory.nothing(),
+            hides: memory.nothing(),
         }
     }
 
@@ -165,7 +171,6 @@ impl Rows {
         draft: &mut Draft,
         links: &Links,
         first: u32,
-        hides: &mut [bool],
     ) -> bool {
         let length = links.length(draft, first);
         if length < MOST {
@@ -180,30 +185,23 @@ impl Rows {
         for _ in NEAR..length.wrapping_sub(NEAR) {
             at = links.next(draft, at);
             list = self.appended(memory, list, draft.latch(at));
-            set_mark(hides, at, true);
+            set_mark(self.hides.as_mut_slice(), at, true);
         }
         self.hold(memory, draft, links.next(draft, at), list, from);
         true
     }
 
     /// Gives back some of the latches that are left out before the one at a place. Their variables come after all others for now.
-    fn give_back(
-        &mut self,
-        memory: &mut Memory,
-        draft: &mut Draft,
-        place: u32,
-        most: u32,
-        back: &mut Vec<DraftLatch>,
-    ) {
+    fn give_back(&mut self, memory: &mut Memory, draft: &mut Draft, place: u32, most: u32) {
         let latch = draft.latch(place);
         let mut list = self.list_at(latch.list);
         let mut from = latch.next.var();
         for _ in 0..most.min(list.many) {
             let Hidden { latch: own, after } = self.hidden_at(list.front);
             let next = Literal::of(from).signed_as(own.next);
-            from = draft.end().wrapping_add(number(back.len()));
+            from = draft.end().wrapping_add(number(self.back.len()));
             memory.push(
-                back,
+                &mut self.back,
                 DraftLatch {
                     next,
                     list: 0,
@@ -227,56 +225,64 @@ impl Rows {
     }
 
     /// Gives latches back to the row that begins with a latch, where too few stand before those that are left out.
-    fn lengthen(
-        &mut self,
-        memory: &mut Memory,
-        draft: &mut Draft,
-        links: &Links,
-        first: u32,
-        back: &mut Vec<DraftLatch>,
-    ) {
+    fn lengthen(&mut self, memory: &mut Memory, draft: &mut Draft, links: &Links, first: u32) {
         let mut at = first;
         for before in 0..LEAST {
             if draft.latch(at).list > 0 {
-                self.give_back(memory, draft, at, NEAR.wrapping_sub(before), back);
+                self.give_back(memory, draft, at, NEAR.wrapping_sub(before));
                 return;
             }
             at = links.next(draft, at);
         }
     }
 
-    /// Gives latches back, or else leaves some out, where rows have changed.
-    pub fn keep_up(&mut self, memory: &mut Memory, draft: &mut Draft, again: &mut Again) {
-        let links = Links::of(memory, draft);
-        let mut hides = memory.table(false, draft.latches.len());
-        let mut back: Vec<DraftLatch> = memory.nothing();
-        let mut changes = false;
+    /// Leaves out the middles of rows that are long. Whether there are any.
+    fn shorten_all(&mut self, memory: &mut Memory, draft: &mut Draft, links: &Links) -> bool {
+        let mut any = false;
         for place in 0..draft.many_latches() {
             if links.is_first(place) {
-                self.lengthen(memory, draft, &links, place, &mut back);
+                let shorter = self.shorten(memory, draft, links, place);
+                any = any | shorter;
             }
         }
-        if back.is_empty() {
-            for place in 0..draft.many_latches() {
-                if links.is_first(place) {
-                    let shorter = self.shorten(memory, draft, &links, place, hides.as_mut_slice());
-                    changes = changes | shorter;
-                }
+        any
+    }
+
+    /// Gives latches back, or else leaves some out, where rows have changed. Marks are by variable of the draft.
+    pub fn keep_up(&mut self, memory: &mut Memory, draft: &mut Draft, marks: &mut Vec<bool>) {
+        let links = Links::of(memory, draft);
+        let hides = memory.table(false, draft.latches.len());
+        drop(mem::replace(&mut self.hides, hides));
+        for place in 0..draft.many_latches() {
+            if links.is_first(place) {
+                self.lengthen(memory, draft, &links, place);
             }
         }
-        if changes | !back.is_empty() {
-            relay(memory, draft, again, back.as_slice(), hides.as_slice());
+        if !self.back.is_empty() || self.shorten_all(memory, draft, &links) {
+            self.relay(memory, draft, marks);
         }
     }
 
     /// Gives all latches back.
-    pub fn restore(&mut self, memory: &mut Memory, draft: &mut Draft, again: &mut Again) {
-        let mut back: Vec<DraftLatch> = memory.nothing();
+    pub fn restore(&mut self, memory: &mut Memory, draft: &mut Draft, marks: &mut Vec<bool>) {
         for place in 0..draft.many_latches() {
             if draft.latch(place).list > 0 {
-                self.give_back(memory, draft, place, u32::MAX, &mut back);
+                self.give_back(memory, draft, place, u32::MAX);
             }
         }
-        relay(memory, draft, again, back.as_slice(), &[]);
+        drop(mem::replace(&mut self.hides, memory.nothing()));
+        self.relay(memory, draft, marks);
+    }
+
+    /// Puts the latches that come back into the draft, and takes out those that are left out.
+    fn relay(&mut self, memory: &mut Memory, draft: &mut Draft, marks: &mut Vec<bool>) {
+        relay(
+            memory,
+            draft,
+            marks,
+            self.back.as_slice(),
+            self.hides.as_slice(),
+        );
+        self.back.truncate(0);
     }
 }

@@ -1,6 +1,5 @@
 //! A draft with some latches more or fewer. Latches stand by rising names again, so that their order doesn't depend on what was left out meanwhile.
 
-use crate::again::Again;
 use aig_graph::Memory;
 use backward_sets::{
     Draft, DraftLatch, Literal, Pair, entry, has_mark, number, set_entry, set_mark,
@@ -155,11 +154,11 @@ impl Relaying {
     }
 }
 
-/// Gives a draft latches that come back, whose variables so far come after all others, and leaves out those that have marks.
+/// Gives a draft latches that come back, whose variables so far come after all others, and leaves out those that `hides` marks.
 pub(crate) fn relay(
     memory: &mut Memory,
     draft: &mut Draft,
-    again: &mut Again,
+    marks: &mut Vec<bool>,
     back: &[DraftLatch],
     hides: &[bool],
 ) {
@@ -170,7 +169,7 @@ pub(crate) fn relay(
     drop(mem::replace(&mut draft.latches, latches));
     relaying.put_gates(draft.gates.as_mut_slice());
     relaying.put_literals(draft.observed.as_mut_slice());
-    let mut marks = memory.table(false, draft.size());
-    relaying.put_marks(again.marks.as_slice(), marks.as_mut_slice());
-    drop(mem::replace(&mut again.marks, marks));
+    let mut all = memory.table(false, draft.size());
+    relaying.put_marks(marks.as_slice(), all.as_mut_slice());
+    drop(mem::replace(marks, all));
 }

@@ -1,8 +1,9 @@
 //! How many gates stand one above the other, and which gates have to stay so that no way gets too long. Since each gate that reads a member of a
 //! set is in it, the copies behind a latch before a gate reach what reads the latches of before: how far that is doesn't depend on the set.
 
+use crate::drafts::Draft;
+use crate::tables::{entry, has_mark, number, set_entry, set_mark};
 use aig_graph::Memory;
-use backward_sets::{Draft, entry, has_mark, number, set_entry, set_mark};
 
 /// An entry is at least this number from now on.
 fn lift(numbers: &mut [u32], place: u32, number: u32) {
@@ -32,7 +33,7 @@ fn most_of(draft: &Draft, levels: &[u32]) -> u32 {
 }
 
 /// The most gates on a way to a latch or a property.
-pub(crate) fn levels_of(memory: &mut Memory, draft: &Draft) -> u32 {
+pub fn levels_of(memory: &mut Memory, draft: &Draft) -> u32 {
     let mut levels = memory.table(0u32, draft.size());
     fill_levels(draft, levels.as_mut_slice());
     most_of(draft, levels.as_slice())
@@ -81,12 +82,7 @@ fn freeze_above(draft: &Draft, departures: &[u32], bound: u32, frozen: &mut [boo
 }
 
 /// Freezes the gates that would make a way longer than a bound. Whether one wasn't frozen before.
-pub(crate) fn freeze_long(
-    memory: &mut Memory,
-    draft: &Draft,
-    bound: u32,
-    frozen: &mut [bool],
-) -> bool {
+pub fn freeze_long(memory: &mut Memory, draft: &Draft, bound: u32, frozen: &mut [bool]) -> bool {
     let departures = departures_of(memory, draft);
     freeze_above(draft, departures.as_slice(), bound, frozen)
 }

@@ -1,0 +1,11 @@
+//! Leaves the middles of long rows of latches out of a draft, and gives them back: in a frame that moves latches backward they stay as they are, so
+//! that a frame looks at what can move alone.
+//!
+//! What is made here are hints. No clause speaks of a draft; what judges it stands in a crate above.
+#![tactic(auto)]
+
+mod links;
+mod relaying;
+mod rows;
+
+pub use rows::Rows;
