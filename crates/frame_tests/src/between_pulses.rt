@@ -8,6 +8,20 @@ use frame_net::Net;
 use pulse::{Flow, Pushes, read_range};
 use std::alloc::Global;
 
+/// How many units the source sends: it fills the arc to each latch at the start.
+fn sent_by_source(net: &Net, flow: &Flow) -> i64
+    requires { IsFlowOf net.now flow.now }
+{
+    let mut sent: i64 = 0;
+    net.known_capacities();
+    for arc in 0..net.arcs() {
+        if arc < 2 {
+            sent = sent.saturating_add(flow.flow(arc as u32));
+        }
+    }
+    sent
+}
+
 /// Whether no node is delivered, and memory was refused neither to the flow nor to the pushes.
 fn is_between(net: &Net, flow: &Flow, pushes: &Pushes) -> bool
     requires { IsFlowOf net.now flow.now }
@@ -40,7 +54,7 @@ fn sends_both(net: &Net, flow: &mut Flow, pushes: &mut Pushes) -> bool
 {
     let nodes = net.nodes();
     pulse_by_ranges(net, flow, pushes);
-    let between = is_between(net, flow, pushes);
+    let between = is_between(net, flow, pushes) & (sent_by_source(net, flow) == 2);
     read_range(net, flow, pushes, 0, nodes);
     between & (sent(net, pushes) == 2)
 }

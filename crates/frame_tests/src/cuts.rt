@@ -13,7 +13,7 @@ use std::thread::Threads;
 
 /// Three latches, the gate of the first two, which is variable 7, and the gate of that one and the third, which is variable 8 and an
 /// output as the third latch is: two latches are left after a move over the first gate, and as many after one over both.
-const TWO_LEAST_SETS: &[u8] =
+pub(crate) const TWO_LEAST_SETS: &[u8] =
     b"aag 8 3 3 2 2\n2\n4\n6\n8 2\n10 4\n12 6\n16\n12\n14 10 8\n16 14 12\n";
 
 /// Whether there are two routes, by which the smallest has the first gate alone.

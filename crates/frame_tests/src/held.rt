@@ -1,10 +1,14 @@
-//! Latches that are held by their names and by their positions. `tests/cases/keep` has what cleaning and frames make of them, and `tests/cases/dot`
-//! where they stand after a run.
+//! Latches that are held by their names and by their positions, and where they stand after a run.
+//! `tests/cases/keep` has what the program makes of them.
+use crate::circuits::options;
 use aag_text::read_aag;
 use aig_graph::{Circuit, HoldError, hold, keep_of};
+use frames::{NoWatcher, Options, RetimeError, run_watched};
+use pulse::{Crew, OpenGate};
 use std::alloc::Global;
-use std::slice;
 use std::test::*;
+use std::thread::Threads;
+use std::{mem, slice};
 
 /// An input, and three latches, of which the last two have names.
 const NAMED: &[u8] = b"aag 4 1 3 1 0\n2\n4 2\n6 2\n8 8\n6\nl1 twin\nl2 stuck\n";
@@ -49,4 +53,64 @@ fn holds_twin(alloc: Global) -> bool {
 #[test]
 fn holds_latches_by_name_and_by_position(rt: HostRuntime) {
     assert!(rt; holds_twin(rt.alloc()));
+}
+
+/// An input and two latches, of which the output reads the second alone.
+const SECOND_READ: &[u8] = b"aag 3 1 2 1 0\n2\n4 2\n6 3\n6\n";
+
+/// At which position the held latch of a run by these options stands at its end, or why the run was
+/// refused. There is no position 9.
+fn ends_at<R: Threads + Sync>(
+    rt: &R,
+    alloc: Global,
+    circuit: &Circuit,
+    options: &Options,
+) -> Result<u32, RetimeError> {
+    let crew = Crew::new(1, OpenGate);
+    match run_watched(rt, alloc, circuit, options, &crew, &mut NoWatcher) {
+        Ok(run) => {
+            let place = run.keep.positions().first().copied().unwrap_or(9);
+            drop(run);
+            Ok(place)
+        }
+        Err(error) => Err(error),
+    }
+}
+
+/// The same if the latch at this position is held.
+fn stands_at<R: Threads + Sync>(
+    rt: &R,
+    alloc: Global,
+    circuit: &Circuit,
+    position: u32,
+) -> Result<u32, RetimeError> {
+    let mut options = options(alloc, 1);
+    let Ok(held) = Vec::from_array(alloc, [position]) else {
+        drop(options);
+        return Err(RetimeError::NoMemory);
+    };
+    drop(mem::replace(&mut options.keep_latches, held));
+    let stands = ends_at(rt, alloc, circuit, &options);
+    drop(options);
+    stands
+}
+
+/// Whether the first latch stands where it was, and the second one is the first then, since nothing
+/// holds the first; a third one is none.
+fn stand_as_worked<R: Threads + Sync>(rt: &R, alloc: Global) -> bool {
+    match read_aag(alloc, SECOND_READ) {
+        Ok(circuit) => {
+            let stand = (stands_at(rt, alloc, &circuit, 0) == Ok(0))
+                & (stands_at(rt, alloc, &circuit, 1) == Ok(0))
+                & (stands_at(rt, alloc, &circuit, 2) == Err(RetimeError::NoSuchLatch(0)));
+            drop(circuit);
+            stand
+        }
+        Err(_) => false,
+    }
+}
+
+#[test]
+fn a_run_says_where_held_latches_stand(rt: HostRuntime) {
+    assert!(rt; stand_as_worked(&rt, rt.alloc()));
 }

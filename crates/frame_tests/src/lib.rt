@@ -1,7 +1,10 @@
-//! Tests of the public calls. On graphs and whole circuits: cleaning, latches that are held, passable gates, moving over a set of gates, the network of
-//! a frame, exact labels, pulses and runs by crews of several sizes, cuts, routes, files of certificates, frames by crews, from bytes to bytes, and many
-//! files at once. On files: reading and writing circuits in both spellings, the order that gates take, buffered writing and devices that fail. And
-//! moves backward. They stand in a crate of their own, since a crate with tests is proved twice.
+//! Tests of the public calls. On graphs and whole circuits: cleaning, latches that are held,
+//! passable gates, moving over a set of gates, the network of a frame, exact labels, pulses and
+//! runs by crews of several sizes, how crews share the work, cuts, routes, files of certificates,
+//! frames by crews, from bytes to bytes, simulation, and many files at once. On files: reading and
+//! writing circuits in both spellings, the order that gates take, buffered writing and devices that
+//! fail. And moves backward. They stand in a crate of their own, since a crate with tests is proved
+//! twice.
 #![tactic(auto)]
 
 #[cfg(test)]
@@ -43,17 +46,27 @@ mod failing_devices;
 #[cfg(test)]
 mod faults;
 #[cfg(test)]
+mod first_pulses;
+#[cfg(test)]
 mod graphs;
 #[cfg(test)]
 mod held;
 #[cfg(test)]
+mod held_gate;
+#[cfg(test)]
+mod held_moves;
+#[cfg(test)]
 mod lanes;
+#[cfg(test)]
+mod least_sets;
 #[cfg(test)]
 mod meeting_gates;
 #[cfg(test)]
 mod moves;
 #[cfg(test)]
 mod nets;
+#[cfg(test)]
+mod networks;
 #[cfg(test)]
 mod order;
 #[cfg(test)]
@@ -63,9 +76,15 @@ mod pieces;
 #[cfg(test)]
 mod pool_gate;
 #[cfg(test)]
+mod readers;
+#[cfg(test)]
 mod retiming;
 #[cfg(test)]
 mod runs;
+#[cfg(test)]
+mod shared_work;
+#[cfg(test)]
+mod simulating;
 #[cfg(test)]
 mod starts;
 #[cfg(test)]
@@ -82,6 +101,8 @@ mod wide_runs;
 mod worked_networks;
 #[cfg(test)]
 mod worked_pulses;
+#[cfg(test)]
+mod workers;
 #[cfg(test)]
 mod writing;
 #[cfg(test)]

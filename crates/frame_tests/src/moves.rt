@@ -25,32 +25,39 @@ fn has_room(aig: &Aig, others: u32) -> bool
 /// The one latch starts at 1 and reads the gate's copy, which reads the inputs; and the output reads the latch.
 const MOVED: &[u8] = b"aag 4 2 1 1 1\n2\n4\n6 8 1\n6\n8 5 3\n";
 
-/// Whether the set is closed, its border is one latch, and the circuit moved over it is as it was worked by hand.
-fn moves_over(alloc: Global, circuit: &Circuit, set: &ClosedSet) -> bool {
-    let keep = Keep::none();
-    if !is_closed(circuit.aig(), set, &keep) {
+/// Whether the set is closed where these latches are held, its border is of this size, and the
+/// circuit moved over it has this text.
+pub(crate) fn moved_over(
+    alloc: Global,
+    circuit: &Circuit,
+    set: &ClosedSet,
+    keep: &Keep,
+    size: u32,
+    text: &[u8],
+) -> bool {
+    if !is_closed(circuit.aig(), set, keep) {
         return false;
     }
-    let Ok(border) = count(alloc, circuit, set, &keep) else {
+    let Ok(border) = count(alloc, circuit, set, keep) else {
         return false;
     };
     if !has_room(circuit.aig(), border) {
         return false;
     }
-    match moved(alloc, circuit, set, &keep) {
+    match moved(alloc, circuit, set, keep) {
         Ok(moved) => {
-            let is_moved = is_text(alloc, &moved, MOVED);
+            let is_moved = is_text(alloc, &moved, text);
             drop(moved);
-            is_moved & (border == 1)
+            is_moved & (border == size)
         }
         Err(_) => false,
     }
 }
 
-/// Whether it is so of the gate alone.
+/// Whether the gate alone is such a set, no latch held.
 fn moves_to_one_latch(alloc: Global, circuit: &Circuit) -> bool {
     match set_of(alloc, 5) {
-        Some(set) => moves_over(alloc, circuit, &set),
+        Some(set) => moved_over(alloc, circuit, &set, &Keep::none(), 1, MOVED),
         None => false,
     }
 }

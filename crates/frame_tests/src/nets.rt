@@ -1,8 +1,8 @@
 //! The second circuit whose network was worked by hand, and networks. The first is `TWO_LATCHES`.
 use aag_text::{ReadError, read_aag};
-use aig_graph::Keep;
+use aig_graph::{Circuit, Keep, NoMemory};
 use cut_cert::network;
-use frame_net::Net;
+use frame_net::{Net, passable};
 use std::alloc::Global;
 
 /// Four inputs, a latch at each, the gates of the first two and of the last two latches, and the gate of both, which is variable 11 and
@@ -19,4 +19,11 @@ pub(crate) fn net_of_text(alloc: Global, text: &[u8]) -> Result<Net, ReadError> 
         Ok(net) => Ok(net),
         Err(_) => Err(ReadError::NoMemory),
     }
+}
+
+/// The network of a circuit, built of its passable gates, no latch held.
+pub(crate) fn built(alloc: Global, circuit: &Circuit) -> Result<Net, NoMemory> {
+    let keep = Keep::none();
+    let pass = passable(alloc, circuit.aig(), &keep)?;
+    Net::build(alloc, circuit.aig(), circuit.props(), &pass, &keep)
 }

@@ -18,6 +18,21 @@ fn has_labels(net: &Net, end: &MaxPreflow, labels: &[u32]) -> bool
     same
 }
 
+/// What flows over each arc at the end: the source sends a unit to each latch. That of the second
+/// goes through the gate to the sink, and that of the first has come back.
+const UNITS: [i64; 12] = [1, 1, -1, -1, 0, -1, 1, 0, -1, 1, 1, -1];
+
+fn has_flow(net: &Net, end: &MaxPreflow) -> bool
+    requires { IsMaxPreflow net.now end.now }
+{
+    net.known_capacities();
+    let mut same = UNITS.len() == net.arcs();
+    for k in 0..net.arcs() {
+        same = same & (k < UNITS.len() && UNITS[k] == end.flow(k as u32));
+    }
+    same
+}
+
 /// Whether a run ended after so many pulses, and left the labels that were worked by hand.
 fn ended_as_worked(net: &Net, ended: Result<MaxPreflow, PulseError>, pulses: u64) -> bool
     requires { IfOk ended (IsMaxPreflow net.now) }
@@ -26,8 +41,9 @@ fn ended_as_worked(net: &Net, ended: Result<MaxPreflow, PulseError>, pulses: u64
         Ok(end) => {
             let made = end.pulses();
             let labelled = has_labels(net, &end, &[6, 0, 6, 6, 6, 1]);
+            let flows = has_flow(net, &end);
             drop(end);
-            (made == pulses) & labelled
+            (made == pulses) & labelled & flows
         }
         Err(_) => false,
     }

@@ -23,7 +23,7 @@ const SMALL: Sizes = Sizes {
 };
 
 /// Each circuit is cut, and no part is large.
-const SHARED: Sizes = Sizes {
+pub(crate) const SHARED: Sizes = Sizes {
     circuit: 1,
     part: 8,
     large: 1 << 24,
@@ -44,7 +44,7 @@ const EACH: Sizes = Sizes {
 };
 
 /// Blocks, beside each other.
-const BLOCKS: Units = Units {
+pub(crate) const BLOCKS: Units = Units {
     count: 64,
     latches: 3,
     kinds: BLOCK,

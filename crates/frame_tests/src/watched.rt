@@ -9,11 +9,13 @@ use std::alloc::Global;
 use std::test::*;
 use std::thread::Threads;
 
-/// How many stages of a run there were so far, and whether each was the one of the chains' two frames.
+/// How many stages of a run there were so far, and whether each was the one of the chains' two
+/// frames; and how many sets a network found, once that is known.
 #[derive(Drop)]
 struct Stages {
     count: u32,
     are_wanted: bool,
+    networks: Option<u32>,
 }
 
 /// Whether a stage of the chains' run is the one with this number. A look for a set is told how many frames were taken, and how many known latches
@@ -38,6 +40,12 @@ impl FrameWatcher for Stages {
         self.are_wanted = self.are_wanted & is_stage(self.count, stage);
         self.count = self.count.wrapping_add(1);
     }
+
+    fn count_networks(&mut self, networks: u32) {
+        // after the last move, before the circuit is written
+        self.are_wanted = self.are_wanted & (self.count == 6);
+        self.networks = Some(networks);
+    }
 }
 
 /// Whether a watcher of the chains is notified of each stage of both frames.
@@ -48,6 +56,7 @@ fn tells_each_stage<R: Threads + Sync>(rt: &R, alloc: Global) -> bool {
     let mut stages = Stages {
         count: 0,
         are_wanted: true,
+        networks: None,
     };
     let ended = retime_bytes_watched(
         rt,
@@ -60,7 +69,7 @@ fn tells_each_stage<R: Threads + Sync>(rt: &R, alloc: Global) -> bool {
     );
     let has_ended = ended.is_ok();
     drop(ended);
-    has_ended & stages.are_wanted & (stages.count == 7)
+    has_ended & stages.are_wanted & (stages.count == 7) & (stages.networks == Some(0))
 }
 
 #[test]

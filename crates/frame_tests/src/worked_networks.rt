@@ -3,10 +3,12 @@ use crate::arcs::are_as_worked;
 use crate::between_pulses::sends_both_units;
 use crate::circuits::TWO_LATCHES;
 use crate::distances::start_as_worked;
-use crate::nets::{FOUR_LATCHES, net_of_text};
+use crate::nets::{FOUR_LATCHES, built, net_of_text};
 use crate::phase_gates::{each_crew_passes, second_pulse_is_shared, two_workers_meet};
 use crate::runs::end_as_worked;
 use crate::worked_pulses::{follow_after_eleven, follow_states};
+use aag_text::read_aag;
+use aig_graph::NoMemory;
 use frame_net::Net;
 use std::alloc::Global;
 use std::test::*;
@@ -40,6 +42,36 @@ fn is_as_worked<R: Threads + Sync>(rt: &R, alloc: Global, text: &[u8], is_first:
         }
         Err(_) => false,
     }
+}
+
+/// Whether the first network, built of the passable gates of its circuit, has its arcs in their
+/// rows.
+fn is_built_as_worked(alloc: Global) -> bool {
+    match read_aag(alloc, TWO_LATCHES) {
+        Ok(circuit) => {
+            let net = built(alloc, &circuit);
+            drop(circuit);
+            has_arcs_as_worked(net)
+        }
+        Err(_) => false,
+    }
+}
+
+/// Whether a network, if there is one, does.
+fn has_arcs_as_worked(built: Result<Net, NoMemory>) -> bool {
+    match built {
+        Ok(net) => {
+            let arcs = are_as_worked(&net);
+            drop(net);
+            arcs
+        }
+        Err(_) => false,
+    }
+}
+
+#[test]
+fn builds_the_first_network_of_passable_gates(rt: HostRuntime) {
+    assert!(rt; is_built_as_worked(rt.alloc()));
 }
 
 #[test]
