@@ -97,6 +97,36 @@ def backward(stored):
     return counts(stored, 'backward', results.BACKWARD_HEAD, lambda circuit: [results.row_of_backward(circuit)])
 
 
+def pairs(stored, name):
+    """What `retime` and `backward` leave of each circuit, and the least, under a bound or none, if both are known."""
+    runs = [it[name] for it in stored['least']['circuits']]
+    return [(it['both']['latches'], it['least']['latches']) for it in runs if 'latches' in it['both'] and 'latches' in it['least']]
+
+
+def reached(stored, name):
+    """On how many circuits no retiming leaves fewer."""
+    known = pairs(stored, name)
+    return f'{sum(both <= least for both, least in known)} of {len(known)}'
+
+
+def gaps(stored, name):
+    """How far the program is from the least, under a bound or none."""
+    both, least = (sum(column) for column in zip(*pairs(stored, name)))
+    return (f'no retiming leaves fewer latches than both on {reached(stored, name)} circuits; in all both leave {both}, '
+            f'and the least is {least}')
+
+
+def least(stored):
+    """What bench/least counted, and how far the program is in all."""
+    table = counts(stored, 'least', results.LEAST_HEAD, lambda circuit: [results.row_of_least(circuit)])
+    if 'least' not in stored:
+        return table
+    apart = sum(it['without'].get('apart', 0) for it in stored['least']['circuits'])
+    said = (f'Without a bound {gaps(stored, "without")}; {apart} latches are apart by resets. '
+            f'Where no path gets longer, {gaps(stored, "bounded")}.')
+    return [*table, '', *textwrap.wrap(said, 128)]
+
+
 def span(values):
     """The least and the greatest value, as text."""
     values = sorted(set(values)) or ['no day']
@@ -202,7 +232,7 @@ def blocks(stored, drawn):
     """The texts between the marks of bench/RESULTS.md, by name."""
     return {'program': [measured(stored)], 'circuits': circuits(stored), 'charts': pictures(drawn), 'aims': aims(stored),
             'batch': stored_table(stored, 'batch'), 'certificates': stored_table(stored, 'certificates'), 'levels': levels(stored),
-            'backward': backward(stored)}
+            'backward': backward(stored), 'least': least(stored)}
 
 
 def results_text(text, stored, drawn):
@@ -223,6 +253,9 @@ def fast(stored):
     paragraph = ('Seconds and megabytes of the whole process by one worker, beside `fretime -f` of ABC 1.01; `bench/RESULTS.md` has more. '
                  f'Measured on {days} with {which} (SHA-256 {run["program"][:12]}), on a machine of the kind {run["machine"]}. A circuit of '
                  f'10^7 gates with two frames took {seconds_of(large)} s and {megabytes_of(large)} MB.')
+    if 'least' in stored:
+        paragraph += (f' No retiming leaves fewer latches than `retime` and then `backward` on {reached(stored, "without")} circuits, '
+                      f'with `--no-longer` on {reached(stored, "bounded")}.')
     return [*textwrap.wrap(paragraph, 128), '', *table([HEAD[k] for k in wanted], [[cells[k] for k in wanted] for cells in rows])]
 
 

@@ -22,10 +22,23 @@ def verdict(read, written, seconds):
     return 'yes' if 'Networks are equivalent' in said else 'undecided'
 
 
-def left(runs, seconds, read, written):
+def failed(done, seconds):
+    """Why a run failed, if it did."""
+    if done.stopped or done.status != 0:
+        return {'failed': f'over {seconds} s' if done.stopped else measure.ending(done.status)}
+    return None
+
+
+def left_alone(runs, seconds, written):
     """What runs leave, one after the other, or that one failed."""
     for words in runs:
-        done = measure.Run(words, seconds)
-        if done.stopped or done.status != 0:
-            return {'failed': f'over {seconds} s' if done.stopped else measure.ending(done.status)}
-    return counted(written) | {'equal': verdict(read, written, seconds)}
+        why = failed(measure.Run(words, seconds), seconds)
+        if why:
+            return why
+    return counted(written)
+
+
+def left(runs, seconds, read, written):
+    """What runs leave, and what ABC says of it."""
+    found = left_alone(runs, seconds, written)
+    return found if 'failed' in found else found | {'equal': verdict(read, written, seconds)}

@@ -116,6 +116,13 @@ def make(family, path):
         return file.readline().decode().split()
 
 
+def compiled(name, folder):
+    """A program in plain Rust, the sources of which are a folder of bench/."""
+    program, source = os.path.join(folder, name), os.path.join(TOP, 'bench', name, 'main.rs')
+    subprocess.run(['rustc', '-O', '--edition', '2021', '-o', program, source], check=True)
+    return program
+
+
 def row(fields):
     print('| ' + ' | '.join(map(str, fields)) + ' |', flush=True)
 

@@ -1,6 +1,6 @@
 """The stored results of the scripts: a file of JSON with the machine, the sum of the one program that was measured, an entry a
-circuit, and the tables of bench/batch and bench/certificates; and, each with the sum of its own program, what bench/levels and
-bench/backward counted, which is no time, and the run of which README.md tells."""
+circuit, and the tables of bench/batch and bench/certificates; and, each with the sum of its own program, what bench/levels,
+bench/backward and bench/least counted, which is no time, and the run of which README.md tells."""
 import datetime
 import hashlib
 import json
@@ -10,7 +10,7 @@ import measure
 
 
 # What has a program of its own.
-APART = ['levels', 'backward', 'readme']
+APART = ['levels', 'backward', 'least', 'readme']
 
 
 def read(path):
@@ -127,3 +127,14 @@ def row_of_backward(circuit):
 
     runs = [*circuit['without'].values(), *circuit['bounded'].values(), *circuit['abc'].values()]
     return [circuit['circuit'], f'{circuit["latches"]}/{circuit["levels"]}', *map(cell, runs)]
+
+
+LEAST_HEAD = ['Circuit', 'As read', 'Forward', 'Both', 'Least', 'Apart by resets', 'Forward, no longer', 'Both, no longer',
+              'Least, no longer']
+
+
+def row_of_least(circuit):
+    """The row of a circuit: latches/levels as read and of each run, without a bound and within that of the circuit."""
+    cell = lambda run: f'{run["latches"]}/{run["levels"]}' if 'latches' in run else run['failed']
+    runs = lambda name: [cell(circuit[name][way]) for way in ('forward', 'both', 'least')]
+    return [circuit['circuit'], cell(circuit), *runs('without'), circuit['without'].get('apart', ''), *runs('bounded')]

@@ -58,7 +58,10 @@ fn pass(circuit: &Circuit) -> Circuit {
     let mut reached = vec![false; latches + circuit.gates.len()];
     let mut left = properties.clone();
     while let Some(literal) = left.pop() {
-        let Some(place) = (literal >> 1).checked_sub(first).map(|it| it as usize) else { continue };
+        let place = match (literal >> 1).checked_sub(first) {
+            Some(place) => place as usize,
+            None => continue,
+        };
         if !std::mem::replace(&mut reached[place], true) {
             match place.checked_sub(latches) {
                 None => left.push(next[place]),

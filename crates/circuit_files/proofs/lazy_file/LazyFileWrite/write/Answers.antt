@@ -14,8 +14,8 @@ invariant_of-self-in-Ok g c =
     let made = g.R.OutputFiles.is_made in
     let before : ∥ HasGrown contents made path old.given.bytes c.match-take.file ∥₁ =
     elim c.match-take.branch [
-      in-Some w ↦ ∥∥₁_map old.taken (λ t. there_is contents made path old.given.bytes old.file c.match-take.file (sym c.take.ensures.value ∙ w.in-Some.is ∙ ap (λ f. Some f) (sym w.file-is)) t)
-    | in-None+in_ok-file-in-None w ↦
+      | in-Some w ↦ ∥∥₁_map old.taken (λ t. there_is contents made path old.given.bytes old.file c.match-take.file (sym c.take.ensures.value ∙ w.in-Some.is ∙ ap (λ f. Some f) (sym w.file-is)) t)
+      | in-None+in_ok-file-in-None w ↦
           ∥∥₁_map old.taken (λ t.
           just_made contents made path old.given.bytes c.match-take.file (subst (HasTaken contents made path old.given.bytes) (sym c.take.ensures.value ∙ w.in-None.is) t)
           (subst (λ f. made f path) (sym w.file-is) w.in_ok-file-in-None.ensures))
@@ -33,8 +33,8 @@ invariant_of-self-in_default g c =
     let made = g.R.OutputFiles.is_made in
     let before : ∥ HasGrown contents made path old.given.bytes c.match-take.file ∥₁ =
     elim c.match-take.branch [
-      in-Some w ↦ ∥∥₁_map old.taken (λ t. there_is contents made path old.given.bytes old.file c.match-take.file (sym c.take.ensures.value ∙ w.in-Some.is ∙ ap (λ f. Some f) (sym w.file-is)) t)
-    | in-None+in_ok-file-in-None w ↦
+      | in-Some w ↦ ∥∥₁_map old.taken (λ t. there_is contents made path old.given.bytes old.file c.match-take.file (sym c.take.ensures.value ∙ w.in-Some.is ∙ ap (λ f. Some f) (sym w.file-is)) t)
+      | in-None+in_ok-file-in-None w ↦
           ∥∥₁_map old.taken (λ t.
           just_made contents made path old.given.bytes c.match-take.file (subst (HasTaken contents made path old.given.bytes) (sym c.take.ensures.value ∙ w.in-None.is) t)
           (subst (λ f. made f path) (sym w.file-is) w.in_ok-file-in-None.ensures))
