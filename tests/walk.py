@@ -19,7 +19,7 @@ OTHER_CRATES = set("""binary_file json_reports map_circuits retiming_maps map_ch
 OTHER_FILES = {
     'reports': set('wave_dump wave_moment wave_naming wave_probes wave_room wave_times wave_values'.split()),
     'circuit_files': set("""entry read circuit_pages hints line message name_hints named_fault near_faults near_names other_pages page
-        pages reasons returns showing smallest_file""".split()),
+        pages reasons returns showing smallest_file spelling""".split()),
 }
 OTHER_FUNCTIONS = set("""retime_list print_statistics convert print_simulation print_comparison print_verification write_picture
     print_witness_back print_moves write_lifted write_miter retime_spelt_mapped print_check explain print_object mapped_between mapped_answer map_written

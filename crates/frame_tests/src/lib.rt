@@ -12,8 +12,6 @@ mod any_spelling;
 #[cfg(test)]
 mod arcs;
 #[cfg(test)]
-mod backward_rows;
-#[cfg(test)]
 mod batch_counter;
 #[cfg(test)]
 mod batch_drawing;
@@ -97,6 +95,8 @@ mod watched;
 mod wide_circuits;
 #[cfg(test)]
 mod wide_runs;
+#[cfg(test)]
+mod worked_backward;
 #[cfg(test)]
 mod worked_networks;
 #[cfg(test)]
