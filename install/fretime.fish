@@ -53,7 +53,7 @@ complete -c fretime -n '__fish_seen_subcommand_from retime' -x -l workers -d 'Th
 complete -c fretime -n '__fish_seen_subcommand_from retime' -x -l frames -d 'The most frames to take'
 complete -c fretime -n '__fish_seen_subcommand_from retime' -l near -d 'Move latches as few gates as a least count allows'
 complete -c fretime -n '__fish_seen_subcommand_from retime' -l merge -d 'Merge latches that always agree, before any frame'
-complete -c fretime -n '__fish_seen_subcommand_from retime' -x -l levels -d 'Let no move make a path of more than n gates'
+complete -c fretime -n '__fish_seen_subcommand_from retime' -x -l levels -d 'Let no path get more gates than n or the longest of IN'
 complete -c fretime -n '__fish_seen_subcommand_from retime' -l no-longer -d 'Let no path get longer than the longest of IN'
 complete -c fretime -n '__fish_seen_subcommand_from retime' -r -l cert -d 'Write a certificate of each frame to FILE'
 complete -c fretime -n '__fish_seen_subcommand_from retime' -r -l map -d 'Write how OUT\'s latches follow from IN\'s to MAP'
@@ -67,7 +67,7 @@ complete -c fretime -n '__fish_seen_subcommand_from retime' -l json -d 'Print an
 complete -c fretime -n '__fish_seen_subcommand_from backward' -l ascii -d 'Write ASCII'
 complete -c fretime -n '__fish_seen_subcommand_from backward' -l binary -d 'Write binary'
 complete -c fretime -n '__fish_seen_subcommand_from backward' -x -l frames -d 'The most frames to take'
-complete -c fretime -n '__fish_seen_subcommand_from backward' -x -l levels -d 'Let no move make a path of more than n gates'
+complete -c fretime -n '__fish_seen_subcommand_from backward' -x -l levels -d 'Let no path get more gates than n or the longest of IN'
 complete -c fretime -n '__fish_seen_subcommand_from backward' -l no-longer -d 'Let no path get longer than the longest of IN'
 complete -c fretime -n '__fish_seen_subcommand_from backward' -r -l map -d 'Write how IN\'s latches follow from OUT\'s to MAP'
 complete -c fretime -n '__fish_seen_subcommand_from backward' -l progress -d 'Write a line to standard error as each frame begins'
@@ -83,7 +83,7 @@ complete -c fretime -n '__fish_seen_subcommand_from batch' -x -l workers -d 'Thr
 complete -c fretime -n '__fish_seen_subcommand_from batch' -x -l frames -d 'The most frames to take'
 complete -c fretime -n '__fish_seen_subcommand_from batch' -l near -d 'Move latches as few gates as a least count allows'
 complete -c fretime -n '__fish_seen_subcommand_from batch' -l merge -d 'Merge latches that always agree, before any frame'
-complete -c fretime -n '__fish_seen_subcommand_from batch' -x -l levels -d 'Let no move make a path of more than n gates'
+complete -c fretime -n '__fish_seen_subcommand_from batch' -x -l levels -d 'Let no path get more gates than n or the longest of IN'
 complete -c fretime -n '__fish_seen_subcommand_from batch' -l no-longer -d 'Let no path get longer than the longest of IN'
 complete -c fretime -n '__fish_seen_subcommand_from batch' -l json -d 'Print an object of JSON in place of the lines'
 
@@ -106,7 +106,7 @@ complete -c fretime -n '__fish_seen_subcommand_from same' -l json -d 'Print an o
 
 complete -c fretime -n '__fish_seen_subcommand_from dot' -l frame -d 'Show over which gates latches move next'
 complete -c fretime -n '__fish_seen_subcommand_from dot' -l merge -d 'Merge latches that always agree first'
-complete -c fretime -n '__fish_seen_subcommand_from dot' -x -l levels -d 'Let no move make a path of more than n gates'
+complete -c fretime -n '__fish_seen_subcommand_from dot' -x -l levels -d 'Let no path get more gates than n or the longest of IN'
 complete -c fretime -n '__fish_seen_subcommand_from dot' -l no-longer -d 'Let no path get longer than the longest of IN'
 complete -c fretime -n '__fish_seen_subcommand_from dot' -x -l keep -d 'Hold each latch with this name; may be repeated'
 complete -c fretime -n '__fish_seen_subcommand_from dot' -r -l keep-from -d 'Hold the latches that the lines of FILE name'
@@ -119,7 +119,7 @@ complete -c fretime -n '__fish_seen_subcommand_from verify' -r -l keep-from -d '
 complete -c fretime -n '__fish_seen_subcommand_from verify' -x -l keep-latch -d 'Hold the latch at position n, from 0; may be repeated'
 complete -c fretime -n '__fish_seen_subcommand_from verify' -r -l out -d 'Check that the blocks end in OUT, too'
 complete -c fretime -n '__fish_seen_subcommand_from verify' -l merge -d 'IN was retimed with --merge'
-complete -c fretime -n '__fish_seen_subcommand_from verify' -x -l levels -d 'Let no move make a path of more than n gates'
+complete -c fretime -n '__fish_seen_subcommand_from verify' -x -l levels -d 'Let no path get more gates than n or the longest of IN'
 complete -c fretime -n '__fish_seen_subcommand_from verify' -l no-longer -d 'Let no path get longer than the longest of IN'
 complete -c fretime -n '__fish_seen_subcommand_from verify' -l json -d 'Print an object of JSON in place of the lines'
 
@@ -140,5 +140,5 @@ complete -c fretime -n '__fish_seen_subcommand_from retime backward dot verify' 
 complete -c fretime -n '__fish_seen_subcommand_from dot' -x -l around -a '(__fretime_names ilobcjf)' \
     -d 'Draw the neighbourhood of what has this name alone'
 
-complete -c fretime -n '__fish_seen_subcommand_from explain' -f -a 'BadHeader TooLarge MaxIndex BadLine BadLiteral DefinedTwice Undefined Cycle BadReset BadDelta Truncated BadSymbol Trailing Width TooMany NoSuchProperty TooManySteps NoSuchName NoSuchLatch TooManyNodes NotAMap NoSuchLiteral ShapesDiffer NotClosed BadRoute UsedTwice CountDiffers NoMemory Device'
+complete -c fretime -n '__fish_seen_subcommand_from explain' -f -a 'BadHeader TooLarge MaxIndex BadLine BadLiteral DefinedTwice Undefined Cycle BadReset BadDelta Truncated BadSymbol Trailing Width TooMany NoSuchProperty TooManySteps NoSuchName NoSuchLatch TooManyNodes NotAMap NoSuchLiteral ShapesDiffer NotClosed BadRoute UsedTwice CountDiffers TooLong NoMemory Device'
 # end of commands and options

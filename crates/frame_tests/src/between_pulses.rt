@@ -10,7 +10,7 @@ use std::alloc::Global;
 
 /// How many units the source sends: it fills the arc to each latch at the start.
 fn sent_by_source(net: &Net, flow: &Flow) -> i64
-    requires { IsFlowOf net.now flow.now }
+    requires { IsBetween net.now flow.now }
 {
     let mut sent: i64 = 0;
     net.known_capacities();
