@@ -8,17 +8,17 @@ use Rattle.aig_graph.specs.declared.graph.Latch.{Latch}
 use Rattle.aig_graph.specs.declared.properties.Symbols.{Symbols}
 use Rattle.aig_graph.specs.Graph.{variable}
 use Rattle.aig_graph.specs.Circuits.{Netlist}
-use Rattle.ascii_file.specs.Order.{ordered}
-use Rattle.counted_io.specs.declared.fault.ReadError.{ReadError}
-use Rattle.counted_io.specs.declared.fault.ReadError.TheVariants.{NoMemory}
-use Rattle.counted_io.specs.Answering.{Fails, Gives}
-use Rattle.ascii_file.specs.declared.places.Places.{Places}
-use Rattle.ascii_file.specs.Places.{place_of}
+use Rattle.ascii_file.specs.order.Order.{ordered}
+use Rattle.file_words.specs.declared.fault.ReadError.{ReadError}
+use Rattle.file_words.specs.declared.fault.ReadError.TheVariants.{NoMemory}
+use Rattle.file_words.specs.Answering.{Fails, Gives}
+use Rattle.ascii_file.specs.declared.parts.places.Places.{Places}
+use Rattle.ascii_file.specs.parts.Places.{place_of}
 use Rattle.ascii_file.specs.declared.raw.RawLatch.{RawLatch}
 use Rattle.ascii_file.specs.Raw.{RawSymbol}
 use Rattle.ascii_file.specs.Meaning.{gate_reads}
 use Rattle.ascii_file.specs.Reading.{is_resolved, resolve}
-use Rattle.ascii_file.specs.Parts.{AreNamesWithin}
+use Rattle.ascii_file.specs.parts.Parts.{AreNamesWithin}
 use Rattle.ascii_file.proofs.PartLaws.{within}
 use Rattle.aag_text.specs.declared.circuit.lists.RawLists.{RawLists}
 use Rattle.aag_text.specs.Numbering.{has_place, is_placed, placed, placed_latch, placed_gate, is_gate_placed, placed_lists, PlacedLists, if_known}

@@ -9,11 +9,11 @@ use Rattle.aig_graph.specs.declared.properties.Symbols.{Symbols}
 use Rattle.aig_graph.specs.Graph.{Graph, IsGraph, IsLiteralOf, variable}
 use Rattle.aig_graph.specs.Circuits.{Netlist, IsNetlist}
 use Rattle.aig_graph.specs.declared.properties.Props.{Props}
-use Rattle.ascii_file.specs.Order.{IsOrder, ordered, AreReadsInFile, ReadsBelow}
+use Rattle.ascii_file.specs.order.Order.{IsOrder, ordered, AreReadsInFile, ReadsBelow}
 use Rattle.ascii_file.proofs.GateOrderLaws.{ordered_law}
 use Rattle.ascii_file.specs.Meaning.{props_of}
 use Rattle.ascii_file.specs.declared.header.Header.{Header}
-use Rattle.ascii_file.specs.Parts.{AreNamesWithin}
+use Rattle.ascii_file.specs.parts.Parts.{AreNamesWithin}
 use Rattle.ascii_file.proofs.PartLaws.{netlist_within}
 use Rattle.aag_text.specs.Numbering.{PlacedLists}
 use Rattle.aag_text.specs.Arranging.{AreRanks, AreMovable, IsBelow, HasFanInsBelow, gate_read, reads_of_gate, order_or_cycle, moved, moved_latch, gates_in_order, graph_in_order}

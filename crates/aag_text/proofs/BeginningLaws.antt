@@ -1,20 +1,20 @@
 -- The first line.
 use Rattle.std.proofs.Common.{ℕ, ◌≡◌, ◌+◌, ◌-◌, false, List, [], ◌∷◌, ◌++◌, length, Result, Ok, Err, refl, ap, ap₂, sym, ◌∙◌, subst, arith, append_assoc, append-nil, length-append, codes}
 use Rattle.aig_graph.specs.Circuits.{Netlist}
-use Rattle.counted_io.specs.declared.fault.ReadError.{ReadError}
-use Rattle.counted_io.specs.declared.fault.ReadError.TheVariants.{NoMemory}
-use Rattle.counted_io.specs.Cuts.{HasNoNewline, Cuts}
-use Rattle.counted_io.specs.Answering.{◌>>=◌, Fails, Gives}
-use Rattle.counted_io.proofs.DecimalLaws.{lacks-append}
+use Rattle.file_words.specs.declared.fault.ReadError.{ReadError}
+use Rattle.file_words.specs.declared.fault.ReadError.TheVariants.{NoMemory}
+use Rattle.file_words.specs.Cuts.{HasNoNewline, Cuts}
+use Rattle.file_words.specs.Answering.{◌>>=◌, Fails, Gives}
+use Rattle.file_words.proofs.DecimalLaws.{lacks-append}
 use Rattle.ascii_file.specs.declared.header.Header.{Header}
 use Rattle.ascii_file.specs.Headers.{header_of}
 use Rattle.ascii_file.specs.Raw.{Raw, nothing_yet}
 use Rattle.ascii_file.specs.Reading.{AtHeader, InItems, read_header, take_line, take_lines, finish, read_bytes}
 use Rattle.ascii_file.specs.Pieces.{ended_lines, open_line, fed, with_last_line}
 use Rattle.ascii_file.proofs.PieceLaws.{part_taken, end_taken, the_pieces_law}
-use Rattle.counted_io.proofs.AnsweringLaws.{Fails-where, Fails-with, Gives-same}
-use Rattle.ascii_file.specs.declared.header_line.HeaderLine.{HeaderLine}
-use Rattle.ascii_file.specs.Header.{header_row, header_with}
+use Rattle.file_words.proofs.AnsweringLaws.{Fails-where, Fails-with, Gives-same}
+use Rattle.ascii_file.specs.declared.parts.header_line.HeaderLine.{HeaderLine}
+use Rattle.ascii_file.specs.parts.Header.{header_row, header_with}
 use Rattle.aag_text.specs.declared.sections.Sections.{Sections}
 use Rattle.aag_text.specs.Taking.{raw_of, IsAt}
 use Rattle.aag_text.specs.declared.items.Items.{Items}

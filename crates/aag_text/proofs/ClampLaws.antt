@@ -5,9 +5,9 @@ use Rattle.std.specs.List.{sum}
 use Rattle.std.specs.Option.{option_and_then, option_map}
 use Rattle.aig_graph.specs.Marking.{has}
 use Rattle.aig_graph.specs.Graph.{variable}
-use Rattle.counted_io.specs.declared.fault.ReadError.{ReadError}
-use Rattle.counted_io.specs.declared.fault.ReadError.TheVariants.{MaxIndex, BadLine, BadLiteral, DefinedTwice, BadReset, BadSymbol, Trailing}
-use Rattle.counted_io.specs.Lines.{numbers_of}
+use Rattle.file_words.specs.declared.fault.ReadError.{ReadError}
+use Rattle.file_words.specs.declared.fault.ReadError.TheVariants.{MaxIndex, BadLine, BadLiteral, DefinedTwice, BadReset, BadSymbol, Trailing}
+use Rattle.file_words.specs.Lines.{numbers_of}
 use Rattle.ascii_file.specs.declared.header.Header.{Header}
 use Rattle.ascii_file.specs.declared.raw.Section.{Section}
 use Rattle.ascii_file.specs.declared.raw.Section.TheVariants.{Inputs, Latches, Safety, Sizes, Liveness, Gates, Symbols}
@@ -21,10 +21,10 @@ use Rattle.ascii_file.specs.Files.{HasReset}
 use Rattle.ascii_file.proofs.CheckLaws.{reset_where_it_passes}
 use Rattle.ascii_file.proofs.StepLaws.{section_is}
 use Rattle.ascii_file.proofs.StateLaws.{is_of}
-use Rattle.ascii_file.specs.declared.symbols.SymbolText.{SymbolText}
-use Rattle.ascii_file.specs.declared.symbols.SymbolText.TheVariants.{NoSymbol, Comment, Malformed, Name}
-use Rattle.ascii_file.specs.Rows.{clamped, up_to_nine, row_of}
-use Rattle.ascii_file.specs.Symbols.{unnamed, text_without, text_of_item, text_of}
+use Rattle.ascii_file.specs.declared.parts.symbols.SymbolText.{SymbolText}
+use Rattle.ascii_file.specs.declared.parts.symbols.SymbolText.TheVariants.{NoSymbol, Comment, Malformed, Name}
+use Rattle.ascii_file.specs.parts.Rows.{clamped, up_to_nine, row_of}
+use Rattle.ascii_file.specs.parts.Symbols.{unnamed, text_without, text_of_item, text_of}
 use Rattle.ascii_file.proofs.SymbolLaws.{without_comment}
 use Rattle.aag_text.specs.Items.{only, item_of_numbers}
 use Rattle.aag_text.proofs.CountLaws.{symbols_next}

@@ -4,9 +4,9 @@ use Rattle.std.proofs.lemmas.Bool.{cond-true, cond-false, and_from}
 use Rattle.std.proofs.lemmas.List.{take_more, take_all, map-append, length-map, length-take-le}
 use Rattle.std.proofs.lemmas.List.Folds.{list_all_more, list_all_at}
 use Rattle.std.specs.List.{list_all}
-use Rattle.counted_io.specs.declared.fault.ReadError.TheVariants.{Undefined}
+use Rattle.file_words.specs.declared.fault.ReadError.TheVariants.{Undefined}
 use Rattle.aig_graph.specs.declared.graph.Latch.{Latch}
-use Rattle.ascii_file.specs.declared.places.Places.{Places}
+use Rattle.ascii_file.specs.declared.parts.places.Places.{Places}
 use Rattle.ascii_file.specs.declared.raw.RawLatch.{RawLatch}
 use Rattle.aag_text.specs.Numbering.{if_known, is_placed, placed}
 

@@ -1,13 +1,13 @@
 -- Bytes more.
 use Rattle.std.proofs.Common.{ℕ, ◌≡◌, ◌+◌, ◌-◌, Bool, List, [], ◌∷◌, ◌++◌, length, Result, Ok, Err, refl, ap, sym, ◌∙◌, subst, arith, append_assoc, append-nil, length-append}
-use Rattle.counted_io.specs.declared.fault.ReadError.{ReadError}
-use Rattle.counted_io.specs.declared.fault.ReadError.TheVariants.{NoMemory}
-use Rattle.counted_io.specs.Cuts.{HasNoNewline, Cuts}
-use Rattle.counted_io.specs.Answering.{◌>>=◌, Fails}
+use Rattle.file_words.specs.declared.fault.ReadError.{ReadError}
+use Rattle.file_words.specs.declared.fault.ReadError.TheVariants.{NoMemory}
+use Rattle.file_words.specs.Cuts.{HasNoNewline, Cuts}
+use Rattle.file_words.specs.Answering.{◌>>=◌, Fails}
 use Rattle.ascii_file.specs.Reading.{State, AtHeader, is_complete, take_line, take_lines}
 use Rattle.ascii_file.specs.Pieces.{ended_lines, open_line, fed}
 use Rattle.ascii_file.proofs.PieceLaws.{part_taken, end_taken, take_lines-append, the_pieces_law}
-use Rattle.counted_io.proofs.AnsweringLaws.{Fails-where, Fails-same}
+use Rattle.file_words.proofs.AnsweringLaws.{Fails-where, Fails-same}
 use Rattle.aag_text.specs.declared.sections.Sections.{Sections}
 use Rattle.aag_text.specs.Taking.{raw_of}
 use Rattle.aag_text.specs.declared.lines.OpenLine.{OpenLine}

@@ -1,14 +1,14 @@
 -- The end of the bytes.
 use Rattle.std.proofs.Common.{ℕ, Bool, true, ◌≡◌, ◌+◌, ◌<◌, ◌≤◌, List, [], ◌∷◌, length, Result, Ok, refl, ap, sym, ◌∙◌, arith}
 use Rattle.aig_graph.specs.Circuits.{Netlist}
-use Rattle.counted_io.specs.declared.fault.ReadError.{ReadError}
-use Rattle.counted_io.specs.declared.fault.ReadError.TheVariants.{NoMemory}
-use Rattle.counted_io.specs.Answering.{◌>>=◌, Fails, Gives}
+use Rattle.file_words.specs.declared.fault.ReadError.{ReadError}
+use Rattle.file_words.specs.declared.fault.ReadError.TheVariants.{NoMemory}
+use Rattle.file_words.specs.Answering.{◌>>=◌, Fails, Gives}
 use Rattle.ascii_file.specs.Reading.{State, is_complete, take_line, finish, read_bytes}
 use Rattle.ascii_file.specs.Raw.{RawSymbol}
 use Rattle.ascii_file.specs.Pieces.{open_line, fed, with_last_line, closed}
 use Rattle.ascii_file.proofs.PieceLaws.{the_pieces_law}
-use Rattle.counted_io.proofs.AnsweringLaws.{Fails-same, Fails-bind, Gives-same}
+use Rattle.file_words.proofs.AnsweringLaws.{Fails-same, Fails-bind, Gives-same}
 use Rattle.aag_text.specs.declared.sections.Sections.{Sections}
 use Rattle.aag_text.specs.declared.lines.OpenLine.{OpenLine}
 use Rattle.aag_text.specs.declared.lines.OpenLine.TheVariants.{Numbers, Symbol, Comment}

@@ -8,9 +8,9 @@ use Rattle.aig_graph.specs.declared.graph.Gate.{Gate}
 use Rattle.aig_graph.specs.declared.graph.Latch.{Latch}
 use Rattle.aig_graph.specs.Building.{gate_of}
 use Rattle.aig_graph.specs.Graph.{IsGraph, IsGateAt, variable, variables_end}
-use Rattle.ascii_file.specs.declared.reads.Reads.{Reads}
-use Rattle.ascii_file.specs.Order.{IsOrder}
-use Rattle.ascii_file.specs.Cycles.{ReadsGate, does_read, is_gate}
+use Rattle.ascii_file.specs.declared.order.reads.Reads.{Reads}
+use Rattle.ascii_file.specs.order.Order.{IsOrder}
+use Rattle.ascii_file.specs.order.Cycles.{ReadsGate, does_read, is_gate}
 use Rattle.ascii_file.proofs.GateOrderLaws.{follows_where_true}
 use Rattle.ascii_file.proofs.CycleLaws.{each_once, reads_before}
 use Rattle.aag_text.specs.Arranging.{gate_read, reads_of_gate, AreRanks, AreDistinct, AreMovable, IsBelow, moved, moved_latch, moved_gate, no_gate, gates_in_order, graph_in_order}

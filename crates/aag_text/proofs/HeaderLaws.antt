@@ -4,7 +4,7 @@ use Rattle.std.proofs.Math.Bool.{and-false}
 use Rattle.std.proofs.lemmas.List.{take_more}
 use Rattle.std.specs.List.{list_all}
 use Rattle.aig_graph.specs.Circuits.{Netlist}
-use Rattle.counted_io.specs.Text.{header_row, without_last_zeros}
+use Rattle.file_words.specs.Text.{header_row, without_last_zeros}
 use Rattle.aag_text.specs.Header.{header_counts}
 
 list_all-zero : (ns : List ℕ) → list_all (λ m. m == 0) (ns ++ 0 ∷ []) ≡ list_all (λ m. m == 0) ns

@@ -1,12 +1,12 @@
 -- A line before the symbols, where its numbers are known.
 use Rattle.std.proofs.Common.{ℕ, ◌≡◌, List, Option, Some, None, Err, false, sym, ap, ◌∙◌}
 use Rattle.std.specs.Option.{option_and_then}
-use Rattle.counted_io.specs.declared.fault.ReadError.TheVariants.{BadLine}
+use Rattle.file_words.specs.declared.fault.ReadError.TheVariants.{BadLine}
 use Rattle.ascii_file.specs.declared.header.Header.{Header}
 use Rattle.ascii_file.specs.declared.raw.Section.{Section}
 use Rattle.ascii_file.specs.Raw.{Raw}
 use Rattle.ascii_file.specs.Reading.{take_item, next_section, read_line, is_complete}
-use Rattle.ascii_file.specs.Rows.{row_of}
+use Rattle.ascii_file.specs.parts.Rows.{row_of}
 use Rattle.aag_text.specs.Items.{item_of_numbers}
 use Rattle.aag_text.specs.Filling.{IsReadSoFar}
 use Rattle.aag_text.proofs.ClampLaws.{line_by_numbers}

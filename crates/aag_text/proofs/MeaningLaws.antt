@@ -4,8 +4,8 @@ use Rattle.std.specs.List.{position_or_len}
 use Rattle.std.proofs.lemmas.Bool.{cases_lt, cases_Bool, lt-ltb, le-ltb, le-leb, lt-leb, cond-true, cond-false, eqb-true}
 use Rattle.aig_graph.specs.Graph.{variable}
 use Rattle.aig_graph.specs.Marking.{has}
-use Rattle.ascii_file.specs.declared.places.Places.{Places}
-use Rattle.ascii_file.specs.Places.{place_of}
+use Rattle.ascii_file.specs.declared.parts.places.Places.{Places}
+use Rattle.ascii_file.specs.parts.Places.{place_of}
 use Rattle.ascii_file.specs.Meaning.{renumbered, literal_in}
 use Rattle.ascii_file.specs.Reading.{is_known_among}
 use Rattle.aag_text.specs.Numbering.{has_place, is_placed, placed}

@@ -8,8 +8,8 @@ use Rattle.std.proofs.lemmas.List.Folds.{position_or_len_push}
 use Rattle.std.proofs.lemmas.List.Sums.{prefix_len-le-length}
 use Rattle.aig_graph.specs.Marking.{has}
 use Rattle.ascii_file.specs.Raw.{Raw, defined}
-use Rattle.ascii_file.specs.declared.places.Places.{Places}
-use Rattle.ascii_file.specs.Places.{place_of}
+use Rattle.ascii_file.specs.declared.parts.places.Places.{Places}
+use Rattle.ascii_file.specs.parts.Places.{place_of}
 use Rattle.aag_text.specs.Taking.{ArePlacesOf}
 
 -- ---- the first element that passes a test, with one element more

@@ -1,9 +1,9 @@
 -- A reader by its phase.
 use Rattle.std.proofs.Common.{ℕ, ◌≡◌, ◌⊎◌, inl, inr, IfErr, List, Result, Ok, Err, IsOk, refl, sym, subst}
-use Rattle.counted_io.specs.declared.fault.ReadError.{ReadError}
-use Rattle.counted_io.specs.Answering.{Fails, Gives}
+use Rattle.file_words.specs.declared.fault.ReadError.{ReadError}
+use Rattle.file_words.specs.Answering.{Fails, Gives}
 use Rattle.aig_graph.specs.Circuits.{Netlist}
-use Rattle.counted_io.specs.declared.fault.ReadError.TheVariants.{NoMemory}
+use Rattle.file_words.specs.declared.fault.ReadError.TheVariants.{NoMemory}
 use Rattle.ascii_file.specs.Reading.{read_bytes, IsFaultOf}
 use Rattle.ascii_file.proofs.FaultLaws.{fault_of_bytes}
 use Rattle.ascii_file.specs.Pieces.{fed}

@@ -12,13 +12,13 @@ use Rattle.aig_graph.specs.declared.properties.Symbols.{Symbols}
 use Rattle.aig_graph.specs.Graph.{variable}
 use Rattle.aig_graph.specs.Building.{gate_of}
 use Rattle.aig_graph.specs.Circuits.{Netlist}
-use Rattle.ascii_file.specs.declared.reads.Reads.{Reads}
-use Rattle.ascii_file.specs.Order.{IsOrder, ordered}
-use Rattle.counted_io.specs.declared.fault.ReadError.{ReadError}
-use Rattle.counted_io.specs.declared.fault.ReadError.TheVariants.{Undefined, Cycle, NoMemory}
-use Rattle.counted_io.specs.Answering.{◌>>=◌, Fails}
-use Rattle.ascii_file.specs.declared.places.Places.{Places}
-use Rattle.ascii_file.specs.Places.{place_of}
+use Rattle.ascii_file.specs.declared.order.reads.Reads.{Reads}
+use Rattle.ascii_file.specs.order.Order.{IsOrder, ordered}
+use Rattle.file_words.specs.declared.fault.ReadError.{ReadError}
+use Rattle.file_words.specs.declared.fault.ReadError.TheVariants.{Undefined, Cycle, NoMemory}
+use Rattle.file_words.specs.Answering.{◌>>=◌, Fails}
+use Rattle.ascii_file.specs.declared.parts.places.Places.{Places}
+use Rattle.ascii_file.specs.parts.Places.{place_of}
 use Rattle.ascii_file.specs.declared.header.Header.{Header}
 use Rattle.ascii_file.specs.declared.raw.RawGate.{RawGate}
 use Rattle.ascii_file.specs.declared.raw.RawLatch.{RawLatch}
@@ -27,7 +27,7 @@ use Rattle.ascii_file.specs.Files.{DefinesApart}
 use Rattle.ascii_file.specs.Meaning as meaning
 use Rattle.ascii_file.specs.Meaning.{gate_place, gate_reads, with_gates_at, in_order, literal_in, reset_of, props_of, symbols_of, circuit_of}
 use Rattle.ascii_file.specs.Reading.{is_known_among, is_resolved, circuit_in_order, resolve}
-use Rattle.counted_io.proofs.AnsweringLaws.{Fails-same, Fails-err, Fails-ok}
+use Rattle.file_words.proofs.AnsweringLaws.{Fails-same, Fails-err, Fails-ok}
 use Rattle.aag_text.specs.Numbering.{is_placed, placed, if_known, placed_lists, PlacedLists}
 use Rattle.aag_text.specs.Arranging.{AreRanks, gate_read, reads_of_gate, moved, moved_latch, moved_gate, no_gate, order_or_cycle}
 use Rattle.aag_text.specs.Resolving.{arranged}

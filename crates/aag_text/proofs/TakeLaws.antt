@@ -4,16 +4,16 @@ use Rattle.std.proofs.lemmas.Bool.{cond-true, cond-false}
 use Rattle.std.proofs.lemmas.List.{length_push}
 use Rattle.aig_graph.specs.Marking.{has}
 use Rattle.aig_graph.specs.Graph.{variable}
-use Rattle.counted_io.specs.declared.fault.ReadError.{ReadError}
-use Rattle.counted_io.specs.declared.fault.ReadError.TheVariants.{DefinedTwice, NoMemory}
-use Rattle.counted_io.specs.Answering.{◌>>=◌, Fails}
+use Rattle.file_words.specs.declared.fault.ReadError.{ReadError}
+use Rattle.file_words.specs.declared.fault.ReadError.TheVariants.{DefinedTwice, NoMemory}
+use Rattle.file_words.specs.Answering.{◌>>=◌, Fails}
 use Rattle.ascii_file.specs.declared.header.Header.{Header}
 use Rattle.ascii_file.specs.Raw.{Raw, RawSymbol, defined}
 use Rattle.ascii_file.specs.Items.{Item, section_of}
 use Rattle.ascii_file.specs.Reading.{unless, past_greatest, is_undefinable, checks, definition_checks, with_item, take_item, next_section}
 use Rattle.ascii_file.proofs.CheckLaws.{Passes, unless_ok, unless_passes, Fits, passes_where_fits}
-use Rattle.counted_io.proofs.AnsweringLaws.{Fails-same, Fails-bind, Fails-is}
-use Rattle.ascii_file.specs.Names.{AreNamesOf}
+use Rattle.file_words.proofs.AnsweringLaws.{Fails-same, Fails-bind, Fails-is}
+use Rattle.ascii_file.specs.parts.Names.{AreNamesOf}
 use Rattle.aag_text.specs.declared.sections.Sections.{Sections}
 use Rattle.aag_text.specs.Filling.{IsReadSoFar}
 use Rattle.aag_text.specs.Taking.{raw_of, ArePlacesOf, IsAt, GoesOn, Takes}

@@ -1,17 +1,17 @@
 -- A line more.
 use Rattle.std.proofs.Common.{ℕ, ◌≡◌, ◌+◌, Bool, true, false, List, [], length, Result, Ok, cond, ◌&&◌, Option, Some, None, ◌∷◌, refl, ap, ap₂, sym, ◌∙◌, subst}
-use Rattle.counted_io.specs.declared.fault.ReadError.{ReadError}
-use Rattle.counted_io.specs.declared.fault.ReadError.TheVariants.{NoMemory}
-use Rattle.counted_io.specs.Answering.{◌>>=◌, Fails}
+use Rattle.file_words.specs.declared.fault.ReadError.{ReadError}
+use Rattle.file_words.specs.declared.fault.ReadError.TheVariants.{NoMemory}
+use Rattle.file_words.specs.Answering.{◌>>=◌, Fails}
 use Rattle.ascii_file.specs.declared.header.Header.{Header}
 use Rattle.ascii_file.specs.declared.raw.Section.{Section}
 use Rattle.ascii_file.specs.Raw.{Raw, RawSymbol}
 use Rattle.ascii_file.specs.declared.raw.SymbolKind.{SymbolKind}
 use Rattle.ascii_file.specs.Items.{Item, InputItem, LatchItem, SafetyItem, SizeItem, LivenessItem, GateItem, SymbolItem, begins_comment, symbol_of, kind_of}
 use Rattle.ascii_file.specs.Reading.{State, InItems, InComment, is_complete, is_symbols, next_section, read_line, take_line}
-use Rattle.counted_io.proofs.AnsweringLaws.{Fails-same, Fails-bind}
-use Rattle.ascii_file.specs.declared.symbols.SymbolText.TheVariants as text
-use Rattle.ascii_file.specs.Symbols.{unnamed, text_without, text_of, text_of_item}
+use Rattle.file_words.proofs.AnsweringLaws.{Fails-same, Fails-bind}
+use Rattle.ascii_file.specs.declared.parts.symbols.SymbolText.TheVariants as text
+use Rattle.ascii_file.specs.parts.Symbols.{unnamed, text_without, text_of, text_of_item}
 use Rattle.aag_text.specs.declared.sections.Sections.{Sections}
 use Rattle.aag_text.specs.Taking.{raw_of, IsAt, GoesOn}
 use Rattle.aag_text.specs.declared.lines.OpenLine.{OpenLine}

@@ -4,9 +4,9 @@ use Rattle.aig_graph.specs.declared.graph.Gate.{Gate}
 use Rattle.aig_graph.specs.declared.graph.Latch.{Latch}
 use Rattle.aig_graph.specs.Graph.{Graph, variable}
 use Rattle.aig_graph.specs.Building.{gate_of}
-use Rattle.ascii_file.specs.declared.reads.Reads.{Reads}
-use Rattle.counted_io.specs.declared.fault.ReadError.{ReadError}
-use Rattle.counted_io.specs.declared.fault.ReadError.TheVariants.{Cycle}
+use Rattle.ascii_file.specs.declared.order.reads.Reads.{Reads}
+use Rattle.file_words.specs.declared.fault.ReadError.{ReadError}
+use Rattle.file_words.specs.declared.fault.ReadError.TheVariants.{Cycle}
 
 -- the gate that a literal reads, by its place in the file, where gates have the variables from this one on
 abbrev pub gate_read : ℕ → ℕ → Option ℕ

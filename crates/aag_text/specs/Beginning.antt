@@ -1,12 +1,12 @@
 -- A file whose first line is open.
 use Rattle.std.specs.Prelude.{ℕ, ◌≡◌, List, ◌++◌, Option, Some, None, Result, Ok, Err, codes}
-use Rattle.counted_io.specs.declared.fault.ReadError.{ReadError}
-use Rattle.counted_io.specs.declared.fault.ReadError.TheVariants.{NoMemory}
-use Rattle.counted_io.specs.Cuts.{HasNoNewline}
-use Rattle.counted_io.specs.Answering.{Fails}
+use Rattle.file_words.specs.declared.fault.ReadError.{ReadError}
+use Rattle.file_words.specs.declared.fault.ReadError.TheVariants.{NoMemory}
+use Rattle.file_words.specs.Cuts.{HasNoNewline}
+use Rattle.file_words.specs.Answering.{Fails}
 use Rattle.ascii_file.specs.Pieces.{fed}
-use Rattle.ascii_file.specs.declared.header_line.HeaderLine.{HeaderLine}
-use Rattle.ascii_file.specs.Header.{header_row, header_with}
+use Rattle.ascii_file.specs.declared.parts.header_line.HeaderLine.{HeaderLine}
+use Rattle.ascii_file.specs.parts.Header.{header_row, header_with}
 use Rattle.aag_text.specs.declared.items.Items.{Items}
 use Rattle.aag_text.specs.Standing.{Hold}
 

@@ -3,7 +3,7 @@ use Rattle.std.specs.Prelude.{ℕ, ◌-◌, List, [], ◌∷◌, ◌++◌, lengt
 use Rattle.aig_graph.specs.Graph.{variables_end}
 use Rattle.aig_graph.specs.Circuits.{Netlist}
 use Rattle.counted_io.specs.Line.{line}
-use Rattle.counted_io.specs.Text.{header_row}
+use Rattle.file_words.specs.Text.{header_row}
 
 -- all the numbers that a header can have
 abbrev pub header_counts : Netlist → List ℕ

@@ -1,8 +1,8 @@
 -- A line that is open: some of its bytes have come.
 use Rattle.std.specs.Prelude.{ℕ, ◌≡◌, Bool, true, false, List, ◌++◌}
-use Rattle.ascii_file.specs.Rows.{row_of}
-use Rattle.ascii_file.specs.Open.{numbers_with}
-use Rattle.ascii_file.specs.Symbols.{text_of, text_with}
+use Rattle.ascii_file.specs.parts.Rows.{row_of}
+use Rattle.ascii_file.specs.parts.Open.{numbers_with}
+use Rattle.ascii_file.specs.parts.Symbols.{text_of, text_with}
 use Rattle.aag_text.specs.declared.lines.OpenLine.{OpenLine}
 use Rattle.aag_text.specs.declared.lines.OpenLine.TheVariants.{Numbers, Symbol, Comment}
 

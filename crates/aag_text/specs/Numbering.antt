@@ -4,11 +4,11 @@ use Rattle.std.specs.List.{list_all}
 use Rattle.aig_graph.specs.declared.graph.Gate.{Gate}
 use Rattle.aig_graph.specs.declared.graph.Latch.{Latch}
 use Rattle.aig_graph.specs.Graph.{variable}
-use Rattle.ascii_file.specs.declared.places.Places.{Places}
-use Rattle.ascii_file.specs.Places.{place_of}
-use Rattle.counted_io.specs.declared.fault.ReadError.{ReadError}
-use Rattle.counted_io.specs.declared.fault.ReadError.TheVariants.{Undefined}
-use Rattle.counted_io.specs.Answering.{◌>>=◌}
+use Rattle.ascii_file.specs.declared.parts.places.Places.{Places}
+use Rattle.ascii_file.specs.parts.Places.{place_of}
+use Rattle.file_words.specs.declared.fault.ReadError.{ReadError}
+use Rattle.file_words.specs.declared.fault.ReadError.TheVariants.{Undefined}
+use Rattle.file_words.specs.Answering.{◌>>=◌}
 use Rattle.ascii_file.specs.declared.raw.RawGate.{RawGate}
 use Rattle.ascii_file.specs.declared.raw.RawLatch.{RawLatch}
 use Rattle.ascii_file.specs.Meaning.{reset_of}
@@ -56,6 +56,8 @@ pub record PlacedLists : Type 0 where
   pub liveness : List ℕ
   pub gates : List Gate
 
+-- the latches, the literals of properties and the gates, each literal by its place, or the first
+-- fault
 abbrev pub placed_lists : Places → ℕ → List RawLatch → List ℕ → List ℕ → List RawGate → Result PlacedLists ReadError
 placed_lists places count latches safety liveness gates =
     placed_latches places count latches >>= λ l. placed_literals places count safety >>= λ s. placed_literals places count liveness >>= λ v. placed_gates places count gates

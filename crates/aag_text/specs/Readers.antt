@@ -1,9 +1,9 @@
 -- Where a reader stands.
 use Rattle.std.specs.Prelude.{ℕ, ◌≡◌, List, length, Result, Ok, Err}
 use Rattle.aig_graph.specs.Circuits.{Netlist}
-use Rattle.counted_io.specs.declared.fault.ReadError.{ReadError}
-use Rattle.counted_io.specs.declared.fault.ReadError.TheVariants.{BadHeader, NoMemory}
-use Rattle.counted_io.specs.Answering.{Fails}
+use Rattle.file_words.specs.declared.fault.ReadError.{ReadError}
+use Rattle.file_words.specs.declared.fault.ReadError.TheVariants.{BadHeader, NoMemory}
+use Rattle.file_words.specs.Answering.{Fails}
 use Rattle.ascii_file.specs.Pieces.{fed}
 use Rattle.aag_text.specs.declared.reader.AagReader.{AagReader}
 use Rattle.aag_text.specs.declared.reader.Phase.{Phase}
@@ -26,6 +26,8 @@ PhaseHolds (Failed fault) len bytes = Fails NoMemory fault (fed bytes)
 abbrev pub HasReadBytes : AagReader → List ℕ → Type 0
 HasReadBytes reader bytes = PhaseReads reader.phase reader.taken bytes
 
+-- the reader was fed these bytes, in whatever pieces: it stands where they lead, or has failed with
+-- their fault or for want of memory
 abbrev pub Holds : AagReader → List ℕ → Type 0
 Holds reader bytes = PhaseHolds reader.phase reader.taken bytes
 
@@ -35,6 +37,7 @@ phase_standing (Header line) = Ok tt
 phase_standing (Items items) = Ok tt
 phase_standing (Failed fault) = Err fault
 
+-- what a reader has failed with, if it has: each further call answers it
 abbrev pub standing : AagReader → Result (Unit {0}) ReadError
 standing reader = phase_standing reader.phase
 

@@ -3,15 +3,15 @@ use Rattle.std.specs.Prelude.{ℕ, ◌≡◌, ◌==◌, ◌+◌, ◌^◌, ◌≤
 use Rattle.std.specs.List.{sum}
 use Rattle.aig_graph.specs.declared.properties.Symbols.{Symbols}
 use Rattle.aig_graph.specs.Circuits.{Netlist}
-use Rattle.ascii_file.specs.declared.reads.Reads.{Reads}
-use Rattle.ascii_file.specs.Order.{IsOrder, ordered}
+use Rattle.ascii_file.specs.declared.order.reads.Reads.{Reads}
+use Rattle.ascii_file.specs.order.Order.{IsOrder, ordered}
 use Rattle.ascii_file.specs.declared.header.Header.{Header}
 use Rattle.ascii_file.specs.Meaning.{props_of}
-use Rattle.ascii_file.specs.Names.{AreNamesOf}
-use Rattle.ascii_file.specs.Parts.{AreNamesWithin}
+use Rattle.ascii_file.specs.parts.Names.{AreNamesOf}
+use Rattle.ascii_file.specs.parts.Parts.{AreNamesWithin}
 use Rattle.aag_text.specs.Numbering.{PlacedLists}
 use Rattle.aag_text.specs.Arranging.{IsBelow, HasFanInsBelow, AreRanks, reads_of_gate, moved, graph_in_order}
-use Rattle.ascii_file.specs.Places.{place_of}
+use Rattle.ascii_file.specs.parts.Places.{place_of}
 use Rattle.ascii_file.specs.Raw.{Raw, RawSymbol, defined, safety_count}
 use Rattle.ascii_file.specs.Files.{IsCountedBy, DefinesApart, NamesApart}
 use Rattle.aag_text.specs.declared.circuit.lists.RawLists.{RawLists}

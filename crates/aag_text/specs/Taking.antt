@@ -1,12 +1,12 @@
 -- The sections as they are taken, item after item.
 use Rattle.std.specs.Prelude.{ℕ, ◌≡◌, ◌==◌, List, Result, Ok, Err, position}
-use Rattle.counted_io.specs.declared.fault.ReadError.{ReadError}
-use Rattle.counted_io.specs.declared.fault.ReadError.TheVariants.{NoMemory}
-use Rattle.counted_io.specs.Answering.{Fails}
+use Rattle.file_words.specs.declared.fault.ReadError.{ReadError}
+use Rattle.file_words.specs.declared.fault.ReadError.TheVariants.{NoMemory}
+use Rattle.file_words.specs.Answering.{Fails}
 use Rattle.ascii_file.specs.Raw.{Raw, RawSymbol, defined}
-use Rattle.ascii_file.specs.declared.places.Places.{Places}
-use Rattle.ascii_file.specs.Places.{place_of}
-use Rattle.ascii_file.specs.Names.{AreNamesOf}
+use Rattle.ascii_file.specs.declared.parts.places.Places.{Places}
+use Rattle.ascii_file.specs.parts.Places.{place_of}
+use Rattle.ascii_file.specs.parts.Names.{AreNamesOf}
 use Rattle.aag_text.specs.declared.sections.Sections.{Sections}
 use Rattle.aag_text.specs.Filling.{IsReadSoFar}
 

@@ -4,8 +4,8 @@
 ghost use Rattle.std.specs.Prelude.{List, ◌≡◌, true};
 ghost use Rattle.ascii_file.specs.Raw.{RawSymbol};
 ghost use Rattle.ascii_file.specs.Reading as reading;
-ghost use Rattle.counted_io.specs.declared.fault.ReadError.TheVariants.{NoMemory};
-ghost use Rattle.counted_io.specs.Answering.{Gives};
+ghost use Rattle.file_words.specs.declared.fault.ReadError.TheVariants.{NoMemory};
+ghost use Rattle.file_words.specs.Answering.{Gives};
 ghost use Rattle.aag_text.specs.Taking.{raw_of, IsAt};
 
 mod arranging;
@@ -18,7 +18,7 @@ mod resolving;
 use crate::circuit::lists::RawLists;
 use crate::sections::Sections;
 use aig_graph::Circuit;
-use counted_io::ReadError;
+use file_words::ReadError;
 use std::alloc::Global;
 
 /// The circuit of sections that have all their items.

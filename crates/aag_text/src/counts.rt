@@ -1,7 +1,7 @@
 ghost use Rattle.std.specs.Prelude.{◌≡◌, ◌≤◌, length, take};
 ghost use Rattle.counted_io.specs.Buffered.{Puts};
 ghost use Rattle.counted_io.specs.Line.{line};
-ghost use Rattle.counted_io.specs.Text.{header_row, without_last_zeros};
+ghost use Rattle.file_words.specs.Text.{header_row, without_last_zeros};
 ghost use Rattle.aag_text.specs.Header.{header_counts, header_text};
 
 use aig_graph::Circuit;

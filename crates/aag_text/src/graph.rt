@@ -1,7 +1,7 @@
 ghost use Rattle.std.specs.Prelude.{◌≡◌, ◌+◌, ◌≤◌, ◌<◌, length};
 ghost use Rattle.counted_io.specs.Buffered.{Puts};
 ghost use Rattle.counted_io.specs.Line.{line};
-ghost use Rattle.counted_io.specs.Text.{gate_row, input_rows, latch_row, numbered_rows};
+ghost use Rattle.file_words.specs.Text.{gate_row, input_rows, latch_row, numbered_rows};
 
 use aig_graph::{Gate, Latch, MAX_VARIABLES, Reset};
 use counted_io::{Buffered, CountedWrite};
@@ -19,7 +19,7 @@ pub(crate) fn put_inputs<W: CountedWrite>(out: &mut Buffered<'_, W>, inputs: u32
     }
 }
 
-#[tactic(auto, unfolding(counted_io::specs::Text::latch_row))]
+#[tactic(auto, unfolding(file_words::specs::Text::latch_row))]
 fn put_latch<W: CountedWrite>(out: &mut Buffered<'_, W>, var: u64, latch: Latch)
     requires { var < MAX_VARIABLES }
     ensures { Puts W.output out.old out.new (line (latch_row var latch)) }
@@ -43,7 +43,7 @@ pub(crate) fn put_latches<W: CountedWrite>(out: &mut Buffered<'_, W>, first: u64
     }
 }
 
-#[tactic(auto, unfolding(counted_io::specs::Text::gate_row))]
+#[tactic(auto, unfolding(file_words::specs::Text::gate_row))]
 fn put_gate<W: CountedWrite>(out: &mut Buffered<'_, W>, var: u64, gate: Gate)
     requires { var < MAX_VARIABLES }
     ensures { Puts W.output out.old out.new (line (gate_row var gate)) }

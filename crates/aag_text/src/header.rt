@@ -3,7 +3,7 @@ ghost use Rattle.aag_text.specs.Beginning.{Awaits, BeginsItems};
 
 use crate::items::Items;
 use ascii_file::HeaderLine;
-use counted_io::{ReadError, cut};
+use file_words::{ReadError, cut};
 use std::alloc::Global;
 
 /// Takes the next bytes, which end at the offset, where the first line is open: the items, where these bytes end it.

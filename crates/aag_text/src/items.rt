@@ -7,8 +7,8 @@
 ghost use Rattle.std.specs.Prelude.{ℕ, List, ◌≡◌, Bool, true};
 ghost use Rattle.ascii_file.specs.Raw.{RawSymbol};
 ghost use Rattle.ascii_file.specs.Reading as reading;
-ghost use Rattle.counted_io.specs.declared.fault.ReadError.TheVariants.{NoMemory};
-ghost use Rattle.counted_io.specs.Answering.{Gives};
+ghost use Rattle.file_words.specs.declared.fault.ReadError.TheVariants.{NoMemory};
+ghost use Rattle.file_words.specs.Answering.{Gives};
 ghost use Rattle.aag_text.specs.Taking.{raw_of, IsAt};
 ghost use Rattle.aag_text.specs.Standing.{state_of};
 
@@ -17,7 +17,7 @@ use crate::lines::{OpenLine, line_of};
 use crate::sections::Sections;
 use aig_graph::Circuit;
 use ascii_file::{Header, NumberLine, Section, SymbolLine, SymbolText};
-use counted_io::{ReadError, cut};
+use file_words::{ReadError, cut};
 use std::alloc::Global;
 use std::mem;
 
@@ -37,11 +37,11 @@ impl Items {
     ghost use Rattle.ascii_file.specs.Headers.{IsHeaderWithin};
     ghost use Rattle.ascii_file.specs.Pieces.{fed};
     ghost use Rattle.ascii_file.specs.Reading as reading;
-    ghost use Rattle.counted_io.specs.declared.fault.ReadError.TheVariants.{NoMemory};
-    ghost use Rattle.counted_io.specs.Answering.{Gives};
-    ghost use Rattle.ascii_file.specs.Rows.{row_of};
-    ghost use Rattle.ascii_file.specs.Open.{numbers_with};
-    ghost use Rattle.ascii_file.specs.Symbols.{text_of, text_with};
+    ghost use Rattle.file_words.specs.declared.fault.ReadError.TheVariants.{NoMemory};
+    ghost use Rattle.file_words.specs.Answering.{Gives};
+    ghost use Rattle.ascii_file.specs.parts.Rows.{row_of};
+    ghost use Rattle.ascii_file.specs.parts.Open.{numbers_with};
+    ghost use Rattle.ascii_file.specs.parts.Symbols.{text_of, text_with};
     ghost use Rattle.aag_text.specs.Taking.{raw_of, IsAt};
     ghost use Rattle.aag_text.specs.Standing.{StandAt, TakesLine, HoldsOrFaults, Hold};
 

@@ -19,10 +19,9 @@ mod symbols;
 mod writing;
 
 pub use ascii_file::{pieces_law, reading_law, round_trip_law};
-pub use counted_io::{
-    Counted, CountedRead, CountedWrite, FailAfter, Failure, OneByte, ReadError, WriteError,
-};
+pub use counted_io::{Counted, CountedRead, CountedWrite, FailAfter, Failure, OneByte, WriteError};
 pub use counts::put_counts;
+pub use file_words::ReadError;
 pub use properties::put_properties;
 pub use read::read_aag;
 pub use reader::AagReader;

@@ -1,7 +1,7 @@
 ghost use Rattle.std.specs.Prelude.{◌≡◌, length, map};
 ghost use Rattle.std.specs.List.{flat_map};
 ghost use Rattle.counted_io.specs.Buffered.{Puts};
-ghost use Rattle.counted_io.specs.Text.{property_rows, single_rows};
+ghost use Rattle.file_words.specs.Text.{property_rows, single_rows};
 
 use aig_graph::{Lit, Props, Sequence};
 use counted_io::{Buffered, CountedWrite};

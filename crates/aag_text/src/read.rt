@@ -1,12 +1,12 @@
 ghost use Rattle.std.specs.Prelude.{ℕ, List, ◌≡◌, ◌⊎◌, ◌++◌, Ok, IfOk, IfErr};
-ghost use Rattle.counted_io.specs.declared.fault.ReadError.TheVariants.{NoMemory};
+ghost use Rattle.file_words.specs.declared.fault.ReadError.TheVariants.{NoMemory};
 ghost use Rattle.ascii_file.specs.Reading as reading;
-ghost use Rattle.counted_io.specs.Answering.{Gives};
+ghost use Rattle.file_words.specs.Answering.{Gives};
 ghost use Rattle.aag_text.specs.Readers.{Holds};
 
 use crate::reader::AagReader;
 use aig_graph::Circuit;
-use counted_io::ReadError;
+use file_words::ReadError;
 use std::alloc::Global;
 
 /// Reads the circuit that an ASCII file stands for, with its gates in order. Inputs, latches and gates get new variables in

@@ -3,9 +3,9 @@
 //!     first line open ──newline──► items ──finish──► ended, which answers BadHeader at 0
 //!     either ──fault──► failed, which answers that fault from then on
 ghost use Rattle.std.specs.Prelude.{ℕ, List, ◌≡◌, ◌+◌, length, MatchResult};
-ghost use Rattle.counted_io.specs.declared.fault.ReadError.TheVariants.{NoMemory};
+ghost use Rattle.file_words.specs.declared.fault.ReadError.TheVariants.{NoMemory};
 ghost use Rattle.ascii_file.specs.Reading as reading;
-ghost use Rattle.counted_io.specs.Answering.{Gives};
+ghost use Rattle.file_words.specs.Answering.{Gives};
 ghost use Rattle.aag_text.specs.Readers.{PhaseHolds, phase_standing};
 
 use crate::header::begin;
@@ -13,7 +13,7 @@ use crate::items::{Items, close};
 use crate::sections::Sections;
 use aig_graph::Circuit;
 use ascii_file::HeaderLine;
-use counted_io::ReadError;
+use file_words::ReadError;
 use std::alloc::Global;
 use std::mem;
 
@@ -48,11 +48,11 @@ impl Drop for AagReader {
 
 impl AagReader {
     ghost use Rattle.std.specs.Prelude.{ℕ, List, [], ◌≡◌, ◌++◌, IsOk, OnOk};
-    ghost use Rattle.counted_io.specs.declared.fault.ReadError.{ReadError};
+    ghost use Rattle.file_words.specs.declared.fault.ReadError.{ReadError};
     ghost use Rattle.ascii_file.specs.Reading as reading;
     ghost use Rattle.ascii_file.specs.Pieces.{fed};
-    ghost use Rattle.counted_io.specs.declared.fault.ReadError.TheVariants.{NoMemory};
-    ghost use Rattle.counted_io.specs.Answering.{Gives};
+    ghost use Rattle.file_words.specs.declared.fault.ReadError.TheVariants.{NoMemory};
+    ghost use Rattle.file_words.specs.Answering.{Gives};
     ghost use Rattle.aag_text.specs.Standing.{HoldsOrFaults};
     ghost use Rattle.aag_text.specs.Readers.{HasReadBytes, Holds, standing, after_finish};
 

@@ -11,7 +11,7 @@ use aig_graph::Sequence;
 use ascii_file::{
     Header, Names, Places, PropertyLists, RawGate, RawLatch, Section, SymbolKind, SymbolText,
 };
-use counted_io::ReadError;
+use file_words::ReadError;
 use std::alloc::{AllocError, Global};
 
 /// The greatest number of literals that all justice properties have together.
@@ -40,16 +40,16 @@ pub struct Sections {
 impl Sections {
     ghost use Rattle.std.specs.Prelude.{ℕ, List, [], ◌∷◌, ◌++◌, ◌≡◌, ◌+◌, ◌*◌, true, false, Some, None, Ok, IsTrue, MatchOption, OnOk};
     ghost use Rattle.aig_graph.specs.Graph.{variable};
-    ghost use Rattle.counted_io.specs.declared.fault.ReadError.TheVariants.{BadLine, BadSymbol};
+    ghost use Rattle.file_words.specs.declared.fault.ReadError.TheVariants.{BadLine, BadSymbol};
     ghost use Rattle.ascii_file.specs.declared.raw.Section.TheVariants.{Inputs, Latches, Safety, Sizes, Liveness, Gates, Symbols};
     ghost use Rattle.ascii_file.specs.Raw.{RawSymbol, nothing_yet, defined};
     ghost use Rattle.ascii_file.specs.Items.{SymbolItem, begins_comment};
     ghost use Rattle.ascii_file.specs.Reading as reading;
     ghost use Rattle.ascii_file.specs.Files.{IsCountedBy};
-    ghost use Rattle.ascii_file.specs.Rows.{row_of};
-    ghost use Rattle.ascii_file.specs.Symbols.{text_of};
-    ghost use Rattle.ascii_file.specs.Names.{symbol_at};
-    ghost use Rattle.ascii_file.specs.Places.{place_of};
+    ghost use Rattle.ascii_file.specs.parts.Rows.{row_of};
+    ghost use Rattle.ascii_file.specs.parts.Symbols.{text_of};
+    ghost use Rattle.ascii_file.specs.parts.Names.{symbol_at};
+    ghost use Rattle.ascii_file.specs.parts.Places.{place_of};
     ghost use Rattle.aag_text.specs.Items.{item_of_numbers};
     ghost use Rattle.aag_text.specs.Taking.{raw_of, ArePlacesOf, IsAt, Takes};
 

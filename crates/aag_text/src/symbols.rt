@@ -1,6 +1,6 @@
 ghost use Rattle.std.specs.Prelude.{◌≡◌};
 ghost use Rattle.counted_io.specs.Buffered.{Puts};
-ghost use Rattle.counted_io.specs.Text.{all_symbols, symbol_line, symbol_lines};
+ghost use Rattle.file_words.specs.Text.{all_symbols, symbol_line, symbol_lines};
 
 use aig_graph::{Symbol, Symbols};
 use counted_io::{Buffered, CountedWrite};

@@ -1,7 +1,7 @@
 ghost use Rattle.std.specs.Prelude.{◌≡◌};
 ghost use Rattle.counted_io.specs.Buffered.{Puts};
 ghost use Rattle.counted_io.specs.Output.{Writes};
-ghost use Rattle.counted_io.specs.Text.{text};
+ghost use Rattle.file_words.specs.Text.{text};
 
 use crate::counts::put_header;
 use crate::graph::{put_gates, put_inputs, put_latches};

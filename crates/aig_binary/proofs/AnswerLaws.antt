@@ -3,19 +3,19 @@ use Rattle.std.proofs.Common.{ℕ, ◌<◌, ◌≡◌, List, [], length, Option,
 use Rattle.std.specs.Prelude.{IsOk}
 use Rattle.std.proofs.lemmas.Bool.{lt-ltb, le-ltb, cond-true, cond-false}
 use Rattle.aig_graph.specs.Circuits.{Netlist}
-use Rattle.counted_io.specs.declared.fault.ReadError.{ReadError}
-use Rattle.counted_io.specs.declared.fault.ReadError.TheVariants.{BadHeader, NoMemory}
-use Rattle.counted_io.specs.Answering.{◌>>=◌, Gives}
+use Rattle.file_words.specs.declared.fault.ReadError.{ReadError}
+use Rattle.file_words.specs.declared.fault.ReadError.TheVariants.{BadHeader, NoMemory}
+use Rattle.file_words.specs.Answering.{◌>>=◌, Gives}
 use Rattle.ascii_file.specs.Reading.{read_bytes}
 use Rattle.ascii_file.specs.Pieces.{fed}
 use Rattle.aag_text.specs.Standing.{HoldsOrFaults}
 use Rattle.binary_file.specs.Reading.{State, AtHeader, feed, read_binary}
 use Rattle.binary_file.specs.Holding.{Answers}
-use Rattle.counted_io.specs.declared.spelling.Spelling.{Spelling}
-use Rattle.counted_io.specs.declared.spelling.Spelling.TheVariants.{Ascii, Binary}
+use Rattle.file_words.specs.declared.spelling.Spelling.{Spelling}
+use Rattle.file_words.specs.declared.spelling.Spelling.TheVariants.{Ascii, Binary}
 use Rattle.aig_binary.specs.Spellings.{spelling_of, read_in_spelling, read_any}
 use Rattle.aig_binary.specs.Fed.{ascii_fed, binary_fed, fed_in, fed_any}
-use Rattle.counted_io.proofs.AnsweringLaws.{Fails-bind}
+use Rattle.file_words.proofs.AnsweringLaws.{Fails-bind}
 use Rattle.aig_binary.proofs.LetterLaws.{none_short}
 
 -- a reading without a fault is none where its value is dropped

@@ -6,9 +6,9 @@ use Rattle.counted_io.specs.Input.{Input, ReadsAll}
 use Rattle.counted_io.specs.Output.{one_more}
 use Rattle.counted_io.proofs.InputLaws.{ReadsFirst, first-all}
 use Rattle.aig_graph.specs.Circuits.{Netlist}
-use Rattle.counted_io.specs.declared.fault.ReadError.{ReadError}
-use Rattle.counted_io.specs.declared.fault.ReadError.TheVariants.{NoMemory, BadHeader}
-use Rattle.counted_io.specs.declared.spelling.Spelling.{Spelling}
+use Rattle.file_words.specs.declared.fault.ReadError.{ReadError}
+use Rattle.file_words.specs.declared.fault.ReadError.TheVariants.{NoMemory, BadHeader}
+use Rattle.file_words.specs.declared.spelling.Spelling.{Spelling}
 use Rattle.aig_binary.specs.Spellings.{spelling_of, read_any, read_in_spelling}
 use Rattle.aig_binary.specs.declared.reading.SpeltCircuit.{SpeltCircuit}
 use Rattle.aig_binary.specs.Pieces.{FailsFrom, IsFinishError}

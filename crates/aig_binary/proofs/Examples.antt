@@ -2,10 +2,10 @@
 use Rattle.std.proofs.Common.{◌≡◌, [], ◌∷◌, ◌++◌, map, Some, None, Ok, Err, refl}
 use Rattle.std.specs.Prelude.{codes}
 use Rattle.std.specs.Fmt.{digits}
-use Rattle.counted_io.specs.declared.fault.ReadError.TheVariants.{BadHeader}
-use Rattle.counted_io.specs.Lines.{pieces, numbers_of}
-use Rattle.counted_io.specs.Text.{text, latch_row, gate_row, symbol_line}
-use Rattle.counted_io.specs.Answering.{◌>>=◌}
+use Rattle.file_words.specs.declared.fault.ReadError.TheVariants.{BadHeader}
+use Rattle.file_words.specs.Lines.{pieces, numbers_of}
+use Rattle.file_words.specs.Text.{text, latch_row, gate_row, symbol_line}
+use Rattle.file_words.specs.Answering.{◌>>=◌}
 use Rattle.counted_io.specs.Line.{line, spaced}
 use Rattle.binary_file.specs.Deltas.{delta_value, bytes_within}
 use Rattle.ascii_file.specs.Items.{item_of, begins_comment}
@@ -14,7 +14,7 @@ use Rattle.ascii_file.specs.Reading as ascii
 use Rattle.binary_file.specs.Headers.{header_of}
 use Rattle.binary_file.specs.Items.{next_section}
 use Rattle.binary_file.specs.Reading.{read_binary, read_raw, feed, end_line, end_first, end_second, read_line, read_header, circuit_of}
-use Rattle.counted_io.specs.declared.spelling.Spelling.TheVariants.{Ascii, Binary}
+use Rattle.file_words.specs.declared.spelling.Spelling.TheVariants.{Ascii, Binary}
 use Rattle.aig_binary.specs.Spellings.{spelling_of, read_any, text_in}
 use Rattle.aig_graph.specs.declared.graph.Reset.TheVariants.{Zero, One, Free}
 use Rattle.aig_graph.specs.Circuits.{Netlist, outputs_alone, no_symbols}

@@ -2,20 +2,20 @@
 use Rattle.std.proofs.Common.{ℕ, ◌<◌, ◌≡◌, ◌++◌, inl, inr, List, [], Option, Some, None, Result, Ok, Err, IfErr, true, length, append-nil, refl, sym, subst, ap, ◌∙◌, arith}
 use Rattle.std.proofs.lemmas.Bool.{cases_lt}
 use Rattle.aig_graph.specs.Circuits.{Netlist}
-use Rattle.counted_io.specs.declared.fault.ReadError.{ReadError}
-use Rattle.counted_io.specs.declared.fault.ReadError.TheVariants.{BadHeader, NoMemory}
-use Rattle.counted_io.specs.Codes.{is_fault_of_bytes}
-use Rattle.counted_io.specs.Answering.{◌>>=◌, Fails, Gives}
+use Rattle.file_words.specs.declared.fault.ReadError.{ReadError}
+use Rattle.file_words.specs.declared.fault.ReadError.TheVariants.{BadHeader, NoMemory}
+use Rattle.file_words.specs.Codes.{is_fault_of_bytes}
+use Rattle.file_words.specs.Answering.{◌>>=◌, Fails, Gives}
 use Rattle.ascii_file.specs.Reading.{read_bytes}
 use Rattle.ascii_file.specs.Pieces.{fed}
 use Rattle.ascii_file.proofs.PieceLaws as ascii
 use Rattle.ascii_file.proofs.FaultLaws as ascii_faults
-use Rattle.counted_io.proofs.AnsweringLaws.{Fails-where}
+use Rattle.file_words.proofs.AnsweringLaws.{Fails-where}
 use Rattle.binary_file.specs.Reading.{AtHeader, feed, read_binary}
 use Rattle.binary_file.proofs.PieceLaws as binary
 use Rattle.binary_file.proofs.FaultLaws as binary_faults
-use Rattle.counted_io.specs.declared.spelling.Spelling.{Spelling}
-use Rattle.counted_io.specs.declared.spelling.Spelling.TheVariants.{Ascii, Binary}
+use Rattle.file_words.specs.declared.spelling.Spelling.{Spelling}
+use Rattle.file_words.specs.declared.spelling.Spelling.TheVariants.{Ascii, Binary}
 use Rattle.aig_binary.specs.Spellings.{spelling_of, read_in_spelling, read_any}
 use Rattle.aig_binary.specs.Pieces.{IsFeedError, IsFinishError}
 use Rattle.aig_binary.specs.Fed.{ascii_fed, binary_fed, fed_any}

@@ -19,8 +19,8 @@ use Rattle.binary_file.specs.Files.{IsItem, AreItems, with_items, IsBinaryFile}
 use Rattle.binary_file.specs.Reading as binary
 use Rattle.binary_file.proofs.FileLaws as binary_files
 use Rattle.binary_file.proofs.CountLaws.{the_counts_law}
-use Rattle.counted_io.specs.declared.spelling.Spelling.{Spelling}
-use Rattle.counted_io.specs.declared.spelling.Spelling.TheVariants.{Ascii, Binary}
+use Rattle.file_words.specs.declared.spelling.Spelling.{Spelling}
+use Rattle.file_words.specs.declared.spelling.Spelling.TheVariants.{Ascii, Binary}
 use Rattle.aig_binary.specs.Spellings.{spelling_of, read_in_spelling, read_any}
 use Rattle.aig_binary.specs.Limits.{ReadsWithin}
 use Rattle.ascii_file.proofs.OneLineLaws.{IsOneLine, HasOneLineNames, parts, joined}

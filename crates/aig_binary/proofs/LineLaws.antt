@@ -3,9 +3,9 @@ use Rattle.std.proofs.Common.{ℕ, suc, zero, ◌+◌, ◌-◌, ◌/◌, ◌%◌
 use Rattle.std.specs.Option.{option_and_then}
 use Rattle.std.proofs.lemmas.Bool.{and_parts, not-true, cond-false, eqb-true}
 use Rattle.counted_io.specs.Line.{line}
-use Rattle.counted_io.specs.Lines.{numbers_of}
-use Rattle.counted_io.specs.Cuts.{lacks}
-use Rattle.counted_io.proofs.DecimalLaws.{row_line, row-is_line, row_line-lacks_newline, numbers_of-row_line}
+use Rattle.file_words.specs.Lines.{numbers_of}
+use Rattle.file_words.specs.Cuts.{lacks}
+use Rattle.file_words.proofs.DecimalLaws.{row_line, row-is_line, row_line-lacks_newline, numbers_of-row_line}
 use Rattle.binary_file.specs.Deltas.{bytes_within, delta_of}
 use Rattle.binary_file.proofs.DeltaLaws.{delta_laws}
 use Rattle.ascii_file.specs.declared.header.Header.{Header}

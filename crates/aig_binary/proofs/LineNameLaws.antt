@@ -5,7 +5,7 @@ use Rattle.std.specs.Option.{option_and_then, option_map}
 use Rattle.std.proofs.lemmas.Bool.{cond_both, eqb-false}
 use Rattle.std.proofs.lemmas.List.Elements.{All-from_recursion}
 use Rattle.aig_graph.specs.declared.properties.Symbol.{Symbol}
-use Rattle.counted_io.specs.Lines.{with_front, lines, is_number, digits_value, numbers_of}
+use Rattle.file_words.specs.Lines.{with_front, lines, is_number, digits_value, numbers_of}
 use Rattle.ascii_file.specs.declared.header.Header.{Header}
 use Rattle.ascii_file.specs.declared.raw.Section.{Section}
 use Rattle.ascii_file.specs.declared.raw.Section.TheVariants.{Inputs, Latches, Safety, Sizes, Liveness, Gates, Symbols as SymbolSection}

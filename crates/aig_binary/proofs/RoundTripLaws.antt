@@ -6,9 +6,9 @@ use Rattle.aig_graph.specs.declared.graph.Latch.{Latch}
 use Rattle.aig_graph.specs.Graph.{IsGraph, first_latch, first_gate}
 use Rattle.aig_graph.specs.Circuits.{Netlist, IsNetlist}
 use Rattle.counted_io.specs.Line.{line, numbered_lines}
-use Rattle.counted_io.specs.Text.{header_row, numbered_rows, single_rows, property_rows, all_symbols}
-use Rattle.counted_io.specs.Cuts.{lacks}
-use Rattle.counted_io.proofs.DecimalLaws.{row_line, row_line-lacks_newline}
+use Rattle.file_words.specs.Text.{header_row, numbered_rows, single_rows, property_rows, all_symbols}
+use Rattle.file_words.specs.Cuts.{lacks}
+use Rattle.file_words.proofs.DecimalLaws.{row_line, row_line-lacks_newline}
 use Rattle.ascii_file.specs.declared.raw.RawGate.{RawGate}
 use Rattle.ascii_file.specs.Raw.{nothing_yet}
 use Rattle.ascii_file.specs.Items.{items_of}

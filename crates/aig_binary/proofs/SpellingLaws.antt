@@ -1,12 +1,12 @@
 -- A circuit's texts have their letters, and so they are read by their own spelling's reader.
 use Rattle.std.proofs.Common.{ℕ, ◌≡◌, List, Option, Some, refl, ap, ◌∙◌}
 use Rattle.aig_graph.specs.Circuits.{Netlist}
-use Rattle.counted_io.specs.Text.{text}
+use Rattle.file_words.specs.Text.{text}
 use Rattle.ascii_file.proofs.RoundTripLaws as ascii
 use Rattle.aig_binary.specs.Text.{text_binary}
 use Rattle.aig_binary.proofs.RoundTripLaws as binary
-use Rattle.counted_io.specs.declared.spelling.Spelling.{Spelling}
-use Rattle.counted_io.specs.declared.spelling.Spelling.TheVariants.{Ascii, Binary}
+use Rattle.file_words.specs.declared.spelling.Spelling.{Spelling}
+use Rattle.file_words.specs.declared.spelling.Spelling.TheVariants.{Ascii, Binary}
 use Rattle.aig_binary.specs.Spellings.{spelling_of, read_in_spelling, read_any}
 use Rattle.aig_binary.specs.Laws.{SpellingLaw}
 

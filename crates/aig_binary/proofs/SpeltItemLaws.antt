@@ -6,7 +6,7 @@ use Rattle.std.proofs.lemmas.Option.{slice_get_within}
 use Rattle.aig_graph.specs.Graph.{IsGraph, IsGateAt, variable, first_latch, first_gate, variables_end}
 use Rattle.aig_graph.specs.Circuits.{Netlist, IsNetlist}
 use Rattle.counted_io.specs.Line.{line}
-use Rattle.counted_io.specs.Text.{single_rows}
+use Rattle.file_words.specs.Text.{single_rows}
 use Rattle.ascii_file.proofs.RangeLaws.{all_enumerated}
 use Rattle.ascii_file.specs.declared.header.Header.{Header}
 use Rattle.ascii_file.specs.declared.raw.RawLatch.{RawLatch}

@@ -2,9 +2,9 @@
 use Rattle.std.specs.Prelude.{ℕ, ◌≡◌, ◌⊎◌, true, List, [], Some, Result, Ok, Err}
 use Rattle.counted_io.specs.Input.{Input}
 use Rattle.counted_io.specs.Output.{one_more}
-use Rattle.counted_io.specs.declared.fault.ReadError.{ReadError}
-use Rattle.counted_io.specs.declared.fault.ReadError.TheVariants.{NoMemory, Device}
-use Rattle.counted_io.specs.Codes.{is_fault_of_bytes}
+use Rattle.file_words.specs.declared.fault.ReadError.{ReadError}
+use Rattle.file_words.specs.declared.fault.ReadError.TheVariants.{NoMemory, Device}
+use Rattle.file_words.specs.Codes.{is_fault_of_bytes}
 use Rattle.aig_graph.specs.Circuits.{Netlist}
 use Rattle.aig_binary.specs.Spellings.{spelling_of, read_any}
 use Rattle.aig_binary.specs.declared.reading.SpeltCircuit.{SpeltCircuit}

@@ -3,7 +3,7 @@ use Rattle.std.specs.Prelude.{◌≡◌, Some, Ok}
 use Rattle.aig_graph.specs.Graph.{IsGraph}
 use Rattle.aig_graph.specs.Circuits.{Netlist, IsNetlist}
 use Rattle.ascii_file.specs.Laws.{IsWithinLimits}
-use Rattle.counted_io.specs.declared.spelling.Spelling.{Spelling}
+use Rattle.file_words.specs.declared.spelling.Spelling.{Spelling}
 use Rattle.aig_binary.specs.Spellings.{spelling_of, read_any, text_in}
 use Rattle.binary_file.specs.Reading.{read_binary}
 use Rattle.aig_binary.specs.Text.{text_binary}

@@ -1,8 +1,8 @@
 -- What a reader of circuits answers to the bytes that it has been given.
 use Rattle.std.specs.Prelude.{ℕ, ◌++◌, ◌≡◌, ◌⊎◌, true, List, Err}
-use Rattle.counted_io.specs.declared.fault.ReadError.{ReadError}
-use Rattle.counted_io.specs.declared.fault.ReadError.TheVariants.{NoMemory}
-use Rattle.counted_io.specs.Codes.{is_fault_of_bytes}
+use Rattle.file_words.specs.declared.fault.ReadError.{ReadError}
+use Rattle.file_words.specs.declared.fault.ReadError.TheVariants.{NoMemory}
+use Rattle.file_words.specs.Codes.{is_fault_of_bytes}
 use Rattle.aig_binary.specs.Spellings.{read_any}
 
 -- the bytes have this fault, whatever follows them
@@ -19,5 +19,6 @@ pub record FailsAtEnd (bytes : List ℕ) (e : ReadError) : Type 0 where
 abbrev pub IsFeedError : List ℕ → ReadError → Type 0
 IsFeedError bytes e = (e ≡ NoMemory) ⊎ FailsFrom bytes e
 
+-- why the end of the bytes was refused: memory, or a fault
 abbrev pub IsFinishError : List ℕ → ReadError → Type 0
 IsFinishError bytes e = (e ≡ NoMemory) ⊎ FailsAtEnd bytes e

@@ -1,11 +1,11 @@
 -- Where a reader of either spelling stands.
 use Rattle.std.specs.Prelude.{ℕ, ◌≡◌, ◌<◌, List, length, Option, Some, None, Result, Ok, Err}
-use Rattle.counted_io.specs.declared.fault.ReadError.{ReadError}
-use Rattle.counted_io.specs.declared.fault.ReadError.TheVariants.{BadHeader}
+use Rattle.file_words.specs.declared.fault.ReadError.{ReadError}
+use Rattle.file_words.specs.declared.fault.ReadError.TheVariants.{BadHeader}
 use Rattle.aag_text.specs.Readers as ascii
 use Rattle.binary_file.specs.Holding as binary
-use Rattle.counted_io.specs.declared.spelling.Spelling.{Spelling}
-use Rattle.counted_io.specs.declared.spelling.Spelling.TheVariants.{Ascii, Binary}
+use Rattle.file_words.specs.declared.spelling.Spelling.{Spelling}
+use Rattle.file_words.specs.declared.spelling.Spelling.TheVariants.{Ascii, Binary}
 use Rattle.aig_binary.specs.Spellings.{spelling_of}
 use Rattle.aig_binary.specs.declared.any_reader.AnyReader.{AnyReader}
 use Rattle.aig_binary.specs.declared.any_reader.Phase.{Phase}
@@ -18,6 +18,7 @@ PhaseHoldsEither (InAscii reader) bytes = (spelling_of bytes ≡ Some Ascii) × 
 PhaseHoldsEither (InBinary reader) bytes = (spelling_of bytes ≡ Some Binary) × binary.HasBeenFed reader bytes
 PhaseHoldsEither Neither bytes = (spelling_of bytes ≡ None) × (2 < length bytes)
 
+-- the reader of either format was fed these bytes
 abbrev pub HoldsEither : AnyReader → List ℕ → Type 0
 HoldsEither reader bytes = PhaseHoldsEither reader.phase bytes
 
@@ -33,6 +34,7 @@ phase_fault (InAscii reader) = fault_in (ascii.standing reader)
 phase_fault (InBinary reader) = binary.reader_fault reader
 phase_fault Neither = Some (BadHeader 0)
 
+-- the fault that a reader of either format has
 abbrev pub fault_of_either : AnyReader → Option ReadError
 fault_of_either reader = phase_fault reader.phase
 
@@ -43,5 +45,6 @@ phase_spelling (InAscii reader) = Some Ascii
 phase_spelling (InBinary reader) = Some Binary
 phase_spelling Neither = None
 
+-- the format that the first three bytes named
 abbrev pub spelling_read : AnyReader → Option Spelling
 spelling_read reader = phase_spelling reader.phase

@@ -2,14 +2,14 @@
 use Rattle.std.specs.Prelude.{ℕ, nat_eq, List, Option, Some, None, Result, Err, if◌then◌else◌, codes}
 use Rattle.std.specs.List.{starts_with}
 use Rattle.aig_graph.specs.Circuits.{Netlist}
-use Rattle.counted_io.specs.declared.fault.ReadError.{ReadError}
-use Rattle.counted_io.specs.declared.fault.ReadError.TheVariants.{BadHeader}
-use Rattle.counted_io.specs.Text.{text}
+use Rattle.file_words.specs.declared.fault.ReadError.{ReadError}
+use Rattle.file_words.specs.declared.fault.ReadError.TheVariants.{BadHeader}
+use Rattle.file_words.specs.Text.{text}
 use Rattle.ascii_file.specs.Reading.{read_bytes}
 use Rattle.binary_file.specs.Reading.{read_binary}
 use Rattle.aig_binary.specs.Text.{text_binary}
-use Rattle.counted_io.specs.declared.spelling.Spelling.{Spelling}
-use Rattle.counted_io.specs.declared.spelling.Spelling.TheVariants.{Ascii, Binary}
+use Rattle.file_words.specs.declared.spelling.Spelling.{Spelling}
+use Rattle.file_words.specs.declared.spelling.Spelling.TheVariants.{Ascii, Binary}
 
 -- the spelling whose letters are the first three bytes
 abbrev pub spelling_of : List ℕ → Option Spelling

@@ -8,7 +8,7 @@ use Rattle.counted_io.specs.Buffered.{Puts}
 use Rattle.counted_io.specs.Line.{line, numbered_lines}
 use Rattle.counted_io.specs.Output.{Output}
 use Rattle.counted_io.specs.declared.buffered.Buffered.{Buffered}
-use Rattle.counted_io.specs.Text.{header_row, reset_row, numbered_rows, property_rows, all_symbols}
+use Rattle.file_words.specs.Text.{header_row, reset_row, numbered_rows, property_rows, all_symbols}
 use Rattle.binary_file.specs.Deltas.{delta_of}
 
 -- the numbers of a latch's line: its next literal, and its reset where that isn't 0

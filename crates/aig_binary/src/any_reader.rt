@@ -8,7 +8,7 @@ use aag_text::AagReader;
 use aig_graph::Circuit;
 use arrayvec::ArrayVec;
 use binary_file::AigReader;
-use counted_io::{ReadError, Spelling};
+use file_words::{ReadError, Spelling};
 use std::alloc::Global;
 use std::mem;
 
@@ -41,9 +41,9 @@ impl Drop for AnyReader {
 
 impl AnyReader {
     ghost use Rattle.std.specs.Prelude.{ℕ, List, [], ◌≡◌, ◌++◌, Err, Some, None, OnOk, IfErr};
-    ghost use Rattle.counted_io.specs.declared.fault.ReadError.{ReadError};
-    ghost use Rattle.counted_io.specs.declared.fault.ReadError.TheVariants.{BadHeader, NoMemory};
-    ghost use Rattle.counted_io.specs.Answering.{Gives};
+    ghost use Rattle.file_words.specs.declared.fault.ReadError.{ReadError};
+    ghost use Rattle.file_words.specs.declared.fault.ReadError.TheVariants.{BadHeader, NoMemory};
+    ghost use Rattle.file_words.specs.Answering.{Gives};
     ghost use Rattle.aig_binary.specs.Spellings.{spelling_of, read_any};
     ghost use Rattle.aig_binary.specs.Fed.{fed_any};
     ghost use Rattle.aig_binary.specs.Readers.{HoldsEither, fault_of_either, spelling_read};

@@ -1,7 +1,7 @@
 ghost use Rattle.std.specs.Prelude.{◌≡◌, ◌++◌, Some, IfErr};
-ghost use Rattle.counted_io.specs.declared.fault.ReadError.TheVariants.{NoMemory};
-ghost use Rattle.counted_io.specs.Answering.{Gives};
-ghost use Rattle.counted_io.specs.declared.spelling.Spelling.TheVariants.{Ascii, Binary};
+ghost use Rattle.file_words.specs.declared.fault.ReadError.TheVariants.{NoMemory};
+ghost use Rattle.file_words.specs.Answering.{Gives};
+ghost use Rattle.file_words.specs.declared.spelling.Spelling.TheVariants.{Ascii, Binary};
 ghost use Rattle.aig_binary.specs.Spellings.{spelling_of};
 ghost use Rattle.aig_binary.specs.Fed.{fed_any};
 ghost use Rattle.aig_binary.specs.Readers.{PhaseHoldsEither, phase_fault};
@@ -11,7 +11,7 @@ use crate::first_bytes::spelling;
 use crate::letters::{LETTERS, first_letters};
 use aag_text::AagReader;
 use binary_file::AigReader;
-use counted_io::{ReadError, Spelling};
+use file_words::{ReadError, Spelling};
 use std::alloc::Global;
 
 /// How far a file has come with a piece, and what the piece answers.

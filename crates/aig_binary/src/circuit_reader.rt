@@ -1,7 +1,7 @@
 use crate::CircuitReader;
 use crate::any_reader::AnyReader;
 use aig_graph::Circuit;
-use counted_io::{ReadError, Spelling};
+use file_words::{ReadError, Spelling};
 
 impl CircuitReader for AnyReader {
     ghost use Rattle.aig_binary.specs.Readers.{HoldsEither};

@@ -1,7 +1,7 @@
 ghost use Rattle.std.specs.Prelude.{◌≡◌};
 ghost use Rattle.aig_binary.specs.Spellings.{spelling_of};
 
-use counted_io::Spelling;
+use file_words::Spelling;
 
 /// The spelling that the first three bytes name; `None` where they are neither's, or fewer than three. Takes no memory.
 pub fn spelling(bytes: &[u8]) -> Option<Spelling>

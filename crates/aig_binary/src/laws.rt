@@ -1,5 +1,5 @@
 ghost use Rattle.aig_graph.specs.Circuits.{Netlist};
-ghost use Rattle.counted_io.specs.declared.spelling.Spelling.{Spelling as SpellingOf};
+ghost use Rattle.file_words.specs.declared.spelling.Spelling.{Spelling as SpellingOf};
 ghost use Rattle.aig_binary.specs.Laws.{SpellingLaw, BinaryRoundTripLaw};
 
 /// Each text of a circuit is of its spelling, and is read as that circuit, where the circuit is within the limits of a

@@ -20,7 +20,7 @@ mod writing;
 pub use any_reader::AnyReader;
 pub use binary_file::{AigReader, read_aig};
 pub use binary_text::write_aig;
-pub use counted_io::Spelling;
+pub use file_words::Spelling;
 pub use first_bytes::spelling;
 pub use laws::{round_trip_law, spelling_law};
 pub use limits::read_limits_law;

@@ -3,7 +3,7 @@ ghost use Rattle.aig_binary.specs.Spellings.{read_any, spelling_of};
 ghost use Rattle.aig_binary.specs.Pieces.{IsFeedError, IsFinishError};
 
 use aig_graph::Circuit;
-use counted_io::{ReadError, Spelling};
+use file_words::{ReadError, Spelling};
 
 /// What reads a circuit of either spelling from bytes that come in pieces, however they are cut.
 pub trait CircuitReader {

@@ -1,12 +1,12 @@
 ghost use Rattle.std.specs.Prelude.{ℕ, List, ◌≡◌, ◌⊎◌, ◌++◌, Ok, Err, IfOk, IfErr};
-ghost use Rattle.counted_io.specs.declared.fault.ReadError.TheVariants.{NoMemory};
-ghost use Rattle.counted_io.specs.Answering.{Gives};
+ghost use Rattle.file_words.specs.declared.fault.ReadError.TheVariants.{NoMemory};
+ghost use Rattle.file_words.specs.Answering.{Gives};
 ghost use Rattle.aig_binary.specs.Spellings.{read_any};
 ghost use Rattle.aig_binary.specs.Readers.{HoldsEither};
 
 use crate::any_reader::AnyReader;
 use aig_graph::Circuit;
-use counted_io::ReadError;
+use file_words::ReadError;
 use std::alloc::Global;
 
 /// The circuit of a file of either spelling, all of whose bytes are there.

@@ -6,7 +6,8 @@ ghost use Rattle.aig_binary.specs.Ending.{IsReadError, ReadsToEnd, Spells};
 use crate::pieces::CircuitReader;
 use crate::rest::{PIECE, drop_rest, next_piece};
 use aig_graph::Circuit;
-use counted_io::{CountedRead, ReadError, Spelling};
+use counted_io::CountedRead;
+use file_words::{ReadError, Spelling};
 
 /// A circuit that was read, and the spelling of its bytes.
 #[derive(Drop)]

@@ -2,10 +2,11 @@
 ghost use Rattle.std.specs.Prelude.{◌≡◌, ◌<◌, ◌≤◌, length, take, IfOk, OnOk, OnErr, IfErr};
 ghost use Rattle.std.specs.Io.KnownBytes.{Consumes, IsAtEnd, Keeps};
 ghost use Rattle.counted_io.specs.Input.{failures_after_read};
-ghost use Rattle.counted_io.specs.declared.fault.ReadError.TheVariants.{Device};
+ghost use Rattle.file_words.specs.declared.fault.ReadError.TheVariants.{Device};
 ghost use Rattle.aig_binary.specs.Ending.{ReadsToEnd, StopsReading};
 
-use counted_io::{CountedRead, ReadError};
+use counted_io::CountedRead;
+use file_words::ReadError;
 
 /// How many bytes one read asks for.
 pub(crate) const PIECE: usize = 65536;

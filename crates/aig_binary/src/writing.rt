@@ -4,7 +4,8 @@ ghost use Rattle.aig_binary.specs.Spellings.{text_in};
 use crate::binary_text::write_aig;
 use aag_text::write_aag;
 use aig_graph::Circuit;
-use counted_io::{CountedWrite, Spelling, WriteError};
+use counted_io::{CountedWrite, WriteError};
+use file_words::Spelling;
 
 /// Writes the circuit's text in the spelling. Takes no memory, and calls the writer about once for each 8 KiB of text.
 ///

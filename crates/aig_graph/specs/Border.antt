@@ -36,7 +36,7 @@ is_gate_in g s v = is_some (gate_at g v) && has s v
 unfoldable pub in_border : Move → ℕ → Bool
 in_border m v = (is_known (latch_at m.circuit.aig v) || is_gate_in m.circuit.aig m.set v) && (is_held m.circuit.aig m.held v || is_read m.circuit m.set v)
 
--- the same by marks, from the first latch on: of the set, and of what is held or read from outside
+-- whether the variable is in the border by marks, from the first latch on: of the set, and of what is held or read from outside
 unfoldable pub is_counted : Graph → List Bool → List Bool → ℕ → Bool
 is_counted g inside marks v = mark_at (first_latch g) marks v && ((is_some (gate_at g v) && mark_at (first_latch g) inside v) || is_known (latch_at g v))
 

@@ -8,7 +8,7 @@ abbrev pub fold_step : {A : Type 0} → (ℕ → A) → (Gate → A → A → A)
 fold_step leaf rule fan_in v None = leaf v
 fold_step leaf rule fan_in v (Some gate) = rule gate (fan_in (variable gate.rhs0)) (fan_in (variable gate.rhs1))
 
--- the same, looking through at most this many gates on each way
+-- what a variable gets by a look through at most `depth` gates on each way
 unfoldable pub fold_to_depth : {A : Type 0} → Graph → (ℕ → A) → (Gate → A → A → A) → ℕ → ℕ → A
 fold_to_depth g leaf rule zero v = leaf v
 fold_to_depth g leaf rule (suc depth) v = fold_step leaf rule (fold_to_depth g leaf rule depth) v (gate_at g v)

@@ -19,6 +19,7 @@ variable lit = lit / 2
 abbrev pub first_latch : Graph → ℕ
 first_latch g = 1 + g.inputs
 
+-- the variable of the first gate
 abbrev pub first_gate : Graph → ℕ
 first_gate g = 1 + g.inputs + length g.latches
 
@@ -38,6 +39,7 @@ latch_at g v = if nat_le (first_latch g) v then slice_get g.latches (v - first_l
 abbrev pub gate_at : Graph → ℕ → Option Gate
 gate_at g v = if nat_le (first_gate g) v then slice_get g.gates (v - first_gate g) else None
 
+-- whether a latch is free
 abbrev pub is_free : Latch → Bool
 is_free latch = elim latch.reset [ Zero ↦ false | One ↦ false | Free ↦ true ]
 
@@ -59,6 +61,7 @@ free_before g n = count_by is_free (take n g.latches)
 abbrev pub free_latches : Graph → ℕ
 free_latches g = free_before g (length g.latches)
 
+-- how many latches have a known reset
 abbrev pub known_latches : Graph → ℕ
 known_latches g = count_by (λ latch. not (is_free latch)) g.latches
 
@@ -71,6 +74,8 @@ pub record IsGateAt (v : ℕ) (gate : Gate) : Type 0 where
   pub ordered : gate.rhs1 ≤ gate.rhs0
   pub below : variable gate.rhs0 < v
 
+-- at most `MAX_VARIABLES` (2^28) variables with the constant, each next literal is one of the
+-- graph, and each gate is a gate at its variable
 pub record IsGraph (g : Graph) : Type 0 where
   pub small : variables_end g ≤ MAX_VARIABLES
   pub latches : (k : ℕ) (latch : Latch) → slice_get g.latches k ≡ Some latch → IsLiteralOf g latch.next

@@ -41,6 +41,7 @@ NoneMissing names c = first_missing c.symbols.latches names ≡ None
 abbrev pub IsFirstMissing : List (List ℕ) → Netlist → ℕ → Type 0
 IsFirstMissing names c place = first_missing c.symbols.latches names ≡ Some place
 
+-- the number of an error of `keep_of`
 abbrev pub keep_error_code : KeepError → ℕ
 keep_error_code (NoSuchName place) = 1
 keep_error_code NoMemory = 2

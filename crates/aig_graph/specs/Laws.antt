@@ -13,6 +13,8 @@ use Rattle.aig_graph.specs.Closed.{is_held, may_move, IsPassable, IsClosedSet}
 use Rattle.aig_graph.specs.Move.{move_of}
 use Rattle.aig_graph.specs.Border.{is_read, in_border, border_size, IsGreatestLeast, IsSmallestLeast}
 
+-- the value of the constant, of an input, of a latch at step 0 and later, of a gate and of a
+-- negated literal
 pub record ValueLaws (g : Graph) (x : Inputs) (f : Choice) : Type 0 where
   pub constant : (t : ℕ) → value g x f t 0 ≡ false
   pub input : (t i : ℕ) → i < g.inputs → value g x f t (2 * (1 + i)) ≡ x t i
@@ -32,9 +34,11 @@ all_free g = range_with_len 0 (free_latches g)
 abbrev pub composed : List ℕ → List ℕ → List ℕ
 composed first second = map (slice_index first) second
 
+-- a circuit has its own streams
 abbrev pub IsReflexive : Netlist → Type 0
 IsReflexive c = SameStreams c c (all_free c.aig)
 
+-- equal streams compose, and so do the lists of kept free latches
 abbrev pub IsTransitive : Netlist → Netlist → Netlist → List ℕ → List ℕ → Type 0
 IsTransitive c d e first second = SameStreams c d first → SameStreams d e second → SameStreams c e (composed first second)
 
@@ -42,6 +46,8 @@ IsTransitive c d e first second = SameStreams c d first → SameStreams d e seco
 abbrev pub MayMoveOrPassable : Graph → List ℕ → ℕ → Type 0
 MayMoveOrPassable g held v = IsTrue (may_move g held v) ⊎ IsPassable g held v
 
+-- a gate is passable exactly if the variable of each fan-in is a known latch that isn't held, or a
+-- passable gate
 abbrev pub PassableLaw : Graph → List ℕ → ℕ → Type 0
 PassableLaw g held v =
     IsPassable g held v
@@ -58,6 +64,7 @@ abbrev pub ClosedBorderLaw : Netlist → List ℕ → List ℕ → ℕ → Type 
 ClosedBorderLaw c held s v =
     IsClosedSet c.aig held s → in_border (move_of c held s) v ≡ ((is_known (latch_at c.aig v) || has s v) && (is_held c.aig held v || is_read c s v))
 
+-- there is at most one greatest least set and one smallest least set
 pub record AtMostOne (c : Netlist) (held s r : List ℕ) : Type 0 where
   pub greatest : IsGreatestLeast c held s → IsGreatestLeast c held r → s ≡ r
   pub smallest : IsSmallestLeast c held s → IsSmallestLeast c held r → s ≡ r

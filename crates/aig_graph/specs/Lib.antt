@@ -3,6 +3,7 @@ pub mod Tables
 pub mod Marking
 pub mod Graph
 pub mod Folding
+pub mod Gates
 pub mod Value
 pub mod Circuits
 pub mod Streams

@@ -8,5 +8,6 @@ pub record Move : Type 0 where
   pub held : List ℕ
   pub set : List ℕ
 
+-- a circuit, the held positions and the set
 abbrev pub move_of : Netlist → List ℕ → List ℕ → Move
 move_of c held s = record { circuit = c; held = held; set = s }

@@ -1,5 +1,5 @@
-//! The border of a set, in one table of marks: first what is read from outside the set is marked, and what is held; then the
-//! known latches and the members that have a mark are counted.
+//! The border of a set, in one table of marks: first all that is read from outside of the set or
+//! held is marked; then the known latches and the members that have a mark are counted.
 ghost use Rattle.std.specs.Prelude.{◌≡◌, ◌==◌, ◌-◌, ◌&&◌, is_some, IfOk};
 ghost use Rattle.aig_graph.specs.Graph.{first_latch, variables_end, latch_at};
 ghost use Rattle.aig_graph.specs.Closed.{is_held};
@@ -16,7 +16,7 @@ use crate::reading::mark_read;
 use crate::{NoMemory, mark_at, mark_variable, marks_of};
 use std::alloc::Global;
 
-/// Marks the latch at a position, if there is one.
+/// Marks the latch at `position`, if there is one.
 fn mark_position(marks: &mut [bool], aig: &Aig, position: u32)
     ensures { Marks (first_latch aig.now) marks.old marks.new
         (λ v. (position == v - first_latch aig.now) && is_some (latch_at aig.now v)) }
@@ -36,7 +36,7 @@ pub fn mark_held(marks: &mut [bool], aig: &Aig, keep: &Keep)
     }
 }
 
-/// Whether the variable is marked, and a gate inside or a known latch.
+/// Returns true if the variable is marked, and is a gate inside or a known latch.
 #[tactic(auto, unfolding(crate::specs::Border::is_counted))]
 fn is_counted(aig: &Aig, inside: &[bool], marks: &[bool], var: u32) -> bool
     ensures { result ≡ is_counted aig.now inside.now marks.now var }
@@ -46,7 +46,7 @@ fn is_counted(aig: &Aig, inside: &[bool], marks: &[bool], var: u32) -> bool
         && ((aig.gate(var).is_some() && mark_at(inside, first, var)) || aig.is_known_latch(var))
 }
 
-/// The number of known latches and gates inside that are marked.
+/// Returns the number of known latches and gates inside that are marked.
 fn count_marked(aig: &Aig, inside: &[bool], marks: &[bool]) -> u32
     ensures { result ≡ count_below (is_counted aig.now inside.now marks.now)
         (variables_end aig.now) }
@@ -60,9 +60,10 @@ fn count_marked(aig: &Aig, inside: &[bool], marks: &[bool]) -> u32
     total
 }
 
-/// The size of a set's border: how many of the known latches and the set's gates are held or read from outside. So many
-/// known latches a circuit has right after latches have moved over a closed set. Members that are no gates add nothing.
-/// Linear in the circuit; no table has an entry for an input.
+/// Returns the size of a set's border: the number of known latches and of the set's gates that are
+/// held or read from outside. A circuit has this number of known latches right after latches have
+/// moved over a closed set. Members that are no gates add nothing. Linear in the circuit; no table
+/// has an entry for an input.
 pub fn count(
     alloc: Global,
     circuit: &Circuit,

@@ -1,5 +1,5 @@
-//! Graphs that grow gate by gate. A latch begins with the constant false as its next literal, since what it reads is made after
-//! it.
+//! Graphs that grow gate by gate. A latch begins with the constant false as its next literal, since
+//! the gate that it reads is made after it.
 ghost use Rattle.std.specs.Prelude.{◌≡◌, ◌+◌, ◌*◌, ◌<◌, ◌≤◌, ◌↔◌, length, OnOk, OnErr, IfOk, IsErrOf, slice_get, slice_set, Some};
 ghost use Rattle.aig_graph.specs.Graph.{variables_end, IsLiteralOf};
 ghost use Rattle.aig_graph.specs.Building.{without_gates, gate_of, with_gate, with_next};
@@ -18,7 +18,8 @@ pub enum BuildError {
     /// Memory was refused.
     #[error("out of memory")]
     NoMemory,
-    /// There would be more variables than a graph may have. This is found before memory is asked for.
+    /// There would be more variables than a graph may have. This is found before memory is asked
+    /// for.
     #[error("too many variables")]
     TooLarge,
 }
@@ -26,7 +27,7 @@ pub enum BuildError {
 impl BuildError {
     ghost use Rattle.aig_graph.specs.Codes.{build_error_code};
 
-    /// The number of the fault.
+    /// Returns the number of the fault.
     pub fn code(self) -> u8
         ensures { result ≡ build_error_code self }
     {
@@ -72,8 +73,9 @@ impl Model for AigBuilder {
 }
 
 impl AigBuilder {
-    /// A graph with these inputs, a latch with each of these resets, the constant false as each next literal, and no gate.
-    /// `TooLarge` where the variables would be more than a graph may have, and only there.
+    /// Makes a graph with `inputs` inputs, a latch for each of `resets`, the constant false as each
+    /// next literal, and no gate. Fails with `TooLarge` if and only if the variables would be more
+    /// than a graph may have.
     pub fn new(alloc: Global, inputs: u32, resets: Vec<Reset>) -> Result<AigBuilder, BuildError>
         ensures ok { IfOk result (λ builder. builder ≡ without_gates inputs resets.items) }
         ensures too_large { IsErrOf result BuildError.TooLarge ↔
@@ -97,7 +99,7 @@ impl AigBuilder {
         })
     }
 
-    /// The number of variables, the constant among them.
+    /// Returns the number of variables, the constant among them.
     fn variables(&self) -> usize
         ensures variables { result ≡ variables_end self.now }
         ensures small { result ≤ MAX_VARIABLES }
@@ -105,8 +107,8 @@ impl AigBuilder {
         1 + self.inputs as usize + self.latches.len() + self.gates.len()
     }
 
-    /// Adds the gate of two literals, and returns its literal. Equal gates are not shared. After an `Err` the builder is
-    /// as it was.
+    /// Adds the gate of two literals, and returns its literal. Equal gates are not shared. After an
+    /// `Err` the builder is as it was.
     pub fn and(&mut self, a: Lit, b: Lit) -> Result<Lit, BuildError>
         requires a { IsLiteralOf self.old a }
         requires b { IsLiteralOf self.old b }
@@ -124,7 +126,7 @@ impl AigBuilder {
         Ok(Lit::new(variable as u32, false))
     }
 
-    /// Gives latch `k`, counted from 0, another next literal.
+    /// Replaces the next literal of latch `k`, counted from 0.
     pub fn set_latch(&mut self, k: usize, next: Lit)
         requires k { k < length self.old.latches }
         requires next { IsLiteralOf self.old next }
@@ -133,7 +135,7 @@ impl AigBuilder {
         self.latches[k].next = next;
     }
 
-    /// The graph that was built. No memory is taken.
+    /// Returns the graph that was built. Takes no memory.
     pub fn finish(self) -> Aig
         ensures { result ≡ self }
     {

@@ -1,12 +1,13 @@
-//! Circuits, of which all literals and positions are in range: by the parts, of which each has its own file.
+//! Circuits, of which all literals and positions are in range. Each of their parts has a file of
+//! its own.
 ghost use Rattle.std.specs.Prelude.{◌≡◌};
 
 use crate::graph::Aig;
 use crate::properties::{Props, Symbols};
 use std::marker::Model;
 
-/// A sequential circuit: an and-inverter graph, its properties and its symbol table. Invariant: every literal and every
-/// symbol position is in range.
+/// A sequential circuit: an and-inverter graph, its properties and its symbol table. Invariant:
+/// every literal and every symbol position is in range.
 pub struct Circuit {
     aig: Aig,
     props: Props,
@@ -38,7 +39,7 @@ impl Circuit {
     ghost use Rattle.aig_graph.specs.Graph.{IsGraph};
     ghost use Rattle.aig_graph.specs.Circuits.{IsNetlist};
 
-    /// The circuit of these parts.
+    /// Returns the circuit of these parts.
     pub fn new(aig: Aig, props: Props, symbols: Symbols) -> Circuit
         requires { IsNetlist (record { aig = aig; props = props; symbols = symbols }) }
         ensures { result ≡ record { aig = aig; props = props; symbols = symbols } }
@@ -50,7 +51,7 @@ impl Circuit {
         }
     }
 
-    /// What holds of every circuit. Costs nothing: a caller sees the value of a circuit alone, and has its invariant by this call.
+    /// Gives a caller the invariant of a circuit, of which it sees the value alone. Costs nothing.
     pub fn known(&self)
         ensures graph { IsGraph self.now.aig }
         ensures netlist { IsNetlist self.now }
@@ -58,7 +59,7 @@ impl Circuit {
         self.aig.known();
     }
 
-    /// The graph.
+    /// Returns the graph.
     pub fn aig(&self) -> &Aig
         ensures value { result.now ≡ self.now.aig }
         ensures graph { IsGraph self.now.aig }
@@ -68,7 +69,7 @@ impl Circuit {
         &self.aig
     }
 
-    /// The properties.
+    /// Returns the properties.
     pub fn props(&self) -> &Props
         ensures value { result.now ≡ self.now.props }
         ensures netlist { IsNetlist self.now }
@@ -76,7 +77,7 @@ impl Circuit {
         &self.props
     }
 
-    /// The symbol table.
+    /// Returns the symbol table.
     pub fn symbols(&self) -> &Symbols
         ensures value { result.now ≡ self.now.symbols }
         ensures netlist { IsNetlist self.now }

@@ -1,5 +1,6 @@
-//! Closed sets of passable gates. Whether a set is closed takes one look at each member: where the fan-ins of every member are
-//! latches that may move or members, all members are passable, by induction along the order of the gates.
+//! Closed sets of passable gates. A set is judged by one look at each member. If the fan-ins of
+//! every member are latches that may move or members, all members are passable, by induction along
+//! the order of the gates.
 ghost use Rattle.std.specs.Prelude.{◌≡◌, ◌+◌, ◌<◌, ◌↔◌, ◌⊎◌, IsTrue, All, Contains, MatchOption, length};
 ghost use Rattle.std.specs.Option.{SomeIff};
 ghost use Rattle.std.specs.List.Sorted.{IsStrictlyIncreasing};
@@ -12,7 +13,7 @@ use crate::keep::Keep;
 use crate::rising::{contains, is_rising};
 use std::marker::Model;
 
-/// A set of variables, as a strictly rising list. `is_closed` returns whether it is a closed set of a graph.
+/// A set of variables, as a strictly rising list. It need not be closed; [`is_closed`] tells.
 pub struct ClosedSet {
     vars: Vec<u32>,
 }
@@ -36,7 +37,8 @@ impl Model for ClosedSet {
 }
 
 impl ClosedSet {
-    /// The set of these variables, where they rise strictly; another list is dropped. The empty list rises.
+    /// Returns the set of `vars`, if they rise strictly; another list is dropped. The empty list
+    /// rises.
     pub fn new(vars: Vec<u32>) -> Option<ClosedSet>
         ensures { SomeIff result (IsStrictlyIncreasing vars.items) vars.items }
     {
@@ -47,7 +49,7 @@ impl ClosedSet {
         }
     }
 
-    /// The variables, rising.
+    /// Returns the variables, rising.
     pub fn vars(&self) -> &[u32]
         ensures value { result.now ≡ self.now }
         ensures rising { IsStrictlyIncreasing result.now }
@@ -55,7 +57,7 @@ impl ClosedSet {
         self.vars.as_slice()
     }
 
-    /// Whether the variable is in the set, by a binary search.
+    /// Returns true if the variable is in the set, by a binary search.
     pub fn has(&self, var: u32) -> bool
         ensures value { result ≡ has self.now var }
         ensures contains { IsTrue result ↔ Contains self.now var }
@@ -64,12 +66,13 @@ impl ClosedSet {
     }
 }
 
-/// Whether the set is a closed set of passable gates: each member is a gate, and each of its fan-ins' variables is a latch
-/// with a known reset that isn't held, or a member. No memory is taken; a member costs a few binary searches.
+/// Returns true if the set is a closed set of passable gates. Each member then is a gate, and each
+/// variable of its fan-ins is a member, or a latch with a known reset that isn't held. Takes no
+/// memory; a member costs a few binary searches.
 pub fn is_closed(aig: &Aig, set: &ClosedSet, keep: &Keep) -> bool
     ensures { IsTrue result ↔ IsClosedSet aig.now keep.now set.now }
 {
-    // That fan-ins come before their gates is what a graph's readers ensure.
+    // A graph's readers ensure that fan-ins come before their gates.
     aig.known();
     each_rests_on(aig, set, keep)
 }
@@ -81,7 +84,7 @@ fn each_rests_on(aig: &Aig, set: &ClosedSet, keep: &Keep) -> bool
     set.vars().iter().all(|var| rests_on(aig, set, keep, *var))
 }
 
-/// Whether the variable is a gate whose fan-ins' variables are latches that may move, or in the set.
+/// Returns true if the variable is a gate whose fan-ins are latches that may move, or in the set.
 #[tactic(auto, unfolding(crate::specs::Closed::RestsOn))]
 fn rests_on(aig: &Aig, set: &ClosedSet, keep: &Keep, var: u32) -> bool
     ensures { IsTrue result ↔ RestsOn aig.now keep.now set.now var }
@@ -95,7 +98,7 @@ fn rests_on(aig: &Aig, set: &ClosedSet, keep: &Keep, var: u32) -> bool
     }
 }
 
-/// Whether the variable is a latch that may move, or in the set.
+/// Returns true if the variable is a latch that may move, or in the set.
 fn may_move_or_in(aig: &Aig, set: &ClosedSet, keep: &Keep, var: u32) -> bool
     ensures { IsTrue result ↔ MayMoveOrIn aig.now keep.now set.now var }
 {

@@ -1,6 +1,6 @@
-//! Sequential and-inverter graphs. Variables are numbered in the order constant, inputs, latches, gates, and a gate reads
-//! variables below its own alone: so whatever goes by rising variable meets fan-ins before the gates that read them, and needs no
-//! sort.
+//! Sequential and-inverter graphs. Variables are numbered in the order constant, inputs, latches,
+//! gates, and a gate reads only variables below its own. So a pass by rising variable meets fan-ins
+//! before the gates that read them, and needs no sort.
 ghost use Rattle.std.specs.Prelude.{◌≡◌, ◌-◌, ◌<◌, ◌≤◌, false, length};
 ghost use Rattle.std.specs.List.{slice_index_or};
 ghost use Rattle.aig_graph.specs.declared.literal.TheConstants.{MAX_VARIABLES};
@@ -10,7 +10,7 @@ ghost use Rattle.aig_graph.specs.Value.{opening_literal, reset_to, signed};
 use crate::literal::Lit;
 use std::marker::Model;
 
-/// What a latch has at step 0. A free latch is uninitialised: it has either value.
+/// The value of a latch at step 0. A free latch is uninitialised: it has either value.
 #[derive(Clone, Copy, PartialEq, Eq, Hash, Debug)]
 pub enum Reset {
     Zero,
@@ -21,7 +21,7 @@ pub enum Reset {
 impl From<bool> for Reset {
     ghost from_gives = { λ value reset. reset ≡ reset_to value };
 
-    /// The known reset with this value.
+    /// Returns the known reset with this value.
     fn from(value: bool) -> Reset {
         if value { Reset::One } else { Reset::Zero }
     }
@@ -44,7 +44,7 @@ pub struct Gate {
 impl Gate {
     ghost use Rattle.aig_graph.specs.Building.{gate_of};
 
-    /// The gate of two literals in either order.
+    /// Returns the gate of two literals, which may be in either order.
     pub fn of(a: Lit, b: Lit) -> Gate
         ensures { result ≡ gate_of a b }
     {
@@ -56,9 +56,9 @@ impl Gate {
     }
 }
 
-/// A sequential and-inverter graph. Variable 0 is the constant; after it come the inputs, the latches and the gates, in
-/// this order. The fan-ins of a gate have variables below its own, all literals are in range, and there are at most
-/// `MAX_VARIABLES` variables.
+/// A sequential and-inverter graph. Variable 0 is the constant; after it come the inputs, the
+/// latches and the gates, in this order. The fan-ins of a gate have variables below its own, all
+/// literals are in range, and there are at most `MAX_VARIABLES` variables.
 pub struct Aig {
     inputs: u32,
     latches: Vec<Latch>,
@@ -89,7 +89,7 @@ impl Model for Aig {
 impl Aig {
     ghost use Rattle.aig_graph.specs.Graph.{IsGraph, first_gate, variables_end, latches_and_gates, gate_at, latch_at, is_known, free_latches, known_latches};
 
-    /// The graph of these parts, which are in range.
+    /// Returns the graph of these parts, which are in range.
     pub fn from_parts(inputs: u32, latches: Vec<Latch>, gates: Vec<Gate>) -> Aig
         requires { IsGraph (record {
           inputs = inputs;
@@ -109,14 +109,14 @@ impl Aig {
         }
     }
 
-    /// What holds of every graph. Costs nothing: a caller sees the value of a graph alone, and has its invariant by this call.
+    /// Gives a caller the invariant of a graph, of which it sees the value alone. Costs nothing.
     pub fn known(&self)
         ensures { IsGraph self.now }
     {
         let _latches = self.latches.as_slice();
     }
 
-    /// The number of inputs.
+    /// Returns the number of inputs.
     pub fn inputs(&self) -> u32
         ensures value { result ≡ self.now.inputs }
         ensures graph { IsGraph self.now }
@@ -124,7 +124,7 @@ impl Aig {
         self.inputs
     }
 
-    /// The latches.
+    /// Returns the latches.
     pub fn latches(&self) -> &[Latch]
         ensures value { result.now ≡ self.now.latches }
         ensures graph { IsGraph self.now }
@@ -132,7 +132,7 @@ impl Aig {
         self.latches.as_slice()
     }
 
-    /// The gates.
+    /// Returns the gates.
     pub fn gates(&self) -> &[Gate]
         ensures value { result.now ≡ self.now.gates }
         ensures graph { IsGraph self.now }
@@ -140,7 +140,7 @@ impl Aig {
         self.gates.as_slice()
     }
 
-    /// The variable of the first latch.
+    /// Returns the variable of the first latch.
     pub fn first_latch(&self) -> u32
         ensures value { result ≡ first_latch self.now }
         ensures graph { IsGraph self.now }
@@ -148,7 +148,7 @@ impl Aig {
         1 + self.inputs
     }
 
-    /// The variable of the first gate.
+    /// Returns the variable of the first gate.
     pub fn first_gate(&self) -> u32
         ensures value { result ≡ first_gate self.now }
         ensures graph { IsGraph self.now }
@@ -156,7 +156,7 @@ impl Aig {
         self.first_latch() + self.latches.len() as u32
     }
 
-    /// The number of variables, the constant among them.
+    /// Returns the number of variables, the constant among them.
     pub fn variables(&self) -> usize
         ensures value { result ≡ variables_end self.now }
         ensures small { result ≤ MAX_VARIABLES }
@@ -164,7 +164,8 @@ impl Aig {
         1 + self.inputs as usize + self.latches.len() + self.gates.len()
     }
 
-    /// The number of latches and gates: how many entries a table by variable has from the first latch on.
+    /// Returns the number of latches and gates, which is the length of a table by variable from the
+    /// first latch on.
     pub fn latches_and_gates(&self) -> usize
         ensures value { result ≡ latches_and_gates self.now }
         ensures small { result ≤ MAX_VARIABLES }
@@ -172,7 +173,7 @@ impl Aig {
         self.latches.len() + self.gates.len()
     }
 
-    /// The latch at a variable.
+    /// Returns the latch at a variable, if there is one.
     pub fn latch(&self, var: u32) -> Option<Latch>
         ensures { result ≡ latch_at self.now var }
     {
@@ -184,7 +185,7 @@ impl Aig {
             .copied()
     }
 
-    /// The gate at a variable.
+    /// Returns the gate at a variable, if there is one.
     pub fn gate(&self, var: u32) -> Option<Gate>
         ensures { result ≡ gate_at self.now var }
     {
@@ -194,7 +195,7 @@ impl Aig {
         self.gates.get((var - self.first_gate()) as usize).copied()
     }
 
-    /// Whether the variable is a latch whose reset is known.
+    /// Returns true if the variable is a latch whose reset is known.
     pub fn is_known_latch(&self, var: u32) -> bool
         ensures { result ≡ is_known (latch_at self.now var) }
     {
@@ -204,7 +205,7 @@ impl Aig {
         }
     }
 
-    /// The number of latches whose reset is free.
+    /// Returns the number of latches whose reset is free.
     pub fn free_latches(&self) -> u32
         ensures { result ≡ free_latches self.now }
     {
@@ -214,7 +215,7 @@ impl Aig {
             .count() as u32
     }
 
-    /// The number of latches whose reset is known.
+    /// Returns the number of latches whose reset is known.
     pub fn known_latches(&self) -> u32
         ensures { result ≡ known_latches self.now }
     {
@@ -225,7 +226,8 @@ impl Aig {
     }
 }
 
-/// The literal of what a latch with this reset holds at step 0, where `own` is its own literal.
+/// Returns the literal of the value of a latch with this reset at step 0, if `own` is the latch's
+/// own literal.
 pub fn opening_literal(reset: Reset, own: Lit) -> Lit
     ensures { result ≡ opening_literal reset own }
 {
@@ -236,7 +238,8 @@ pub fn opening_literal(reset: Reset, own: Lit) -> Lit
     }
 }
 
-/// The value of a literal whose latch or gate has its entry in `values`: the latches come first, then the gates.
+/// Returns the value of a literal whose latch or gate has its entry in `values`: the latches come
+/// first, then the gates.
 pub fn reset_value(aig: &Aig, values: &[bool], lit: Lit) -> bool
     requires past_inputs { first_latch aig.now ≤ variable lit }
     requires has_entry { variable lit - first_latch aig.now < length values.now }

@@ -1,5 +1,5 @@
-//! Holding latches by their symbols' names and by their positions. Both are looked up once: from then on the held latches are
-//! known by their positions alone.
+//! Holds latches by their symbols' names and by their positions. Both are looked up once: from then
+//! on the held latches are known by their positions alone.
 ghost use Rattle.std.specs.Prelude.{ℕ, List, ◌≡◌, ◌<◌, ◌||◌, All, length, map, bytes_eq, IfOk, OnOk, IsErrOf, MatchOption};
 ghost use Rattle.std.specs.HashSet.{contains_by};
 ghost use Rattle.std.specs.List.{list_any};
@@ -31,7 +31,7 @@ pub enum KeepError {
 impl KeepError {
     ghost use Rattle.aig_graph.specs.Keep.{keep_error_code};
 
-    /// The number of the fault.
+    /// Returns the number of the fault.
     pub fn code(self) -> u8
         ensures { result ≡ keep_error_code self }
     {
@@ -50,7 +50,7 @@ impl From<AllocError> for KeepError {
     }
 }
 
-/// The names of the symbols.
+/// Returns the set of the symbols' names.
 fn names_of<'a>(alloc: Global, symbols: &'a [Symbol]) -> Result<HashSet<&'a [u8]>, AllocError>
     ensures { IfOk result (λ found. (q : List ℕ) → contains_by (λ k. bytes_eq q k.now) found
         ≡ has_name symbols.now q) }
@@ -62,7 +62,7 @@ fn names_of<'a>(alloc: Global, symbols: &'a [Symbol]) -> Result<HashSet<&'a [u8]
     Ok(found)
 }
 
-/// The names, to be looked up.
+/// Returns the set of `names`, to look names up in it.
 fn set_of<'a>(alloc: Global, names: &'a [Vec<u8>]) -> Result<HashSet<&'a [u8]>, AllocError>
     ensures { IfOk result (λ found. (q : List ℕ) → contains_by (λ k. bytes_eq q k.now) found
         ≡ list_any (bytes_eq q) (map (λ name. name.items) names.now)) }
@@ -80,7 +80,7 @@ fn is_among(found: &HashSet<&[u8]>, name: &[u8]) -> bool
     found.contains(name)
 }
 
-/// The place of the first name that no symbol has.
+/// Returns the place of the first name that no symbol has.
 fn first_missing(
     alloc: Global,
     symbols: &[Symbol],
@@ -98,7 +98,7 @@ fn first_missing(
     Ok(None)
 }
 
-/// The positions of the symbols whose name is one of the names.
+/// Returns the positions of the symbols whose name is one of `names`.
 fn held_by(alloc: Global, symbols: &[Symbol], names: &[Vec<u8>]) -> Result<Vec<u32>, AllocError>
     ensures { IfOk result (λ positions. positions.items
         ≡ held_by (map (λ name. name.items) names.now) symbols.now) }
@@ -113,13 +113,14 @@ fn held_by(alloc: Global, symbols: &[Symbol], names: &[Vec<u8>]) -> Result<Vec<u
     Ok(positions)
 }
 
-/// The latches that the names hold: those whose symbol's name is one of the names, all of them where several have it.
-/// Time and memory linear in the names and symbols: both are looked up in hash sets. No names hold nothing and take no
-/// memory.
+/// Returns the latches that the names hold: those whose symbol's name is one of the names, all of
+/// them if several have it. Time and memory are linear in the names and symbols, since both are
+/// looked up in hash sets. No names hold nothing and take no memory.
 ///
 /// # Errors
 ///
-/// `NoSuchName` with the place of the first name that no latch has; `NoMemory` where memory is refused.
+/// `NoSuchName` with the place of the first name that no latch has; `NoMemory` if memory is
+/// refused.
 pub fn keep_of(alloc: Global, circuit: &Circuit, names: &[Vec<u8>]) -> Result<Keep, KeepError>
     ensures ok { IfOk result (λ keep. keep ≡ held_in (names_of names.now) circuit.now) }
     ensures none_missing { OnOk result (NoneMissing (names_of names.now) circuit.now) }
@@ -136,11 +137,12 @@ pub fn keep_of(alloc: Global, circuit: &Circuit, names: &[Vec<u8>]) -> Result<Ke
     Ok(Keep::new(held_by(alloc, symbols, names)?))
 }
 
-/// The latches that the names hold, in a circuit that has latches of all names: [`keep_of`] with no name missing.
+/// Returns the latches that the names hold, in a circuit that has latches of all names: [`keep_of`]
+/// with no name missing.
 ///
 /// # Errors
 ///
-/// `NoMemory` where memory is refused.
+/// `NoMemory` if memory is refused.
 pub fn keep_by_names(alloc: Global, circuit: &Circuit, names: &[Vec<u8>]) -> Result<Keep, NoMemory>
     requires { NoneMissing (names_of names.now) circuit.now }
     ensures { IfOk result (λ keep. keep ≡ held_in (names_of names.now) circuit.now) }
@@ -155,7 +157,7 @@ pub fn keep_by_names(alloc: Global, circuit: &Circuit, names: &[Vec<u8>]) -> Res
 /// Why latches can't be held by names and positions.
 #[derive(Clone, Copy, Debug, PartialEq, Eq, Error)]
 pub enum HoldError {
-    /// The position with this number, from 0, is the first that is that of no latch.
+    /// The position with this number, from 0, is the first at which there is no latch.
     #[error("position {0} is that of no latch")]
     NoSuchLatch(usize),
     /// The name with this number, from 0, is the first that no latch has.
@@ -166,7 +168,7 @@ pub enum HoldError {
     NoMemory,
 }
 
-/// The number of the first of the positions that is that of none of so many latches.
+/// Returns the number of the first position that isn't below `latches`, the number of latches.
 fn first_no_latch(latches: usize, positions: &[u32]) -> Option<usize>
     ensures { MatchOption result (AreLatches latches positions.now)
         (IsFirstNoLatch latches positions.now) }
@@ -179,7 +181,7 @@ fn first_no_latch(latches: usize, positions: &[u32]) -> Option<usize>
     None
 }
 
-/// The number of the first of the positions that is that of no latch of the circuit.
+/// Returns the number of the first position at which the circuit has no latch.
 fn wrong_position(circuit: &Circuit, positions: &[u32]) -> Option<usize>
     ensures { MatchOption result (AreLatches (length circuit.now.aig.latches) positions.now)
         (IsFirstNoLatch (length circuit.now.aig.latches) positions.now) }
@@ -187,7 +189,7 @@ fn wrong_position(circuit: &Circuit, positions: &[u32]) -> Option<usize>
     first_no_latch(circuit.aig().latches().len(), positions)
 }
 
-/// Whether each of so many latches is at one of the positions of two lists.
+/// Returns a mark for each of `latches` latches: if it is at one of the positions of two lists.
 fn marks_of_both(
     alloc: Global,
     latches: usize,
@@ -202,7 +204,7 @@ fn marks_of_both(
     Ok(marks)
 }
 
-/// These held latches of a circuit, and those at the positions.
+/// Returns the held latches `keep` of a circuit and those at `positions`.
 fn held_also(
     alloc: Global,
     circuit: &Circuit,
@@ -220,15 +222,18 @@ fn held_also(
     Ok(Keep::new(all))
 }
 
-/// The latches that are held: those that have one of the names, all of them where several have it, and those at the positions, from
-/// 0, in any order, of which one may stand there more than once. This is the one call that looks latches up: each step of a run
-/// returns where they stand in what it makes. Time as that of [`keep_of`], and with positions time and memory linear in the latches;
-/// no names and no positions hold nothing, and take no memory.
+/// Returns the latches that are held: those with one of the names, all of them if several have it,
+/// and those at the positions. Positions count from 0, stand in any order, and may stand there more
+/// than once. This is the one call that looks latches up: each step of a run returns the places of
+/// held latches in the circuit that it makes. It takes the time of [`keep_of`], and with positions
+/// time and memory linear in the latches. No names and no positions hold nothing, and take no
+/// memory.
 ///
 /// # Errors
 ///
-/// `NoSuchLatch` with the number of the first position that is that of no latch, which is found first; `NoSuchName` with the number
-/// of the first name that no latch has; `NoMemory` where memory is refused.
+/// `NoSuchLatch` with the number of the first position at which there is no latch; it is found
+/// first. `NoSuchName` with the number of the first name that no latch has. `NoMemory` if memory is
+/// refused.
 pub fn hold(
     alloc: Global,
     circuit: &Circuit,
@@ -245,7 +250,7 @@ pub fn hold(
     ensures missing { (k : ℕ) → IsErrOf result (hold_error.NoSuchName k)
         → IsFirstMissing (names_of names.now) circuit.now k }
 {
-    // That the held latches are among the circuit's is what its readers ensure.
+    // The circuit's readers ensure that the held latches are among its own.
     circuit.known();
     match wrong_position(circuit, positions) {
         Some(k) => Err(HoldError::NoSuchLatch(k)),

@@ -1,5 +1,5 @@
-//! Held latches, by rising positions, so that one is found by a binary search. Where none is held, as in most runs, there is no
-//! list, and no memory is asked for.
+//! Held latches, by rising positions, so that one is found by a binary search. If none is held, as
+//! in most runs, there is no list, and no memory is asked for.
 ghost use Rattle.std.specs.Prelude.{◌≡◌, ◌↔◌, [], IsTrue, Contains};
 ghost use Rattle.std.specs.List.Sorted.{IsStrictlyIncreasing};
 ghost use Rattle.aig_graph.specs.Marking.{has};
@@ -9,8 +9,9 @@ use crate::graph::Aig;
 use crate::rising::contains;
 use std::marker::Model;
 
-/// The latches that are held: no move takes them from where they are. Contracts see their positions, from 0 and strictly
-/// rising, among the latches. A position past the last latch holds nothing.
+/// The latches that are held: no move takes them from where they are. Contracts see their
+/// positions, from 0 and strictly rising, among the latches. A position past the last latch holds
+/// nothing.
 pub struct Keep {
     positions: Option<Vec<u32>>,
 }
@@ -36,7 +37,7 @@ impl Model for Keep {
 }
 
 impl Keep {
-    /// The latches at these positions are held.
+    /// Holds the latches at these positions.
     pub fn new(positions: Vec<u32>) -> Keep
         requires { IsStrictlyIncreasing positions.items }
         ensures { result ≡ positions.items }
@@ -46,14 +47,14 @@ impl Keep {
         }
     }
 
-    /// No latch is held.
+    /// Holds no latch.
     pub fn none() -> Keep
         ensures { result ≡ [] }
     {
         Keep { positions: None }
     }
 
-    /// The positions of the held latches, rising.
+    /// Returns the positions of the held latches, rising.
     pub fn positions(&self) -> &[u32]
         ensures value { result.now ≡ self.now }
         ensures rising { IsStrictlyIncreasing result.now }
@@ -64,7 +65,7 @@ impl Keep {
         }
     }
 
-    /// Whether the position is that of a held latch, by a binary search.
+    /// Returns true if the position is that of a held latch, by a binary search.
     pub fn has(&self, position: u32) -> bool
         ensures value { result ≡ has self.now position }
         ensures contains { IsTrue result ↔ Contains self.now position }
@@ -72,7 +73,7 @@ impl Keep {
         contains(self.positions(), position)
     }
 
-    /// Whether the variable is that of a held latch of the graph.
+    /// Returns true if the variable is that of a held latch of the graph.
     pub fn is_held(&self, aig: &Aig, var: u32) -> bool
         ensures { result ≡ is_held aig.now self.now var }
     {
@@ -82,7 +83,7 @@ impl Keep {
         }
     }
 
-    /// Whether the variable is a latch with a known reset that isn't held.
+    /// Returns true if the variable is a latch with a known reset that isn't held.
     pub fn may_move(&self, aig: &Aig, var: u32) -> bool
         ensures { result ≡ may_move aig.now self.now var }
     {

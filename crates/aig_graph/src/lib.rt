@@ -1,9 +1,13 @@
-//! And-inverter graphs with latches: literals, graphs, circuits, what a circuit means, and the closed sets of gates over
-//! which latches move forward. Every other crate stands on the definitions of this one.
-//! Of a circuit's least sets a frame takes one: that which holds all others, or that which lies in all others.
+//! And-inverter graphs with latches: literals, graphs, circuits and their meaning, and the closed
+//! sets of gates over which latches move forward. Every other crate stands on the definitions of
+//! this one.
 //!
-//! Tables by variable cover the variables from a first one on, entry `k` being that of variable `first + k`: those of a circuit begin at its
-//! first latch, so that inputs, of which a short file can have hundreds of millions, take no entry.
+//! Of a circuit's least sets a frame takes one, the greatest or the smallest: that which holds all
+//! others, or that which lies in all others.
+//!
+//! Tables by variable cover the variables from a first one on: entry `k` is that of variable
+//! `first + k`. Those of a circuit begin at its first latch, so inputs take no entry: a short file
+//! can have hundreds of millions of them.
 #![tactic(auto)]
 
 mod border;

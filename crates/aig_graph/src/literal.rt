@@ -1,5 +1,5 @@
-//! Literals, by their AIGER numbers: twice the variable, and one more where it is negated. So literals are ordered as their
-//! variables, and a negation is another lowest bit.
+//! Literals, by their AIGER numbers: twice the variable, and one more if it is negated. So literals
+//! are ordered as their variables, and a negation differs in the lowest bit.
 ghost use Rattle.std.specs.Prelude.{◌≡◌, ◌≢◌, ◌+◌, ◌*◌, ◌/◌, ◌%◌, ◌<◌, ◌↔◌, IsTrue, if◌then◌else◌};
 ghost use Rattle.aig_graph.specs.declared.literal.TheConstants.{MAX_VARIABLES};
 ghost use Rattle.aig_graph.specs.Value.{signed, signed_as};
@@ -9,8 +9,8 @@ use std::marker::Model;
 /// The number of variables that a graph may have, the constant among them.
 pub const MAX_VARIABLES: usize = 1 << 28;
 
-/// A variable or its negation. Contracts see the AIGER number: twice the variable, and one more where it is negated.
-/// Variable 0 is the constant.
+/// A variable or its negation. Contracts see the AIGER number: twice the variable, and one more if
+/// it is negated. Variable 0 is the constant.
 #[derive(Clone, Copy, PartialEq, Eq, PartialOrd, Ord, Hash, Debug)]
 pub struct Lit {
     code: u32,
@@ -36,7 +36,7 @@ impl Lit {
     /// The constant true.
     pub const TRUE: Lit = Lit { code: 1 };
 
-    /// The literal of a variable.
+    /// Returns the literal of a variable.
     pub fn new(var: u32, negated: bool) -> Lit
         requires { var < MAX_VARIABLES }
         ensures { result ≡ 2 * var + (if negated then 1 else 0) }
@@ -46,7 +46,7 @@ impl Lit {
         }
     }
 
-    /// The variable that the literal reads.
+    /// Returns the variable that the literal reads.
     pub fn var(self) -> u32
         ensures variable { result ≡ self / 2 }
         ensures small { result < MAX_VARIABLES }
@@ -54,7 +54,7 @@ impl Lit {
         self.code / 2
     }
 
-    /// The AIGER number.
+    /// Returns the AIGER number.
     pub fn code(self) -> u32
         ensures code { result ≡ self }
         ensures small { result < 2 * MAX_VARIABLES }
@@ -62,14 +62,14 @@ impl Lit {
         self.code
     }
 
-    /// Whether the literal is the negation of its variable.
+    /// Returns true if the literal is the negation of its variable.
     pub fn is_negated(self) -> bool
         ensures { IsTrue result ↔ (self % 2 ≡ 1) }
     {
         self.code % 2 == 1
     }
 
-    /// The same variable with the other sign.
+    /// Returns the literal of this variable with the other sign.
     pub fn not(self) -> Lit
         ensures same_variable { result / 2 ≡ self / 2 }
         ensures other_sign { result % 2 ≢ self % 2 }
@@ -79,15 +79,15 @@ impl Lit {
         }
     }
 
-    /// This literal, negated if `other` is a negation: what stands in for `other` where this one stands in for its
-    /// variable.
+    /// Returns this literal, negated if `other` is a negation. It replaces `other` if this literal
+    /// replaces the variable of `other`.
     pub fn signed_as(self, other: Lit) -> Lit
         ensures { result ≡ signed_as other self }
     {
         Lit::new(self.var(), self.is_negated() != other.is_negated())
     }
 
-    /// The value of the literal where its variable has the value `of_variable`.
+    /// Returns the value of the literal if its variable has the value `of_variable`.
     pub fn value(self, of_variable: bool) -> bool
         ensures { result ≡ signed self of_variable }
     {

@@ -1,4 +1,4 @@
-//! Properties with other literals in the place of their own.
+//! Properties in which other literals replace their own.
 ghost use Rattle.std.specs.Prelude.{◌≡◌, ◌<◌, ℕ, All, IfOk, map};
 ghost use Rattle.aig_graph.specs.Graph.{variable};
 ghost use Rattle.aig_graph.specs.Mapped.{OfProps, mapped_props};
@@ -9,21 +9,21 @@ use crate::properties::Props;
 use crate::sequence::Sequence;
 use std::alloc::Global;
 
-/// What has a literal in the place of each literal of a circuit.
+/// A replacement for each literal of a circuit.
 pub trait Substitute {
-    /// The number of variables for which it has one.
+    /// The number of variables that it replaces.
     ghost known: { Self → ℕ };
 
-    /// The literal that it has.
+    /// The literal that replaces a literal.
     ghost literal_of: { Self → ℕ → ℕ };
 
-    /// What stands in the place of a literal.
+    /// Returns the literal that replaces `lit`.
     fn literal(&self, lit: Lit) -> Lit
         requires { variable lit < known self.now }
         ensures { result ≡ literal_of self.now lit };
 }
 
-/// What stands in the place of each literal.
+/// Returns the literals that replace `lits`.
 fn mapped_literals<S: Substitute>(
     alloc: Global,
     stands: &S,
@@ -39,7 +39,7 @@ fn mapped_literals<S: Substitute>(
     Ok(Sequence::from_vec(mapped))
 }
 
-/// The same, of the literals of each justice property.
+/// Returns the literals that replace those of each justice property.
 fn mapped_justice<S: Substitute>(
     alloc: Global,
     stands: &S,
@@ -56,7 +56,7 @@ fn mapped_justice<S: Substitute>(
 }
 
 impl Props {
-    /// The properties, with what stands in the place of each literal.
+    /// Returns the properties, with each literal replaced.
     pub fn mapped<S: Substitute>(&self, alloc: Global, stands: &S) -> Result<Props, NoMemory>
         requires { OfProps (λ lit. variable lit < S.known stands.now) self.now }
         ensures { IfOk result (λ props. props ≡ mapped_props (S.literal_of stands.now) self.now) }

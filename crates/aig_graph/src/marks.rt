@@ -5,7 +5,7 @@ ghost use Rattle.aig_graph.specs.Tables.{table};
 use crate::memory::NoMemory;
 use std::alloc::Global;
 
-/// The variable's mark. A variable that the table doesn't cover isn't marked.
+/// Returns the variable's mark. A variable that the table doesn't cover isn't marked.
 #[tactic(auto, unfolding(crate::specs::Marking::mark_at))]
 pub fn mark_at(marks: &[bool], first: u32, var: u32) -> bool
     ensures { result ≡ mark_at first marks.now var }
@@ -31,7 +31,7 @@ pub fn mark_variables(marks: &mut [bool], first: u32, vars: &[u32])
     }
 }
 
-/// Marks for so many variables from `first` on: those of `vars`.
+/// Returns a table of `variables` variables from `first` on, in which those of `vars` are marked.
 pub fn marks_of(
     alloc: Global,
     first: u32,

@@ -7,7 +7,7 @@ use crate::sequence::Sequence;
 use std::alloc::Global;
 
 impl Symbol {
-    /// A copy of the name, at another position.
+    /// Returns a copy of the name, at another position.
     pub fn at(&self, alloc: Global, position: u32) -> Result<Symbol, NoMemory>
         ensures { IfOk result (λ copy. copy ≡ record self.now { position = position }) }
     {
@@ -30,7 +30,7 @@ fn copied(alloc: Global, names: &Sequence<Symbol>) -> Result<Sequence<Symbol>, N
 }
 
 impl Symbols {
-    /// A copy with these names of latches in the place of its own.
+    /// Returns a copy with these names of latches in the place of its own.
     pub fn with_latches(
         &self,
         alloc: Global,

@@ -1,10 +1,11 @@
-//! Memory for tables and lists whose making notes refusals, so that no function between has to hand one on. Whoever began the work asks at its end
-//! whether some was refused, and throws all away then. Until then a table that was refused is empty and a list lacks entries, so what reads them looks
-//! at their length.
+//! Memory for tables and lists that notes if some was refused, so that no function between has to
+//! hand a refusal on. The caller that began the work asks for it at the end, and throws all away
+//! then. Until then a table that was refused is empty and a list lacks entries, so its readers look
+//! at its length.
 
 use std::alloc::Global;
 
-/// Where tables and lists are made, and whether memory was refused for one.
+/// The allocator of tables and lists, and a note if memory was refused for one.
 #[derive(Drop)]
 pub struct Memory {
     alloc: Global,
@@ -12,7 +13,7 @@ pub struct Memory {
 }
 
 impl Memory {
-    /// Nothing was refused yet.
+    /// Returns memory of which nothing was refused yet.
     pub fn of(alloc: Global) -> Memory {
         Memory {
             alloc,
@@ -20,7 +21,7 @@ impl Memory {
         }
     }
 
-    /// A table of so many entries, which are all the same; an empty one where it is refused.
+    /// Returns a table of `many` copies of `entry`, or an empty one if it is refused.
     pub fn table<T: Copy>(&mut self, entry: T, many: usize) -> Vec<T> {
         match vec![in self.alloc; entry; many] {
             Ok(table) => table,
@@ -28,7 +29,8 @@ impl Memory {
         }
     }
 
-    /// A list without entries, with room for so many; with none where it is refused.
+    /// Returns a list without entries, with room for `room` of them, or without room if it is
+    /// refused.
     pub fn list<T>(&mut self, room: usize) -> Vec<T> {
         match Vec::with_capacity(self.alloc, room) {
             Ok(list) => list,
@@ -36,13 +38,13 @@ impl Memory {
         }
     }
 
-    /// What stands where a list was refused, which is noted: one without entries.
+    /// Notes that a list was refused, and returns one without entries in its place.
     pub fn refused_list<T>(&mut self) -> Vec<T> {
         self.refuse();
         self.nothing()
     }
 
-    /// A list without entries.
+    /// Returns a list without entries, which takes no memory.
     pub fn nothing<T>(&self) -> Vec<T> {
         Vec::new(self.alloc)
     }
@@ -53,22 +55,22 @@ impl Memory {
         self.refuse_if(refused);
     }
 
-    /// Notes that some was refused.
+    /// Notes that memory was refused.
     pub fn refuse(&mut self) {
         self.refused = true;
     }
 
-    /// Notes whether some was refused.
+    /// Notes that memory was refused, if `refused`.
     pub fn refuse_if(&mut self, refused: bool) {
         self.refused = self.refused | refused;
     }
 
-    /// Whether some was refused.
+    /// Returns true if memory was refused.
     pub fn is_refused(&self) -> bool {
         self.refused
     }
 
-    /// What tables are made by where their maker hands a refusal on.
+    /// Returns the allocator, for tables whose maker hands a refusal on.
     pub fn alloc(&self) -> Global {
         self.alloc
     }

@@ -1,4 +1,4 @@
-//! Ranks from marks, by running counts: a variable's number is by how many marked ones come before it.
+//! Ranks from marks, by running counts: a variable's number is the count of marked ones before it.
 ghost use Rattle.std.specs.Prelude.{ℕ, Bool, ◌≡◌, ◌+◌, ◌≤◌, ◌^◌, IfOk, length, if◌then◌else◌};
 ghost use Rattle.aig_graph.specs.Counting.{count_below, places, numbered};
 ghost use Rattle.aig_graph.specs.Marking.{AreAllMarks};
@@ -7,7 +7,7 @@ ghost use Rattle.aig_graph.specs.Tables.{table};
 use crate::memory::NoMemory;
 use std::alloc::Global;
 
-/// 1 where the mark is set, else 0.
+/// Returns 1 if the mark is set, else 0.
 fn one_if(mark: bool) -> u32
     ensures value { result ≡ (if mark then 1 else 0) }
     ensures small { result ≤ 1 }
@@ -15,7 +15,7 @@ fn one_if(mark: bool) -> u32
     u32::from(mark)
 }
 
-/// The number of variables that are marked.
+/// Returns the number of variables that are marked.
 pub fn count_marks(marks: &[bool]) -> u32
     requires { length marks.now ≤ 2 ^ 30 }
     ensures { (first : ℕ) (p : ℕ → Bool) → AreAllMarks first marks.now p
@@ -28,7 +28,7 @@ pub fn count_marks(marks: &[bool]) -> u32
     count
 }
 
-/// By variable how many before it are marked, counted from `start` on.
+/// Returns by variable the number of marked ones before it, counted from `start` on.
 pub fn number_marks(alloc: Global, marks: &[bool], start: u32) -> Result<Vec<u32>, NoMemory>
     requires { start + length marks.now ≤ 2 ^ 30 }
     ensures { IfOk result (λ numbers. (first : ℕ) (p : ℕ → Bool) → AreAllMarks first marks.now p →
@@ -43,8 +43,8 @@ pub fn number_marks(alloc: Global, marks: &[bool], start: u32) -> Result<Vec<u32
     Ok(numbers)
 }
 
-/// By variable, from `first` on, its new number, for two groups of variables: those marked in `ahead` count up from `start`, those
-/// marked in `others` from `next`, and the rest keep their own.
+/// Returns by variable, from `first` on, its new number. The variables marked in `ahead` count up
+/// from `start`, those marked in `others` from `next`, and the rest keep their own.
 pub fn renumber(
     alloc: Global,
     first: u32,
@@ -79,7 +79,7 @@ pub fn renumber(
     Ok(numbers)
 }
 
-/// The variables that are marked, in increasing order.
+/// Returns the variables that are marked, rising.
 pub fn marked_variables(alloc: Global, first: u32, marks: &[bool]) -> Result<Vec<u32>, NoMemory>
     requires { first + length marks.now ≤ 2 ^ 30 }
     ensures { IfOk result (λ vars. (p : ℕ → Bool) → AreAllMarks first marks.now p →

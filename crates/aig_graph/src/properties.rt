@@ -1,4 +1,5 @@
-//! What is asked of a circuit, by kind, and what its inputs, latches and properties are called.
+//! The properties that are asked of a circuit, by kind, and the names of its inputs, latches and
+//! properties.
 ghost use Rattle.std.specs.Prelude.{◌≡◌};
 ghost use Rattle.aig_graph.specs.Circuits.{outputs_alone, no_symbols};
 
@@ -29,7 +30,7 @@ impl Drop for Props {
 }
 
 impl Props {
-    /// Outputs alone. Takes no memory.
+    /// Returns properties that are outputs only. Takes no memory.
     pub fn of_outputs(alloc: Global, outputs: Vec<Lit>) -> Props
         ensures { result ≡ outputs_alone outputs.items }
     {
@@ -43,15 +44,16 @@ impl Props {
     }
 }
 
-/// A symbol: the name of the input, latch or property at `position`, from 0, among those of its kind. In a file it has no
-/// newline.
+/// A symbol: the name of the input, latch or property at `position`, from 0, among those of its
+/// kind. In a file it has no newline.
 #[derive(Drop)]
 pub struct Symbol {
     pub position: u32,
     pub name: Sequence<u8>,
 }
 
-/// The symbol table: by kind the symbols, their positions strictly rising. A justice symbol names a property, not a literal.
+/// The symbol table: the symbols by kind, their positions strictly rising. A justice symbol names a
+/// property, not a literal.
 pub struct Symbols {
     pub inputs: Sequence<Symbol>,
     pub latches: Sequence<Symbol>,
@@ -78,7 +80,7 @@ impl Drop for Symbols {
 }
 
 impl Symbols {
-    /// No symbols. Takes no memory.
+    /// Returns a table without symbols. Takes no memory.
     pub fn none(alloc: Global) -> Symbols
         ensures { result ≡ no_symbols }
     {

@@ -1,5 +1,5 @@
-//! What is read from outside a set. Tables by variable begin at the first latch: a file of 30 bytes can have hundreds of
-//! millions of inputs, and they are never in a border.
+//! The variables that are read from outside of a set. Tables by variable begin at the first latch:
+//! a file of 30 bytes can have hundreds of millions of inputs, and they are never in a border.
 ghost use Rattle.std.specs.Prelude.{◌≡◌, ◌+◌, ◌≤◌, ◌&&◌, not, length};
 ghost use Rattle.std.specs.List.{list_any, flat_map, enumerate_from};
 ghost use Rattle.aig_graph.specs.declared.literal.TheConstants.{MAX_VARIABLES};
@@ -31,7 +31,7 @@ fn mark_latches(read: &mut [bool], first: u32, latches: &[Latch])
     }
 }
 
-/// Marks the fan-ins of a gate that isn't inside.
+/// Marks the fan-ins of a gate, unless it is inside.
 fn mark_gate(read: &mut [bool], first: u32, inside: bool, gate: Gate)
     ensures { Marks first read.old read.new (λ v. not inside && is_fan_in v gate) }
 {
@@ -77,8 +77,9 @@ fn mark_props(read: &mut [bool], first: u32, props: &Props)
     mark_literals(read, first, props.fairness.as_slice());
 }
 
-/// Marks each variable that a gate outside of `inside`, a next literal or a property reads. Both are tables by variable from
-/// the first latch on; variables before it are left out. Linear in the graph and its properties.
+/// Marks each variable that a gate outside of `inside`, a next literal or a property reads. Both
+/// tables are by variable from the first latch on; variables before it are left out. Linear in the
+/// graph and its properties.
 pub fn mark_read(read: &mut [bool], aig: &Aig, props: &Props, inside: &[bool])
     ensures { Marks (first_latch aig.now) read.old read.new
         (is_read_outside aig.now props.now (mark_at (first_latch aig.now) inside.now)) }

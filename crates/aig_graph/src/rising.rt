@@ -14,7 +14,7 @@ pub(crate) fn is_rising(numbers: &[u32]) -> bool
     true
 }
 
-/// Whether the number is in a rising list, by a binary search.
+/// Returns true if the number is in a rising list, by a binary search.
 pub(crate) fn contains(numbers: &[u32], number: u32) -> bool
     requires { IsStrictlyIncreasing numbers.now }
     ensures value { result ≡ has numbers.now number }

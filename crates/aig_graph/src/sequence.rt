@@ -3,8 +3,8 @@ ghost use Rattle.std.specs.Prelude.{◌≡◌, ◌==◌, [], length};
 use std::alloc::Global;
 use std::marker::Model;
 
-/// A list of values: a `Vec` that contracts see as a list, so that two sequences are equal where their elements are,
-/// whatever room they have. It is made from a `Vec` and given back without taking memory.
+/// A list of values: a `Vec` that contracts see as a list, so that two sequences are equal if their
+/// elements are, with any room. It is made from a `Vec` and given back without taking memory.
 pub struct Sequence<T> {
     elements: Vec<T>,
 }
@@ -27,21 +27,21 @@ impl<T> Model for Sequence<T> {
 }
 
 impl<T> Sequence<T> {
-    /// The sequence of no elements. Takes no memory.
+    /// Returns the sequence of no elements. Takes no memory.
     pub fn empty(alloc: Global) -> Sequence<T>
         ensures { result ≡ [] }
     {
         Sequence::from_vec(Vec::new(alloc))
     }
 
-    /// The sequence of the vector's elements.
+    /// Returns the sequence of the vector's elements.
     pub fn from_vec(elements: Vec<T>) -> Sequence<T>
         ensures { result ≡ elements.items }
     {
         Sequence { elements }
     }
 
-    /// The vector of the elements.
+    /// Returns the vector of the elements.
     pub fn into_vec(self) -> Vec<T>
         ensures { result.items ≡ self }
     {
@@ -49,21 +49,21 @@ impl<T> Sequence<T> {
         elements
     }
 
-    /// The elements.
+    /// Returns the elements.
     pub fn as_slice(&self) -> &[T]
         ensures { result.now ≡ self.now }
     {
         self.elements.as_slice()
     }
 
-    /// The number of elements.
+    /// Returns the number of elements.
     pub fn len(&self) -> usize
         ensures { result ≡ length self.now }
     {
         self.elements.len()
     }
 
-    /// Whether there is no element.
+    /// Returns true if there is no element.
     pub fn is_empty(&self) -> bool
         ensures { result ≡ (length self.now == 0) }
     {

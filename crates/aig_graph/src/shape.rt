@@ -1,4 +1,5 @@
-//! Circuits place by place: the property literals in one list, and whether two circuits have the same places.
+//! Compares circuits place by place: the property literals in one list, and the numbers of inputs
+//! and properties.
 ghost use Rattle.std.specs.Prelude.{◌≡◌, ◌↔◌, ◌++◌, IfOk, OnOk, IsTrue, length, map};
 ghost use Rattle.std.specs.List.{flat_map};
 ghost use Rattle.aig_graph.specs.Streams.{SameShape, property_literals};
@@ -33,11 +34,11 @@ fn add_properties(literals: &mut Vec<Lit>, props: &Props) -> Result<(), AllocErr
     literals.extend_from_slice(props.fairness.as_slice())
 }
 
-/// The literals of the properties, kind after kind.
+/// Returns the literals of the properties, kind after kind.
 ///
 /// # Errors
 ///
-/// Memory is refused.
+/// `NoMemory` if memory is refused.
 pub fn property_literals(alloc: Global, props: &Props) -> Result<Vec<Lit>, NoMemory>
     ensures { IfOk result (λ literals. literals.items ≡ property_literals props.now) }
 {
@@ -46,7 +47,8 @@ pub fn property_literals(alloc: Global, props: &Props) -> Result<Vec<Lit>, NoMem
     Ok(literals)
 }
 
-/// Whether the circuits have as many inputs and properties of each kind, and justice properties of the same sizes.
+/// Returns true if the circuits have equal numbers of inputs, of properties of each kind, and of
+/// literals of each justice property.
 pub fn have_same_shape(a: &Circuit, b: &Circuit) -> bool
     ensures { IsTrue result ↔ SameShape a.now b.now }
 {
@@ -60,7 +62,7 @@ pub fn have_same_shape(a: &Circuit, b: &Circuit) -> bool
         && have_same_sizes(q.justice.as_slice(), p.justice.as_slice())
 }
 
-/// Whether the lists have as many literals each.
+/// Returns true if lists of equal places have equal numbers of literals.
 fn have_same_sizes(a: &[Sequence<Lit>], b: &[Sequence<Lit>]) -> bool
     ensures { IsTrue result ↔ (map length a.now ≡ map length b.now) }
 {

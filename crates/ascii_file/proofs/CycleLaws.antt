@@ -8,10 +8,10 @@ use Rattle.std.proofs.lemmas.List.Elements.{All-get_or}
 use Rattle.std.proofs.lemmas.Map.Steps.{length-le_from_distinct_below, le-length_from_below}
 use Rattle.std.specs.Option.{option_map, MatchOption}
 use Rattle.aig_graph.proofs.ListLaws.{place_take, take_place}
-use Rattle.ascii_file.specs.declared.reads.Reads.{Reads}
-use Rattle.ascii_file.specs.Order.{has_gate, is_met, are_met, may_follow, IsOrder, ReadsBelow, AreReadsInFile, order_from, ordered}
-use Rattle.ascii_file.specs.Cycles.{is_gate, does_read, ReadsGate, LeadsTo, HasCycle}
-use Rattle.ascii_file.specs.OrderLaws.{HasEachGateOnce, ReadsBefore, CycleLaw, ExistsLaw}
+use Rattle.ascii_file.specs.declared.order.reads.Reads.{Reads}
+use Rattle.ascii_file.specs.order.Order.{has_gate, is_met, are_met, may_follow, IsOrder, ReadsBelow, AreReadsInFile, order_from, ordered}
+use Rattle.ascii_file.specs.order.Cycles.{is_gate, does_read, ReadsGate, LeadsTo, HasCycle}
+use Rattle.ascii_file.specs.order.Laws.{HasEachGateOnce, ReadsBefore, CycleLaw, ExistsLaw}
 use Rattle.ascii_file.proofs.FirstLaws.{first_below_cases, place_has, has_place}
 use Rattle.ascii_file.proofs.GateOrderLaws.{follows_where_true, AreNext, AreNext-push, next_from_first, order_from-more, order_from-zero, ordered_law}
 

@@ -2,13 +2,13 @@
 use Rattle.std.proofs.Common.{◌≡◌, ℕ, List, [], ◌∷◌, map, refl, Result, Ok, Err}
 use Rattle.std.specs.Prelude.{codes}
 use Rattle.std.specs.Fmt.{digits}
-use Rattle.counted_io.specs.declared.fault.ReadError.{ReadError}
-use Rattle.counted_io.specs.declared.fault.ReadError.TheVariants.{BadHeader, TooLarge, MaxIndex, BadLine, BadLiteral, DefinedTwice, Undefined, Cycle, BadReset, Truncated, BadSymbol, Trailing}
-use Rattle.counted_io.specs.Lines.{lines, pieces, numbers_of}
-use Rattle.counted_io.specs.Text.{text, latch_row, gate_row, symbol_line}
-use Rattle.counted_io.specs.Answering.{◌>>=◌}
+use Rattle.file_words.specs.declared.fault.ReadError.{ReadError}
+use Rattle.file_words.specs.declared.fault.ReadError.TheVariants.{BadHeader, TooLarge, MaxIndex, BadLine, BadLiteral, DefinedTwice, Undefined, Cycle, BadReset, Truncated, BadSymbol, Trailing}
+use Rattle.file_words.specs.Lines.{lines, pieces, numbers_of}
+use Rattle.file_words.specs.Text.{text, latch_row, gate_row, symbol_line}
+use Rattle.file_words.specs.Answering.{◌>>=◌}
 use Rattle.counted_io.specs.Line.{line, spaced}
-use Rattle.ascii_file.specs.Order.{may_follow, first_below, order_from}
+use Rattle.ascii_file.specs.order.Order.{may_follow, first_below, order_from}
 use Rattle.ascii_file.specs.Headers.{header_of}
 use Rattle.ascii_file.specs.Items.{item_of, begins_comment}
 use Rattle.ascii_file.specs.Meaning.{props_of, symbols_of, circuit_of}

@@ -11,15 +11,15 @@ use Rattle.std.proofs.lemmas.List.Sums.{AllPass-from_list_all, list_all-from_All
 use Rattle.aig_graph.specs.Marking.{has}
 use Rattle.aig_graph.specs.Graph.{variable}
 use Rattle.aig_graph.specs.Circuits.{Netlist}
-use Rattle.ascii_file.specs.declared.reads.Reads.{Reads}
-use Rattle.ascii_file.specs.Order.{IsOrder, ReadsBelow, AreReadsInFile, ordered}
-use Rattle.ascii_file.specs.Cycles.{HasCycle}
+use Rattle.ascii_file.specs.declared.order.reads.Reads.{Reads}
+use Rattle.ascii_file.specs.order.Order.{IsOrder, ReadsBelow, AreReadsInFile, ordered}
+use Rattle.ascii_file.specs.order.Cycles.{HasCycle}
 use Rattle.ascii_file.proofs.GateOrderLaws.{ordered_law}
 use Rattle.ascii_file.proofs.CycleLaws.{exists_law}
-use Rattle.counted_io.specs.declared.fault.ReadError.{ReadError}
-use Rattle.counted_io.specs.declared.fault.ReadError.TheVariants.{Undefined, Truncated}
-use Rattle.counted_io.specs.Lines.{lines}
-use Rattle.counted_io.specs.Answering.{◌>>=◌}
+use Rattle.file_words.specs.declared.fault.ReadError.{ReadError}
+use Rattle.file_words.specs.declared.fault.ReadError.TheVariants.{Undefined, Truncated}
+use Rattle.file_words.specs.Lines.{lines}
+use Rattle.file_words.specs.Answering.{◌>>=◌}
 use Rattle.ascii_file.specs.declared.header.Header.{Header}
 use Rattle.ascii_file.specs.declared.raw.RawGate.{RawGate}
 use Rattle.ascii_file.specs.Raw.{Raw, nothing_yet, defined, read_literals}

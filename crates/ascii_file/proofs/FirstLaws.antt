@@ -3,7 +3,7 @@ use Rattle.std.proofs.Common.{ℕ, ◌<◌, ◌≤◌, ◌≡◌, ◌⊎◌, inl
 use Rattle.std.specs.Option.{option_or}
 use Rattle.std.proofs.lemmas.Bool.{cases_eq, cases_lt, cases_Bool, both_ways, eqb-true, eq-eqb, or_left, or_right, or_cases}
 use Rattle.std.proofs.lemmas.Option.{none-some, same_Some}
-use Rattle.ascii_file.specs.Order.{has_gate, first_below}
+use Rattle.ascii_file.specs.order.Order.{has_gate, first_below}
 
 -- the first number that passes, below n
 pub record IsFirst (p : ℕ → Bool) (n g : ℕ) : Type 0 where

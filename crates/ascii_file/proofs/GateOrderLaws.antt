@@ -8,9 +8,9 @@ use Rattle.std.proofs.lemmas.List.{take_all, take_at, take-append-le, length_pus
 use Rattle.std.proofs.lemmas.List.FromFn.{length-range_with_len, get_or-range_with_len}
 use Rattle.aig_graph.proofs.PlacesLaws.{slice_get_push}
 use Rattle.aig_graph.proofs.ListLaws.{place_take, take_place}
-use Rattle.ascii_file.specs.declared.reads.Reads.{Reads}
-use Rattle.ascii_file.specs.Order.{has_gate, is_met, are_met, may_follow, IsNextGate, IsOrder, ReadsBelow, first_below, order_from}
-use Rattle.ascii_file.specs.OrderLaws.{OrderedLaw, HasAtMostOneOrder, KeepsOrder}
+use Rattle.ascii_file.specs.declared.order.reads.Reads.{Reads}
+use Rattle.ascii_file.specs.order.Order.{has_gate, is_met, are_met, may_follow, IsNextGate, IsOrder, ReadsBelow, first_below, order_from}
+use Rattle.ascii_file.specs.order.Laws.{OrderedLaw, HasAtMostOneOrder, KeepsOrder}
 use Rattle.ascii_file.proofs.FirstLaws.{IsFirst, first_below_cases, first_below_is, place_has, has_place, take_push}
 
 -- what a gate that may follow is

@@ -4,19 +4,19 @@ use Rattle.std.proofs.lemmas.Bool.{cond-true, cases_lt, lt-ltb, le-ltb, ltb-fals
 use Rattle.std.proofs.lemmas.List.{length-map, drop_more, drop_all}
 use Rattle.std.specs.List.{starts_with}
 use Rattle.std.specs.Option.{option_and_then}
-use Rattle.counted_io.specs.declared.fault.ReadError.{ReadError}
-use Rattle.counted_io.specs.declared.fault.ReadError.TheVariants.{BadHeader, TooLarge, MaxIndex}
-use Rattle.counted_io.specs.Lines.{numbers_of}
-use Rattle.counted_io.specs.Answering.{◌>>=◌}
+use Rattle.file_words.specs.declared.fault.ReadError.{ReadError}
+use Rattle.file_words.specs.declared.fault.ReadError.TheVariants.{BadHeader, TooLarge, MaxIndex}
+use Rattle.file_words.specs.Lines.{numbers_of}
+use Rattle.file_words.specs.Answering.{◌>>=◌}
 use Rattle.ascii_file.specs.declared.header.Header.{Header}
 use Rattle.ascii_file.specs.Headers.{number_at, header_in, header_of}
 use Rattle.ascii_file.specs.Reading.{unless, checked_header, read_header}
 use Rattle.ascii_file.proofs.CheckLaws.{Passes}
-use Rattle.ascii_file.specs.Rows.{clamped, up_to_nine, row_of}
-use Rattle.ascii_file.specs.declared.numbers.NumberLine.{NumberLine}
-use Rattle.ascii_file.specs.Open.{numbers_with}
-use Rattle.ascii_file.specs.Header.{header_row}
-use Rattle.ascii_file.specs.Limits.{limits, limited, counts_past_greatest}
+use Rattle.ascii_file.specs.parts.Rows.{clamped, up_to_nine, row_of}
+use Rattle.ascii_file.specs.declared.parts.numbers.NumberLine.{NumberLine}
+use Rattle.ascii_file.specs.parts.Open.{numbers_with}
+use Rattle.ascii_file.specs.parts.Header.{header_row}
+use Rattle.ascii_file.specs.parts.Limits.{limits, limited, counts_past_greatest}
 
 -- ---- checks of cut numbers
 

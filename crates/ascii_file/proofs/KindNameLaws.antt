@@ -16,7 +16,7 @@ use Rattle.ascii_file.specs.declared.raw.SymbolKind.TheVariants.{Input, Latch, O
 use Rattle.ascii_file.specs.Raw.{RawSymbol, kind_number}
 use Rattle.ascii_file.specs.Meaning.{with_name, with_symbol, names_of, symbols_of}
 use Rattle.ascii_file.specs.Reading.{is_of_same}
-use Rattle.ascii_file.specs.Names.{symbol_at, with_new, symbols_in, has_position, names_of_kind, with_symbol_in, AreNamesOf}
+use Rattle.ascii_file.specs.parts.Names.{symbol_at, with_new, symbols_in, has_position, names_of_kind, with_symbol_in, AreNamesOf}
 
 -- ---- a map by position
 

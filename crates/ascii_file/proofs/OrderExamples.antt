@@ -1,7 +1,7 @@
 -- What the definitions say of small files.
 use Rattle.std.proofs.Common.{ℕ, ◌≡◌, [], ◌∷◌, Option, Some, None, refl}
-use Rattle.ascii_file.specs.declared.reads.Reads.{Reads}
-use Rattle.ascii_file.specs.Order.{may_follow, first_below, order_from, ordered}
+use Rattle.ascii_file.specs.declared.order.reads.Reads.{Reads}
+use Rattle.ascii_file.specs.order.Order.{may_follow, first_below, order_from, ordered}
 
 abbrev gate : Option ℕ → Option ℕ → Reads
 gate first second = record { first = first; second = second }

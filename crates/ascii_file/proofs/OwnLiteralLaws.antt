@@ -16,8 +16,8 @@ use Rattle.aig_graph.specs.declared.properties.Symbols.{Symbols}
 use Rattle.aig_graph.specs.Graph.{Graph, IsGraph, IsGateAt, IsLiteralOf, variable, first_latch, first_gate}
 use Rattle.aig_graph.specs.Building.{gate_of}
 use Rattle.aig_graph.specs.Circuits.{Netlist, IsNetlist}
-use Rattle.ascii_file.specs.declared.reads.Reads.{Reads}
-use Rattle.ascii_file.specs.Order.{IsOrder, IsInOrder, ReadsBelow}
+use Rattle.ascii_file.specs.declared.order.reads.Reads.{Reads}
+use Rattle.ascii_file.specs.order.Order.{IsOrder, IsInOrder, ReadsBelow}
 use Rattle.ascii_file.proofs.GateOrderLaws.{at_most_one, keeps_order}
 use Rattle.ascii_file.proofs.RangeLaws.{range-literal, enumerated_at}
 use Rattle.ascii_file.specs.declared.raw.RawLatch.{RawLatch}

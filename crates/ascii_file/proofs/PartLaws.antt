@@ -19,9 +19,9 @@ use Rattle.ascii_file.specs.Raw.{RawSymbol, kind_number, count_of, safety_count}
 use Rattle.ascii_file.specs.Meaning.{with_name, with_symbol, names_of, symbols_of, split_by, props_of}
 use Rattle.ascii_file.specs.Reading.{is_of_same}
 use Rattle.ascii_file.proofs.OwnLiteralLaws.{length-split}
-use Rattle.ascii_file.specs.Names.{symbol_at, symbols_in, has_position}
-use Rattle.ascii_file.specs.Lists.{Lists}
-use Rattle.ascii_file.specs.Parts.{AreNamesWithin, NetlistLaw}
+use Rattle.ascii_file.specs.parts.Names.{symbol_at, symbols_in, has_position}
+use Rattle.ascii_file.specs.parts.Lists.{Lists}
+use Rattle.ascii_file.specs.parts.Parts.{AreNamesWithin, NetlistLaw}
 use Rattle.ascii_file.proofs.KindNameLaws.{position-with_symbol, or_first, or_second}
 
 -- ---- all of a list, by recursion and by index

@@ -1,10 +1,10 @@
 -- Lines of bytes that come in pieces.
 use Rattle.std.proofs.Common.{ℕ, ◌≡◌, List, [], ◌∷◌, ◌++◌, length, Result, Ok, Err, Bool, true, false, not, cond, nat_eq, refl, ap, ap₂, ◌∙◌}
 use Rattle.std.proofs.lemmas.Bool.{cond-false, and_parts, not-true}
-use Rattle.counted_io.specs.declared.fault.ReadError.{ReadError}
-use Rattle.counted_io.specs.Lines.{with_front, lines}
-use Rattle.counted_io.specs.Cuts.{lacks}
-use Rattle.counted_io.specs.Answering.{◌>>=◌}
+use Rattle.file_words.specs.declared.fault.ReadError.{ReadError}
+use Rattle.file_words.specs.Lines.{with_front, lines}
+use Rattle.file_words.specs.Cuts.{lacks}
+use Rattle.file_words.specs.Answering.{◌>>=◌}
 use Rattle.ascii_file.specs.Reading.{State, AtHeader, take_line, take_lines, finish, read_bytes}
 use Rattle.ascii_file.specs.Pieces.{with_first, with_open, ended_lines, open_line, fed, with_last_line, closed, PiecesLaw}
 

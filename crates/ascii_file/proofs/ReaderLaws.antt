@@ -5,11 +5,11 @@ use Rattle.std.proofs.lemmas.Bool.{cases_eq}
 use Rattle.std.proofs.lemmas.List.{length-set, get_or-set_same, get_or-set_other}
 use Rattle.std.proofs.lemmas.Option.{none-some, same_Some, slice_get_past, MatchOption-at_some}
 use Rattle.std.proofs.Math.ListN.{set}
-use Rattle.ascii_file.specs.declared.reads.Reads.{Reads}
-use Rattle.ascii_file.specs.declared.reads.Side.{Side}
-use Rattle.ascii_file.specs.declared.reads.Side.TheVariants.{First, Second}
-use Rattle.ascii_file.specs.Order.{ReadsBelow}
-use Rattle.ascii_file.specs.Readers.{fan_in, read_by, IsLastReader, AreReaderTables}
+use Rattle.ascii_file.specs.declared.order.reads.Reads.{Reads}
+use Rattle.ascii_file.specs.declared.order.reads.Side.{Side}
+use Rattle.ascii_file.specs.declared.order.reads.Side.TheVariants.{First, Second}
+use Rattle.ascii_file.specs.order.Order.{ReadsBelow}
+use Rattle.ascii_file.specs.order.Readers.{fan_in, read_by, IsLastReader, AreReaderTables}
 
 -- a gate of the file reads by a fan-in what its entry says
 pub read_by-at : (side : Side) (gates : List Reads) (g : ℕ) (reads : Reads) → slice_get gates g ≡ Some reads → read_by side gates g ≡ fan_in side reads

@@ -16,13 +16,13 @@ use Rattle.std.proofs.lemmas.List.Sorted.{sum_by_pushed, sum_by_popped}
 use Rattle.std.proofs.lemmas.List.Sums.{sum_by-cons}
 use Rattle.std.proofs.lemmas.Option.{none-some, slice_get-get_or}
 use Rattle.std.proofs.Math.ListN.{set, replicate}
-use Rattle.ascii_file.specs.declared.reads.Reads.{Reads}
-use Rattle.ascii_file.specs.declared.reads.Side.{Side}
-use Rattle.ascii_file.specs.declared.reads.Side.TheVariants.{First, Second}
-use Rattle.ascii_file.specs.Order.{has_gate, is_met, are_met, may_follow, IsNextGate, order_from}
-use Rattle.ascii_file.specs.Cycles.{is_gate}
-use Rattle.ascii_file.specs.Readers.{fan_in, read_by, IsLastReader}
-use Rattle.ascii_file.specs.Ready.{number, times_in_heap, IsReadyHeap, Gains, mark_of, is_released, IsState}
+use Rattle.ascii_file.specs.declared.order.reads.Reads.{Reads}
+use Rattle.ascii_file.specs.declared.order.reads.Side.{Side}
+use Rattle.ascii_file.specs.declared.order.reads.Side.TheVariants.{First, Second}
+use Rattle.ascii_file.specs.order.Order.{has_gate, is_met, are_met, may_follow, IsNextGate, order_from}
+use Rattle.ascii_file.specs.order.Cycles.{is_gate}
+use Rattle.ascii_file.specs.order.Readers.{fan_in, read_by, IsLastReader}
+use Rattle.ascii_file.specs.order.Ready.{number, times_in_heap, IsReadyHeap, Gains, mark_of, is_released, IsState}
 use Rattle.ascii_file.proofs.FirstLaws.{first_below_none, first_below_is}
 use Rattle.ascii_file.proofs.GateOrderLaws.{Follows, follows_where_true, order_from-more}
 use Rattle.ascii_file.proofs.ReaderLaws.{read_by-at, read_by-past}

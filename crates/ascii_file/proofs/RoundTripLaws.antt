@@ -10,10 +10,10 @@ use Rattle.aig_graph.specs.declared.properties.Symbols.{Symbols}
 use Rattle.aig_graph.specs.Graph.{IsGraph, variables_end}
 use Rattle.aig_graph.specs.Circuits.{Netlist, IsNetlist}
 use Rattle.ascii_file.proofs.CycleLaws.{exists_law}
-use Rattle.counted_io.specs.Lines.{numbers_of}
-use Rattle.counted_io.specs.Text.{without_last_zeros, header_row, text}
-use Rattle.counted_io.specs.Cuts.{lacks}
-use Rattle.counted_io.proofs.DecimalLaws.{AreSmall, row_line, numbers_of-row_line}
+use Rattle.file_words.specs.Lines.{numbers_of}
+use Rattle.file_words.specs.Text.{without_last_zeros, header_row, text}
+use Rattle.file_words.specs.Cuts.{lacks}
+use Rattle.file_words.proofs.DecimalLaws.{AreSmall, row_line, numbers_of-row_line}
 use Rattle.ascii_file.specs.declared.header.Header.{Header}
 use Rattle.ascii_file.specs.declared.raw.RawLatch.{RawLatch}
 use Rattle.ascii_file.specs.declared.raw.RawGate.{RawGate}

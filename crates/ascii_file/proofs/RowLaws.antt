@@ -5,8 +5,8 @@ use Rattle.std.proofs.lemmas.List.{append-nil, append_assoc}
 use Rattle.std.specs.Char.{is_ascii_digit}
 use Rattle.std.specs.List.{list_all}
 use Rattle.std.specs.Option.{option_and_then, option_map}
-use Rattle.counted_io.specs.Lines.{pieces, with_front, is_number, digits_value, numbers_of}
-use Rattle.ascii_file.specs.Rows.{clamped, up_to_nine, row_of, in_front, next_digit, read_on, finished}
+use Rattle.file_words.specs.Lines.{pieces, with_front, is_number, digits_value, numbers_of}
+use Rattle.ascii_file.specs.parts.Rows.{clamped, up_to_nine, row_of, in_front, next_digit, read_on, finished}
 
 -- the numbers of pieces
 abbrev numbers_in : List (List ℕ) → Option (List ℕ)

@@ -3,14 +3,14 @@ use Rattle.std.proofs.Common.{ℕ, ◌≡◌, List, [], ◌∷◌, Option, Some,
 use Rattle.std.specs.Char.{is_ascii_digit}
 use Rattle.std.specs.Option.{option_and_then, option_map}
 use Rattle.std.proofs.lemmas.Bool.{cond-true, cond-false, eq-eqb, ne_eqb, eqb-true, and_left}
-use Rattle.counted_io.specs.Lines.{is_number, digits_value}
+use Rattle.file_words.specs.Lines.{is_number, digits_value}
 use Rattle.ascii_file.specs.declared.raw.SymbolKind.{SymbolKind}
 use Rattle.ascii_file.specs.declared.raw.SymbolKind.TheVariants.{Input, Latch, Output, Bad, Constraint, Justice, Fairness}
 use Rattle.ascii_file.specs.Items.{SymbolItem, kind_of, cut_at_space, symbol_in, symbol_of, begins_comment}
-use Rattle.ascii_file.specs.declared.symbols.SymbolText.{SymbolText}
-use Rattle.ascii_file.specs.declared.symbols.SymbolText.TheVariants.{NoSymbol, Comment, Malformed, Name}
-use Rattle.ascii_file.specs.Rows.{clamped, next_digit}
-use Rattle.ascii_file.specs.Symbols.{unnamed, text_of_item, text_of, is_constraint, named_at, position_with, letter_with, text_without}
+use Rattle.ascii_file.specs.declared.parts.symbols.SymbolText.{SymbolText}
+use Rattle.ascii_file.specs.declared.parts.symbols.SymbolText.TheVariants.{NoSymbol, Comment, Malformed, Name}
+use Rattle.ascii_file.specs.parts.Rows.{clamped, next_digit}
+use Rattle.ascii_file.specs.parts.Symbols.{unnamed, text_of_item, text_of, is_constraint, named_at, position_with, letter_with, text_without}
 use Rattle.ascii_file.proofs.RowLaws.{continued, continued-none, clamped-digit}
 
 -- a line with no item isn't the comment's

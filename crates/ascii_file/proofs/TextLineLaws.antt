@@ -13,10 +13,10 @@ use Rattle.aig_graph.specs.declared.properties.Symbols.{Symbols}
 use Rattle.aig_graph.specs.Graph.{first_latch, first_gate}
 use Rattle.aig_graph.specs.Circuits.{Netlist}
 use Rattle.counted_io.specs.Line.{line}
-use Rattle.counted_io.specs.Lines.{with_front, lines, is_number, digits_value, numbers_of}
-use Rattle.counted_io.specs.Text.{header_row, reset_row, latch_row, gate_row, single_rows, numbered_rows, input_rows, property_rows, symbol_line, symbol_lines, all_symbols, text}
-use Rattle.counted_io.specs.Cuts.{lacks}
-use Rattle.counted_io.proofs.DecimalLaws.{decimal-is_number, decimal-value, decimal-lacks, lacks-append, row_line, row-is_line, row_line-lacks_newline, numbers_of-row_line, lines-at_newline, lines-row}
+use Rattle.file_words.specs.Lines.{with_front, lines, is_number, digits_value, numbers_of}
+use Rattle.file_words.specs.Text.{header_row, reset_row, latch_row, gate_row, single_rows, numbered_rows, input_rows, property_rows, symbol_line, symbol_lines, all_symbols, text}
+use Rattle.file_words.specs.Cuts.{lacks}
+use Rattle.file_words.proofs.DecimalLaws.{decimal-is_number, decimal-value, decimal-lacks, lacks-append, row_line, row-is_line, row_line-lacks_newline, numbers_of-row_line, lines-at_newline, lines-row}
 use Rattle.ascii_file.specs.declared.raw.RawLatch.{RawLatch}
 use Rattle.ascii_file.specs.declared.raw.SymbolKind.{SymbolKind}
 use Rattle.ascii_file.specs.declared.raw.SymbolKind.TheVariants.{Input, Latch as LatchKind, Output, Bad, Constraint, Justice, Fairness}

@@ -1,13 +1,13 @@
 -- A header that passes its checks is within the limits.
 use Rattle.std.proofs.Common.{◌+◌, ◌-◌, ◌^◌, ◌≤◌, ◌≡◌, [], ◌∷◌, Bool, true, false, Option, Some, None, Result, Ok, IfOk, refl, sym, arith, subst}
 use Rattle.std.proofs.lemmas.Bool.{ltb-false}
-use Rattle.counted_io.specs.declared.fault.ReadError.{ReadError}
-use Rattle.counted_io.specs.declared.fault.ReadError.TheVariants.{MaxIndex}
+use Rattle.file_words.specs.declared.fault.ReadError.{ReadError}
+use Rattle.file_words.specs.declared.fault.ReadError.TheVariants.{MaxIndex}
 use Rattle.ascii_file.specs.declared.header.Header.{Header}
 use Rattle.ascii_file.specs.Headers.{IsHeaderWithin}
 use Rattle.ascii_file.specs.Reading.{unless}
 use Rattle.ascii_file.proofs.CheckLaws.{unless_ok, same_ok}
-use Rattle.ascii_file.specs.Limits.{limits, limited, counts_past_greatest}
+use Rattle.ascii_file.specs.parts.Limits.{limits, limited, counts_past_greatest}
 
 passes_within : (h : Header) → unless (limits h) (Ok h) ≡ Ok h → counts_past_greatest h ≡ false → IsHeaderWithin h
 passes_within h e enough =

@@ -2,8 +2,8 @@
 use Rattle.std.specs.Prelude.{ℕ, ◌+◌, ◌*◌, ◌^◌, ◌<◌, ◌≤◌, ◌≡◌, ◌≢◌, ◌%◌, ◌⊎◌, true, false, List, [], ◌∷◌, ◌++◌, length, All, AllPairs, Contains, Some}
 use Rattle.std.specs.List.{AllZip, sum}
 use Rattle.aig_graph.specs.Graph.{variable}
-use Rattle.counted_io.specs.Lines.{lines}
-use Rattle.ascii_file.specs.Cycles.{HasCycle}
+use Rattle.file_words.specs.Lines.{lines}
+use Rattle.ascii_file.specs.order.Cycles.{HasCycle}
 use Rattle.ascii_file.specs.declared.header.Header.{Header}
 use Rattle.ascii_file.specs.declared.raw.RawLatch.{RawLatch}
 use Rattle.ascii_file.specs.Raw.{Raw, defined, read_literals, safety_count, liveness_count, count_of}

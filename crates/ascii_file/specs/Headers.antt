@@ -2,7 +2,7 @@
 use Rattle.std.specs.Prelude.{ℕ, ◌+◌, ◌^◌, ◌<◌, ◌≤◌, ◌&&◌, nat_eq, nat_le, List, length, drop, get_or, Option, Some, None, if◌then◌else◌, codes}
 use Rattle.std.specs.List.{starts_with}
 use Rattle.std.specs.Option.{option_and_then}
-use Rattle.counted_io.specs.Lines.{numbers_of}
+use Rattle.file_words.specs.Lines.{numbers_of}
 use Rattle.ascii_file.specs.declared.header.Header.{Header}
 
 -- the number at a place of the header, 0 where it isn't given

@@ -3,7 +3,7 @@ use Rattle.std.specs.Prelude.{ℕ, ◌==◌, ◌&&◌, Bool, false, not, List, [
 use Rattle.std.specs.Char.{is_ascii_digit}
 use Rattle.std.specs.Str.{byte}
 use Rattle.std.specs.Option.{option_and_then, option_map}
-use Rattle.counted_io.specs.Lines.{is_number, digits_value, numbers_of}
+use Rattle.file_words.specs.Lines.{is_number, digits_value, numbers_of}
 use Rattle.ascii_file.specs.declared.raw.RawLatch.{RawLatch}
 use Rattle.ascii_file.specs.declared.raw.RawGate.{RawGate}
 use Rattle.ascii_file.specs.declared.raw.Section.{Section}
@@ -22,6 +22,7 @@ pub data Item : Type 0 where
   GateItem : (gate : RawGate) → Item
   SymbolItem : (symbol : RawSymbol) → Item
 
+-- the section of a file that has such an item
 abbrev pub section_of : Item → Section
 section_of (InputItem lit) = Inputs
 section_of (LatchItem latch) = Latches
@@ -42,6 +43,7 @@ abbrev pub single : (ℕ → Item) → List ℕ → Option Item
 single item (n ∷ []) = Some (item n)
 single item _ = None
 
+-- a latch of two numbers, or of three with its reset; nothing of others
 abbrev pub latch_in : List ℕ → Option Item
 latch_in (current ∷ next ∷ []) = Some (LatchItem (record { current = current; next = next; reset = 0 }))
 latch_in (current ∷ next ∷ reset ∷ []) = Some (LatchItem (record { current = current; next = next; reset = reset }))

@@ -1,8 +1,4 @@
-pub mod Order
-pub mod Cycles
-pub mod OrderLaws
-pub mod Readers
-pub mod Ready
+pub mod order
 pub mod Raw
 pub mod Headers
 pub mod Items
@@ -11,13 +7,4 @@ pub mod Reading
 pub mod Files
 pub mod Laws
 pub mod Pieces
-pub mod Rows
-pub mod Open
-pub mod Limits
-pub mod Header
-pub mod Named
-pub mod Symbols
-pub mod Names
-pub mod Lists
-pub mod Parts
-pub mod Places
+pub mod parts

@@ -10,8 +10,8 @@ use Rattle.aig_graph.specs.declared.properties.Symbols.{Symbols}
 use Rattle.aig_graph.specs.Graph.{variable}
 use Rattle.aig_graph.specs.Building.{gate_of}
 use Rattle.aig_graph.specs.Circuits.{Netlist}
-use Rattle.ascii_file.specs.declared.reads.Reads.{Reads}
-use Rattle.ascii_file.specs.Order.{ordered}
+use Rattle.ascii_file.specs.declared.order.reads.Reads.{Reads}
+use Rattle.ascii_file.specs.order.Order.{ordered}
 use Rattle.ascii_file.specs.declared.header.Header.{Header}
 use Rattle.ascii_file.specs.declared.raw.RawGate.{RawGate}
 use Rattle.ascii_file.specs.declared.raw.SymbolKind.{SymbolKind}
@@ -60,6 +60,7 @@ abbrev pub split_by : {X : Type 0} → List ℕ → List X → List (List X)
 split_by [] xs = []
 split_by (n ∷ sizes) xs = take n xs ∷ split_by sizes (drop n xs)
 
+-- the properties by kind, as the header's numbers split the literals of safety and liveness
 unfoldable pub props_of : Header → List ℕ → List ℕ → List ℕ → Props
 props_of h safety sizes liveness = record {
   outputs = take h.outputs safety;
@@ -85,6 +86,7 @@ with_symbol kind names symbol =
 abbrev pub names_of : SymbolKind → List RawSymbol → List Symbol
 names_of kind symbols = fold (with_symbol kind) [] symbols
 
+-- the names of each kind, in the order of the file
 unfoldable pub symbols_of : List RawSymbol → Symbols
 symbols_of symbols = record {
   inputs = names_of Input symbols;

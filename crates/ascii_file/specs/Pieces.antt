@@ -1,8 +1,8 @@
 -- A file that comes in pieces: what is known of it so far.
 use Rattle.std.specs.Prelude.{ℕ, ◌≡◌, ◌==◌, List, [], ◌∷◌, ◌++◌, length, Result, Ok, Err, if◌then◌else◌}
 use Rattle.aig_graph.specs.Circuits.{Netlist}
-use Rattle.counted_io.specs.declared.fault.ReadError.{ReadError}
-use Rattle.counted_io.specs.Answering.{◌>>=◌}
+use Rattle.file_words.specs.declared.fault.ReadError.{ReadError}
+use Rattle.file_words.specs.Answering.{◌>>=◌}
 use Rattle.ascii_file.specs.Reading.{State, AtHeader, take_line, take_lines, finish, read_bytes}
 
 -- a byte more in front of the first line, if there is one

@@ -24,6 +24,7 @@ pub record Raw : Type 0 where
   pub gates : List RawGate
   pub symbols : List RawSymbol
 
+-- a raw circuit of which nothing was read
 abbrev pub nothing_yet : Raw
 nothing_yet = record { inputs = []; latches = []; safety = []; sizes = []; liveness = []; gates = []; symbols = [] }
 
@@ -52,6 +53,7 @@ count_of h Constraint = h.constraints
 count_of h Justice = h.justice
 count_of h Fairness = h.fairness
 
+-- the kinds of symbols, numbered in the order of their sections
 abbrev pub kind_number : SymbolKind → ℕ
 kind_number Input = 0
 kind_number Latch = 1

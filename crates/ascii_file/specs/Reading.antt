@@ -4,11 +4,11 @@ use Rattle.std.specs.List.{sum, list_any, list_all}
 use Rattle.aig_graph.specs.Marking.{has}
 use Rattle.aig_graph.specs.Graph.{variable}
 use Rattle.aig_graph.specs.Circuits.{Netlist}
-use Rattle.counted_io.specs.declared.fault.ReadError.{ReadError}
-use Rattle.counted_io.specs.declared.fault.ReadError.TheVariants.{BadHeader, TooLarge, MaxIndex, BadLine, BadLiteral, DefinedTwice, Undefined, Cycle, BadReset, Truncated, BadSymbol, Trailing}
-use Rattle.counted_io.specs.Answering.{◌>>=◌}
-use Rattle.counted_io.specs.Codes.{is_fault_of_bytes}
-use Rattle.counted_io.specs.Lines.{lines}
+use Rattle.file_words.specs.declared.fault.ReadError.{ReadError}
+use Rattle.file_words.specs.declared.fault.ReadError.TheVariants.{BadHeader, TooLarge, MaxIndex, BadLine, BadLiteral, DefinedTwice, Undefined, Cycle, BadReset, Truncated, BadSymbol, Trailing}
+use Rattle.file_words.specs.Answering.{◌>>=◌}
+use Rattle.file_words.specs.Codes.{is_fault_of_bytes}
+use Rattle.file_words.specs.Lines.{lines}
 use Rattle.ascii_file.specs.declared.header.Header.{Header}
 use Rattle.ascii_file.specs.declared.raw.RawLatch.{RawLatch}
 use Rattle.ascii_file.specs.declared.raw.Section.{Section}
@@ -26,6 +26,8 @@ unless ((fails, fault) ∷ checks) value = if fails then Err fault else unless c
 
 -- ---- the header
 
+-- what is asked of a header in this order, each with its fault: a greatest variable of at most 2^28
+-- - 1, at most 2^24 of each kind of property, and variables for all inputs, latches and gates
 abbrev pub header_checks : Header → List (Bool × ReadError)
 header_checks h =
     (nat_lt (2 ^ 28 - 1) h.greatest, TooLarge 0)
@@ -64,6 +66,7 @@ is_bad_reset latch = not ((latch.reset == 0) || (latch.reset == 1) || (latch.res
 abbrev pub is_of_same : RawSymbol → RawSymbol → Bool
 is_of_same symbol other = (kind_number symbol.kind == kind_number other.kind) && (symbol.position == other.position)
 
+-- the checks of an item with their faults, in the order in which they are made
 abbrev pub checks : Header → Raw → ℕ → Item → List (Bool × ReadError)
 checks h raw at (InputItem lit) = definition_checks h raw at lit []
 checks h raw at (LatchItem latch) = definition_checks h raw at latch.current (latch.next ∷ []) ++ (is_bad_reset latch, BadReset at) ∷ []
@@ -81,6 +84,7 @@ next_section h raw =
     if nat_lt (length raw.inputs) h.inputs then Inputs else (if nat_lt (length raw.latches) h.latches then Latches else (if nat_lt (length raw.safety) (safety_count h) then Safety
     else (if nat_lt (length raw.sizes) h.justice then Sizes else (if nat_lt (length raw.liveness) (liveness_count h raw) then Liveness else (if nat_lt (length raw.gates) h.gates then Gates else Symbols)))))
 
+-- what was read, with one more item at the end of its section
 abbrev pub with_item : Raw → Item → Raw
 with_item raw (InputItem lit) = record raw { inputs = raw.inputs ++ lit ∷ [] }
 with_item raw (LatchItem latch) = record raw { latches = raw.latches ++ latch ∷ [] }
@@ -105,6 +109,7 @@ abbrev pub take_item : Header → Raw → ℕ → ReadError → Option Item → 
 take_item h raw at fault None = Err fault
 take_item h raw at fault (Some item) = unless (checks h raw at item) (Ok (with_item raw item))
 
+-- what reading a line after these items gives
 unfoldable pub read_line : Header → Raw → ℕ → List ℕ → Result Raw ReadError
 read_line h raw at line = take_item h raw at (malformed (next_section h raw) at line) (item_of (next_section h raw) line)
 
@@ -116,6 +121,7 @@ pub data State : Type 0 where
   InItems : (h : Header) (raw : Raw) (at : ℕ) → State
   InComment : (h : Header) (raw : Raw) → State
 
+-- whether a section is that of symbols
 abbrev pub is_symbols : Section → Bool
 is_symbols Symbols = true
 is_symbols section = false

@@ -4,14 +4,20 @@ ghost use Rattle.std.specs.Prelude.{◌≡◌, ◌<◌, ◌↔◌, ◌^◌, [], 
 ghost use Rattle.std.specs.BinaryHeap.{heap_items};
 ghost use Rattle.std.specs.List.{range_with_len};
 ghost use Rattle.std.specs.Option.{option_map};
-ghost use Rattle.ascii_file.specs.Cycles.{HasCycle};
-ghost use Rattle.ascii_file.specs.Order.{AreReadsInFile, IsInOrder, IsOrder, may_follow, ordered};
-ghost use Rattle.ascii_file.specs.Readers.{AreReaderTables, read_by};
-ghost use Rattle.ascii_file.specs.Ready.{Gains, IsReadyHeap, is_released};
+ghost use Rattle.ascii_file.specs.order.Cycles.{HasCycle};
+ghost use Rattle.ascii_file.specs.order.Order.{AreReadsInFile, IsInOrder, IsOrder, may_follow, ordered};
+ghost use Rattle.ascii_file.specs.order.Readers.{AreReaderTables, read_by};
+ghost use Rattle.ascii_file.specs.order.Ready.{Gains, IsReadyHeap, is_released};
 
-use crate::readers::Readers;
-use crate::reads::{Reads, Side};
+mod laws;
+mod readers;
+mod reads;
+
+use crate::order::readers::Readers;
+use crate::order::reads::Side;
 use aig_graph::NoMemory;
+pub use laws::{cycle_laws, in_order_law, order_laws};
+pub use reads::Reads;
 use std::alloc::Global;
 use std::cmp::Reverse;
 use std::collections::BinaryHeap;

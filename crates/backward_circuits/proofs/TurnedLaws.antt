@@ -8,7 +8,7 @@ use Rattle.aig_graph.specs.Circuits.{Netlist}
 use Rattle.aig_graph.specs.Streams.{SameStreams, property_literals, chosen}
 use Rattle.aig_graph.specs.Laws.{all_free}
 use Rattle.aig_graph.proofs.StreamLaws.{same_streams-reflexive, values-same}
-use Rattle.retimed_circuits.specs.MapCircuits.{FreeStay, IsMapCircuit}
+use Rattle.state_maps.specs.MapCircuits.{FreeStay, IsMapCircuit}
 use Rattle.map_checks.specs.Answers.{IsAnswer}
 use Rattle.map_checks.specs.declared.answer.Answer.{Answer}
 use Rattle.map_checks.specs.declared.answer.Answer.TheVariants.{Retiming}

@@ -4,7 +4,7 @@ use Rattle.aig_graph.specs.declared.properties.Symbol.{Symbol}
 use Rattle.aig_graph.specs.declared.properties.Symbols.{Symbols}
 use Rattle.aig_graph.specs.Circuits.{Netlist}
 use Rattle.aig_graph.specs.Laws.{all_free}
-use Rattle.retimed_circuits.specs.MapCircuits.{FreeStay, IsMapCircuit}
+use Rattle.state_maps.specs.MapCircuits.{FreeStay, IsMapCircuit}
 use Rattle.aig_graph.specs.Tables.{table}
 
 -- all names but those of latches are the same

@@ -5,8 +5,8 @@ use Rattle.aig_graph.specs.declared.properties.Symbol.{Symbol}
 use Rattle.aig_graph.specs.Circuits.{Netlist}
 use Rattle.aig_graph.specs.Laws.{all_free}
 use Rattle.aig_graph.specs.Streams.{SameStreams}
-use Rattle.retimed_circuits.specs.Levels.{levels}
-use Rattle.retimed_circuits.specs.MapCircuits.{FreeStay, IsMapCircuit}
+use Rattle.path_levels.specs.Levels.{levels}
+use Rattle.state_maps.specs.MapCircuits.{FreeStay, IsMapCircuit}
 
 -- output k of the map m is this latch of d, which starts as latch k of c does
 pub record IsHeldAt (c d m : Netlist) (k place : ℕ) : Type 0 where

@@ -3,7 +3,7 @@ ghost use Rattle.std.specs.Prelude.{IfOk, IsTrue};
 ghost use Rattle.backward_circuits.specs.MovedBack.{IsWithin};
 
 use aig_graph::{Circuit, NoMemory};
-use retimed_circuits::levels;
+use path_levels::levels;
 use std::alloc::Global;
 
 /// Whether no way of a circuit is longer than a bound, or than the longest of another circuit.

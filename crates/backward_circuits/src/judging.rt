@@ -1,7 +1,7 @@
 //! The judge: what is asked of the finished circuit and map, by proved code alone.
 ghost use Rattle.std.specs.Prelude.{◌≡◌, IfOk, IsTrue, length};
 ghost use Rattle.aig_graph.specs.Graph.{free_latches};
-ghost use Rattle.retimed_circuits.specs.MapCircuits.{FreeStay};
+ghost use Rattle.state_maps.specs.MapCircuits.{FreeStay};
 ghost use Rattle.backward_circuits.specs.MovedBack.{IsFit, IsMovedBack, IsMapBack};
 
 use crate::bounds::is_within;

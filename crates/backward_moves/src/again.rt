@@ -1,11 +1,13 @@
-//! The set that was moved last, where its copies stand now. What a frame saves doesn't rise from frame to frame, so a set that saves as much as
-//! the last one did is as good as any, and no flow is needed to find it.
+//! The set that was moved last, in its copies of now. The number of latches that a frame saves
+//! doesn't rise from frame to frame. So a set that saves as many as the last one did is as good as
+//! any, and no flow is needed to find it.
 
 use crate::copies::{VERSIONS, Version, copy_of};
 use aig_graph::Memory;
 use backward_sets::{Draft, Literal, count_marks, entry, has_mark, number, set_mark};
 
-/// Marks of the copies of the gates that were moved last, by variable, and how many latches that saved.
+/// Marks of the copies of the gates that were moved last, by variable, and the number of latches
+/// that this saved.
 #[derive(Drop)]
 pub(crate) struct Again {
     pub marks: Vec<bool>,
@@ -13,7 +15,7 @@ pub(crate) struct Again {
 }
 
 impl Again {
-    /// Nothing was moved yet.
+    /// Returns the set of no gate.
     pub fn none(memory: &mut Memory) -> Again {
         Again {
             marks: memory.nothing(),
@@ -21,13 +23,13 @@ impl Again {
         }
     }
 
-    /// Whether there is no set to be moved again.
+    /// Returns true if there is no set to be moved again.
     pub fn is_empty(&self) -> bool {
         count_marks(self.marks.as_slice()) == 0
     }
 }
 
-/// Marks the new number of a copy, if it is a gate, of which this is the first.
+/// Marks the new number of a copy, if it is a gate. `first` is the variable of the first gate.
 fn mark_copy(marks: &mut [bool], numbers: &[u32], first: u32, lit: Literal) {
     let number = entry(numbers, lit.var());
     if number >= first {
@@ -35,7 +37,7 @@ fn mark_copy(marks: &mut [bool], numbers: &[u32], first: u32, lit: Literal) {
     }
 }
 
-/// Marks the copies of a set's gates.
+/// Marks the copies of the gates of the set `inside`.
 fn mark_copies(
     marks: &mut [bool],
     numbers: &[u32],
@@ -53,7 +55,8 @@ fn mark_copies(
     }
 }
 
-/// By variable of a draft whether it is the copy of a gate of a set, where copies have these new numbers.
+/// Returns by variable of a draft if it is the copy of a gate of the set `inside`. `numbers` has
+/// the new numbers of copies.
 pub(crate) fn marks_of(
     memory: &mut Memory,
     draft: &Draft,

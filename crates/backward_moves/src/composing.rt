@@ -1,12 +1,13 @@
-//! The map of all frames, from what each of them changed. Latches and gates have names, by which a map says what became of the latches that went:
-//! of those that stay it says nothing. The last frame's comes first, so that the gates of each stand once.
+//! The map of all frames, composed of the change of each. Latches and gates have names, by which a
+//! frame's map says what the latches that went are after it; it says nothing of those that stay.
+//! The last frame comes first, so that the gates of each are put once.
 
 use crate::copies::{set_literal, standing};
 use crate::shared::{Shared, pair_at};
 use aig_graph::Memory;
 use backward_sets::{Draft, DraftLatch, Literal, Pair, number};
 
-/// A latch that went in a frame, and what it holds by what is there after it.
+/// A latch that went in a frame, and the literal of its value after the frame.
 #[derive(Clone, Copy)]
 pub(crate) struct Gone {
     pub latch: u32,
@@ -14,20 +15,20 @@ pub(crate) struct Gone {
 }
 
 impl Gone {
-    /// What stands where none went.
+    /// Stands for no latch.
     pub const NONE: Gone = Gone {
         latch: 0,
         by: Literal::FALSE,
     };
 
-    /// Whether it is still there as it is.
+    /// Returns true if the latch is still there, as itself.
     pub fn stays(self) -> bool {
         self.by == Literal::of(self.latch)
     }
 }
 
-/// What the latches that went in a frame hold, by those after it: gates over these, and a literal for each. Variables are names, and the
-/// gates have those from the first on.
+/// The values of the latches that went in a frame, by the latches after it: gates over these, and a
+/// literal for each that went. Variables are names, and the gates have those from `first` on.
 pub(crate) struct FrameMap {
     pub first: u32,
     pub gates: Vec<Pair>,
@@ -46,13 +47,14 @@ impl Drop for FrameMap {
 }
 
 impl FrameMap {
-    /// The first name that nothing has after the frame.
+    /// Returns the first name that nothing has after the frame.
     pub fn names(&self) -> u32 {
         self.first.wrapping_add(number(self.gates.len()))
     }
 }
 
-/// Gates over the latches after all frames, which have the variables from 1 on, and a literal for each latch of the first draft.
+/// Gates over the latches after all frames, which have the variables from 1 on, and a literal for
+/// each latch of the first draft.
 #[derive(Drop)]
 pub(crate) struct WholeMap {
     pub gates: Vec<Pair>,
@@ -67,7 +69,7 @@ fn put_latches(stands: &mut [Literal], latches: &[DraftLatch]) {
     }
 }
 
-/// Puts what stands for the gates of a frame's map.
+/// Puts the literals of the gates of a frame's map.
 fn put_gates(stands: &mut [Literal], gates: &mut Shared, map: &FrameMap) {
     let pairs = map.gates.as_slice();
     for place in 0..number(pairs.len()) {
@@ -80,7 +82,7 @@ fn put_gates(stands: &mut [Literal], gates: &mut Shared, map: &FrameMap) {
     }
 }
 
-/// Puts what stands for the latches that went in a frame.
+/// Puts the literals of the latches that went in a frame.
 fn put_gone(stands: &mut [Literal], gone: &[Gone]) {
     for place in 0..gone.len() {
         let own = standing(stands, gone[place].by);
@@ -88,7 +90,7 @@ fn put_gone(stands: &mut [Literal], gone: &[Gone]) {
     }
 }
 
-/// How many gates the maps of frames have.
+/// Returns the number of gates of the maps of all frames.
 fn count_gates(maps: &[FrameMap]) -> usize {
     let mut count = 0usize;
     for map in maps {
@@ -97,14 +99,14 @@ fn count_gates(maps: &[FrameMap]) -> usize {
     count
 }
 
-/// Puts what stands for the first latches, whose names begin with 1.
+/// Puts the literals of the first latches, whose names begin with 1.
 fn put_outputs(stands: &[Literal], outputs: &mut [Literal]) {
     for place in 0..outputs.len() {
         outputs[place] = standing(stands, Literal::of(number(place).wrapping_add(1)));
     }
 }
 
-/// The map of frames that lead from so many latches to a draft.
+/// Returns the map of frames that lead from `first` latches to a draft.
 pub(crate) fn composed(
     memory: &mut Memory,
     maps: &[FrameMap],

@@ -1,33 +1,35 @@
-//! Copies of the variables of a set and its border behind the latches: one for each value that is wished at step 0, which later have one value.
+//! Copies of the variables of a set and its border behind the latches: one for each value that is
+//! wished at step 0. At later steps all copies have one value.
 
 use backward_sets::{DraftLatch, Literal, Wish};
 
-/// Which copy: the one that has the value 0 at step 0, the one that has 1, or the only one where none is wished.
+/// A copy of a variable: the one with the value 0 at step 0, the one with 1, or the only one if
+/// neither is wished.
 #[derive(Clone, Copy)]
 pub(crate) struct Version {
     place: u32,
 }
 
-/// How many versions there are.
+/// The number of versions.
 pub(crate) const VERSIONS: u32 = 3;
 
 impl Version {
-    /// The version with a number below that of versions.
+    /// Returns the version with number `place`, which is below [`VERSIONS`].
     pub fn of(place: u32) -> Version {
         Version { place }
     }
 
-    /// Its number.
+    /// Returns its number.
     pub fn place(self) -> u32 {
         self.place
     }
 
-    /// Whether it is the copy that has a value at step 0.
+    /// Returns true if it is the copy that has `value` at step 0.
     pub fn is(self, value: bool) -> bool {
         self.place == u32::from(value)
     }
 
-    /// Whether a variable with these wishes has this copy.
+    /// Returns true if a variable with these wishes has this copy.
     pub fn is_wished(self, wish: Wish) -> bool {
         if self.place < 2 {
             wish.has(self.place == 1)
@@ -36,7 +38,8 @@ impl Version {
         }
     }
 
-    /// The copy that is read where a value is needed at step 0, or none is, in which case any will do.
+    /// Returns the copy that is read if the value `need` is needed at step 0. If none is needed,
+    /// any copy will do.
     pub fn picked(wish: Wish, need: Wish) -> Version {
         let asked = if need.zero | need.one { need } else { wish };
         Version {
@@ -51,7 +54,7 @@ impl Version {
     }
 }
 
-/// What a latch needs of the variable that it reads, where its reset is settled.
+/// Returns the value that a latch needs of the variable that it reads, if its reset is settled.
 pub(crate) fn need_of(latch: &DraftLatch) -> Wish {
     if latch.is_settled() {
         Wish::NONE.with(latch.starts_at_1() != latch.next.is_negated())
@@ -60,7 +63,7 @@ pub(crate) fn need_of(latch: &DraftLatch) -> Wish {
     }
 }
 
-/// The literal at a place of a table, and none past its end.
+/// Returns the literal at `place`, or none past the end.
 pub(crate) fn literal_at(literals: &[Literal], place: u32) -> Literal {
     let place = place as usize;
     if place < literals.len() {
@@ -70,7 +73,7 @@ pub(crate) fn literal_at(literals: &[Literal], place: u32) -> Literal {
     }
 }
 
-/// Puts a literal at a place of a table.
+/// Puts a literal at `place`, if the table has it.
 pub(crate) fn set_literal(literals: &mut [Literal], place: u32, lit: Literal) {
     let place = place as usize;
     if place < literals.len() {
@@ -78,22 +81,22 @@ pub(crate) fn set_literal(literals: &mut [Literal], place: u32, lit: Literal) {
     }
 }
 
-/// The place of a copy in a table that has as many entries a variable as there are versions.
+/// Returns the place of a copy in a table with an entry for each version of each variable.
 fn place_of(var: u32, version: Version) -> u32 {
     var.wrapping_mul(VERSIONS).wrapping_add(version.place)
 }
 
-/// What stands for a copy of a variable.
+/// Returns the literal of a copy of a variable.
 pub(crate) fn copy_of(copies: &[Literal], var: u32, version: Version) -> Literal {
     literal_at(copies, place_of(var, version))
 }
 
-/// A literal stands for a copy of a variable from now on.
+/// Sets the literal of a copy of a variable.
 pub(crate) fn set_copy(copies: &mut [Literal], var: u32, version: Version, lit: Literal) {
     set_literal(copies, place_of(var, version), lit);
 }
 
-/// What stands for a literal; false where nothing does.
+/// Returns the replacement for `lit`, or false if there is none.
 pub(crate) fn standing(stands: &[Literal], lit: Literal) -> Literal {
     let place = lit.var() as usize;
     if place < stands.len() {

@@ -1,5 +1,6 @@
-//! A frame: a set is chosen by a flow, wishes are handed down it, and the draft is made anew. Where wishes make the border take too many
-//! latches, or ways get too long, some gates are frozen, and the flow is asked again.
+//! A frame: a set is chosen by a flow, wishes are handed down it, and the draft is made anew. If
+//! wishes make the border take too many latches, or ways get too long, some gates are frozen, and
+//! the flow is asked again.
 
 use crate::again::Again;
 use crate::composing::FrameMap;
@@ -11,10 +12,11 @@ use backward_sets::{
     starts_of, wish_of, wishes_of,
 };
 
-/// How often a flow is asked in a frame.
+/// The most times that a flow is asked in a frame.
 const MOST_TRIES: u32 = 16;
 
-/// What a frame did: how many latches take part before it and after, how many gates moved, and how many variables have two latches.
+/// The counts of a frame: latches that take part before it and after, gates that moved, and
+/// variables that have two latches.
 #[derive(Clone, Copy)]
 pub struct FrameCounts {
     pub before: u32,
@@ -23,7 +25,8 @@ pub struct FrameCounts {
     pub doubled: u32,
 }
 
-/// The draft after a frame, the map of its states to those before, and what the next frame tries first.
+/// The draft after a frame, the map of its states to those before, the frame's counts, and the set
+/// that the next frame tries first.
 #[derive(Drop)]
 pub(crate) struct Moved {
     pub draft: Draft,
@@ -32,7 +35,7 @@ pub(crate) struct Moved {
     pub again: Again,
 }
 
-/// A set with its wishes, and how many latches its border takes.
+/// A set with its wishes, and the number of latches that its border takes.
 #[derive(Drop)]
 struct Settled {
     set: Bordered,
@@ -41,7 +44,7 @@ struct Settled {
     doubled: u32,
 }
 
-/// What a frame knows of a draft.
+/// The tables of a frame by a draft.
 #[derive(Drop)]
 struct Frame<'a> {
     draft: &'a Draft,
@@ -50,30 +53,31 @@ struct Frame<'a> {
     frozen: Vec<bool>,
     latches: u32,
     bound: Option<u32>,
-    /// Whether gates were frozen in the last attempt, so that another set may do.
+    /// True if gates were frozen in the last attempt, so that another set may do.
     open: bool,
 }
 
-/// What latches of both resets read stays: it is a border variable with two latches.
+/// Freezes the variables that latches of both resets read: they would be border variables with two
+/// latches.
 fn freeze_doubled(starts: &[Wish], frozen: &mut [bool]) {
     for var in 0..number(starts.len()) {
         set_mark(frozen, var, wish_of(starts, var).is_both());
     }
 }
 
-/// Puts marks into a table that has none.
+/// Copies marks into a table that has none.
 fn copy_marks(marks: &[bool], all: &mut [bool]) {
     for var in 0..number(marks.len()) {
         set_mark(all, var, has_mark(marks, var));
     }
 }
 
-/// How many latches the border of a set takes, by these wishes.
+/// Returns the number of latches that the border of a set takes, by these wishes.
 fn cost(set: &Bordered, wishes: &[Wish]) -> u32 {
     count_marks(set.border.as_slice()).wrapping_add(set.doubled(wishes))
 }
 
-/// A set with its border.
+/// Returns a set with its border.
 fn bordered(memory: &mut Memory, draft: &Draft, inside: Vec<bool>) -> Bordered {
     let border = border_of(memory, draft, inside.as_slice());
     Bordered { inside, border }
@@ -95,7 +99,7 @@ impl<'a> Frame<'a> {
         }
     }
 
-    /// The wishes of a set.
+    /// Returns the wishes of a set.
     fn wishes(&self, memory: &mut Memory, set: &Bordered) -> Wishes {
         let starts = self.starts.as_slice();
         let mut values = memory.table(false, self.draft.size());
@@ -108,7 +112,7 @@ impl<'a> Frame<'a> {
         wishes_of(memory, self.draft, set, starts, &guide)
     }
 
-    /// A set with its wishes.
+    /// Returns a set with its wishes.
     fn settle(&self, memory: &mut Memory, set: Bordered) -> Settled {
         let wishes = self.wishes(memory, &set);
         let doubled = set.doubled(wishes.of.as_slice());
@@ -120,7 +124,7 @@ impl<'a> Frame<'a> {
         }
     }
 
-    /// Whether a draft has a way that is too long.
+    /// Returns true if a draft has a way that is too long.
     fn is_long(&self, memory: &mut Memory, draft: &Draft) -> bool {
         match self.bound {
             Some(bound) => levels_of(memory, draft) > bound,
@@ -128,7 +132,7 @@ impl<'a> Frame<'a> {
         }
     }
 
-    /// What a move comes to, after gates that nothing reads are dropped.
+    /// Returns the result of a move, after gates that nothing reads are dropped.
     fn made(&self, memory: &mut Memory, mut rebuilt: Rebuilt, settled: &Settled) -> Moved {
         let marks = rebuilt.sweep(memory, settled.set.inside.as_slice());
         let (draft, map) = rebuilt.into_draft_and_map();
@@ -148,7 +152,7 @@ impl<'a> Frame<'a> {
         }
     }
 
-    /// The draft after the move, where no way gets too long.
+    /// Returns the result of the move over a set, or none if a way gets too long.
     fn moved(&self, memory: &mut Memory, settled: &Settled) -> Option<Moved> {
         let (set, wishes) = (&settled.set, &settled.wishes);
         let rebuilt = rebuild(memory, self.draft, set, wishes, settled.after);
@@ -159,13 +163,13 @@ impl<'a> Frame<'a> {
         }
     }
 
-    /// Whether the last set may move.
+    /// Returns true if the last set may move again.
     fn may_repeat(&self, memory: &mut Memory, again: &Again) -> bool {
         let may = movable(memory, self.draft, self.frozen.as_slice());
         !again.is_empty() & is_closed(self.draft, may.as_slice(), again.marks.as_slice())
     }
 
-    /// Moves a set, where its border takes no more latches than these.
+    /// Moves a set, if its border takes at most `most` latches.
     fn moved_within(&self, memory: &mut Memory, set: Bordered, most: u32) -> Option<Moved> {
         let settled = self.settle(memory, set);
         if settled.after > most {
@@ -175,7 +179,7 @@ impl<'a> Frame<'a> {
         }
     }
 
-    /// Moves the last set again, where that saves as many latches as then.
+    /// Moves the last set again, if that saves at least the number of latches that it saved then.
     fn move_last(&self, memory: &mut Memory, again: &Again) -> Option<Moved> {
         let most = self.latches.saturating_sub(again.saved);
         let mut inside = memory.table(false, self.draft.size());
@@ -207,7 +211,7 @@ impl<'a> Frame<'a> {
         );
     }
 
-    /// Moves a set, where that saves latches and no way gets too long; else freezes gates.
+    /// Moves a set, if that saves latches and no way gets too long; else freezes gates.
     fn attempt(&mut self, memory: &mut Memory, settled: &Settled) -> Option<Moved> {
         if settled.after >= self.latches {
             self.give_way(memory, settled);
@@ -220,7 +224,8 @@ impl<'a> Frame<'a> {
         moved
     }
 
-    /// The set that a flow chooses, and how many latches its border takes by the starts.
+    /// Returns the set that a flow chooses, and the number of latches that its border takes by the
+    /// starts.
     fn least(&self, memory: &mut Memory) -> (Vec<bool>, u32) {
         let may = movable(memory, self.draft, self.frozen.as_slice());
         least_set(memory, self.draft, may.as_slice(), self.starts.as_slice())
@@ -238,7 +243,7 @@ impl<'a> Frame<'a> {
         self.attempt(memory, &settled)
     }
 
-    /// Moves a set that a flow chooses.
+    /// Asks a flow for sets until one moves, no gate was frozen, or [`MOST_TRIES`] were tried.
     fn search(&mut self, memory: &mut Memory) -> Option<Moved> {
         for _ in 0..MOST_TRIES {
             match self.attempt_next(memory) {
@@ -263,7 +268,7 @@ impl<'a> Frame<'a> {
     }
 }
 
-/// Moves latches backward once, where that saves some.
+/// Moves latches backward once, if that saves some.
 pub(crate) fn next_frame(
     memory: &mut Memory,
     draft: &Draft,

@@ -1,5 +1,6 @@
-//! The latches after a frame. The first latch that takes part and reads a border variable becomes that variable's latch, and stays where it is
-//! with its sign, so that latches by which nothing is gained stay as they are. New latches follow, in the order of their variables.
+//! The latches after a frame. The first latch that takes part and reads a border variable becomes
+//! that variable's latch. It keeps its place and its sign, so latches by which nothing is gained
+//! stay as they are. New latches follow, in the order of their variables.
 
 use crate::copies::{VERSIONS, Version, copy_of, need_of, set_copy};
 use aig_graph::Memory;
@@ -7,30 +8,33 @@ use backward_sets::{
     Bordered, Draft, DraftLatch, DraftReset, Literal, Wish, entry, set_entry, wish_of,
 };
 
-/// What becomes of a latch that doesn't take part. One that becomes the latch of a copy of what it reads has the number of that version.
+/// The fate of a latch that doesn't take part. One that becomes the latch of a copy of the variable
+/// that it reads has the number of that version.
 const STAYS: u32 = VERSIONS;
 
-/// What becomes of a latch that goes.
+/// The fate of a latch that goes.
 const GOES: u32 = VERSIONS + 1;
 
-/// The latches after a frame, whose next literals are still those of before it, and what stands for the copies of border variables.
+/// The latches after a frame, whose next literals are still those of before it, and the literals of
+/// the copies of border variables.
 #[derive(Drop)]
 pub(crate) struct Latching {
-    /// The variable of the first.
+    /// The variable of the first latch.
     pub first: u32,
     /// Room for all that are put.
     pub latches: Vec<DraftLatch>,
-    /// How many were put.
+    /// The number of latches that were put.
     pub many: u32,
-    /// By variable what stands for each version.
+    /// The literal of each version, by variable.
     pub copies: Vec<Literal>,
-    /// By latch of before what becomes of it, and then the new number of one that doesn't take part.
+    /// The fate of each latch of before; then the new number of one that doesn't take part.
     pub places: Vec<u32>,
     /// The first name that nothing has yet.
     pub names: u32,
 }
 
-/// Has a latch that takes part serve for the copy of what it reads, if that is in the border and none does yet.
+/// Lets a latch that takes part serve for the copy of the variable that it reads, if that is in the
+/// border and no latch does yet. Returns the latch's fate.
 fn fate_of(set: &Bordered, wishes: &[Wish], latch: &DraftLatch, copies: &mut [Literal]) -> u32 {
     let var = latch.next.var();
     let version = Version::picked(wish_of(wishes, var), need_of(latch));
@@ -43,7 +47,7 @@ fn fate_of(set: &Bordered, wishes: &[Wish], latch: &DraftLatch, copies: &mut [Li
     }
 }
 
-/// The reset of a latch that serves for a copy, by its sign.
+/// Returns the reset of a latch that serves for a copy, by its sign.
 fn reset_for(version: Version, latch: &DraftLatch) -> DraftReset {
     if version.is(false) | version.is(true) {
         DraftReset::of(version.is(true) != latch.next.is_negated())
@@ -52,7 +56,7 @@ fn reset_for(version: Version, latch: &DraftLatch) -> DraftReset {
     }
 }
 
-/// A new latch for a variable.
+/// Returns a new latch for a variable.
 fn new_latch(var: u32, name: u32) -> DraftLatch {
     DraftLatch {
         next: Literal::of(var),
@@ -64,7 +68,7 @@ fn new_latch(var: u32, name: u32) -> DraftLatch {
     }
 }
 
-/// Puts a latch at a place.
+/// Puts a latch at `place`.
 fn set_latch(latches: &mut [DraftLatch], place: u32, latch: DraftLatch) {
     let place = place as usize;
     if place < latches.len() {
@@ -73,7 +77,7 @@ fn set_latch(latches: &mut [DraftLatch], place: u32, latch: DraftLatch) {
 }
 
 impl Latching {
-    /// No latch was put yet.
+    /// Returns tables in which no latch was put yet.
     fn new(memory: &mut Memory, draft: &Draft, added: u32) -> Latching {
         let all = draft.latches.len().saturating_add(added as usize);
         let latches = memory.table(DraftLatch::NONE, all);
@@ -90,7 +94,7 @@ impl Latching {
         }
     }
 
-    /// The name of the latch at a place.
+    /// Returns the name of the latch at `place`.
     pub fn name_at(&self, place: u32) -> u32 {
         let place = place as usize;
         if place < self.latches.len() {
@@ -100,7 +104,8 @@ impl Latching {
         }
     }
 
-    /// Has latches serve that take part: those whose reset is settled, or the others.
+    /// Sets the fates of latches that take part: of those whose reset is settled if `settled`, else
+    /// of the others.
     fn serve(&mut self, draft: &Draft, set: &Bordered, wishes: &[Wish], settled: bool) {
         for place in 0..draft.many_latches() {
             let latch = draft.latch(place);
@@ -111,13 +116,13 @@ impl Latching {
         }
     }
 
-    /// Puts a latch.
+    /// Appends a latch.
     fn append(&mut self, latch: DraftLatch) {
         set_latch(self.latches.as_mut_slice(), self.many, latch);
         self.many = self.many.wrapping_add(1);
     }
 
-    /// Puts the latch that serves for a copy: this one, with the copy's reset.
+    /// Puts `latch`, which serves for a copy, with the copy's reset.
     fn put(&mut self, latch: &DraftLatch, version: Version) {
         let lit = Literal::of(self.first.wrapping_add(self.many)).signed_as(latch.next);
         set_copy(self.copies.as_mut_slice(), latch.next.var(), version, lit);
@@ -131,7 +136,7 @@ impl Latching {
         });
     }
 
-    /// Puts what the latch at a place of before becomes.
+    /// Puts the latch that the one at `place` of before becomes, if it stays.
     fn keep(&mut self, place: u32, latch: &DraftLatch) {
         let fate = entry(self.places.as_slice(), place);
         set_entry(self.places.as_mut_slice(), place, self.many);
@@ -154,7 +159,8 @@ impl Latching {
         }
     }
 
-    /// Puts what all latches of before become, and new latches for all copies of border variables that have none.
+    /// Puts all latches of before that stay, and new latches for all copies of border variables
+    /// that have none.
     fn put_all(&mut self, draft: &Draft, set: &Bordered, wishes: &[Wish]) {
         for place in 0..draft.many_latches() {
             self.keep(place, &draft.latch(place));
@@ -166,7 +172,7 @@ impl Latching {
         }
     }
 
-    /// The latches, and what stands for copies.
+    /// Returns the latches, and the literals of copies.
     pub fn into_latches_and_copies(self) -> (Vec<DraftLatch>, Vec<Literal>) {
         let Latching {
             first: _first,
@@ -181,7 +187,8 @@ impl Latching {
     }
 }
 
-/// The latches after a frame over a set, by the wishes at its border, which takes so many latches.
+/// Returns the latches after a frame over a set, by the wishes at its border, which takes `after`
+/// latches.
 pub(crate) fn latching_of(
     memory: &mut Memory,
     draft: &Draft,

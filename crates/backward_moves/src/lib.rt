@@ -1,6 +1,8 @@
-//! Moves latches backward, frame after frame: the draft of a circuit, and of a map of its states to those of the circuit before.
+//! Moves latches backward, frame after frame: drafts a circuit, and a map of its states to those of
+//! the circuit before.
 //!
-//! What is made here are hints. No clause speaks of a draft; what judges it stands in the crate above.
+//! The drafts that are made here are hints. No clause speaks of a draft; its judge stands in the
+//! crate above.
 #![tactic(auto)]
 
 mod again;

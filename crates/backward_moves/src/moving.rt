@@ -13,16 +13,18 @@ use backward_sets::{Draft, DraftLatch, DraftReset, Literal, Pair, levels_of};
 use std::alloc::Global;
 use std::mem;
 
-/// How far latches may be moved: over so many frames, and with no way of more gates than these, where the circuit has none.
+/// Limits of moving latches: over at most `frames` frames, and with no way of more than `levels`
+/// gates, unless the circuit has one.
 #[derive(Clone, Copy)]
 pub struct MoveOptions {
     pub frames: u32,
     pub levels: Option<u32>,
 }
 
-/// A circuit as numbers, with the inputs of the first one: its latches and gates, and what stands for each latch and gate of the first that a
-/// property reads. And the map of its states to those of the first: gates over its latches, which have the variables from 1 on, and a literal
-/// for each latch of the first.
+/// A circuit as numbers, with the inputs of the first one: its latches and gates. `stands` has the
+/// literals of each latch and gate of the first that a property reads. With it comes the map of its
+/// states to those of the first: gates over its latches, and a literal for each latch of the first.
+/// There its latches have the variables from 1 on.
 #[derive(Drop)]
 pub struct Drafted {
     pub latches: Vec<DraftLatch>,
@@ -31,21 +33,21 @@ pub struct Drafted {
     pub map_gates: Vec<Pair>,
     pub map_outputs: Vec<Literal>,
     pub frames: Vec<FrameCounts>,
-    /// Why no more latches go.
+    /// The reasons for which the other latches stay.
     pub staying: Staying,
 }
 
-/// What comes of moving latches.
+/// The result of moving latches.
 #[derive(Drop)]
 pub enum Moves {
     /// A draft with fewer latches.
     Drafted(Drafted),
-    /// No frame leaves fewer: why latches stay.
+    /// No frame leaves fewer latches. Says why they stay.
     Unmoved(Staying),
 }
 
 impl Drafted {
-    /// What the frames did.
+    /// Returns the counts of the frames.
     pub fn into_frames(self) -> Vec<FrameCounts> {
         let Drafted {
             latches: _latches,
@@ -60,7 +62,7 @@ impl Drafted {
     }
 }
 
-/// How many latches have a known reset.
+/// Returns the number of latches with a known reset.
 fn known_latches(latches: &[DraftLatch]) -> u32 {
     let mut count = 0u32;
     for latch in latches {
@@ -93,7 +95,8 @@ impl Drop for Run {
     }
 }
 
-/// Each latch that may start with either value starts with 0, and reads its literal of the first circuit.
+/// Lets each latch that may start with either value start with 0, and read its literal of the first
+/// circuit.
 fn restore_latches(latches: &mut [DraftLatch], inputs: &Inputs) {
     for place in 0..latches.len() {
         if latches[place].reset == DraftReset::Any {
@@ -103,7 +106,7 @@ fn restore_latches(latches: &mut [DraftLatch], inputs: &Inputs) {
     }
 }
 
-/// The gates with literals of the first circuit.
+/// Replaces the literals of gates by those of the first circuit.
 fn restore_gates(gates: &mut [Pair], inputs: &Inputs) {
     for place in 0..gates.len() {
         let pair = gates[place];
@@ -114,7 +117,7 @@ fn restore_gates(gates: &mut [Pair], inputs: &Inputs) {
     }
 }
 
-/// The literals as those of the first circuit.
+/// Replaces literals by those of the first circuit.
 fn restore_literals(literals: &mut [Literal], inputs: &Inputs) {
     for place in 0..literals.len() {
         literals[place] = inputs.original(literals[place]);
@@ -122,7 +125,7 @@ fn restore_literals(literals: &mut [Literal], inputs: &Inputs) {
 }
 
 impl Run {
-    /// No frame was taken yet. Gates that nothing reads are dropped.
+    /// Begins a run in which no frame was taken yet. Gates that nothing reads are dropped.
     fn new(memory: &mut Memory, circuit: &Circuit, keep: &Keep, properties: &[Lit]) -> Run {
         let inputs = Inputs::of(memory, circuit, properties);
         let mut draft = draft_of(memory, circuit, keep, &inputs, properties);
@@ -140,7 +143,8 @@ impl Run {
         }
     }
 
-    /// Notes what a frame did. The latches that were left out took part in it, and stayed.
+    /// Notes the counts and the map of a frame. Latches that were left out count as ones that took
+    /// part in it, and stayed.
     fn note(&mut self, memory: &mut Memory, counts: FrameCounts, map: FrameMap) {
         let counts = FrameCounts {
             before: counts.before.wrapping_add(self.rows.many()),
@@ -151,7 +155,7 @@ impl Run {
         memory.push(&mut self.maps, map);
     }
 
-    /// Goes on from what a frame made.
+    /// Goes on from the result of a frame.
     fn take(&mut self, memory: &mut Memory, moved: Moved) {
         let Moved {
             draft,
@@ -166,7 +170,7 @@ impl Run {
             .keep_up(memory, &mut self.draft, &mut self.again.marks);
     }
 
-    /// Takes one frame, if it saves a latch. Whether it does, and no memory was refused.
+    /// Takes one frame, if it saves a latch. Returns true if it does, and no memory was refused.
     fn advance(&mut self, memory: &mut Memory, bound: Option<u32>) -> bool {
         match next_frame(memory, &self.draft, bound, &self.again) {
             Some(moved) => {
@@ -177,7 +181,7 @@ impl Run {
         }
     }
 
-    /// The stage in which the set of the next frame is looked for.
+    /// Returns the stage in which the set of the next frame is looked for.
     fn looking(&self) -> MoveStage {
         MoveStage::Looking {
             taken: self.frames.len(),
@@ -186,7 +190,7 @@ impl Run {
         }
     }
 
-    /// The bound on ways: what is asked for, or the longest where that is more.
+    /// Returns the bound on ways: the one that is asked for, or the longest way if that is more.
     fn bound(&self, memory: &mut Memory, options: &MoveOptions) -> Option<u32> {
         match options.levels {
             Some(levels) => Some(levels.max(levels_of(memory, &self.draft))),
@@ -194,7 +198,8 @@ impl Run {
         }
     }
 
-    /// Takes frames until none saves a latch, or memory is refused. Whether that is so, and they don't end by their limit.
+    /// Takes frames until none saves a latch, or memory is refused. Returns false if the limit of
+    /// frames ends it first.
     fn advance_all<W: MoveWatcher>(
         &mut self,
         memory: &mut Memory,
@@ -211,7 +216,8 @@ impl Run {
         false
     }
 
-    /// Takes frames, and gives all latches back that were left out. Why the latches stay that are left.
+    /// Takes frames, and gives all latches back that were left out. Returns why the latches stay
+    /// that are left.
     fn move_all<W: MoveWatcher>(
         &mut self,
         memory: &mut Memory,
@@ -232,7 +238,8 @@ impl Run {
         restore_literals(self.draft.observed.as_mut_slice(), &self.inputs);
     }
 
-    /// The draft of the first circuit, with what stands for what its properties read, and a map.
+    /// Returns the draft of the first circuit, with the literals of what its properties read, and a
+    /// map.
     fn into_drafted(self, stands: Vec<Literal>, map: WholeMap, staying: Staying) -> Drafted {
         let Run {
             inputs: _inputs,
@@ -258,7 +265,7 @@ impl Run {
         }
     }
 
-    /// What the run ends in, where frames were taken.
+    /// Returns the result of the run, if frames were taken.
     fn finished(
         mut self,
         memory: &mut Memory,
@@ -274,7 +281,7 @@ impl Run {
     }
 }
 
-/// What comes of a circuit whose properties read these literals, unless memory was refused.
+/// Returns the result for a circuit whose properties read `properties`, unless memory was refused.
 fn moved_draft<W: MoveWatcher>(
     memory: &mut Memory,
     circuit: &Circuit,
@@ -303,7 +310,7 @@ fn moved_draft<W: MoveWatcher>(
 ///
 /// # Errors
 ///
-/// `NoMemory` where a table is refused.
+/// `NoMemory` if a table is refused.
 pub fn draft_moves<W: MoveWatcher>(
     alloc: Global,
     circuit: &Circuit,

@@ -1,4 +1,5 @@
-//! A circuit as a draft. Inputs that nothing reads are left out, since a file of thirty bytes can have hundreds of millions of them.
+//! A circuit as a draft. Inputs that nothing reads are left out, since a file of thirty bytes can
+//! have hundreds of millions of them.
 
 use crate::copies::{literal_at, set_literal};
 use aig_graph::{Aig, Circuit, Gate, Keep, Latch, Lit, Memory, Reset};
@@ -7,15 +8,15 @@ use backward_sets::{Draft, DraftLatch, DraftReset, Literal, Pair, entry, number,
 /// The inputs that something reads, rising.
 #[derive(Drop)]
 pub(crate) struct Inputs {
-    /// How many the circuit has.
+    /// The number of the circuit's inputs.
     all: u32,
-    /// How many of them the draft has.
+    /// The number of the draft's inputs.
     many: u32,
-    /// Their variables, where some are left out.
+    /// Their variables, if some are left out.
     read: Vec<u32>,
 }
 
-/// The inputs that are read, as often as they are.
+/// The inputs that are read, once for each time.
 #[derive(Drop)]
 struct Notes {
     inputs: u32,
@@ -47,7 +48,7 @@ impl Notes {
         }
     }
 
-    /// The inputs that were noted, rising.
+    /// Returns the inputs that were noted, rising.
     fn into_rising(self) -> Vec<u32> {
         let Notes {
             inputs: _inputs,
@@ -61,7 +62,7 @@ impl Notes {
     }
 }
 
-/// The inputs that something reads, rising.
+/// Returns the inputs that something reads, rising.
 fn inputs_read(memory: &mut Memory, circuit: &Circuit, observed: &[Lit]) -> Vec<u32> {
     let aig = circuit.aig();
     let both = aig.latches_and_gates().saturating_add(aig.gates().len());
@@ -76,7 +77,8 @@ fn inputs_read(memory: &mut Memory, circuit: &Circuit, observed: &[Lit]) -> Vec<
 }
 
 impl Inputs {
-    /// All inputs where they are few, else those that are read, where properties read these literals.
+    /// Returns all inputs if they are few, else those that something reads. The properties read
+    /// `observed`.
     pub fn of(memory: &mut Memory, circuit: &Circuit, observed: &[Lit]) -> Inputs {
         let all = circuit.aig().inputs();
         if all as usize <= circuit.aig().latches_and_gates() {
@@ -94,7 +96,7 @@ impl Inputs {
         }
     }
 
-    /// The draft's variable of one of the circuit.
+    /// Returns the draft's variable for one of the circuit.
     fn var(&self, var: u32) -> u32 {
         if self.many == self.all || var == 0 {
             return var;
@@ -108,12 +110,12 @@ impl Inputs {
         }
     }
 
-    /// The draft's literal of one of the circuit.
+    /// Returns the draft's literal for one of the circuit.
     fn literal(&self, lit: Lit) -> Literal {
         Literal::of(self.var(lit.var())).negated_if(lit.is_negated())
     }
 
-    /// The circuit's literal that one of the draft is.
+    /// Returns the circuit's literal for one of the draft.
     pub fn original(&self, lit: Literal) -> Literal {
         let var = lit.var();
         if self.many == self.all {
@@ -128,7 +130,7 @@ impl Inputs {
     }
 }
 
-/// A latch of a draft.
+/// Returns the draft's latch for one of the circuit.
 fn latch_of(inputs: &Inputs, keep: &Keep, latch: &Latch, position: u32) -> DraftLatch {
     DraftLatch {
         next: inputs.literal(latch.next),
@@ -174,7 +176,7 @@ fn put_observed(inputs: &Inputs, properties: &[Lit], observed: &mut [Literal]) {
     }
 }
 
-/// A draft whose latches, gates and properties are all none.
+/// Returns a draft in which latches, gates and properties stand for none.
 fn blank(memory: &mut Memory, aig: &Aig, inputs: u32, properties: usize) -> Draft {
     let latches = memory.table(DraftLatch::NONE, aig.latches().len());
     let gates = memory.table(Pair::NONE, aig.gates().len());
@@ -188,7 +190,7 @@ fn blank(memory: &mut Memory, aig: &Aig, inputs: u32, properties: usize) -> Draf
     }
 }
 
-/// The draft that a circuit is, with these inputs, whose properties read these literals.
+/// Returns the draft of a circuit, with these inputs, whose properties read `properties`.
 pub(crate) fn draft_of(
     memory: &mut Memory,
     circuit: &Circuit,
@@ -204,7 +206,7 @@ pub(crate) fn draft_of(
     draft
 }
 
-/// Puts what stands for each latch and gate that a property reads, from a first variable on.
+/// Puts the replacement for each latch and gate that a property reads, by variable from `first` on.
 fn put_stands(stands: &mut [Literal], first: u32, properties: &[Lit], observed: &[Literal]) {
     for place in 0..properties.len() {
         let lit = properties[place];
@@ -213,7 +215,8 @@ fn put_stands(stands: &mut [Literal], first: u32, properties: &[Lit], observed: 
     }
 }
 
-/// What stands for each latch and gate of a circuit that a property reads, where these literals stand for those of its properties.
+/// Returns the replacement for each latch and gate of a circuit that a property reads, if
+/// `observed` replace the literals of its properties.
 pub(crate) fn stands_of(
     memory: &mut Memory,
     aig: &Aig,

@@ -1,5 +1,6 @@
-//! The draft after a frame, and the map of its states to those before it. Behind the latches stand copies of the set's gates, which read the
-//! latches; in the map stand the same copies, whose variables are names. What read a latch reads the copy of what the latch read.
+//! The draft after a frame, and the map of its states to those before it. Behind the latches stand
+//! copies of the set's gates, which read the latches. In the map stand these copies too, with names
+//! as variables. A reader of a latch then reads the copy of the variable that the latch read.
 
 use crate::again::marks_of;
 use crate::composing::{FrameMap, Gone};
@@ -23,7 +24,7 @@ pub(crate) struct Rebuilt {
 }
 
 impl Rebuilt {
-    /// The draft and its map alone.
+    /// Returns the draft and its map, and drops the copies.
     pub fn into_draft_and_map(self) -> (Draft, FrameMap) {
         let Rebuilt {
             draft,
@@ -33,7 +34,7 @@ impl Rebuilt {
         (draft, map)
     }
 
-    /// Drops gates that nothing reads. By variable whether it is the copy of a gate of the set.
+    /// Drops gates that nothing reads. Returns by variable if it is the copy of a gate of the set.
     pub fn sweep(&mut self, memory: &mut Memory, inside: &[bool]) -> Vec<bool> {
         let numbers = sweep(memory, &mut self.draft);
         let copies = self.copies.as_slice();
@@ -41,7 +42,8 @@ impl Rebuilt {
     }
 }
 
-/// The value that a fan-in has to have at step 0 for a copy, where it matters. A copy that is to be 0 needs the fan-in that makes it so.
+/// Returns the value that a fan-in needs at step 0 for a copy, if it matters. A copy that is to be
+/// 0 needs the fan-in that makes it 0.
 fn need(version: Version, makes_zero: bool, lit: Literal) -> Wish {
     if version.is(true) | (version.is(false) & makes_zero) {
         Wish::NONE.with(version.is(true) != lit.is_negated())
@@ -50,7 +52,7 @@ fn need(version: Version, makes_zero: bool, lit: Literal) -> Wish {
     }
 }
 
-/// How many gates stand behind the latches at most: the copies of the set's, and the others.
+/// Returns the most gates that stand behind the latches: the copies of the set's, and the others.
 fn room(draft: &Draft, set: &Bordered, wishes: &[Wish]) -> usize {
     let mut many = draft.gates.len();
     for var in draft.first_gate()..draft.end() {
@@ -61,14 +63,14 @@ fn room(draft: &Draft, set: &Bordered, wishes: &[Wish]) -> usize {
     many
 }
 
-/// Latches read from now on what stands for what they read.
+/// Replaces each next literal of a latch.
 fn redirect(latches: &mut [DraftLatch], stands: &[Literal]) {
     for place in 0..latches.len() {
         latches[place].next = standing(stands, latches[place].next);
     }
 }
 
-/// Puts what stands for literals.
+/// Writes the replacement for each of `lits`.
 fn put_standing(stands: &[Literal], lits: &[Literal], all: &mut [Literal]) {
     for place in 0..all.len() {
         if place < lits.len() {
@@ -77,7 +79,7 @@ fn put_standing(stands: &[Literal], lits: &[Literal], all: &mut [Literal]) {
     }
 }
 
-/// The literals that stand for these.
+/// Returns the replacements for `lits`.
 fn all_standing(memory: &mut Memory, stands: &[Literal], lits: &[Literal]) -> Vec<Literal> {
     let mut all = memory.table(Literal::FALSE, lits.len());
     put_standing(stands, lits, all.as_mut_slice());
@@ -92,7 +94,7 @@ struct Side {
 }
 
 impl Side {
-    /// The copies of the set's gates come after the latches.
+    /// Returns the latches after a frame; the copies of the set's gates come after them.
     fn new(
         memory: &mut Memory,
         draft: &Draft,
@@ -108,7 +110,7 @@ impl Side {
         }
     }
 
-    /// What stands for a literal where its variable's copy is picked by this need.
+    /// Returns the replacement for a literal, by the copy of its variable that `need` picks.
     fn literal(&self, wishes: &Wishes, lit: Literal, need: Wish) -> Literal {
         let version = Version::picked(wish_of(wishes.of.as_slice(), lit.var()), need);
         copy_of(self.latching.copies.as_slice(), lit.var(), version).signed_as(lit)
@@ -146,7 +148,7 @@ impl Side {
         }
     }
 
-    /// What stands for the latch at a place of before.
+    /// Returns the replacement for the latch at `place` of before.
     fn latch(&self, draft: &Draft, wishes: &Wishes, place: u32) -> Literal {
         let latch = draft.latch(place);
         if latch.takes_part() {
@@ -157,7 +159,7 @@ impl Side {
         }
     }
 
-    /// Puts what stands for the variables of before the gates.
+    /// Puts the replacements for the constant, the inputs and the latches of before.
     fn put_latches(&self, draft: &Draft, wishes: &Wishes, stands: &mut [Literal]) {
         let first = draft.first_latch();
         for var in 0..first {
@@ -169,7 +171,8 @@ impl Side {
         }
     }
 
-    /// Puts the gates outside of the set after the copies, and what stands for them. Has the latches read what stands for what they read.
+    /// Puts the gates outside of the set after the copies, and their replacements. Then replaces
+    /// the literals that latches read.
     fn put_others(&mut self, draft: &Draft, set: &Bordered, stands: &mut [Literal]) {
         for var in draft.first_gate()..draft.end() {
             if !set.has(var) {
@@ -184,7 +187,7 @@ impl Side {
         redirect(self.latching.latches.as_mut_slice(), stands);
     }
 
-    /// The literal of the name that a copy has, of which the first gate has this one.
+    /// Returns the literal of a copy by its name. The first gate has the name `first`.
     fn named(&self, first: u32, lit: Literal) -> Literal {
         let latches = &self.latching;
         let place = lit.var().wrapping_sub(latches.first);
@@ -210,7 +213,7 @@ impl Side {
         }
     }
 
-    /// What the latch at a place of before becomes, by name.
+    /// Returns the value of the latch at `place` of before, by name.
     fn gone_at(&self, first: u32, draft: &Draft, stands: &[Literal], place: u32) -> Gone {
         let own = literal_at(stands, draft.first_latch().wrapping_add(place));
         Gone {
@@ -219,7 +222,7 @@ impl Side {
         }
     }
 
-    /// How many latches of before went.
+    /// Returns the number of latches of before that went.
     fn count_gone(&self, first: u32, draft: &Draft, stands: &[Literal]) -> usize {
         let mut many = 0usize;
         for place in 0..draft.many_latches() {
@@ -243,7 +246,8 @@ impl Side {
         }
     }
 
-    /// The map of the states after a frame to those before it, where no gates stand here yet but the copies of the set's.
+    /// Returns the map of the states after a frame to those before it, as long as only the copies
+    /// of the set's gates stand here.
     fn map(&self, memory: &mut Memory, draft: &Draft, stands: &[Literal]) -> FrameMap {
         let first = self.latching.names;
         let mut gates = memory.table(Pair::NONE, self.gates.many() as usize);
@@ -253,7 +257,8 @@ impl Side {
         FrameMap { first, gates, gone }
     }
 
-    /// Puts all gates, and what stands for the variables of before. The map of the states after a frame to those before it.
+    /// Puts all gates, and the replacements for the variables of before. Returns the map of the
+    /// states after a frame to those before it.
     fn finish(
         &mut self,
         memory: &mut Memory,
@@ -269,7 +274,7 @@ impl Side {
         map
     }
 
-    /// The draft after a frame, with its map.
+    /// Returns the draft after a frame, with its map.
     fn into_rebuilt(self, inputs: u32, observed: Vec<Literal>, map: FrameMap) -> Rebuilt {
         let Side { gates, latching } = self;
         let (latches, copies) = latching.into_latches_and_copies();
@@ -287,7 +292,8 @@ impl Side {
     }
 }
 
-/// The draft after a frame over a set, by the wishes at its border, which takes so many latches. Gates that nothing reads are still there.
+/// Returns the draft after a frame over a set, by the wishes at its border, which takes `after`
+/// latches. Gates that nothing reads are still there.
 pub(crate) fn rebuild(
     memory: &mut Memory,
     draft: &Draft,

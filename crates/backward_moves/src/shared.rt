@@ -1,4 +1,5 @@
-//! Gates of which no two have the same fan-ins, by the rules by which maps are checked. An open table has the places of the gates.
+//! Gates of which no two have equal fan-ins, by the rules by which maps are checked. An open table
+//! has the places of the gates.
 
 use aig_graph::Memory;
 use backward_sets::{Literal, Pair, entry, number, set_entry};
@@ -9,34 +10,36 @@ const SMALLEST: usize = 16;
 /// The most entries that a table has from the start.
 const LARGEST: usize = 1 << 31;
 
-/// Gates from a first variable on, and by what they read one more than the place of each; 0 where there is none.
+/// Gates from a first variable on, and a table by fan-ins: one more than the place of each gate, 0
+/// if there is none.
 #[derive(Drop)]
 pub(crate) struct Shared {
     first: u32,
     /// Room for all that are put.
     gates: Vec<Pair>,
-    /// How many were put.
+    /// The number of gates that were put.
     many: u32,
     table: Vec<u32>,
 }
 
-/// Whether a gate is false, whatever its fan-ins are.
+/// Returns true if a gate is false for any values of its fan-ins.
 fn is_false(pair: &Pair) -> bool {
     (pair.smaller.code == 0) | (pair.larger.code == pair.smaller.code ^ 1)
 }
 
-/// Whether a gate is its larger fan-in.
+/// Returns true if a gate equals its larger fan-in.
 fn is_larger(pair: &Pair) -> bool {
     (pair.smaller.code == 1) | (pair.larger.code == pair.smaller.code)
 }
 
-/// Both literals, the larger first.
+/// Returns both literals, the larger first.
 fn ordered(a: Literal, b: Literal) -> Pair {
     let (larger, smaller) = if a.code < b.code { (b, a) } else { (a, b) };
     Pair { larger, smaller }
 }
 
-/// Where a gate's entry is looked for first, in a table whose size is one more than the mask.
+/// Returns the slot at which a gate's entry is looked for first, in a table whose size is one more
+/// than `mask`.
 fn slot(pair: &Pair, mask: usize) -> usize {
     let key = u64::from(pair.larger.code)
         .wrapping_mul(0x9e37_79b9_7f4a_7c15)
@@ -45,7 +48,7 @@ fn slot(pair: &Pair, mask: usize) -> usize {
     (key >> 32) as usize & mask
 }
 
-/// The size of a table that so many gates fill by half at most.
+/// Returns the size of a table that `gates` gates fill by half at most.
 fn size_for(gates: usize) -> usize {
     let mut size = SMALLEST;
     for _ in 0..usize::BITS {
@@ -57,7 +60,7 @@ fn size_for(gates: usize) -> usize {
     size
 }
 
-/// The gate at a place.
+/// Returns the gate at `place`.
 pub(crate) fn pair_at(pairs: &[Pair], place: u32) -> Pair {
     let place = place as usize;
     if place < pairs.len() {
@@ -67,7 +70,7 @@ pub(crate) fn pair_at(pairs: &[Pair], place: u32) -> Pair {
     }
 }
 
-/// Puts a gate at a place.
+/// Puts a gate at `place`, if the table has it.
 pub(crate) fn set_pair(pairs: &mut [Pair], place: u32, pair: Pair) {
     let place = place as usize;
     if place < pairs.len() {
@@ -76,7 +79,8 @@ pub(crate) fn set_pair(pairs: &mut [Pair], place: u32, pair: Pair) {
 }
 
 impl Shared {
-    /// No gates yet, from a first variable on, with room for so many. Of more there must not be.
+    /// Returns no gates yet, from the variable `first` on, with room for `room`. There must not be
+    /// more.
     pub fn after(memory: &mut Memory, first: u32, room: usize) -> Shared {
         let gates = memory.table(Pair::NONE, room);
         let table = memory.table(0u32, size_for(room));
@@ -88,14 +92,14 @@ impl Shared {
         }
     }
 
-    /// Whether an entry is empty, or that of this gate.
+    /// Returns true if an entry is empty, or that of this gate.
     fn fits(&self, known: u32, pair: &Pair) -> bool {
         let own = self.gate(known.wrapping_sub(1));
         (known == 0)
             | ((own.larger.code == pair.larger.code) & (own.smaller.code == pair.smaller.code))
     }
 
-    /// The slot of a gate, or the empty one where it would stand.
+    /// Returns the slot of a gate, or the empty one at which it would stand.
     fn find(&self, pair: &Pair) -> u32 {
         let mask = self.table.len().saturating_sub(1);
         let mut at = slot(pair, mask);
@@ -109,7 +113,7 @@ impl Shared {
         number(at)
     }
 
-    /// The literal of the conjunction of two literals.
+    /// Returns the literal of the conjunction of two literals.
     pub fn and(&mut self, a: Literal, b: Literal) -> Literal {
         let pair = ordered(a, b);
         if is_false(&pair) {
@@ -121,7 +125,7 @@ impl Shared {
         self.put(pair)
     }
 
-    /// The literal of a gate, which is put if it isn't there yet.
+    /// Returns the literal of a gate, which is put if it isn't there yet.
     fn put(&mut self, pair: Pair) -> Literal {
         let at = self.find(&pair);
         let known = entry(self.table.as_slice(), at);
@@ -134,22 +138,22 @@ impl Shared {
         self.literal(self.many)
     }
 
-    /// The literal of the gate that has an entry.
+    /// Returns the literal of the gate that has an entry.
     fn literal(&self, entry: u32) -> Literal {
         Literal::of(self.first.wrapping_add(entry).wrapping_sub(1))
     }
 
-    /// How many gates there are so far.
+    /// Returns the number of gates so far.
     pub fn many(&self) -> u32 {
         self.many
     }
 
-    /// The gate at a place.
+    /// Returns the gate at `place`.
     pub fn gate(&self, place: u32) -> Pair {
         pair_at(self.gates.as_slice(), place)
     }
 
-    /// The gates alone.
+    /// Returns the gates, and drops the table.
     pub fn into_gates(self) -> Vec<Pair> {
         let Shared {
             first: _first,

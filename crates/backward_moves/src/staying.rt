@@ -1,9 +1,9 @@
-//! Why latches stay where they are, counted when the frames have ended.
+//! The reasons for which latches stay, counted when the frames have ended.
 
 use aig_graph::Memory;
 use backward_sets::{Draft, DraftLatch, DraftReset, count_marks, freeze_long, has_mark, movable};
 
-/// How many latches stay, and for what: the numbers add up to all.
+/// The numbers of latches that stay, by reason: they add up to all.
 #[derive(Clone, Copy)]
 pub struct Staying {
     /// The latches whose reset is free.
@@ -12,20 +12,21 @@ pub struct Staying {
     pub held: u32,
     /// The others that read an input, a latch or a constant.
     pub behind_no_gate: u32,
-    /// The others behind a gate that may not move: a property reads it, or a free or a held latch, or such a gate.
+    /// The others behind a gate that may not move: a property reads it, or a free or a held latch,
+    /// or such a gate.
     pub read_elsewhere: u32,
-    /// Under a bound the others behind a gate that would make a path too long.
+    /// If there is a bound, the others behind a gate that would make a path too long.
     pub too_long: Option<u32>,
     /// The others, which could move.
     pub could_move: u32,
     /// The gates that latches may move over.
     pub movable: u32,
-    /// Whether the frames ended since none leaves fewer latches, and not by their limit.
+    /// True if the frames ended since none leaves fewer latches, and not by their limit.
     pub is_least: bool,
 }
 
 impl Staying {
-    /// No latches.
+    /// The counts of no latches.
     pub const NONE: Staying = Staying {
         free: 0,
         held: 0,
@@ -37,7 +38,7 @@ impl Staying {
         is_least: true,
     };
 
-    /// One latch more behind a gate on too long a path.
+    /// Returns the counts with one latch more behind a gate on too long a path.
     fn with_too_long(self) -> Staying {
         let count = match self.too_long {
             Some(count) => count,
@@ -50,7 +51,7 @@ impl Staying {
     }
 }
 
-/// Which gates of a draft may move, and which may within a bound.
+/// Marks of the gates of a draft that may move, and of those that may within a bound.
 #[derive(Drop)]
 struct Gates {
     may: Vec<bool>,
@@ -58,7 +59,7 @@ struct Gates {
 }
 
 impl Gates {
-    /// All that may move without a bound, or with one.
+    /// Returns all gates that may move, without a bound and with one.
     fn of(memory: &mut Memory, draft: &Draft, bound: Option<u32>) -> Gates {
         let mut frozen = memory.table(false, draft.size());
         let may = movable(memory, draft, frozen.as_slice());
@@ -69,7 +70,7 @@ impl Gates {
         Gates { may, within }
     }
 
-    /// The counts with one latch more.
+    /// Returns the counts with one latch more.
     fn counted(&self, draft: &Draft, latch: &DraftLatch, counts: Staying) -> Staying {
         let var = latch.next.var();
         if latch.reset == DraftReset::Free {
@@ -90,7 +91,7 @@ impl Gates {
         self.counted_behind(var, counts)
     }
 
-    /// The counts with one latch more, which may move and reads this gate.
+    /// Returns the counts with one latch more, which may move and reads the gate `var`.
     fn counted_behind(&self, var: u32, counts: Staying) -> Staying {
         if !has_mark(self.may.as_slice(), var) {
             let read_elsewhere = counts.read_elsewhere.wrapping_add(1);
@@ -110,7 +111,7 @@ impl Gates {
     }
 }
 
-/// Why the latches of a draft stay, under a bound or without one.
+/// Returns why the latches of a draft stay, under a bound or without one.
 pub(crate) fn staying_of(
     memory: &mut Memory,
     draft: &Draft,

@@ -1,4 +1,4 @@
-//! Gates that no property and no latch reaches are dropped.
+//! Drops gates that no property and no latch reaches.
 
 use crate::shared::set_pair;
 use aig_graph::Memory;
@@ -21,7 +21,8 @@ fn mark_reached(draft: &Draft, reached: &mut [u32]) {
     }
 }
 
-/// Numbers the variables that are reached, of which the first gate has this one; those before it stay. Where the numbers end.
+/// Numbers the variables that are reached, from the first gate `first` on; those before it keep
+/// their numbers. Returns the end of the numbers.
 fn number_reached(first: u32, numbers: &mut [u32]) -> u32 {
     for var in 0..first {
         set_entry(numbers, var, var);
@@ -36,7 +37,7 @@ fn number_reached(first: u32, numbers: &mut [u32]) -> u32 {
     next
 }
 
-/// A literal of a variable's new number.
+/// Returns a literal by its variable's new number.
 fn renumbered(numbers: &[u32], lit: Literal) -> Literal {
     Literal::of(entry(numbers, lit.var())).signed_as(lit)
 }
@@ -56,21 +57,22 @@ fn renumber_gates(first: u32, gates: &mut [Pair], numbers: &[u32]) {
     }
 }
 
-/// Latches read the new number of what they read.
+/// Gives the literals that latches read their new numbers.
 fn renumber_latches(latches: &mut [DraftLatch], numbers: &[u32]) {
     for place in 0..latches.len() {
         latches[place].next = renumbered(numbers, latches[place].next);
     }
 }
 
-/// The new numbers of literals.
+/// Gives literals their new numbers.
 fn renumber_literals(literals: &mut [Literal], numbers: &[u32]) {
     for place in 0..literals.len() {
         literals[place] = renumbered(numbers, literals[place]);
     }
 }
 
-/// Drops the gates that have no number, up to this one, and gives literals their new numbers.
+/// Drops the gates that have no number, so that numbers end at `end`, and gives literals their new
+/// numbers.
 fn renumber(draft: &mut Draft, numbers: &[u32], end: u32) {
     let first = draft.first_gate();
     renumber_gates(first, draft.gates.as_mut_slice(), numbers);
@@ -79,7 +81,8 @@ fn renumber(draft: &mut Draft, numbers: &[u32], end: u32) {
     renumber_literals(draft.observed.as_mut_slice(), numbers);
 }
 
-/// Drops the gates of a draft that nothing reaches. By variable the new numbers; variables that went have 0.
+/// Drops the gates of a draft that nothing reaches. Returns by variable the new numbers; variables
+/// that went have 0.
 pub(crate) fn sweep(memory: &mut Memory, draft: &mut Draft) -> Vec<u32> {
     let mut numbers = memory.table(0u32, draft.size());
     mark_reached(draft, numbers.as_mut_slice());

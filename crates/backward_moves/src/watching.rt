@@ -1,15 +1,16 @@
-//! What a run of frames calls as each of its stages begins, for callers that show how far it is. The draft doesn't depend on who watches.
+//! The calls of a run of frames as each of its stages begins, for callers that show how far it is.
+//! The draft doesn't depend on the watcher.
 
-/// What a run does from now on.
+/// A stage that a run begins.
 #[derive(Clone, Copy)]
 pub enum MoveStage {
     /// Looks for the set of the next frame, and moves latches over it.
     Looking {
-        /// How many frames were taken before.
+        /// The number of frames that were taken before.
         taken: usize,
-        /// The latches with a known reset of the draft that the set is looked for in.
+        /// The latches with a known reset of the draft in which the set is looked for.
         latches: u32,
-        /// Its gates.
+        /// The draft's gates.
         gates: usize,
     },
     /// Makes the circuit and the map of its states of the draft, and checks them.

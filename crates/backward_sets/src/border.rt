@@ -1,4 +1,5 @@
-//! A set of gates, and its border: what the set's gates read from outside of it, and what latches that take part read.
+//! A set of gates, and its border: the variables outside of it that its gates read, or latches that
+//! take part.
 
 use crate::drafts::Draft;
 use crate::starts::{Wish, wish_of};
@@ -13,17 +14,17 @@ pub struct Bordered {
 }
 
 impl Bordered {
-    /// Whether a variable is in the set.
+    /// Returns true if a variable is in the set.
     pub fn has(&self, var: u32) -> bool {
         has_mark(self.inside.as_slice(), var)
     }
 
-    /// Whether a variable is in its border.
+    /// Returns true if a variable is in the border.
     pub fn borders(&self, var: u32) -> bool {
         has_mark(self.border.as_slice(), var)
     }
 
-    /// How many variables of the border take two latches, where these are the wishes.
+    /// Returns the number of variables of the border that take two latches, by `wishes`.
     pub fn doubled(&self, wishes: &[Wish]) -> u32 {
         let mut doubled = 0u32;
         for var in 0..number(wishes.len()) {
@@ -39,7 +40,7 @@ fn mark_outside(border: &mut [bool], inside: &[bool], var: u32) {
     set_mark(border, var, !has_mark(inside, var));
 }
 
-/// Marks what latches that take part read from outside of a set, and what its gates do.
+/// Marks the variables outside of a set that latches which take part read, or its gates.
 fn mark_border(draft: &Draft, inside: &[bool], border: &mut [bool]) {
     for place in 0..draft.many_latches() {
         let latch = draft.latch(place);
@@ -56,14 +57,15 @@ fn mark_border(draft: &Draft, inside: &[bool], border: &mut [bool]) {
     }
 }
 
-/// By variable whether it is in the border of a set.
+/// Returns by variable if it is in the border of a set.
 pub fn border_of(memory: &mut Memory, draft: &Draft, inside: &[bool]) -> Vec<bool> {
     let mut border = memory.table(false, draft.size());
     mark_border(draft, inside, border.as_mut_slice());
     border
 }
 
-/// Whether a set may move as it is: its gates may, and so each gate that reads one is in it.
+/// Returns true if a set may move as it is: its gates may (`may`), and each gate that reads one is
+/// in it.
 pub fn is_closed(draft: &Draft, may: &[bool], inside: &[bool]) -> bool {
     let mut closed = true;
     for var in draft.first_gate()..draft.end() {

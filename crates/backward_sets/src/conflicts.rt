@@ -1,5 +1,5 @@
-//! Where a border takes too many latches, since both values are wished of some variables: the gates that wish the value there that fewer wish
-//! stay from then on.
+//! Conflicts in a border that takes too many latches, since both values are wished of some
+//! variables. Gates that wish the value with fewer votes stay from then on.
 
 use crate::border::Bordered;
 use crate::drafts::{Draft, Pair};
@@ -9,17 +9,17 @@ use crate::tables::{has_mark, set_mark};
 use crate::wishes::Wishes;
 use aig_graph::Memory;
 
-/// A latch's wish has more weight than those of all gates.
+/// The weight of a latch's wish, which is more than that of all gates.
 const LATCH_WEIGHT: u32 = 1 << 20;
 
-/// How much wishes a variable to be 0, and to be 1.
+/// The weight of the wishes that a variable is 0, and that it is 1.
 #[derive(Clone, Copy)]
 struct Votes {
     zero: u32,
     one: u32,
 }
 
-/// The literal that a gate wishes to be 1 where it is to be 0 itself.
+/// Returns the literal that a gate wishes to be 1 if it is to be 0 itself.
 fn zero_by(wishes: &Wishes, var: u32, pair: &Pair) -> Literal {
     let zero = if has_mark(wishes.by_larger.as_slice(), var) {
         pair.larger
@@ -29,7 +29,7 @@ fn zero_by(wishes: &Wishes, var: u32, pair: &Pair) -> Literal {
     zero.negated_if(true)
 }
 
-/// The votes on a variable.
+/// Returns the votes on a variable.
 fn votes_on(votes: &[Votes], var: u32) -> Votes {
     let place = var as usize;
     if place < votes.len() {
@@ -39,7 +39,7 @@ fn votes_on(votes: &[Votes], var: u32) -> Votes {
     }
 }
 
-/// A literal is wished to be 1.
+/// Adds a vote of weight `weight` that `lit` is 1.
 fn vote(votes: &mut [Votes], lit: Literal, weight: u32) {
     let old = votes_on(votes, lit.var());
     let place = lit.var() as usize;
@@ -56,7 +56,7 @@ fn vote(votes: &mut [Votes], lit: Literal, weight: u32) {
     }
 }
 
-/// The votes of latches, and of the set's gates.
+/// Adds the votes of latches, and of the set's gates.
 fn put_votes(votes: &mut [Votes], draft: &Draft, set: &Bordered, wishes: &Wishes) {
     for place in 0..draft.many_latches() {
         let latch = draft.latch(place);
@@ -75,7 +75,8 @@ fn put_votes(votes: &mut [Votes], draft: &Draft, set: &Bordered, wishes: &Wishes
     }
 }
 
-/// What wishes are compared by: those of all variables, those of latches, and the votes.
+/// The values by which wishes are compared: those of all variables, those of latches, and the
+/// votes.
 #[derive(Clone, Copy)]
 struct Contest<'a> {
     set: &'a Bordered,
@@ -85,7 +86,8 @@ struct Contest<'a> {
 }
 
 impl<'a> Contest<'a> {
-    /// Whether a wish is one of two at a border variable, and that which fewer have; where as many have both, that of 1.
+    /// Returns true if the wish that `lit` is 1 is one of two at a border variable, and has fewer
+    /// votes. If votes are equal, the wish that the variable is 1 loses.
     fn loses(&self, lit: Literal) -> bool {
         let var = lit.var();
         let votes = votes_on(self.votes, var);
@@ -95,14 +97,14 @@ impl<'a> Contest<'a> {
             & (lit.is_negated() != (votes.one <= votes.zero))
     }
 
-    /// Whether a gate of the set has a wish that fewer have.
+    /// Returns true if a gate of the set has a wish with fewer votes.
     fn has_loser(&self, var: u32, pair: &Pair) -> bool {
         let wish = wish_of(self.wishes.of.as_slice(), var);
         (wish.one & (self.loses(pair.larger) | self.loses(pair.smaller)))
             | (wish.zero & self.loses(zero_by(self.wishes, var, pair)))
     }
 
-    /// Freezes the gates whose wish fewer have. Whether there are any.
+    /// Freezes the gates whose wish has fewer votes. Returns true if there are any.
     fn freeze(&self, draft: &Draft, frozen: &mut [bool]) -> bool {
         let mut any = false;
         for var in draft.first_gate()..draft.end() {
@@ -115,7 +117,7 @@ impl<'a> Contest<'a> {
     }
 }
 
-/// Freezes the gates whose wish fewer have. Whether there are any.
+/// Freezes the gates whose wish has fewer votes. Returns true if there are any.
 pub fn freeze_losers(
     memory: &mut Memory,
     draft: &Draft,

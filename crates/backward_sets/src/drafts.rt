@@ -1,20 +1,21 @@
-//! Circuits as they are drafted. Variable 0 is the constant; after it come the inputs that something reads, the latches, and the gates.
+//! Circuits as they are drafted. Variable 0 is the constant; after it come the inputs that
+//! something reads, the latches, and the gates.
 
 use crate::literals::Literal;
 use crate::tables::number;
 
-/// What a latch has at step 0.
+/// The value of a latch at step 0.
 #[derive(Clone, Copy, PartialEq, Eq)]
 pub enum DraftReset {
     Zero,
     One,
     Free,
-    /// 0 or 1, whichever is wished for later.
+    /// 0 or 1, as is wished later.
     Any,
 }
 
 impl DraftReset {
-    /// Whether the value at step 0 is settled.
+    /// Returns true if the value at step 0 is settled.
     pub fn is_settled(self) -> bool {
         match self {
             DraftReset::Zero | DraftReset::One => true,
@@ -22,7 +23,7 @@ impl DraftReset {
         }
     }
 
-    /// The reset with this value.
+    /// Returns the reset with this value.
     pub fn of(value: bool) -> DraftReset {
         if value {
             DraftReset::One
@@ -32,21 +33,22 @@ impl DraftReset {
     }
 }
 
-/// A latch of a draft, and which latch of the first circuit it is, if it is one.
+/// A latch of a draft. If it is a latch of the first circuit, `origin` is its position there.
 #[derive(Clone, Copy)]
 pub struct DraftLatch {
     pub next: Literal,
     pub reset: DraftReset,
     pub origin: Option<u32>,
     pub held: bool,
-    /// A number that nothing else of a run has. Latches stand by rising names.
+    /// A number that no other latch or gate of a run has. Latches stand by rising names.
     pub name: u32,
-    /// One more than the number of a list of latches that are left out before it in its row; 0 where there is none.
+    /// One more than the number of a list of latches that are left out before it in its row; 0 if
+    /// there is none.
     pub list: u32,
 }
 
 impl DraftLatch {
-    /// What stands where there is no latch.
+    /// Stands for no latch.
     pub const NONE: DraftLatch = DraftLatch {
         next: Literal::NONE,
         reset: DraftReset::Free,
@@ -56,17 +58,17 @@ impl DraftLatch {
         list: 0,
     };
 
-    /// Whether it may move: its reset isn't free, and it isn't held.
+    /// Returns true if it may move: its reset isn't free, and it isn't held.
     pub fn takes_part(&self) -> bool {
         (self.reset != DraftReset::Free) & !self.held
     }
 
-    /// Whether it may move, and its value at step 0 is settled.
+    /// Returns true if it isn't held, and its value at step 0 is settled.
     pub fn is_settled(&self) -> bool {
         self.reset.is_settled() & !self.held
     }
 
-    /// Whether its value at step 0 is 1.
+    /// Returns true if its value at step 0 is 1.
     pub fn starts_at_1(&self) -> bool {
         self.reset == DraftReset::One
     }
@@ -80,7 +82,7 @@ pub struct Pair {
 }
 
 impl Pair {
-    /// What stands where there is no gate.
+    /// Stands for no gate.
     pub const NONE: Pair = Pair {
         larger: Literal::FALSE,
         smaller: Literal::FALSE,
@@ -112,7 +114,7 @@ impl Drop for Draft {
 }
 
 impl Draft {
-    /// The latches and the gates alone.
+    /// Returns the latches and the gates, and drops the rest.
     pub fn into_latches_and_gates(self) -> (Vec<DraftLatch>, Vec<Pair>) {
         let Draft {
             inputs: _inputs,
@@ -124,32 +126,32 @@ impl Draft {
         (latches, gates)
     }
 
-    /// The variable of the first latch.
+    /// Returns the variable of the first latch.
     pub fn first_latch(&self) -> u32 {
         self.inputs.wrapping_add(1)
     }
 
-    /// The number of latches.
+    /// Returns the number of latches.
     pub fn many_latches(&self) -> u32 {
         number(self.latches.len())
     }
 
-    /// The variable of the first gate.
+    /// Returns the variable of the first gate.
     pub fn first_gate(&self) -> u32 {
         self.first_latch().wrapping_add(self.many_latches())
     }
 
-    /// The number of variables.
+    /// Returns the number of variables.
     pub fn end(&self) -> u32 {
         self.first_gate().wrapping_add(number(self.gates.len()))
     }
 
-    /// How many entries a table by variable has.
+    /// Returns the number of entries of a table by variable.
     pub fn size(&self) -> usize {
         self.end() as usize
     }
 
-    /// The latch with a number from 0 on, and one that takes no part where there is none.
+    /// Returns the latch with number `place`, from 0, or one that takes no part if there is none.
     pub fn latch(&self, place: u32) -> DraftLatch {
         let place = place as usize;
         if place < self.latches.len() {
@@ -159,7 +161,7 @@ impl Draft {
         }
     }
 
-    /// The gate at a variable, and one of constants where there is none.
+    /// Returns the gate at a variable, or one of constants if there is none.
     pub fn gate(&self, var: u32) -> Pair {
         let place = var.wrapping_sub(self.first_gate()) as usize;
         if place < self.gates.len() {
@@ -169,7 +171,7 @@ impl Draft {
         }
     }
 
-    /// The literal of the property with a number from 0 on.
+    /// Returns the literal of the property with number `place`, from 0.
     pub fn observed(&self, place: u32) -> Literal {
         let place = place as usize;
         if place < self.observed.len() {
@@ -179,7 +181,7 @@ impl Draft {
         }
     }
 
-    /// How many latches take part.
+    /// Returns the number of latches that take part.
     pub fn taking_part(&self) -> u32 {
         let mut count = 0u32;
         for place in 0..self.many_latches() {

@@ -1,5 +1,5 @@
-//! Arcs with room for units, each beside the arc that leads back. The least cut of a network is where the flow of units along its arcs can't
-//! grow any more.
+//! Arcs with room for units, each beside the arc that leads back. If the flow of units along its
+//! arcs can't grow any more, it shows the least cut of a network.
 
 use crate::tables::{entry, number, set_entry};
 use aig_graph::Memory;
@@ -7,10 +7,10 @@ use aig_graph::Memory;
 /// More units than ever come to a node.
 pub const UNBOUNDED: u32 = 1 << 30;
 
-/// The number of no arc.
+/// Stands for no arc.
 pub const NO_ARC: u32 = u32::MAX;
 
-/// An arc to a node, with room for so many units more. The next arc from the same node has a link.
+/// An arc to the node `to`, with room for `room` more units. `next` is the next arc from its tail.
 #[derive(Clone, Copy)]
 pub struct Arc {
     pub to: u32,
@@ -19,7 +19,7 @@ pub struct Arc {
 }
 
 impl Arc {
-    /// What stands where there is no arc.
+    /// Stands for no arc.
     const NONE: Arc = Arc {
         to: 0,
         room: 0,
@@ -27,17 +27,17 @@ impl Arc {
     };
 }
 
-/// Nodes and arcs. The arc that leads back has the number with the other lowest bit.
+/// Nodes and arcs. The numbers of an arc and of the one that leads back differ in the lowest bit.
 #[derive(Drop)]
 pub struct Flow {
     heads: Vec<u32>,
     arcs: Vec<Arc>,
-    /// Whether memory was refused for an arc: then arcs are missing.
+    /// True if memory was refused for an arc: then arcs are missing.
     refused: bool,
 }
 
 impl Flow {
-    /// Nodes without arcs.
+    /// Returns `nodes` nodes without arcs.
     pub fn new(memory: &mut Memory, nodes: usize) -> Flow {
         let heads = memory.table(NO_ARC, nodes);
         Flow {
@@ -57,28 +57,28 @@ impl Flow {
         }
     }
 
-    /// Puts an arc from one node to another.
+    /// Puts an arc from one node to another, with the one that leads back.
     pub fn join(&mut self, from: u32, to: u32, room: u32) {
         self.put(from, to, room);
         self.put(to, from, 0);
     }
 
-    /// Whether memory was refused for an arc.
+    /// Returns true if memory was refused for an arc.
     pub fn is_refused(&self) -> bool {
         self.refused
     }
 
-    /// The number of nodes.
+    /// Returns the number of nodes.
     pub fn nodes(&self) -> usize {
         self.heads.len()
     }
 
-    /// The first arc from each node.
+    /// Returns the first arc from each node.
     pub fn heads(&self) -> &[u32] {
         self.heads.as_slice()
     }
 
-    /// The arc with a number.
+    /// Returns arc `number`.
     pub fn arc(&self, number: u32) -> Arc {
         let place = number as usize;
         if place < self.arcs.len() {
@@ -88,12 +88,12 @@ impl Flow {
         }
     }
 
-    /// The node from which an arc leads.
+    /// Returns the node from which an arc leads.
     pub fn tail(&self, number: u32) -> u32 {
         self.arc(number ^ 1).to
     }
 
-    /// An arc has room for so many units from now on.
+    /// Sets the room of an arc.
     fn set_room(&mut self, number: u32, room: u32) {
         let place = number as usize;
         if place < self.arcs.len() {
@@ -102,7 +102,7 @@ impl Flow {
         }
     }
 
-    /// A unit goes along an arc.
+    /// Sends a unit along an arc.
     pub fn send(&mut self, number: u32) {
         let back = number ^ 1;
         self.set_room(number, self.arc(number).room.saturating_sub(1));

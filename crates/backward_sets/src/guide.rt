@@ -1,5 +1,6 @@
-//! Values of a step that leads near to where latches start. From the reset state a few steps are made under 64 rows of inputs at once, and of
-//! all steps that one is kept after which the fewest latches differ from their resets. Many circuits start in a state that they stay in under
+//! Values of a step that leads near to the state in which latches start. From the reset state a few
+//! steps are made under 64 rows of inputs at once. Of all steps the one is kept after which the
+//! fewest latches differ from their resets. Many circuits start in a state in which they stay under
 //! some inputs, so that a step leads there.
 
 use crate::drafts::Draft;
@@ -7,10 +8,11 @@ use crate::literals::Literal;
 use crate::tables::{entry, number, set_mark};
 use aig_graph::Memory;
 
-/// How many steps are made.
+/// The number of steps that are made.
 const STEPS: u32 = 4;
 
-/// Rows of values by variable, a bit in each of 64 lanes, the rows of the state, and how many latches would start otherwise in each lane.
+/// Rows of values by variable, a bit in each of 64 lanes, and the rows of the state. `wrong` counts
+/// in each lane the latches that would start otherwise.
 #[derive(Drop)]
 struct Lanes {
     values: Vec<u64>,
@@ -19,7 +21,7 @@ struct Lanes {
     seed: u64,
 }
 
-/// The row of a variable.
+/// Returns the row of a variable.
 fn row(values: &[u64], var: u32) -> u64 {
     let place = var as usize;
     if place < values.len() {
@@ -29,7 +31,7 @@ fn row(values: &[u64], var: u32) -> u64 {
     }
 }
 
-/// The row of a literal.
+/// Returns the row of a literal.
 fn literal_row(values: &[u64], lit: Literal) -> u64 {
     let row = row(values, lit.var());
     if lit.is_negated() { !row } else { row }
@@ -43,7 +45,8 @@ fn set_row(values: &mut [u64], var: u32, row: u64) {
     }
 }
 
-/// Puts the state in which latches have their resets, where it is 0 so far. A reset that isn't known is 0.
+/// Puts the state in which latches have their resets, into one that is 0. A reset that isn't known
+/// is 0.
 fn reset_state(draft: &Draft, state: &mut [u64]) {
     for place in 0..draft.many_latches() {
         if draft.latch(place).starts_at_1() {
@@ -77,7 +80,8 @@ fn count_lanes(counts: &mut [u32], row: u64) {
     }
 }
 
-/// Puts the state a step later. Counts by lane the latches that take part and don't hold their resets then, if these are settled.
+/// Puts the state a step later. Counts by lane the latches that aren't held, whose reset is
+/// settled, and that don't have that value then.
 fn put_state(draft: &Draft, values: &[u64], state: &mut [u64], wrong: &mut [u32]) {
     for place in 0..draft.many_latches() {
         let latch = draft.latch(place);
@@ -89,7 +93,7 @@ fn put_state(draft: &Draft, values: &[u64], state: &mut [u64], wrong: &mut [u32]
     }
 }
 
-/// The lane with the least count.
+/// Returns the lane with the least count.
 fn least_lane(counts: &[u32]) -> u32 {
     let (mut best, mut least) = (0u32, u32::MAX);
     let mut lane = 0u32;
@@ -103,7 +107,7 @@ fn least_lane(counts: &[u32]) -> u32 {
     best
 }
 
-/// The values of one lane.
+/// Writes the values of one lane into `guide`.
 fn lane_values(values: &[u64], lane: u32, guide: &mut [bool]) {
     for var in 0..number(values.len()) {
         set_mark(guide, var, row(values, var).wrapping_shr(lane) % 2 == 1);
@@ -111,7 +115,7 @@ fn lane_values(values: &[u64], lane: u32, guide: &mut [bool]) {
 }
 
 impl Lanes {
-    /// All rows are 0.
+    /// Returns rows that are all 0.
     fn new(memory: &mut Memory, draft: &Draft) -> Lanes {
         let values = memory.table(0u64, draft.size());
         let state = memory.table(0u64, draft.latches.len());
@@ -124,7 +128,7 @@ impl Lanes {
         }
     }
 
-    /// The next row of inputs: 0 in the first lane, 1 in the second.
+    /// Returns the next row of inputs: 0 in the first lane, 1 in the second, else pseudo-random.
     fn input(&mut self) -> u64 {
         self.seed ^= self.seed << 13;
         self.seed ^= self.seed >> 7;
@@ -148,7 +152,7 @@ impl Lanes {
         );
     }
 
-    /// Makes steps. Writes the values of the best.
+    /// Makes all steps, and writes the values of the best into `guide`.
     fn run(&mut self, draft: &Draft, guide: &mut [bool]) {
         reset_state(draft, self.state.as_mut_slice());
         let mut fewest = u32::MAX;
@@ -164,7 +168,8 @@ impl Lanes {
     }
 }
 
-/// By variable its value at a step that leads to the resets, as nearly as those that are tried do.
+/// Returns by variable its value at a step that leads to the resets, or as near as the steps that
+/// are tried.
 pub fn guide_of(memory: &mut Memory, draft: &Draft) -> Vec<bool> {
     let mut guide = memory.table(false, draft.size());
     let mut lanes = Lanes::new(memory, draft);

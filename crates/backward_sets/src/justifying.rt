@@ -1,6 +1,7 @@
-//! One value for each variable of a set and its border, by which latches start as they do: unit propagation, and a search that goes back a
-//! bounded number of times. It looks at the gates that are to be 0 with no fan-in that is, from the last one down, and tries the fan-in first
-//! that a guide has at 0.
+//! One value for each variable of a set and its border, by which latches start as they do. It is
+//! found by unit propagation, and a search that goes back a bounded number of times. The search
+//! looks at the gates that are to be 0 and have no fan-in that is 0, from the last one down. It
+//! first tries the fan-in that is 0 in a guide.
 
 use crate::border::Bordered;
 use crate::drafts::{Draft, Pair};
@@ -10,10 +11,11 @@ use crate::tables::has_mark;
 use crate::values::Values;
 use aig_graph::Memory;
 
-/// How often the search goes back at most.
+/// The most times that the search goes back.
 const MOST_BACK: u32 = 1000;
 
-/// A choice: how many values there were before, the literal that it made 0 unless the other way was taken, and how far the search was.
+/// A choice. There were `count` values before it, and the search was at `look`. `choice` is the
+/// literal that it made 0, or none if the other way was taken.
 #[derive(Clone, Copy)]
 struct Decision {
     count: u32,
@@ -22,7 +24,7 @@ struct Decision {
 }
 
 impl Decision {
-    /// None.
+    /// Stands for no choice.
     const NONE: Decision = Decision {
         count: 0,
         choice: Literal::NONE,
@@ -34,16 +36,16 @@ impl Decision {
 #[derive(Drop)]
 struct Search<'a> {
     values: Values<'a>,
-    /// One a gate at most: the gate of a choice isn't open as long as that stands.
+    /// At most one for each gate: the gate of a choice isn't open as long as the choice stands.
     decisions: Vec<Decision>,
-    /// How many of them stand.
+    /// The number of decisions that stand.
     depth: u32,
     /// No gate from this variable on is open.
     look: u32,
     back: u32,
 }
 
-/// The decision at a place.
+/// Returns the decision at `place`.
 fn decision_at(decisions: &[Decision], place: u32) -> Decision {
     let place = place as usize;
     if place < decisions.len() {
@@ -53,7 +55,7 @@ fn decision_at(decisions: &[Decision], place: u32) -> Decision {
     }
 }
 
-/// Puts a decision at a place.
+/// Puts a decision at `place`.
 fn set_decision(decisions: &mut [Decision], place: u32, decision: Decision) {
     let place = place as usize;
     if place < decisions.len() {
@@ -61,12 +63,12 @@ fn set_decision(decisions: &mut [Decision], place: u32, decision: Decision) {
     }
 }
 
-/// Whether a guide has a literal at 0.
+/// Returns true if a literal is 0 in a guide.
 fn is_zero(guide: &[bool], lit: Literal) -> bool {
     has_mark(guide, lit.var()) == lit.is_negated()
 }
 
-/// The fan-in that is made 0 first.
+/// Returns the fan-in that is made 0 first.
 fn choice_of(guide: &[bool], pair: &Pair) -> Literal {
     if !is_zero(guide, pair.larger) & is_zero(guide, pair.smaller) {
         pair.smaller
@@ -76,7 +78,7 @@ fn choice_of(guide: &[bool], pair: &Pair) -> Literal {
 }
 
 impl<'a> Search<'a> {
-    /// No choice yet.
+    /// Returns a search without choices.
     fn new(
         memory: &mut Memory,
         draft: &'a Draft,
@@ -92,12 +94,12 @@ impl<'a> Search<'a> {
         }
     }
 
-    /// Whether a fan-in of a gate that is to be 0 can still be made 0, and isn't yet.
+    /// Returns true if a fan-in of a gate that is to be 0 can still be made 0, and isn't yet.
     fn is_waiting(&self, lit: Literal) -> bool {
         !self.values.of(lit).zero & !self.values.is_both(lit.var())
     }
 
-    /// Whether a gate of the set is to be 0, and no fan-in is yet.
+    /// Returns true if a gate of the set is to be 0, and no fan-in is yet.
     fn is_open(&self, set: &Bordered, var: u32, pair: &Pair) -> bool {
         set.has(var)
             & self.values.of(Literal::of(var)).zero
@@ -105,7 +107,7 @@ impl<'a> Search<'a> {
             & self.is_waiting(pair.smaller)
     }
 
-    /// Goes down to the last gate that is open. Whether there is one.
+    /// Goes down to the last gate that is open. Returns true if there is one.
     fn find_open(&mut self, draft: &Draft, set: &Bordered) -> bool {
         for _ in draft.first_gate()..self.look {
             let var = self.look.wrapping_sub(1);
@@ -117,7 +119,8 @@ impl<'a> Search<'a> {
         false
     }
 
-    /// Gives a literal a value, which is 0 where the other way is still there. Whether nothing contradicts.
+    /// Gives a literal a value; if it is 0, the other way is still open. Returns true if nothing
+    /// contradicts.
     fn decide(&mut self, choice: Literal, value: bool) -> bool {
         let decision = Decision {
             count: self.values.count(),
@@ -129,7 +132,8 @@ impl<'a> Search<'a> {
         self.values.assume(choice, value)
     }
 
-    /// Takes back the last choice that can be made otherwise, and those after it; no literal where there is no such choice.
+    /// Takes back the last choice that can be made otherwise, and those after it. Returns its
+    /// literal, or none if there is no such choice.
     fn retract(&mut self) -> Literal {
         for _ in 0..self.depth {
             self.depth = self.depth.wrapping_sub(1);
@@ -143,7 +147,7 @@ impl<'a> Search<'a> {
         Literal::NONE
     }
 
-    /// Goes back until nothing contradicts. Whether it came there.
+    /// Goes back until nothing contradicts. Returns false if that isn't reached.
     fn mend(&mut self) -> bool {
         for _ in self.back..MOST_BACK {
             self.back = self.back.wrapping_add(1);
@@ -158,7 +162,7 @@ impl<'a> Search<'a> {
         false
     }
 
-    /// Makes choices until no gate is open. Whether it came there.
+    /// Makes choices until no gate is open. Returns false if that isn't reached.
     fn run(&mut self, draft: &Draft, set: &Bordered, guide: &[bool]) -> bool {
         for _ in 0..u64::MAX {
             if !self.find_open(draft, set) {
@@ -172,7 +176,8 @@ impl<'a> Search<'a> {
         false
     }
 
-    /// Searches, and writes values over those of a guide where such are found. Whether they were.
+    /// Searches, and writes the values that are found over those of a guide. Returns true if such
+    /// are found.
     fn justify(&mut self, draft: &Draft, set: &Bordered, guide: &mut [bool]) -> bool {
         let found = self.values.begin() && self.run(draft, set, guide);
         if found {
@@ -182,7 +187,8 @@ impl<'a> Search<'a> {
     }
 }
 
-/// Writes values over those of a guide by which all latches start as they do. Whether such were found; else the guide stays as it is.
+/// Writes values over those of a guide by which all latches start as they do. Returns false if none
+/// are found; then the guide stays as it is.
 pub fn justify(
     memory: &mut Memory,
     draft: &Draft,

@@ -1,17 +1,19 @@
-//! How many gates stand one above the other, and which gates have to stay so that no way gets too long. Since each gate that reads a member of a
-//! set is in it, the copies behind a latch before a gate reach what reads the latches of before: how far that is doesn't depend on the set.
+//! The number of gates that stand one above the other, and the gates that have to stay so that no
+//! way gets too long. Each gate that reads a member of a set is in the set. So the copies behind a
+//! latch before a gate reach the readers of the latches of before, and how far that is doesn't
+//! depend on the set.
 
 use crate::drafts::Draft;
 use crate::tables::{entry, has_mark, number, set_entry, set_mark};
 use aig_graph::Memory;
 
-/// An entry is at least this number from now on.
+/// Raises an entry to `number`, if it is less.
 fn lift(numbers: &mut [u32], place: u32, number: u32) {
     let least = entry(numbers, place).max(number);
     set_entry(numbers, place, least);
 }
 
-/// By variable the most gates on a way to it.
+/// Puts the most gates on a way to each variable in `levels`.
 fn fill_levels(draft: &Draft, levels: &mut [u32]) {
     for var in draft.first_gate()..draft.end() {
         let pair = draft.gate(var);
@@ -20,7 +22,7 @@ fn fill_levels(draft: &Draft, levels: &mut [u32]) {
     }
 }
 
-/// The most at a latch or a property.
+/// Returns the greatest level at a latch or a property.
 fn most_of(draft: &Draft, levels: &[u32]) -> u32 {
     let mut most = 0u32;
     for place in 0..draft.many_latches() {
@@ -32,14 +34,14 @@ fn most_of(draft: &Draft, levels: &[u32]) -> u32 {
     most
 }
 
-/// The most gates on a way to a latch or a property.
+/// Returns the most gates on a way to a latch or a property.
 pub fn levels_of(memory: &mut Memory, draft: &Draft) -> u32 {
     let mut levels = memory.table(0u32, draft.size());
     fill_levels(draft, levels.as_mut_slice());
     most_of(draft, levels.as_slice())
 }
 
-/// Counts each gate at its own entry, and has those of its fan-ins be no less.
+/// Counts each gate at its own entry, and raises those of its fan-ins to that.
 fn climb(draft: &Draft, heights: &mut [u32]) {
     for var in (draft.first_gate()..draft.end()).rev() {
         let pair = draft.gate(var);
@@ -50,7 +52,8 @@ fn climb(draft: &Draft, heights: &mut [u32]) {
     }
 }
 
-/// Each latch departs from what it reads as high as what reads it.
+/// Starts a departure at each latch: the variable that it reads is as high as the readers of the
+/// latch.
 fn depart(draft: &Draft, heights: &[u32], departures: &mut [u32]) {
     for place in 0..draft.many_latches() {
         let own = draft.first_latch().wrapping_add(place);
@@ -59,7 +62,8 @@ fn depart(draft: &Draft, heights: &[u32], departures: &mut [u32]) {
     }
 }
 
-/// By variable the most gates on a way from a latch before it, through copies of it and of the gates above it, to a latch or a property.
+/// Returns, by variable, the most gates on a way from a latch before it to a latch or a property.
+/// The way goes through copies of the variable and of the gates above it.
 fn departures_of(memory: &mut Memory, draft: &Draft) -> Vec<u32> {
     let mut heights = memory.table(0u32, draft.size());
     let mut departures = memory.table(0u32, draft.size());
@@ -69,7 +73,7 @@ fn departures_of(memory: &mut Memory, draft: &Draft) -> Vec<u32> {
     departures
 }
 
-/// Freezes the gates that depart higher than a bound. Whether one wasn't frozen before.
+/// Freezes the gates that depart higher than `bound`. Returns true if one wasn't frozen before.
 fn freeze_above(draft: &Draft, departures: &[u32], bound: u32, frozen: &mut [bool]) -> bool {
     let mut any = false;
     for var in draft.first_gate()..draft.end() {
@@ -81,7 +85,8 @@ fn freeze_above(draft: &Draft, departures: &[u32], bound: u32, frozen: &mut [boo
     any
 }
 
-/// Freezes the gates that would make a way longer than a bound. Whether one wasn't frozen before.
+/// Freezes the gates that would make a way longer than `bound`. Returns true if one wasn't frozen
+/// before.
 pub fn freeze_long(memory: &mut Memory, draft: &Draft, bound: u32, frozen: &mut [bool]) -> bool {
     let departures = departures_of(memory, draft);
     freeze_above(draft, departures.as_slice(), bound, frozen)

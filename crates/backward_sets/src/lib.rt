@@ -1,8 +1,10 @@
-//! Finds sets of gates over which latches move backward: from behind the gates to before them. A set has the gates alone that only its own gates
-//! and latches read, and its border takes fewer latches than there are. What latches have at step 0 is handed down the set, as far as that goes
-//! with one value of each variable.
+//! Finds sets of gates over which latches move backward: from behind the gates to before them. A
+//! set has only gates that its own gates and latches alone read, and its border takes fewer latches
+//! than there are. The values of latches at step 0 are handed down the set, with one value of each
+//! variable as far as that goes.
 //!
-//! What is found are hints. No clause speaks of a set; what is made by one is judged as a whole, in a crate above.
+//! The sets that are found are hints. No clause speaks of a set; a crate above judges the circuit
+//! that is made by one as a whole.
 #![tactic(auto)]
 
 mod border;

@@ -1,19 +1,19 @@
-//! Which gates a set may have: no property reads one, nor a latch that stays; something reads it, and each gate that does may be in the set
-//! too. One pass from the last gate down.
+//! The gates that a set may have. No property reads such a gate, nor a latch that stays; something
+//! reads it, and each gate that does may be in the set too. One pass from the last gate down.
 
 use crate::drafts::Draft;
 use crate::tables::{has_mark, number, set_mark};
 use aig_graph::Memory;
 
-/// Marks a variable as read, and takes its other mark where what reads it stays.
+/// Marks a variable as read, and takes its other mark if its reader stays (`moves` is false).
 fn mark_fan_in(may: &mut [bool], read: &mut [bool], var: u32, moves: bool) {
     set_mark(read, var, true);
     let still = has_mark(may, var) & moves;
     set_mark(may, var, still);
 }
 
-/// Marks the gates that don't have to stay. Takes the marks of what properties read, and of what latches read that stay, and marks in the other
-/// table what latches read.
+/// Marks the gates that don't have to stay. Then takes the marks of variables that properties read,
+/// or latches that stay, and marks in `read` the variables that latches read.
 fn mark_leaves(draft: &Draft, frozen: &[bool], may: &mut [bool], read: &mut [bool]) {
     for var in draft.first_gate()..draft.end() {
         set_mark(may, var, !has_mark(frozen, var));
@@ -38,7 +38,7 @@ fn mark_gates(draft: &Draft, may: &mut [bool], read: &mut [bool]) {
     }
 }
 
-/// By variable whether it is a gate that may move, where some gates have to stay.
+/// Returns by variable if it is a gate that may move, if the gates `frozen` have to stay.
 pub fn movable(memory: &mut Memory, draft: &Draft, frozen: &[bool]) -> Vec<bool> {
     let mut read = memory.table(false, draft.size());
     let mut may = memory.table(false, draft.size());

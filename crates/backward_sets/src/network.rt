@@ -1,7 +1,10 @@
-//! The network of a backward frame. A variable has a node before it and one after it, with an arc between them that carries a unit for each
-//! latch that it would take. A unit for each next literal comes to before its variable; from after a gate that may move it goes on to before
-//! its fan-ins, and to after each gate that reads it, and from before what may not move to the sink. So a cut has a set of gates with each gate
-//! that reads a member, and costs a latch for each variable of its border, however many members read that.
+//! The network of a backward frame. A variable has a node before it and one after it; the arc
+//! between them carries a unit for each latch that the variable would take. A unit for each next
+//! literal comes to before its variable. From after a gate that may move it goes on to before its
+//! fan-ins. From after such a fan-in it goes on to after each gate that reads it. From before a
+//! variable that may not move it goes to the sink. So a cut has a set of gates with each gate that
+//! reads a member. It costs a latch for each variable of its border, even if many members read
+//! that.
 
 use crate::drafts::Draft;
 use crate::flow::{Flow, UNBOUNDED};
@@ -10,17 +13,17 @@ use crate::starts::{Wish, wish_of};
 use crate::tables::{has_mark, number, set_mark};
 use aig_graph::Memory;
 
-/// The node before a variable.
+/// Returns the node before a variable.
 fn before(var: u32) -> u32 {
     var.wrapping_mul(2)
 }
 
-/// The node after a variable.
+/// Returns the node after a variable.
 fn after(var: u32) -> u32 {
     before(var).wrapping_add(1)
 }
 
-/// Units come from the source to what latches that take part read, which is marked as wanted.
+/// Joins the source to the variables that latches which take part read, and marks these as wanted.
 fn join_latches(flow: &mut Flow, draft: &Draft, wanted: &mut [bool]) {
     for place in 0..draft.many_latches() {
         let latch = draft.latch(place);
@@ -32,7 +35,7 @@ fn join_latches(flow: &mut Flow, draft: &Draft, wanted: &mut [bool]) {
     }
 }
 
-/// Units go on from a gate that may move to a fan-in.
+/// Joins a gate that may move to a fan-in.
 fn join_fan_in(flow: &mut Flow, may: &[bool], wanted: &mut [bool], var: u32, fan_in: u32) {
     set_mark(wanted, fan_in, true);
     flow.join(after(var), before(fan_in), UNBOUNDED);
@@ -41,7 +44,7 @@ fn join_fan_in(flow: &mut Flow, may: &[bool], wanted: &mut [bool], var: u32, fan
     }
 }
 
-/// Units go on from all variables that the source reaches, from the last one down.
+/// Joins all variables that the source reaches, from the last one down.
 fn join_all(flow: &mut Flow, draft: &Draft, may: &[bool], starts: &[Wish], wanted: &mut [bool]) {
     for var in (0..draft.end()).rev() {
         if has_mark(wanted, var) {
@@ -62,14 +65,14 @@ fn join_all(flow: &mut Flow, draft: &Draft, may: &[bool], starts: &[Wish], wante
     }
 }
 
-/// Keeps the marks of the gates that may move of those whose nodes after them a search reaches.
+/// Marks the gates that may move and whose nodes after them a search reaches.
 fn mark_near_side(may: &[bool], search: &Search, marks: &mut [bool]) {
     for var in 0..number(may.len()) {
         set_mark(marks, var, has_mark(may, var) & search.reaches(after(var)));
     }
 }
 
-/// The network of a draft; marks what the source reaches.
+/// Returns the network of a draft, and marks the variables that the source reaches.
 fn network_of(
     memory: &mut Memory,
     draft: &Draft,
@@ -86,9 +89,10 @@ fn network_of(
     flow
 }
 
-/// By variable whether it is in the smallest set of gates whose border takes the fewest latches, and how many these are.
+/// Returns by variable if it is in the smallest set of gates whose border takes the fewest latches,
+/// and their number.
 ///
-/// Where memory was refused nothing is looked for, since a search goes by its tables.
+/// If memory was refused, nothing is looked for, since a search goes by its tables.
 pub fn least_set(
     memory: &mut Memory,
     draft: &Draft,

@@ -1,11 +1,12 @@
-//! A flow grows in phases, in each of which searches from the source, depth first, visit every node once at most. Few phases are needed where
-//! ways are short, as they are between latches and the gates before them.
+//! A flow grows in phases, in each of which searches from the source, depth first, visit every node
+//! once at most. Few phases are needed if ways are short, as they are between latches and the gates
+//! before them.
 
 use crate::flow::{Flow, NO_ARC};
 use crate::tables::{entry, has_mark, set_entry, set_mark};
 use aig_graph::Memory;
 
-/// What a step of a search does.
+/// The result of a step of a search.
 #[derive(Clone, Copy)]
 enum Step {
     On,
@@ -13,7 +14,8 @@ enum Step {
     Ended,
 }
 
-/// A search: the arcs of the way so far, of which there are so many, the next arc to look at of each node, and which nodes were visited.
+/// A search: the `length` arcs of the way so far, the next arc to look at of each node, and the
+/// nodes that were visited.
 #[derive(Drop)]
 pub struct Search {
     at: u32,
@@ -24,7 +26,7 @@ pub struct Search {
     seen: Vec<bool>,
 }
 
-/// Writes numbers over others, of which there are as many.
+/// Writes the numbers `others` over `numbers`.
 fn write_over(numbers: &mut [u32], others: &[u32]) {
     for place in 0..numbers.len() {
         if place < others.len() {
@@ -34,7 +36,7 @@ fn write_over(numbers: &mut [u32], others: &[u32]) {
 }
 
 impl Search {
-    /// No node is visited.
+    /// Returns a search that has visited no node.
     pub fn new(memory: &mut Memory, nodes: usize) -> Search {
         let way = memory.table(0u32, nodes);
         let next = memory.table(0u32, nodes);
@@ -48,7 +50,7 @@ impl Search {
         }
     }
 
-    /// No node is visited but the first.
+    /// Begins a phase, in which only the source is visited.
     fn begin(&mut self, flow: &Flow, source: u32) {
         self.at = source;
         self.length = 0;
@@ -79,7 +81,7 @@ impl Search {
         Step::On
     }
 
-    /// Looks at the next arc of the node where the search is.
+    /// Looks at the next arc of the node at which the search is.
     fn step(&mut self, flow: &Flow, sink: u32) -> Step {
         let number = entry(self.next.as_slice(), self.at);
         if number == NO_ARC {
@@ -102,7 +104,7 @@ impl Search {
         self.at = source;
     }
 
-    /// One phase: how many units it sends.
+    /// Runs one phase. Returns the number of units that it sends.
     fn phase(&mut self, flow: &mut Flow, source: u32, sink: u32) -> u32 {
         self.begin(flow, source);
         let mut sent = 0u32;
@@ -119,7 +121,7 @@ impl Search {
         sent
     }
 
-    /// Sends units from the source to the sink until no way is left: how many.
+    /// Sends units from the source to the sink until no way is left. Returns their number.
     pub fn run(&mut self, flow: &mut Flow, source: u32, sink: u32) -> u32 {
         let mut total = 0u32;
         for _ in 0..u32::MAX {
@@ -132,7 +134,8 @@ impl Search {
         total
     }
 
-    /// Whether units could still go from the source to a node, after a run. It is on the source's side of the least cut that is nearest to it.
+    /// Returns true if units could still go from the source to a node, after a run. Such a node is
+    /// on the source's side of the least cut that is nearest to it.
     pub fn reaches(&self, node: u32) -> bool {
         has_mark(self.seen.as_slice(), node)
     }

@@ -1,4 +1,4 @@
-//! Which values the variables have to have a step before the start, so that latches start as they do.
+//! The values that variables need a step before the start, so that latches start as they do.
 
 use crate::drafts::Draft;
 use crate::literals::Literal;
@@ -18,17 +18,17 @@ impl Wish {
         one: false,
     };
 
-    /// Whether this value is wished.
+    /// Returns true if this value is wished.
     pub fn has(self, value: bool) -> bool {
         (self.one & value) | (self.zero & !value)
     }
 
-    /// Whether both values are wished.
+    /// Returns true if both values are wished.
     pub fn is_both(self) -> bool {
         self.zero & self.one
     }
 
-    /// The wish of a literal's negation, or the same.
+    /// Returns the wish, of the literal's negation if `negated`.
     pub fn negated_if(self, negated: bool) -> Wish {
         Wish {
             zero: (self.zero & !negated) | (self.one & negated),
@@ -36,7 +36,7 @@ impl Wish {
         }
     }
 
-    /// The wish with this value too.
+    /// Returns the wish with this value too.
     pub fn with(self, value: bool) -> Wish {
         Wish {
             zero: self.zero | !value,
@@ -45,7 +45,7 @@ impl Wish {
     }
 }
 
-/// The wishes of a variable.
+/// Returns the wishes of a variable.
 pub fn wish_of(wishes: &[Wish], var: u32) -> Wish {
     let place = var as usize;
     if place < wishes.len() {
@@ -55,7 +55,7 @@ pub fn wish_of(wishes: &[Wish], var: u32) -> Wish {
     }
 }
 
-/// A variable has these wishes from now on.
+/// Sets the wishes of a variable.
 pub fn set_wish(wishes: &mut [Wish], var: u32, wish: Wish) {
     let place = var as usize;
     if place < wishes.len() {
@@ -63,13 +63,13 @@ pub fn set_wish(wishes: &mut [Wish], var: u32, wish: Wish) {
     }
 }
 
-/// A value is wished of a literal.
+/// Adds the wish that `lit` has `value`.
 pub fn add_wish(wishes: &mut [Wish], lit: Literal, value: bool) {
     let wish = wish_of(wishes, lit.var()).with(value != lit.is_negated());
     set_wish(wishes, lit.var(), wish);
 }
 
-/// Adds what the latches that take part wish of what they read.
+/// Adds the wishes of the latches that take part, of the variables that they read.
 fn add_starts(draft: &Draft, wishes: &mut [Wish]) {
     for place in 0..draft.many_latches() {
         let latch = draft.latch(place);
@@ -79,7 +79,7 @@ fn add_starts(draft: &Draft, wishes: &mut [Wish]) {
     }
 }
 
-/// By variable what the latches that take part wish of it.
+/// Returns by variable the wishes of the latches that take part.
 pub fn starts_of(memory: &mut Memory, draft: &Draft) -> Vec<Wish> {
     let mut wishes = memory.table(Wish::NONE, draft.size());
     add_starts(draft, wishes.as_mut_slice());

@@ -1,19 +1,20 @@
-//! Tables by variable. What is past the end of a table isn't there.
+//! Tables by variable. Nothing stands past the end of a table.
 //!
-//! They are read and written by index behind a look at their length, which is far cheaper to prove than a match on what `get` finds.
+//! They are read and written by index behind a look at their length, which is far cheaper to prove
+//! than a match on a result of `get`.
 
-/// A number of entries; a graph has fewer than these bits hold.
+/// Returns a number of entries in 32 bits, in which it fits: a graph has fewer.
 pub fn number(many: usize) -> u32 {
     (many & 0xffff_ffff) as u32
 }
 
-/// Whether a variable has a mark.
+/// Returns true if a variable has a mark.
 pub fn has_mark(marks: &[bool], var: u32) -> bool {
     let place = var as usize;
     place < marks.len() && marks[place]
 }
 
-/// Marks a variable, or takes its mark away.
+/// Marks a variable, or takes its mark away if `mark` is false.
 pub fn set_mark(marks: &mut [bool], var: u32, mark: bool) {
     let place = var as usize;
     if place < marks.len() {
@@ -21,7 +22,7 @@ pub fn set_mark(marks: &mut [bool], var: u32, mark: bool) {
     }
 }
 
-/// How many marks there are.
+/// Returns the number of marks that are set.
 pub fn count_marks(marks: &[bool]) -> u32 {
     let mut count = 0u32;
     for mark in marks {
@@ -30,7 +31,7 @@ pub fn count_marks(marks: &[bool]) -> u32 {
     count
 }
 
-/// The number at a place, and 0 past the end.
+/// Returns the number at `place`, or 0 past the end.
 pub fn entry(numbers: &[u32], place: u32) -> u32 {
     let place = place as usize;
     if place < numbers.len() {
@@ -40,7 +41,7 @@ pub fn entry(numbers: &[u32], place: u32) -> u32 {
     }
 }
 
-/// Puts a number at a place.
+/// Puts a number at `place`, if the table has it.
 pub fn set_entry(numbers: &mut [u32], place: u32, number: u32) {
     let place = place as usize;
     if place < numbers.len() {

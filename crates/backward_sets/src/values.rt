@@ -1,4 +1,5 @@
-//! Values of the variables of a set and its border, as far as they follow from others by unit propagation.
+//! Values of the variables of a set and its border, as far as they follow from others by unit
+//! propagation.
 
 use crate::border::Bordered;
 use crate::drafts::{Draft, Pair};
@@ -13,18 +14,19 @@ use aig_graph::Memory;
 pub struct Values<'a> {
     draft: &'a Draft,
     set: &'a Bordered,
-    /// What latches wish. A variable of which they wish both values has whichever is asked for.
+    /// The wishes of latches. A variable of which they wish both values has either one, as asked
+    /// for.
     starts: &'a [Wish],
-    /// The value of each variable, and none of one that has none yet.
+    /// The value of each variable, or none if it has none yet.
     known: Vec<Wish>,
-    /// As long as there are variables.
+    /// One entry for each variable, so that there is always room.
     trail: Vec<u32>,
     count: u32,
     readers: Readers,
 }
 
 impl<'a> Values<'a> {
-    /// No values yet.
+    /// Returns tables without values.
     pub fn none(
         memory: &mut Memory,
         draft: &'a Draft,
@@ -44,22 +46,22 @@ impl<'a> Values<'a> {
         }
     }
 
-    /// The value of a literal; none where it has none yet.
+    /// Returns the value of a literal, or none if it has none yet.
     pub fn of(&self, lit: Literal) -> Wish {
         wish_of(self.known.as_slice(), lit.var()).negated_if(lit.is_negated())
     }
 
-    /// Whether a variable has either value.
+    /// Returns true if a variable has either value.
     pub fn is_both(&self, var: u32) -> bool {
         wish_of(self.starts, var).is_both()
     }
 
-    /// How many values there are.
+    /// Returns the number of values.
     pub fn count(&self) -> u32 {
         self.count
     }
 
-    /// Gives a literal a value. Whether it may have it.
+    /// Gives a literal a value. Returns true if it may have it.
     fn set(&mut self, lit: Literal, value: bool) -> bool {
         let known = self.of(lit);
         if !known.zero & !known.one & !self.is_both(lit.var()) {
@@ -71,7 +73,7 @@ impl<'a> Values<'a> {
         !known.has(!value)
     }
 
-    /// Takes the last values away, until there are this many.
+    /// Takes the last values away, until there are `count`.
     pub fn forget(&mut self, count: u32) {
         for place in count..self.count {
             let var = entry(self.trail.as_slice(), place);
@@ -80,7 +82,7 @@ impl<'a> Values<'a> {
         self.count = self.count.min(count);
     }
 
-    /// What follows at a gate. Whether nothing contradicts.
+    /// Gives the values that follow at a gate. Returns true if nothing contradicts.
     fn follow(&mut self, own: Literal, pair: &Pair) -> bool {
         let known = self.of(own);
         let (larger, smaller) = (self.of(pair.larger), self.of(pair.smaller));
@@ -100,13 +102,15 @@ impl<'a> Values<'a> {
         true
     }
 
-    /// What follows at the gate of a variable, if it is in the set.
+    /// Gives the values that follow at the gate of a variable, if it is in the set. Returns true if
+    /// nothing contradicts.
     fn follow_at(&mut self, var: u32) -> bool {
         let pair = self.draft.gate(var);
         !self.set.has(var) || self.follow(Literal::of(var), &pair)
     }
 
-    /// What follows from the value of a variable: at its own gate, and at those that read it.
+    /// Gives the values that follow from that of a variable: at its own gate, and at those that
+    /// read it. Returns true if nothing contradicts.
     fn follow_from(&mut self, var: u32) -> bool {
         let mut fits = self.follow_at(var);
         for place in self.readers.begin(var)..self.readers.end(var) {
@@ -116,7 +120,8 @@ impl<'a> Values<'a> {
         fits
     }
 
-    /// All that follows from the values after the first ones, of which there are this many. Whether nothing contradicts.
+    /// Gives all values that follow from those after the first `first` ones. Returns true if
+    /// nothing contradicts.
     fn propagate(&mut self, first: u32) -> bool {
         for place in first..u32::MAX {
             if place >= self.count {
@@ -130,13 +135,14 @@ impl<'a> Values<'a> {
         true
     }
 
-    /// Gives a literal a value, with all that follows. Whether nothing contradicts.
+    /// Gives a literal a value, with all that follow. Returns true if nothing contradicts.
     pub fn assume(&mut self, lit: Literal, value: bool) -> bool {
         let first = self.count;
         self.set(lit, value) && self.propagate(first)
     }
 
-    /// Gives what latches read the values that their resets wish, with all that follows. Whether nothing contradicts.
+    /// Gives the variables that latches read the values that their resets wish, with all that
+    /// follow. Returns true if nothing contradicts.
     pub fn begin(&mut self) -> bool {
         for place in 0..self.draft.many_latches() {
             let latch = self.draft.latch(place);

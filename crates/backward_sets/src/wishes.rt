@@ -1,5 +1,6 @@
-//! What has to be so at the border for latches to start as they do, handed down the set gate by gate. A gate that has to be 1 wishes that both
-//! fan-ins are 1, and one that has to be 0 that one of them is. It takes the one that has the wish already, then the one that a guide has so.
+//! The conditions at the border under which latches start as they do, handed down the set gate by
+//! gate. A gate that has to be 1 wishes that both fan-ins are 1, and one that has to be 0 that one
+//! of them is 0. It takes the fan-in that has the wish already, else the one that a guide has at 0.
 
 use crate::border::Bordered;
 use crate::drafts::{Draft, Pair};
@@ -8,23 +9,23 @@ use crate::starts::{Wish, add_wish, set_wish, wish_of};
 use crate::tables::{has_mark, number, set_mark};
 use aig_graph::Memory;
 
-/// What each variable is wished to be, and of which gates that are to be 0 the larger fan-in makes them so.
+/// The wishes of each variable, and marks of the gates that are to be 0 by their larger fan-in.
 #[derive(Drop)]
 pub struct Wishes {
     pub of: Vec<Wish>,
     pub by_larger: Vec<bool>,
 }
 
-/// What a choice of fan-ins goes by.
+/// The values by which a fan-in is chosen.
 #[derive(Clone, Copy)]
 pub struct Guide<'a> {
     /// The values that variables had at a step that leads near the start.
     pub values: &'a [bool],
-    /// Whether these values make all latches start as they do.
+    /// True if these values make all latches start as they do.
     pub solves: bool,
 }
 
-/// How dear it is to wish that a literal is 0, with these wishes.
+/// Returns the price of the wish that a literal is 0, with these wishes.
 fn price(wishes: &[Wish], set: &Bordered, guide: &Guide, lit: Literal) -> u32 {
     let value = lit.is_negated();
     let known = wish_of(wishes, lit.var());
@@ -39,7 +40,7 @@ fn price(wishes: &[Wish], set: &Bordered, guide: &Guide, lit: Literal) -> u32 {
         .wrapping_add(inside.wrapping_mul(u32::from(set.has(lit.var()))))
 }
 
-/// Puts wishes into a table that has none.
+/// Copies wishes into a table that has none.
 fn copy_wishes(wishes: &[Wish], all: &mut [Wish]) {
     for var in 0..number(wishes.len()) {
         set_wish(all, var, wish_of(wishes, var));
@@ -47,12 +48,12 @@ fn copy_wishes(wishes: &[Wish], all: &mut [Wish]) {
 }
 
 impl Wishes {
-    /// Wishes that a literal is 1, or 0.
+    /// Adds the wish that `lit` has `value`.
     fn wish(&mut self, lit: Literal, value: bool) {
         add_wish(self.of.as_mut_slice(), lit, value);
     }
 
-    /// Wishes both fan-ins of a gate to be 1, where it is to be 1.
+    /// Wishes that both fan-ins of a gate are 1, if it is to be 1.
     fn force(&mut self, var: u32, pair: &Pair) {
         if wish_of(self.of.as_slice(), var).one {
             self.wish(pair.larger, true);
@@ -60,7 +61,7 @@ impl Wishes {
         }
     }
 
-    /// Wishes the cheaper fan-in of a gate to be 0, where it is to be 0.
+    /// Wishes that the cheaper fan-in of a gate is 0, if it is to be 0.
     fn choose(&mut self, set: &Bordered, guide: &Guide, var: u32, pair: &Pair) {
         let wishes = self.of.as_slice();
         if wish_of(wishes, var).zero {
@@ -71,7 +72,7 @@ impl Wishes {
         }
     }
 
-    /// Hands down what is forced, and then also what is to be chosen.
+    /// Hands down the forced wishes, and those that need a choice as well if `chooses`.
     fn hand_down(&mut self, draft: &Draft, set: &Bordered, guide: &Guide, chooses: bool) {
         for var in (draft.first_gate()..draft.end()).rev() {
             if set.has(var) {
@@ -85,7 +86,8 @@ impl Wishes {
     }
 }
 
-/// Hands wishes down a set: first what is forced, then what is to be chosen with what that forces.
+/// Hands wishes down a set: first those that are forced, then those that need a choice, with those
+/// that they force.
 pub fn wishes_of(
     memory: &mut Memory,
     draft: &Draft,

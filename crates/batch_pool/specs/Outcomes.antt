@@ -1,7 +1,7 @@
 -- What becomes of the bytes of a file by options.
 use Rattle.std.specs.Prelude.{ℕ, ◌≡◌, ⊤, true, List, Some, Ok, Err, length, slice_get}
-use Rattle.counted_io.specs.declared.fault.ReadError.{ReadError}
-use Rattle.counted_io.specs.Codes.{is_fault_of_bytes}
+use Rattle.file_words.specs.declared.fault.ReadError.{ReadError}
+use Rattle.file_words.specs.Codes.{is_fault_of_bytes}
 use Rattle.aig_graph.specs.Circuits.{Netlist}
 use Rattle.aig_binary.specs.Spellings.{spelling_of, read_any}
 use Rattle.aig_binary.specs.declared.reading.SpeltCircuit.{SpeltCircuit}

@@ -1,7 +1,7 @@
 -- The outcomes of bytes in memory that were not retimed.
 use Rattle.std.specs.Prelude.{if◌then◌else◌}
-use Rattle.counted_io.specs.declared.fault.ReadError.{ReadError}
-use Rattle.counted_io.specs.Codes.{is_fault_of_bytes}
+use Rattle.file_words.specs.declared.fault.ReadError.{ReadError}
+use Rattle.file_words.specs.Codes.{is_fault_of_bytes}
 use Rattle.frames.specs.declared.errors.BytesError.{BytesError}
 use Rattle.frames.specs.declared.errors.BytesError.TheVariants.{Read, Retime, Write}
 use Rattle.frames.specs.declared.errors.RetimeError.TheVariants as retiming
@@ -12,6 +12,7 @@ use Rattle.batch_pool.specs.declared.job.Outcome.TheVariants.{Refused, NoMemory,
 abbrev pub of_fault : ReadError → Outcome
 of_fault fault = if is_fault_of_bytes fault then Refused fault else NoMemory
 
+-- the outcome of a file by the error of its run; a write into memory fails for want of memory alone
 abbrev pub of_error : BytesError → Outcome
 of_error (Read fault) = of_fault fault
 of_error (Retime retiming.NoMemory) = NoMemory

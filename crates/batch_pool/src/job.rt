@@ -4,7 +4,8 @@ ghost use Rattle.batch_pool.specs.declared.job.Outcome.TheVariants.{Done};
 ghost use Rattle.batch_pool.specs.Outcomes.{IsOutcome};
 ghost use Rattle.batch_pool.specs.Refusals.{of_fault, of_error};
 
-use counted_io::{Counted, ReadError};
+use counted_io::Counted;
+use file_words::ReadError;
 use frames::{BytesError, Options, RetimeError, Retimed, retime_bytes};
 use pulse::{Crew, OpenGate};
 use std::alloc::Global;

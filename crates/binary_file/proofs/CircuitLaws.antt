@@ -6,7 +6,7 @@ use Rattle.aig_graph.specs.declared.graph.Latch.{Latch}
 use Rattle.aig_graph.specs.Graph.{variable, variables_end, IsGateAt, IsGraph}
 use Rattle.aig_graph.specs.declared.properties.Symbols.{Symbols as SymbolTable}
 use Rattle.aig_graph.specs.Circuits.{AreLiteralsOf, IsNetlist}
-use Rattle.counted_io.specs.declared.fault.ReadError.TheVariants.{Truncated}
+use Rattle.file_words.specs.declared.fault.ReadError.TheVariants.{Truncated}
 use Rattle.ascii_file.specs.declared.header.Header.{Header}
 use Rattle.ascii_file.specs.declared.raw.Section.TheVariants.{Symbols}
 use Rattle.ascii_file.specs.Raw.{Raw}

@@ -2,9 +2,9 @@
 use Rattle.std.proofs.Common.{ℕ, ◌+◌, ◌-◌, ◌*◌, ◌%◌, ◌<◌, ◌≤◌, ◌≡◌, List, [], ◌∷◌, ◌++◌, length, take, drop, get_or, Option, Some, None, Result, Ok, Err, refl, arith, cond, nat_eq, nat_lt, ◌&&◌, inl, inr, ap, sym, subst, ◌∙◌}
 use Rattle.std.proofs.lemmas.Bool.{cond-true, cond-false, lt-ltb, le-ltb, eq-eqb, ne_eqb, cases_lt, and_from}
 use Rattle.std.proofs.lemmas.List.{length_push, length-append, take_rest}
-use Rattle.counted_io.specs.declared.fault.ReadError.{ReadError}
-use Rattle.counted_io.specs.declared.fault.ReadError.TheVariants.{BadDelta}
-use Rattle.counted_io.specs.Answering.{◌>>=◌}
+use Rattle.file_words.specs.declared.fault.ReadError.{ReadError}
+use Rattle.file_words.specs.declared.fault.ReadError.TheVariants.{BadDelta}
+use Rattle.file_words.specs.Answering.{◌>>=◌}
 use Rattle.binary_file.specs.Deltas.{is_delta, delta_value}
 use Rattle.binary_file.specs.declared.deltas.decode.DeltaError.{DeltaError}
 use Rattle.binary_file.specs.declared.deltas.decode.DeltaError.TheVariants.{TooLong}

@@ -1,13 +1,13 @@
 -- Deltas of gates.
 use Rattle.std.proofs.Common.{ℕ, ◌≡◌, ◌+◌, ◌-◌, ◌<◌, List, [], ◌∷◌, length, Result, Ok, Err, nat_eq, nat_lt, ◌||◌, sym, ap, ◌∙◌, arith}
 use Rattle.std.proofs.lemmas.Bool.{or_parts, eqb-false, ltb-false}
-use Rattle.counted_io.specs.declared.fault.ReadError.{ReadError}
-use Rattle.counted_io.specs.declared.fault.ReadError.TheVariants.{BadDelta, NoMemory}
-use Rattle.counted_io.specs.Answering.{◌>>=◌, Fails}
+use Rattle.file_words.specs.declared.fault.ReadError.{ReadError}
+use Rattle.file_words.specs.declared.fault.ReadError.TheVariants.{BadDelta, NoMemory}
+use Rattle.file_words.specs.Answering.{◌>>=◌, Fails}
 use Rattle.ascii_file.specs.declared.header.Header.{Header}
 use Rattle.ascii_file.specs.Raw.{Raw}
 use Rattle.ascii_file.proofs.CheckLaws.{unless_ok, same_ok}
-use Rattle.counted_io.proofs.AnsweringLaws.{Fails-as, Fails-bind, Fails-with}
+use Rattle.file_words.proofs.AnsweringLaws.{Fails-as, Fails-bind, Fails-with}
 use Rattle.binary_file.specs.Deltas.{delta_value}
 use Rattle.binary_file.specs.Items.{next_gate}
 use Rattle.binary_file.specs.Reading.{InSecond, before_item, end_first, end_second}

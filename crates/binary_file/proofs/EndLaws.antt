@@ -1,16 +1,16 @@
 -- Where lines end.
 use Rattle.std.proofs.Common.{ℕ, ◌≡◌, ◌+◌, List, length, Result, Ok, true, false, ◌&&◌, ap, ◌∙◌}
 use Rattle.std.proofs.lemmas.Bool.{cond-true, cond-false, and_from, and_left, and_right}
-use Rattle.counted_io.specs.declared.fault.ReadError.{ReadError}
-use Rattle.counted_io.specs.declared.fault.ReadError.TheVariants.{NoMemory}
-use Rattle.counted_io.specs.Answering.{◌>>=◌, Fails}
+use Rattle.file_words.specs.declared.fault.ReadError.{ReadError}
+use Rattle.file_words.specs.declared.fault.ReadError.TheVariants.{NoMemory}
+use Rattle.file_words.specs.Answering.{◌>>=◌, Fails}
 use Rattle.ascii_file.specs.declared.header.Header.{Header}
 use Rattle.ascii_file.specs.Raw.{Raw}
 use Rattle.ascii_file.specs.Items.{begins_comment}
 use Rattle.ascii_file.specs.Reading.{is_symbols}
-use Rattle.counted_io.proofs.AnsweringLaws.{Fails-bind, Fails-as}
-use Rattle.ascii_file.specs.declared.numbers.NumberLine.{NumberLine}
-use Rattle.ascii_file.specs.declared.symbols.SymbolLine.{SymbolLine}
+use Rattle.file_words.proofs.AnsweringLaws.{Fails-bind, Fails-as}
+use Rattle.ascii_file.specs.declared.parts.numbers.NumberLine.{NumberLine}
+use Rattle.ascii_file.specs.declared.parts.symbols.SymbolLine.{SymbolLine}
 use Rattle.binary_file.specs.Items.{next_section}
 use Rattle.binary_file.specs.Reading.{State, InLine, InComment, before_item, read_line, end_line, step}
 use Rattle.binary_file.specs.Contents.{Contents}

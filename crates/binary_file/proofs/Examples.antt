@@ -2,11 +2,11 @@
 use Rattle.std.proofs.Common.{◌≡◌, ℕ, List, [], ◌∷◌, ◌++◌, map, refl, Result, Ok, Err}
 use Rattle.std.specs.Prelude.{codes}
 use Rattle.std.specs.Fmt.{digits}
-use Rattle.counted_io.specs.declared.fault.ReadError.{ReadError}
-use Rattle.counted_io.specs.declared.fault.ReadError.TheVariants.{BadHeader, TooLarge, MaxIndex, BadLine, BadReset, BadDelta, Truncated, BadSymbol, Trailing}
-use Rattle.counted_io.specs.Lines.{pieces, numbers_of}
-use Rattle.counted_io.specs.Text.{text, latch_row, gate_row, symbol_line}
-use Rattle.counted_io.specs.Answering.{◌>>=◌}
+use Rattle.file_words.specs.declared.fault.ReadError.{ReadError}
+use Rattle.file_words.specs.declared.fault.ReadError.TheVariants.{BadHeader, TooLarge, MaxIndex, BadLine, BadReset, BadDelta, Truncated, BadSymbol, Trailing}
+use Rattle.file_words.specs.Lines.{pieces, numbers_of}
+use Rattle.file_words.specs.Text.{text, latch_row, gate_row, symbol_line}
+use Rattle.file_words.specs.Answering.{◌>>=◌}
 use Rattle.counted_io.specs.Line.{line, spaced}
 use Rattle.binary_file.specs.Deltas.{delta_value, delta_of, bytes_within}
 use Rattle.ascii_file.specs.Raw.{nothing_yet}

@@ -2,18 +2,18 @@
 use Rattle.std.proofs.Common.{ℕ, Option, Some, None, ◌≡◌, ◌+◌, ◌-◌, List, [], ◌∷◌, ◌++◌, length, take, drop, Result, Ok, Bool, true, false, not, nat_eq, refl, sym, ap, subst, ◌∙◌, arith}
 use Rattle.std.proofs.lemmas.Bool.{and_parts, cond-false, eqb-true, not-true}
 use Rattle.std.proofs.lemmas.List.{append-nil, append_assoc, length-append, take_rest, drop_all}
-use Rattle.counted_io.specs.declared.fault.ReadError.{ReadError}
-use Rattle.counted_io.specs.declared.fault.ReadError.TheVariants.{NoMemory}
-use Rattle.counted_io.specs.Cuts.{lacks, HasNoNewline, Cuts}
-use Rattle.counted_io.specs.Answering.{◌>>=◌, Fails}
+use Rattle.file_words.specs.declared.fault.ReadError.{ReadError}
+use Rattle.file_words.specs.declared.fault.ReadError.TheVariants.{NoMemory}
+use Rattle.file_words.specs.Cuts.{lacks, HasNoNewline, Cuts}
+use Rattle.file_words.specs.Answering.{◌>>=◌, Fails}
 use Rattle.ascii_file.specs.declared.header.Header.{Header}
 use Rattle.ascii_file.specs.Raw.{Raw}
-use Rattle.counted_io.proofs.AnsweringLaws.{Fails-bind, Fails-as}
-use Rattle.ascii_file.specs.declared.numbers.NumberLine.{NumberLine}
-use Rattle.ascii_file.specs.declared.symbols.SymbolLine.{SymbolLine}
-use Rattle.ascii_file.specs.Rows.{row_of}
-use Rattle.ascii_file.specs.Open.{numbers_with}
-use Rattle.ascii_file.specs.Symbols.{text_of, text_with}
+use Rattle.file_words.proofs.AnsweringLaws.{Fails-bind, Fails-as}
+use Rattle.ascii_file.specs.declared.parts.numbers.NumberLine.{NumberLine}
+use Rattle.ascii_file.specs.declared.parts.symbols.SymbolLine.{SymbolLine}
+use Rattle.ascii_file.specs.parts.Rows.{row_of}
+use Rattle.ascii_file.specs.parts.Open.{numbers_with}
+use Rattle.ascii_file.specs.parts.Symbols.{text_of, text_with}
 use Rattle.binary_file.specs.Deltas.{delta_value}
 use Rattle.binary_file.specs.Reading.{State, InLine, InComment, end_line, step, feed}
 use Rattle.binary_file.proofs.StepLaws.{comment_fed}

@@ -2,16 +2,16 @@
 use Rattle.std.proofs.Common.{ℕ, ◌≡◌, ◌+◌, List, [], ◌∷◌, length, Result, Ok, Err, Bool, true, false, ◌&&◌, cond, refl, sym, ap, subst, ◌∙◌, arith}
 use Rattle.std.proofs.lemmas.Bool.{cond-true, cond-false, and_from, and_right}
 use Rattle.aig_graph.specs.Circuits.{Netlist}
-use Rattle.counted_io.specs.declared.fault.ReadError.{ReadError}
-use Rattle.counted_io.specs.declared.fault.ReadError.TheVariants.{Truncated, NoMemory}
-use Rattle.counted_io.specs.Answering.{◌>>=◌, Fails, Gives}
+use Rattle.file_words.specs.declared.fault.ReadError.{ReadError}
+use Rattle.file_words.specs.declared.fault.ReadError.TheVariants.{Truncated, NoMemory}
+use Rattle.file_words.specs.Answering.{◌>>=◌, Fails, Gives}
 use Rattle.ascii_file.specs.declared.header.Header.{Header}
 use Rattle.ascii_file.specs.declared.raw.Section.{Section}
 use Rattle.ascii_file.specs.declared.raw.Section.TheVariants.{Inputs, Latches, Safety, Sizes, Liveness, Gates, Symbols}
 use Rattle.ascii_file.specs.Raw.{Raw}
 use Rattle.ascii_file.specs.Items.{begins_comment}
 use Rattle.ascii_file.specs.Reading.{is_symbols}
-use Rattle.counted_io.proofs.AnsweringLaws.{Fails-as, Fails-bind}
+use Rattle.file_words.proofs.AnsweringLaws.{Fails-as, Fails-bind}
 use Rattle.binary_file.specs.Items.{next_section}
 use Rattle.binary_file.specs.Reading.{State, InLine, InFirst, InSecond, InComment, is_gates, before_item, complete, finish, end_line, read_line, circuit_of}
 use Rattle.binary_file.specs.Taking.{circuit_at_end}

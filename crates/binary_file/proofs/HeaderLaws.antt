@@ -2,14 +2,14 @@
 use Rattle.std.proofs.Common.{ℕ, ◌+◌, ◌-◌, ◌^◌, ◌≤◌, ◌≡◌, List, [], ◌∷◌, Option, Some, None, Ok, refl, arith, Bool, true, false, not, nat_eq, ap, sym, subst, ◌∙◌, codes}
 use Rattle.std.proofs.lemmas.Bool.{ltb-false, eq-eqb, ne_eqb, eqb-true, eqb-false}
 use Rattle.std.specs.Option.{option_and_then}
-use Rattle.counted_io.specs.declared.fault.ReadError.TheVariants.{MaxIndex}
-use Rattle.counted_io.specs.Answering.{◌>>=◌}
+use Rattle.file_words.specs.declared.fault.ReadError.TheVariants.{MaxIndex}
+use Rattle.file_words.specs.Answering.{◌>>=◌}
 use Rattle.ascii_file.specs.declared.header.Header.{Header}
 use Rattle.ascii_file.specs.Headers.{header_in}
 use Rattle.ascii_file.specs.Reading.{unless}
 use Rattle.ascii_file.proofs.CheckLaws.{Passes, unless_ok, same_ok}
-use Rattle.ascii_file.specs.Header.{header_row}
-use Rattle.ascii_file.specs.Limits.{limits, limited}
+use Rattle.ascii_file.specs.parts.Header.{header_row}
+use Rattle.ascii_file.specs.parts.Limits.{limits, limited}
 use Rattle.ascii_file.proofs.HeaderLaws.{cut, IsCuttable, formed, formed-limited, spelt, header-of-row}
 use Rattle.binary_file.specs.Headers.{header_of, IsHeaderWithin}
 use Rattle.binary_file.specs.Reading.{checked_header, read_header}

@@ -2,15 +2,15 @@
 use Rattle.std.proofs.Common.{ℕ, ◌≡◌, ◌+◌, List, [], ◌∷◌, ◌++◌, length, Result, Ok, Err, false, nat_eq, refl, sym, ap, subst, ◌∙◌, arith, codes}
 use Rattle.std.proofs.lemmas.Bool.{cond-false}
 use Rattle.std.proofs.lemmas.List.{append_assoc, append-nil, length-append}
-use Rattle.counted_io.specs.declared.fault.ReadError.{ReadError}
-use Rattle.counted_io.specs.declared.fault.ReadError.TheVariants.{NoMemory}
-use Rattle.counted_io.specs.Cuts.{HasNoNewline}
-use Rattle.counted_io.specs.Answering.{◌>>=◌, Fails}
+use Rattle.file_words.specs.declared.fault.ReadError.{ReadError}
+use Rattle.file_words.specs.declared.fault.ReadError.TheVariants.{NoMemory}
+use Rattle.file_words.specs.Cuts.{HasNoNewline}
+use Rattle.file_words.specs.Answering.{◌>>=◌, Fails}
 use Rattle.ascii_file.specs.declared.header.Header.{Header}
 use Rattle.ascii_file.specs.Raw.{nothing_yet}
-use Rattle.counted_io.proofs.AnsweringLaws.{Fails-as, Fails-bind, Fails-where, Fails-with}
-use Rattle.ascii_file.specs.declared.header_line.HeaderLine.{HeaderLine}
-use Rattle.ascii_file.specs.Header.{header_row, header_with}
+use Rattle.file_words.proofs.AnsweringLaws.{Fails-as, Fails-bind, Fails-where, Fails-with}
+use Rattle.ascii_file.specs.declared.parts.header_line.HeaderLine.{HeaderLine}
+use Rattle.ascii_file.specs.parts.Header.{header_row, header_with}
 use Rattle.binary_file.specs.Headers.{header_of}
 use Rattle.binary_file.specs.Reading.{State, AtHeader, before_item, end_header, read_header, step, feed, finish, complete, read_raw, read_binary}
 use Rattle.binary_file.proofs.PieceLaws.{the_pieces_law}

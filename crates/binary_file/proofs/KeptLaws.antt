@@ -12,7 +12,7 @@ use Rattle.aig_graph.specs.Graph.{IsGateAt}
 use Rattle.ascii_file.specs.Raw.{RawSymbol, count_of}
 use Rattle.ascii_file.specs.Reading.{is_of_same}
 use Rattle.ascii_file.proofs.DistinctItemLaws.{pairs_from}
-use Rattle.ascii_file.specs.Names.{AreNamesOf, with_new}
+use Rattle.ascii_file.specs.parts.Names.{AreNamesOf, with_new}
 use Rattle.binary_file.specs.Contents.{Contents, gate_literal}
 use Rattle.binary_file.specs.Kept.{AreNamed, IsKept}
 use Rattle.binary_file.specs.ReaderItems.{contents_with_gate}

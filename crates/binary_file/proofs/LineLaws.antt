@@ -7,10 +7,10 @@ use Rattle.std.proofs.lemmas.List.{map_push}
 use Rattle.aig_graph.specs.declared.graph.Latch.{Latch}
 use Rattle.aig_graph.specs.declared.graph.Reset.{Reset}
 use Rattle.aig_graph.specs.declared.graph.Reset.TheVariants.{Zero, One, Free}
-use Rattle.counted_io.specs.declared.fault.ReadError.{ReadError}
-use Rattle.counted_io.specs.declared.fault.ReadError.TheVariants.{TooLarge, MaxIndex, BadLine, BadReset}
-use Rattle.counted_io.specs.Lines.{numbers_of}
-use Rattle.counted_io.specs.Answering.{◌>>=◌}
+use Rattle.file_words.specs.declared.fault.ReadError.{ReadError}
+use Rattle.file_words.specs.declared.fault.ReadError.TheVariants.{TooLarge, MaxIndex, BadLine, BadReset}
+use Rattle.file_words.specs.Lines.{numbers_of}
+use Rattle.file_words.specs.Answering.{◌>>=◌}
 use Rattle.ascii_file.specs.declared.header.Header.{Header}
 use Rattle.ascii_file.specs.declared.raw.RawLatch.{RawLatch}
 use Rattle.ascii_file.specs.declared.raw.Section.{Section}
@@ -19,7 +19,7 @@ use Rattle.ascii_file.specs.Raw.{Raw}
 use Rattle.ascii_file.specs.Items.{Item, LatchItem, SafetyItem, SizeItem, LivenessItem, single, item_of}
 use Rattle.ascii_file.specs.Meaning.{reset_of}
 use Rattle.ascii_file.specs.Reading.{past_greatest, is_bad_reset, with_item, malformed, is_symbols}
-use Rattle.ascii_file.specs.Rows.{clamped, up_to_nine, row_of}
+use Rattle.ascii_file.specs.parts.Rows.{clamped, up_to_nine, row_of}
 use Rattle.binary_file.specs.Headers.{IsHeaderWithin}
 use Rattle.binary_file.specs.Items.{next_section, next_latch, latch_in, item_in}
 use Rattle.binary_file.specs.Reading.{take_item, read_line}

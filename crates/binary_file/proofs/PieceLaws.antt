@@ -1,7 +1,7 @@
 -- Bytes that come in pieces.
 use Rattle.std.proofs.Common.{ℕ, ◌≡◌, List, [], ◌∷◌, ◌++◌, length, Result, Ok, Err, ap, refl, ◌∙◌}
-use Rattle.counted_io.specs.declared.fault.ReadError.{ReadError}
-use Rattle.counted_io.specs.Answering.{◌>>=◌}
+use Rattle.file_words.specs.declared.fault.ReadError.{ReadError}
+use Rattle.file_words.specs.Answering.{◌>>=◌}
 use Rattle.binary_file.specs.Reading.{State, AtHeader, step, feed, finish, read_raw, circuit_of, read_binary}
 use Rattle.binary_file.specs.Laws.{BinaryPiecesLaw}
 

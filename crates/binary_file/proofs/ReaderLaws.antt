@@ -1,6 +1,6 @@
 -- A reader after a piece that it took.
 use Rattle.std.proofs.Common.{ℕ, ◌≡◌, List, [], Option, Some, None, Result, Ok, Err, refl}
-use Rattle.counted_io.specs.declared.fault.ReadError.{ReadError}
+use Rattle.file_words.specs.declared.fault.ReadError.{ReadError}
 use Rattle.binary_file.specs.Reading.{State, AtHeader, feed}
 use Rattle.binary_file.specs.declared.stage.Stage.{Stage}
 use Rattle.binary_file.specs.declared.stage.Stage.TheVariants as stage

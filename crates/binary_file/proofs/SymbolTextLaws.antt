@@ -2,8 +2,8 @@
 use Rattle.std.proofs.Common.{ℕ, ◌^◌, ◌<◌, ◌≡◌, inl, inr, List, [], ◌∷◌, Option, Some, None, Result, Ok, Err, refl, arith, Bool, true, false, cond, nat_le, sym, subst, ◌∙◌}
 use Rattle.std.specs.List.{list_any}
 use Rattle.std.proofs.lemmas.Bool.{cases_lt, lt-leb, le-leb, cond-false}
-use Rattle.counted_io.specs.declared.fault.ReadError.{ReadError}
-use Rattle.counted_io.specs.declared.fault.ReadError.TheVariants.{BadSymbol, Trailing}
+use Rattle.file_words.specs.declared.fault.ReadError.{ReadError}
+use Rattle.file_words.specs.declared.fault.ReadError.TheVariants.{BadSymbol, Trailing}
 use Rattle.ascii_file.specs.declared.header.Header.{Header}
 use Rattle.ascii_file.specs.declared.raw.Section.{Section}
 use Rattle.ascii_file.specs.declared.raw.Section.TheVariants.{Symbols}
@@ -13,14 +13,14 @@ use Rattle.ascii_file.specs.Raw.{Raw, RawSymbol, count_of}
 use Rattle.ascii_file.specs.Items.{Item, InputItem, LatchItem, SafetyItem, SizeItem, LivenessItem, GateItem, SymbolItem, kind_of, symbol_of, item_of, begins_comment}
 use Rattle.ascii_file.specs.Reading.{is_of_same, with_item, malformed_symbol, malformed}
 use Rattle.ascii_file.proofs.StepLaws.{section_is}
-use Rattle.ascii_file.specs.declared.symbols.SymbolText.{SymbolText}
-use Rattle.ascii_file.specs.declared.symbols.SymbolText.TheVariants.{NoSymbol, Comment, Malformed, Name}
-use Rattle.ascii_file.specs.Rows.{clamped}
-use Rattle.ascii_file.specs.Symbols.{unnamed, text_of_item, text_of}
+use Rattle.ascii_file.specs.declared.parts.symbols.SymbolText.{SymbolText}
+use Rattle.ascii_file.specs.declared.parts.symbols.SymbolText.TheVariants.{NoSymbol, Comment, Malformed, Name}
+use Rattle.ascii_file.specs.parts.Rows.{clamped}
+use Rattle.ascii_file.specs.parts.Symbols.{unnamed, text_of_item, text_of}
 use Rattle.binary_file.specs.Headers.{IsHeaderWithin}
 use Rattle.binary_file.specs.Items.{next_section, item_in}
 use Rattle.binary_file.specs.Reading.{take_item, read_line}
-use Rattle.ascii_file.specs.Names.{symbol_at}
+use Rattle.ascii_file.specs.parts.Names.{symbol_at}
 use Rattle.binary_file.specs.Contents.{Contents, contents_of}
 use Rattle.binary_file.specs.ReaderItems.{symbol_taken}
 use Rattle.binary_file.proofs.TakingLaws.{Agrees}

@@ -1,11 +1,11 @@
 -- What a call that takes an item answers, by the contents with that item.
 use Rattle.std.proofs.Common.{◌≡◌, Result, Ok, Err, subst, ◌∙◌}
-use Rattle.counted_io.specs.declared.fault.ReadError.{ReadError}
-use Rattle.counted_io.specs.declared.fault.ReadError.TheVariants.{NoMemory}
-use Rattle.counted_io.specs.Answering.{Fails, Gives}
+use Rattle.file_words.specs.declared.fault.ReadError.{ReadError}
+use Rattle.file_words.specs.declared.fault.ReadError.TheVariants.{NoMemory}
+use Rattle.file_words.specs.Answering.{Fails, Gives}
 use Rattle.ascii_file.specs.declared.header.Header.{Header}
 use Rattle.ascii_file.specs.Raw.{Raw}
-use Rattle.counted_io.proofs.AnsweringLaws.{Fails-where}
+use Rattle.file_words.proofs.AnsweringLaws.{Fails-where}
 use Rattle.binary_file.specs.Headers.{IsHeaderWithin}
 use Rattle.binary_file.specs.Contents.{Contents, IsAt}
 use Rattle.binary_file.specs.Taking.{Takes}

@@ -2,9 +2,9 @@
 use Rattle.std.proofs.Common.{ℕ, ◌≡◌, List, [], Option, Some, None, Bool, true, false, cond, refl, ap, ◌∙◌}
 use Rattle.std.proofs.lemmas.List.{append-nil}
 use Rattle.ascii_file.specs.Items.{Item, InputItem, LatchItem, SafetyItem, SizeItem, LivenessItem, GateItem, SymbolItem, symbol_of, begins_comment}
-use Rattle.ascii_file.specs.declared.symbols.SymbolText.TheVariants.{Comment}
-use Rattle.ascii_file.specs.declared.symbols.SymbolLine.{SymbolLine}
-use Rattle.ascii_file.specs.Symbols.{text_of_item, text_of, text_with}
+use Rattle.ascii_file.specs.declared.parts.symbols.SymbolText.TheVariants.{Comment}
+use Rattle.ascii_file.specs.declared.parts.symbols.SymbolLine.{SymbolLine}
+use Rattle.ascii_file.specs.parts.Symbols.{text_of_item, text_of, text_with}
 use Rattle.ascii_file.proofs.SymbolLaws.{without_comment}
 use Rattle.binary_file.specs.Opened.{IsText}
 

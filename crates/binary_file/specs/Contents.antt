@@ -12,7 +12,7 @@ use Rattle.ascii_file.specs.declared.raw.Section.{Section}
 use Rattle.ascii_file.specs.declared.raw.Section.TheVariants as section
 use Rattle.ascii_file.specs.Raw.{Raw, safety_count}
 use Rattle.ascii_file.specs.Meaning.{reset_of, props_of, symbols_of}
-use Rattle.ascii_file.specs.Lists.{Lists}
+use Rattle.ascii_file.specs.parts.Lists.{Lists}
 
 -- the header, and the parts of the circuit: the literals of a binary file are the circuit's own
 pub record Contents : Type 0 where

@@ -1,7 +1,7 @@
 -- Pieces and the deltas in them.
 use Rattle.std.specs.Prelude.{ℕ, ◌+◌, ◌<◌, ◌≤◌, ◌≡◌, true, List, [], ◌∷◌, ◌++◌, length, drop, Option, Some, None, Result}
-use Rattle.counted_io.specs.declared.fault.ReadError.{ReadError}
-use Rattle.counted_io.specs.Answering.{◌>>=◌}
+use Rattle.file_words.specs.declared.fault.ReadError.{ReadError}
+use Rattle.file_words.specs.Answering.{◌>>=◌}
 use Rattle.binary_file.specs.Deltas.{is_delta, delta_value}
 use Rattle.binary_file.specs.Reading.{State, step, feed, delta_step}
 use Rattle.binary_file.specs.declared.delta.WholeGate.{WholeGate}

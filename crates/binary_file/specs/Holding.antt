@@ -1,8 +1,8 @@
 -- The bytes that were fed to a reader.
 use Rattle.std.specs.Prelude.{ℕ, ◌≡◌, List, [], length, Option, None, Result, Ok, Err}
-use Rattle.counted_io.specs.declared.fault.ReadError.{ReadError}
-use Rattle.counted_io.specs.declared.fault.ReadError.TheVariants.{NoMemory}
-use Rattle.counted_io.specs.Answering.{Fails}
+use Rattle.file_words.specs.declared.fault.ReadError.{ReadError}
+use Rattle.file_words.specs.declared.fault.ReadError.TheVariants.{NoMemory}
+use Rattle.file_words.specs.Answering.{Fails}
 use Rattle.binary_file.specs.Reading.{State, AtHeader, feed}
 use Rattle.binary_file.specs.declared.reader.AigReader.{AigReader}
 use Rattle.binary_file.specs.Stages.{HoldsStage, failure}

@@ -1,7 +1,7 @@
 -- The items of a binary file. Inputs aren't listed, and latches and gates have their variables by their positions.
 use Rattle.std.specs.Prelude.{ℕ, ◌+◌, ◌*◌, ◌==◌, List, [], ◌∷◌, length, Option, Some, None, if◌then◌else◌}
 use Rattle.std.specs.Option.{option_and_then}
-use Rattle.counted_io.specs.Lines.{numbers_of}
+use Rattle.file_words.specs.Lines.{numbers_of}
 use Rattle.ascii_file.specs.declared.header.Header.{Header}
 use Rattle.ascii_file.specs.declared.raw.Section.{Section}
 use Rattle.ascii_file.specs.declared.raw.Section.TheVariants.{Inputs, Latches, Gates}
@@ -17,6 +17,7 @@ next_section h raw = ascii.next_section (record h { inputs = 0 }) raw
 abbrev pub next_latch : Header → Raw → ℕ
 next_latch h raw = 2 * (h.inputs + 1 + length raw.latches)
 
+-- the literal `2*(I+L+1+k)` of gate k, which a file doesn't list
 abbrev pub next_gate : Header → Raw → ℕ
 next_gate h raw = 2 * (h.inputs + h.latches + 1 + length raw.gates)
 

@@ -33,6 +33,8 @@ pub record AreNamed (c : Contents) : Type 0 where
   pub below : All (λ symbol. symbol.position < count_of c.header symbol.kind) symbols
   pub apart : AllPairs (λ symbol other. is_of_same other symbol ≡ false) symbols
 
+-- the header is within the limits, there are as many items as it says, and all literals and names
+-- are in range
 pub record IsKept (c : Contents) : Type 0 where
   pub within : IsHeaderWithin c.header
   pub counted : AreCounted c

@@ -1,8 +1,8 @@
 -- What holds of reading, and of deltas of at most five bytes.
 use Rattle.std.specs.Prelude.{ℕ, ◌≡◌, List, [], ◌++◌, Ok, Err, ◌≤◌, length, IsTrue}
 use Rattle.aig_graph.specs.Circuits.{Netlist}
-use Rattle.counted_io.specs.declared.fault.ReadError.{ReadError}
-use Rattle.counted_io.specs.Answering.{◌>>=◌}
+use Rattle.file_words.specs.declared.fault.ReadError.{ReadError}
+use Rattle.file_words.specs.Answering.{◌>>=◌}
 use Rattle.ascii_file.specs.declared.header.Header.{Header}
 use Rattle.ascii_file.specs.Raw.{Raw}
 use Rattle.ascii_file.specs.Files.{IsCountedBy}
@@ -26,6 +26,7 @@ pub record BinaryPiecesLaw (bytes more : List ℕ) : Type 0 where
 abbrev pub CountsLaw : List ℕ → Type 0
 CountsLaw bytes = (h : Header) (raw : Raw) → IsBinaryFile bytes h raw → IsCountedBy (record h { inputs = 0 }) raw
 
+-- the shortest delta of n spells n, and is a delta, and none that spells n is shorter
 pub record DeltaLaws (n : ℕ) : Type 0 where
   pub value : delta_value (delta_of n) ≡ n
   pub form : IsTrue (is_delta (delta_of n))

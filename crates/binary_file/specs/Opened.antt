@@ -1,18 +1,18 @@
 -- The item that has begun, beside where reading stands: what was read before it, its offset, and how many bytes have come.
 use Rattle.std.specs.Prelude.{ℕ, ◌≡◌, ◌+◌, ◌<◌, Bool, true, false, List, ◌++◌, length, Result, Ok, Err}
-use Rattle.counted_io.specs.declared.fault.ReadError.{ReadError}
-use Rattle.counted_io.specs.declared.fault.ReadError.TheVariants.{NoMemory}
-use Rattle.counted_io.specs.Answering.{Fails}
+use Rattle.file_words.specs.declared.fault.ReadError.{ReadError}
+use Rattle.file_words.specs.declared.fault.ReadError.TheVariants.{NoMemory}
+use Rattle.file_words.specs.Answering.{Fails}
 use Rattle.ascii_file.specs.declared.header.Header.{Header}
 use Rattle.ascii_file.specs.declared.raw.Section.TheVariants.{Gates, Symbols}
 use Rattle.ascii_file.specs.Raw.{Raw}
 use Rattle.ascii_file.specs.Items.{begins_comment}
 use Rattle.ascii_file.specs.Reading.{is_symbols}
-use Rattle.ascii_file.specs.declared.numbers.NumberLine.{NumberLine}
-use Rattle.ascii_file.specs.declared.symbols.SymbolLine.{SymbolLine}
-use Rattle.ascii_file.specs.Rows.{row_of}
-use Rattle.ascii_file.specs.Open.{numbers_with}
-use Rattle.ascii_file.specs.Symbols.{text_of, text_with}
+use Rattle.ascii_file.specs.declared.parts.numbers.NumberLine.{NumberLine}
+use Rattle.ascii_file.specs.declared.parts.symbols.SymbolLine.{SymbolLine}
+use Rattle.ascii_file.specs.parts.Rows.{row_of}
+use Rattle.ascii_file.specs.parts.Open.{numbers_with}
+use Rattle.ascii_file.specs.parts.Symbols.{text_of, text_with}
 use Rattle.binary_file.specs.Items.{next_section, next_gate}
 use Rattle.binary_file.specs.Reading.{State, InLine, InFirst, InSecond, InComment, read_line}
 use Rattle.binary_file.specs.Contents.{Contents, IsAt}
@@ -27,6 +27,7 @@ IsNumbers line bytes = (rest : List ℕ) → numbers_with line rest ≡ row_of (
 abbrev pub IsText : SymbolLine → List ℕ → Type 0
 IsText line bytes = (rest : List ℕ) → text_with line rest ≡ text_of (bytes ++ rest)
 
+-- within a line of numbers that begins at `at`, of which the bytes up to `offset` have come
 pub record IsInNumbers (c : Contents) (at offset : ℕ) (line : NumberLine) (state : State) : Type 0 where
   pub h : Header
   pub raw : Raw
@@ -37,6 +38,7 @@ pub record IsInNumbers (c : Contents) (at offset : ℕ) (line : NumberLine) (sta
   pub line_is : IsNumbers line bytes
   pub place : at + length bytes ≡ offset
 
+-- within the line of a symbol that begins at `at`, of which the bytes up to `offset` have come
 pub record IsInSymbol (c : Contents) (at offset : ℕ) (line : SymbolLine) (state : State) : Type 0 where
   pub h : Header
   pub raw : Raw
@@ -47,6 +49,7 @@ pub record IsInSymbol (c : Contents) (at offset : ℕ) (line : SymbolLine) (stat
   pub line_is : IsText line bytes
   pub place : at + length bytes ≡ offset
 
+-- within the first delta of a gate, which begins at `at`
 pub record IsInFirst (c : Contents) (at offset : ℕ) (delta : List ℕ) (state : State) : Type 0 where
   pub h : Header
   pub raw : Raw
@@ -55,6 +58,8 @@ pub record IsInFirst (c : Contents) (at offset : ℕ) (delta : List ℕ) (state 
   pub section : next_section h raw ≡ Gates
   pub place : at + length delta ≡ offset
 
+-- within the second delta of a gate, which begins at `at`, once the first gave the larger fan-in,
+-- rhs0
 pub record IsInSecond (c : Contents) (at offset rhs0 : ℕ) (delta : List ℕ) (state : State) : Type 0 where
   pub h : Header
   pub raw : Raw
@@ -64,6 +69,7 @@ pub record IsInSecond (c : Contents) (at offset rhs0 : ℕ) (delta : List ℕ) (
   pub falls : rhs0 < next_gate h raw
   pub place : at + length delta ≡ offset
 
+-- within the comment, after all symbols
 pub record IsInComment (c : Contents) (state : State) : Type 0 where
   pub h : Header
   pub raw : Raw

@@ -5,9 +5,9 @@ use Rattle.aig_graph.specs.declared.graph.Latch.{Latch}
 use Rattle.aig_graph.specs.declared.graph.Gate.{Gate}
 use Rattle.aig_graph.specs.declared.graph.Reset.{Reset}
 use Rattle.aig_graph.specs.declared.graph.Reset.TheVariants.{Zero, One, Free}
-use Rattle.counted_io.specs.declared.fault.ReadError.{ReadError}
-use Rattle.counted_io.specs.declared.fault.ReadError.TheVariants.{TooLarge, MaxIndex, BadLine, BadReset, BadSymbol}
-use Rattle.counted_io.specs.Answering.{◌>>=◌}
+use Rattle.file_words.specs.declared.fault.ReadError.{ReadError}
+use Rattle.file_words.specs.declared.fault.ReadError.TheVariants.{TooLarge, MaxIndex, BadLine, BadReset, BadSymbol}
+use Rattle.file_words.specs.Answering.{◌>>=◌}
 use Rattle.ascii_file.specs.declared.header.Header.{Header}
 use Rattle.ascii_file.specs.Raw.{RawSymbol, count_of}
 use Rattle.ascii_file.specs.Meaning.{symbols_of}
@@ -64,6 +64,8 @@ latch_numbers at (next ∷ []) = Ok (next, 0)
 latch_numbers at (next ∷ reset ∷ []) = Ok (next, reset)
 latch_numbers at _ = Err (BadLine at)
 
+-- the contents with a latch of these numbers, from the line at this offset, or the fault of the
+-- line
 abbrev pub latch_taken : Contents → ℕ → List ℕ → Result Contents ReadError
 latch_taken c at ns = latch_numbers at ns >>= λ numbers. literal_within c.header at numbers.0 >>= λ lit. latch_with c at lit (reset_in (latch_literal c) numbers.1)
 

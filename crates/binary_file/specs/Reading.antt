@@ -1,10 +1,10 @@
 -- The first fault of a binary file, byte by byte, and what is read where there is none.
 use Rattle.std.specs.Prelude.{ℕ, ◌≡◌, ◌+◌, ◌-◌, ◌==◌, ◌||◌, ◌&&◌, Bool, true, false, nat_lt, List, [], ◌∷◌, ◌++◌, length, map, Option, Some, None, Result, Ok, Err, if◌then◌else◌}
 use Rattle.aig_graph.specs.Circuits.{Netlist}
-use Rattle.counted_io.specs.declared.fault.ReadError.{ReadError}
-use Rattle.counted_io.specs.declared.fault.ReadError.TheVariants.{BadHeader, MaxIndex, BadReset, BadDelta, Truncated}
-use Rattle.counted_io.specs.Codes.{is_fault_of_bytes}
-use Rattle.counted_io.specs.Answering.{◌>>=◌}
+use Rattle.file_words.specs.declared.fault.ReadError.{ReadError}
+use Rattle.file_words.specs.declared.fault.ReadError.TheVariants.{BadHeader, MaxIndex, BadReset, BadDelta, Truncated}
+use Rattle.file_words.specs.Codes.{is_fault_of_bytes}
+use Rattle.file_words.specs.Answering.{◌>>=◌}
 use Rattle.binary_file.specs.Deltas.{delta_value}
 use Rattle.ascii_file.specs.declared.header.Header.{Header}
 use Rattle.ascii_file.specs.declared.raw.Section.{Section}
@@ -55,9 +55,11 @@ abbrev pub take_item : Header → Raw → ℕ → ReadError → Option Item → 
 take_item h raw at fault None = Err fault
 take_item h raw at fault (Some item) = unless (line_checks h raw at item) (Ok (with_item raw item))
 
+-- what reading a line after these items gives
 unfoldable pub read_line : Header → Raw → ℕ → List ℕ → Result Raw ReadError
 read_line h raw at line = take_item h raw at (malformed (next_section h raw) at line) (item_in h raw (next_section h raw) line)
 
+-- the state after a line: a comment begins, or the line is an item, or its fault
 unfoldable pub end_line : Header → Raw → ℕ → List ℕ → Result State ReadError
 end_line h raw at line =
     if is_symbols (next_section h raw) && begins_comment line then Ok (InComment h raw) else (read_line h raw at line >>= λ more. Ok (before_item h more (at + length line + 1)))

@@ -1,10 +1,10 @@
 -- What a reader holds of the bytes that were fed.
 use Rattle.std.specs.Prelude.{ℕ, ◌≡◌, List, [], ◌++◌, length, Option, Some, None, Result, Ok, Err, codes}
-use Rattle.counted_io.specs.declared.fault.ReadError.{ReadError}
-use Rattle.counted_io.specs.declared.fault.ReadError.TheVariants.{NoMemory}
-use Rattle.counted_io.specs.Answering.{Fails}
-use Rattle.ascii_file.specs.declared.header_line.HeaderLine.{HeaderLine}
-use Rattle.ascii_file.specs.Header.{header_row, header_with}
+use Rattle.file_words.specs.declared.fault.ReadError.{ReadError}
+use Rattle.file_words.specs.declared.fault.ReadError.TheVariants.{NoMemory}
+use Rattle.file_words.specs.Answering.{Fails}
+use Rattle.ascii_file.specs.declared.parts.header_line.HeaderLine.{HeaderLine}
+use Rattle.ascii_file.specs.parts.Header.{header_row, header_with}
 use Rattle.binary_file.specs.Reading.{State, AtHeader, feed}
 use Rattle.binary_file.specs.declared.items.Items.{Items}
 use Rattle.binary_file.specs.declared.stage.Stage.{Stage}

@@ -2,9 +2,9 @@
 use Rattle.std.specs.Prelude.{ℕ, ◌≡◌, ◌+◌, ◌-◌, ◌==◌, ◌||◌, nat_lt, List, [], ◌∷◌, length, Result, Ok, Err, if◌then◌else◌}
 use Rattle.std.specs.Borrow.{Bor}
 use Rattle.aig_graph.specs.Circuits.{Netlist}
-use Rattle.counted_io.specs.declared.fault.ReadError.{ReadError}
-use Rattle.counted_io.specs.declared.fault.ReadError.TheVariants.{BadDelta, Truncated, NoMemory}
-use Rattle.counted_io.specs.Answering.{Fails}
+use Rattle.file_words.specs.declared.fault.ReadError.{ReadError}
+use Rattle.file_words.specs.declared.fault.ReadError.TheVariants.{BadDelta, Truncated, NoMemory}
+use Rattle.file_words.specs.Answering.{Fails}
 use Rattle.ascii_file.specs.declared.header.Header.{Header}
 use Rattle.ascii_file.specs.Raw.{Raw}
 use Rattle.ascii_file.specs.Items.{GateItem}

@@ -1,7 +1,7 @@
 //! A delta out of a piece: of those that a piece may cut in two a byte, of a gate that is whole in it both at once.
 ghost use Rattle.std.specs.Prelude.{ℕ, List, ◌≡◌, ◌<◌, ◌≤◌, ◌%◌, length, IfOk, OnErr, Err, MatchOption, Result};
-ghost use Rattle.counted_io.specs.declared.fault.ReadError.{ReadError};
-ghost use Rattle.counted_io.specs.declared.fault.ReadError.TheVariants.{BadDelta};
+ghost use Rattle.file_words.specs.declared.fault.ReadError.{ReadError};
+ghost use Rattle.file_words.specs.declared.fault.ReadError.TheVariants.{BadDelta};
 ghost use Rattle.binary_file.specs.Reading.{State, feed};
 ghost use Rattle.binary_file.specs.Cutting.{IsWholeDelta, IsWholeGate, AreDeltaStates, IsDeltaTaken};
 

@@ -1,13 +1,13 @@
 ghost use Rattle.std.specs.Prelude.{ℕ, List, ◌≡◌, ◌∷◌, [], IfOk, Ok, codes};
 ghost use Rattle.ascii_file.specs.Reading.{unless};
-ghost use Rattle.counted_io.specs.declared.fault.ReadError.TheVariants.{MaxIndex};
-ghost use Rattle.ascii_file.specs.Header.{header_row, header_with};
+ghost use Rattle.file_words.specs.declared.fault.ReadError.TheVariants.{MaxIndex};
+ghost use Rattle.ascii_file.specs.parts.Header.{header_row, header_with};
 ghost use Rattle.binary_file.specs.Headers.{IsHeaderWithin};
 ghost use Rattle.binary_file.specs.Reading as reading;
 ghost use Rattle.binary_file.specs.Header.{is_miscounted};
 
 use ascii_file::{Header, HeaderLine};
-use counted_io::ReadError;
+use file_words::ReadError;
 
 /// The header of a binary file that the line spells, of which all bytes have come.
 pub(crate) fn binary_header(line: &mut HeaderLine) -> Result<Header, ReadError>

@@ -6,8 +6,8 @@
 //! The open item is taken out by value while a piece is fed, and `Comment` stands in its place, since it owns nothing and
 //! dropping it takes no step. Where the piece has a fault, the items are dropped, and nobody looks at the stand-in.
 ghost use Rattle.std.specs.Prelude.{ℕ, ◌≡◌, ◌+◌, length};
-ghost use Rattle.counted_io.specs.declared.fault.ReadError.TheVariants.{NoMemory};
-ghost use Rattle.counted_io.specs.Answering.{Gives};
+ghost use Rattle.file_words.specs.declared.fault.ReadError.TheVariants.{NoMemory};
+ghost use Rattle.file_words.specs.Answering.{Gives};
 ghost use Rattle.binary_file.specs.Reading.{State};
 ghost use Rattle.binary_file.specs.Opened.{IsInNumbers, IsInSymbol};
 ghost use Rattle.binary_file.specs.Standing.{circuit_at};
@@ -18,7 +18,7 @@ use crate::opened::{Opened, take_numbers, take_text};
 use crate::sections::Sections;
 use aig_graph::Circuit;
 use ascii_file::{Header, NumberLine, SymbolLine};
-use counted_io::{ReadError, cut};
+use file_words::{ReadError, cut};
 use std::alloc::Global;
 use std::mem;
 
@@ -36,8 +36,8 @@ impl Items {
     ghost use Rattle.ascii_file.specs.declared.header.Header.{Header};
     ghost use Rattle.ascii_file.specs.declared.raw.Section.TheVariants.{Gates};
     ghost use Rattle.ascii_file.specs.Raw.{Raw, nothing_yet};
-    ghost use Rattle.counted_io.specs.declared.fault.ReadError.TheVariants.{NoMemory};
-    ghost use Rattle.counted_io.specs.Answering.{Gives};
+    ghost use Rattle.file_words.specs.declared.fault.ReadError.TheVariants.{NoMemory};
+    ghost use Rattle.file_words.specs.Answering.{Gives};
     ghost use Rattle.binary_file.specs.Deltas.{delta_value};
     ghost use Rattle.binary_file.specs.Headers.{IsHeaderWithin};
     ghost use Rattle.binary_file.specs.Items.{next_section, next_gate};

@@ -12,7 +12,7 @@ ghost use Rattle.binary_file.specs.Opened.{IsNumbers, IsText, IsOpened, TakesTex
 use crate::DeltaReader;
 use crate::sections::Sections;
 use ascii_file::{NumberLine, Section, SymbolLine, SymbolText};
-use counted_io::ReadError;
+use file_words::ReadError;
 use std::alloc::Global;
 
 /// The item that has begun, as far as it has come.

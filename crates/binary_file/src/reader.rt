@@ -3,15 +3,15 @@
 //!     first line open ──newline──► items ──finish──► ended, which answers BadHeader at 0
 //!     either ──fault──► failed, which answers that fault from then on
 ghost use Rattle.std.specs.Prelude.{ℕ, List, ◌≡◌, ◌++◌};
-ghost use Rattle.counted_io.specs.declared.fault.ReadError.TheVariants.{NoMemory};
-ghost use Rattle.counted_io.specs.Answering.{Gives};
+ghost use Rattle.file_words.specs.declared.fault.ReadError.TheVariants.{NoMemory};
+ghost use Rattle.file_words.specs.Answering.{Gives};
 ghost use Rattle.binary_file.specs.Reading.{read_binary};
 ghost use Rattle.binary_file.specs.Holding.{HasBeenFed};
 
 use crate::stage::Stage;
 use aig_graph::Circuit;
 use ascii_file::HeaderLine;
-use counted_io::ReadError;
+use file_words::ReadError;
 use std::alloc::Global;
 use std::mem;
 
@@ -37,9 +37,9 @@ impl Drop for AigReader {
 
 impl AigReader {
     ghost use Rattle.std.specs.Prelude.{ℕ, List, ◌≡◌, ◌++◌, [], Err, Some, None, OnOk, IfErr};
-    ghost use Rattle.counted_io.specs.declared.fault.ReadError.{ReadError};
-    ghost use Rattle.counted_io.specs.declared.fault.ReadError.TheVariants.{BadHeader, NoMemory};
-    ghost use Rattle.counted_io.specs.Answering.{Gives};
+    ghost use Rattle.file_words.specs.declared.fault.ReadError.{ReadError};
+    ghost use Rattle.file_words.specs.declared.fault.ReadError.TheVariants.{BadHeader, NoMemory};
+    ghost use Rattle.file_words.specs.Answering.{Gives};
     ghost use Rattle.binary_file.specs.Reading.{read_binary};
     ghost use Rattle.binary_file.specs.Holding.{HasBeenFed, Answers, reader_fault};
 

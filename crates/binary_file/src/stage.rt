@@ -2,8 +2,8 @@
 //! what a fault leaves of it is dropped here.
 ghost use Rattle.std.specs.Prelude.{ℕ, List, ◌≡◌, ◌+◌, ◌++◌, [], length, Ok};
 ghost use Rattle.ascii_file.specs.Raw.{nothing_yet};
-ghost use Rattle.counted_io.specs.declared.fault.ReadError.TheVariants.{NoMemory};
-ghost use Rattle.counted_io.specs.Answering.{Gives};
+ghost use Rattle.file_words.specs.declared.fault.ReadError.TheVariants.{NoMemory};
+ghost use Rattle.file_words.specs.Answering.{Gives};
 ghost use Rattle.binary_file.specs.Headers.{IsHeaderWithin};
 ghost use Rattle.binary_file.specs.Reading.{State, feed, before_item, read_binary};
 ghost use Rattle.binary_file.specs.Reading as reading;
@@ -15,7 +15,7 @@ use crate::items::{Items, offset_of};
 use crate::sections::Sections;
 use aig_graph::Circuit;
 use ascii_file::{Header, HeaderLine};
-use counted_io::{ReadError, cut};
+use file_words::{ReadError, cut};
 use std::alloc::Global;
 
 /// How far a reader has come.
@@ -31,9 +31,9 @@ pub(crate) enum Stage {
 
 impl Stage {
     ghost use Rattle.std.specs.Prelude.{ℕ, List, [], ◌≡◌, ◌+◌, ◌++◌, length, Err, Some, None};
-    ghost use Rattle.counted_io.specs.declared.fault.ReadError.{ReadError};
-    ghost use Rattle.counted_io.specs.declared.fault.ReadError.TheVariants.{NoMemory};
-    ghost use Rattle.counted_io.specs.Answering.{Fails, Gives};
+    ghost use Rattle.file_words.specs.declared.fault.ReadError.{ReadError};
+    ghost use Rattle.file_words.specs.declared.fault.ReadError.TheVariants.{NoMemory};
+    ghost use Rattle.file_words.specs.Answering.{Fails, Gives};
     ghost use Rattle.binary_file.specs.Reading.{read_binary};
     ghost use Rattle.binary_file.specs.Reading as reading;
     ghost use Rattle.binary_file.specs.Stages.{HoldsStage, HoldsResult, failure};

@@ -9,9 +9,9 @@ use Rattle.certificates.specs.declared.certificate.Certificate.{Certificate}
 use Rattle.certificates.specs.declared.verdict.Verdict.TheVariants.{Yes}
 use Rattle.certificates.proofs.RouteLaws.{yes-law}
 use Rattle.retimed_circuits.specs.Certified.{passes_bounded, passes_whole}
-use Rattle.retimed_circuits.specs.Arrivals.{IsClosedWithin}
-use Rattle.retimed_circuits.specs.Bounded.{bounded}
-use Rattle.retimed_circuits.proofs.BoundedLaws.{bounded-law}
+use Rattle.path_levels.specs.Arrivals.{IsClosedWithin}
+use Rattle.path_levels.specs.Bounded.{bounded}
+use Rattle.path_levels.proofs.BoundedLaws.{bounded-law}
 use Rattle.certificate_audits.specs.declared.outcome.Audit.{Audit}
 use Rattle.certificate_audits.specs.declared.outcome.End.{End}
 use Rattle.certificate_audits.specs.declared.outcome.End.TheVariants.{NoBlocks, Certified, Open, BlocksFollow, Objected}

@@ -6,10 +6,10 @@ use Rattle.aig_graph.specs.Closed.{IsClosedSet}
 use Rattle.cleaned_circuits.proofs.PassLaws.{IsCircuit, IsCircuit-cleans}
 use Rattle.retimed_circuits.proofs.CircuitLaws.{moved-circuit}
 use Rattle.retimed_circuits.proofs.CleaningLevelLaws.{cleans-levels}
-use Rattle.retimed_circuits.proofs.MergingLaws.{IsGraph-merged_latches, IsNetlist-merged_latches}
+use Rattle.merged_circuits.proofs.MergingLaws.{IsGraph-merged_latches, IsNetlist-merged_latches}
 use Rattle.retimed_circuits.proofs.ReplacedLevelLaws.{merged_latches-levels}
 use Rattle.retimed_circuits.specs.Frames.{CleansTo, held_over, moved_over}
-use Rattle.retimed_circuits.specs.Levels.{levels}
+use Rattle.path_levels.specs.Levels.{levels}
 use Rattle.retimed_circuits.specs.RetimingLevels.{KeepsLevels}
 use Rattle.certificates.specs.declared.certificate.Certificate.{Certificate}
 use Rattle.certificate_audits.specs.declared.outcome.End.{End}

@@ -7,7 +7,7 @@ use Rattle.aig_graph.specs.Laws.{all_free, composed}
 use Rattle.aig_graph.specs.Move.{Move, move_of}
 use Rattle.aig_graph.proofs.StreamLaws.{same_streams-reflexive, same_streams-transitive}
 use Rattle.cleaned_circuits.proofs.PassLaws.{IsCircuit, IsCircuit-cleans, cleans-streams}
-use Rattle.retimed_circuits.proofs.MergingLaws.{IsGraph-merged_latches, IsNetlist-merged_latches, merged-streams}
+use Rattle.merged_circuits.proofs.MergingLaws.{IsGraph-merged_latches, IsNetlist-merged_latches, merged-streams}
 use Rattle.rebuild.specs.Moved.{moved_of}
 use Rattle.rebuild.proofs.StreamLaws.{same_streams}
 use Rattle.retimed_circuits.specs.Frames.{CleansTo, held_over}

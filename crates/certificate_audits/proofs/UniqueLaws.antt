@@ -9,10 +9,10 @@ use Rattle.certificates.specs.declared.verdict.Verdict.TheVariants.{Yes, No}
 use Rattle.certificates.specs.declared.verdict.Objection.{Objection}
 use Rattle.certificates.specs.declared.verdict.Objection.TheVariants.{NotClosed, BadRoute, UsedTwice, CountDiffers}
 use Rattle.certificates.specs.Verdicts.{IsVerdict}
-use Rattle.retimed_circuits.specs.Bounded.{bounded}
+use Rattle.path_levels.specs.Bounded.{bounded}
 use Rattle.retimed_circuits.specs.Certified.{PassesWithin, passes_bounded, passes_whole}
 use Rattle.retimed_circuits.specs.Frames.{held_over, moved_over}
-use Rattle.retimed_circuits.specs.Levels.{levels}
+use Rattle.path_levels.specs.Levels.{levels}
 use Rattle.certificate_audits.specs.declared.outcome.BlockObjection.{BlockObjection}
 use Rattle.certificate_audits.specs.declared.outcome.BlockObjection.TheVariants.{Fails, TooLong}
 use Rattle.certificate_audits.specs.declared.judging.Finding.{Finding}

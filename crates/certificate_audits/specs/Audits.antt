@@ -1,4 +1,5 @@
--- Audits: each block is judged for the circuit that the blocks before it make, under a bound on path length or none.
+-- Audits: each block is judged for the circuit that the blocks before it make, under a bound on
+-- path length or none.
 use Rattle.std.specs.Prelude.{ℕ, suc, ◌≡◌, ◌<◌, ◌≤◌, ◌≢◌, ⊤, List, [], ◌∷◌, Option, Some, None}
 use Rattle.aig_graph.specs.Graph.{known_latches}
 use Rattle.aig_graph.specs.Circuits.{Netlist}
@@ -8,10 +9,10 @@ use Rattle.certificates.specs.declared.verdict.Objection.{Objection}
 use Rattle.certificates.specs.declared.verdict.Verdict.{Verdict}
 use Rattle.certificates.specs.declared.verdict.Verdict.TheVariants.{Yes, No}
 use Rattle.certificates.specs.Verdicts.{IsVerdict}
-use Rattle.retimed_circuits.specs.Bounded.{bounded}
+use Rattle.path_levels.specs.Bounded.{bounded}
 use Rattle.retimed_circuits.specs.Frames.{CleansTo, count_over, held_over, moved_over}
 use Rattle.retimed_circuits.specs.Certified.{PassesWithin}
-use Rattle.retimed_circuits.specs.Levels.{levels}
+use Rattle.path_levels.specs.Levels.{levels}
 use Rattle.certificate_audits.specs.declared.outcome.Audit.{Audit}
 use Rattle.certificate_audits.specs.declared.outcome.BlockObjection.{BlockObjection}
 use Rattle.certificate_audits.specs.declared.outcome.BlockObjection.TheVariants.{Fails, TooLong}
@@ -24,7 +25,8 @@ pub record FailsWithin (bound : ℕ) (held : List ℕ) (c : Netlist) (block : Ce
   pub other : Objection
   pub bounded_too : IsVerdict (bounded bound held c) held block (No other)
 
--- the verdict on a block for c: it passes where it does for c or, under a bound, for c bounded; what speaks against it is what does so for c
+-- the verdict on a block for c: it passes where it does for c or, under a bound, for c bounded;
+-- what speaks against it is what does so for c
 abbrev pub IsVerdictBy : Option ℕ → List ℕ → Netlist → Certificate → Verdict → Type 0
 IsVerdictBy None held c block verdict = IsVerdict c held block verdict
 IsVerdictBy (Some bound) held c block Yes = PassesWithin bound held c block
@@ -71,12 +73,14 @@ abbrev pub Objects : Option ℕ → List ℕ → Netlist → Certificate → Blo
 Objects bound held c block (Fails objection) = IsVerdictBy bound held c block (No objection)
 Objects bound held c block TooLong = IsMoveTooLong bound held c block
 
--- d is c with its latches moved over the block's gates, and cleaned; the held latches stand at now in d
+-- d is c with its latches moved over the block's gates, and cleaned; the held latches stand at now
+-- in d
 pub record IsNext (held : List ℕ) (c : Netlist) (block : Certificate) (d : Netlist) (now : List ℕ) : Type 0 where
   pub kept : List ℕ
   pub cleaned : CleansTo (held_over held c block.gates) (moved_over held c block.gates) d kept now
 
--- how many of the blocks, the first of which is for this circuit with these latches held, are confirmed one after another, and how that ends
+-- how many of the blocks, the first of which is for this circuit with these latches held, are
+-- confirmed one after another, and how that ends
 pub data Audits (bound : Option ℕ) : List ℕ → Netlist → List Certificate → ℕ → End → Type 0 where
   no_blocks : (held : List ℕ) (c : Netlist) → Audits bound held c [] 0 NoBlocks
   objected : (held : List ℕ) (c : Netlist) (block : Certificate) (rest : List Certificate) (objection : BlockObjection) → Objects bound held c block objection

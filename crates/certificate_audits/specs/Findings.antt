@@ -9,6 +9,8 @@ use Rattle.certificate_audits.specs.declared.outcome.End.TheVariants as ends
 use Rattle.certificate_audits.specs.Audits.{IsNext, IsMoveTaken, Objects, SavesNone}
 use Rattle.certificate_audits.specs.Ends.{is_accepted}
 
+-- what an audit says of a block: an objection, or, if there is none, whether it leaves fewer
+-- latches
 abbrev pub IsFinding : Option ℕ → List ℕ → Netlist → Certificate → Finding → Type 0
 IsFinding bound held c block (Objected objection) = Objects bound held c block objection
 IsFinding bound held c block Fewer = IsMoveTaken bound held c block
@@ -19,7 +21,8 @@ pub record GoesOn (bound : Option ℕ) (held : List ℕ) (c : Netlist) (block : 
   pub taken : IsMoveTaken bound held c block
   pub follows : rest ≢ []
 
--- the audit ends with the block, which these others follow, so many being confirmed of it, and so
+-- the audit ends in this way with the block, which the others follow; n is 1 if it is confirmed,
+-- else 0
 abbrev pub EndsWith : Option ℕ → List ℕ → Netlist → Certificate → List Certificate → ℕ → End → Type 0
 EndsWith bound held c block rest n ends.NoBlocks = ⊥
 EndsWith bound held c block rest n (ends.Objected objection) = (n ≡ 0) × Objects bound held c block objection
@@ -27,7 +30,8 @@ EndsWith bound held c block rest n ends.Open = (n ≡ 1) × IsMoveTaken bound he
 EndsWith bound held c block rest n ends.Certified = (n ≡ 1) × SavesNone bound held c block × (rest ≡ [])
 EndsWith bound held c block rest n ends.BlocksFollow = (n ≡ 1) × SavesNone bound held c block × (rest ≢ [])
 
--- what the blocks end in, where the audit ends so with this block of c: after a last move, or at c itself
+-- what the blocks end in, if the audit ends in this way with this block of c: after a last move, or
+-- at c itself
 abbrev pub IsEndOf : List ℕ → Netlist → Certificate → End → Netlist → Type 0
 IsEndOf held c block ends.NoBlocks d = d ≡ c
 IsEndOf held c block ends.Certified d = d ≡ c
@@ -35,6 +39,6 @@ IsEndOf held c block ends.Open d = (now : List ℕ) × IsNext held c block d now
 IsEndOf held c block ends.BlocksFollow d = ⊥
 IsEndOf held c block (ends.Objected objection) d = ⊥
 
--- the same, or none where something speaks against the block
+-- what the blocks end in, or none if something speaks against the block
 abbrev pub IsLastOf : List ℕ → Netlist → Certificate → End → Option Netlist → Type 0
 IsLastOf held c block end last = MatchOption last (is_accepted end ≡ false) (IsEndOf held c block end)

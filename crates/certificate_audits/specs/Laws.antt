@@ -7,7 +7,7 @@ use Rattle.aig_graph.specs.Border.{IsLeast, border_size}
 use Rattle.aig_graph.specs.Closed.{IsClosedSet}
 use Rattle.aig_graph.specs.Move.{move_of}
 use Rattle.certificates.specs.declared.certificate.Certificate.{Certificate}
-use Rattle.retimed_circuits.specs.Bounded.{bounded}
+use Rattle.path_levels.specs.Bounded.{bounded}
 use Rattle.retimed_circuits.specs.Frames.{CleansTo}
 use Rattle.retimed_circuits.specs.RetimingLevels.{KeepsLevels}
 use Rattle.certificate_audits.specs.declared.outcome.Audit.{Audit}
@@ -16,12 +16,14 @@ use Rattle.certificate_audits.specs.declared.outcome.Replay.{Replay}
 use Rattle.certificate_audits.specs.Audits.{IsAudit, IsNext, MoveKeepsBound}
 use Rattle.certificate_audits.specs.Replays.{IsMergedReplay, IsReplay}
 
--- d is c or, under a bound, c bounded, of which the closed sets are those of c whose gates arrive within the bound
+-- d is c or, under a bound, c bounded, of which the closed sets are those of c whose gates arrive
+-- within the bound
 pub data IsSearched (held : List ℕ) (c : Netlist) : Option ℕ → Netlist → Type 0 where
   itself : (bound : Option ℕ) → IsSearched held c bound c
   narrowed : (bound : ℕ) → IsSearched held c (Some bound) (bounded bound held c)
 
--- the block's gates are a least set of d, which is c or c bounded, and its count is what they count in d
+-- the block's gates are a least set of d, which is c or c bounded, and its count is what they count
+-- in d
 pub record IsLeastIn (bound : Option ℕ) (held : List ℕ) (c d : Netlist) (block : Certificate) : Type 0 where
   pub searched : IsSearched held c bound d
   pub least : IsLeast d held block.gates
@@ -31,8 +33,8 @@ pub record IsLeastIn (bound : Option ℕ) (held : List ℕ) (c d : Netlist) (blo
 abbrev pub NoneSmallerIn : List ℕ → Netlist → Netlist → Type 0
 NoneSmallerIn held c d = (s : List ℕ) → IsClosedSet d.aig held s → known_latches c.aig ≤ border_size (move_of d held s)
 
--- c's latches move over the blocks' sets, one after another; each is least, saves latches and keeps the bound, but for the last one: there, none
--- saves latches
+-- c's latches move over the blocks' sets, one after another; each is least, saves latches and keeps
+-- the bound, but for the last one: there, none saves latches
 pub data AreLeast (bound : Option ℕ) : List ℕ → Netlist → List Certificate → Type 0 where
   last : (held : List ℕ) (c d : Netlist) (block : Certificate) → IsLeastIn bound held c d block → NoneSmallerIn held c d → AreLeast bound held c (block ∷ [])
   move : (held now : List ℕ) (c d e : Netlist) (block : Certificate) (rest : List Certificate) → IsLeastIn bound held c d block → block.count < known_latches c.aig → MoveKeepsBound bound held c block → IsNext held c block e now
@@ -47,6 +49,7 @@ pub record IsCertified (bound : Option ℕ) (held : List ℕ) (c : Netlist) (blo
   pub cleaned : CleansTo held c first kept now
   pub least : AreLeast bound now first blocks
 
+-- what an audit that ends certified shows
 abbrev pub CertifiedLaw : Option ℕ → List ℕ → Netlist → List Certificate → Type 0
 CertifiedLaw bound held c blocks = (audit : Audit) → IsAudit bound held c blocks audit → audit.end ≡ Certified → IsCertified bound held c blocks audit
 
@@ -58,6 +61,7 @@ AuditLaw bound held c blocks = (a b : Audit) → IsAudit bound held c blocks a �
 abbrev pub MergedCertifiedLaw : Option ℕ → List ℕ → Netlist → List Certificate → Type 0
 MergedCertifiedLaw bound held c blocks = (replay : Replay) (is : IsMergedReplay bound held c blocks replay) → replay.audit.end ≡ Certified → IsCertified bound is.start_held is.start blocks replay.audit
 
+-- there is one audit of a circuit whose latches were merged before the first frame
 abbrev pub MergedAuditLaw : Option ℕ → List ℕ → Netlist → List Certificate → Type 0
 MergedAuditLaw bound held c blocks = (a b : Replay) → IsMergedReplay bound held c blocks a → IsMergedReplay bound held c blocks b → a.audit ≡ b.audit
 

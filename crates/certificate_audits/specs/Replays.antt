@@ -2,7 +2,7 @@
 use Rattle.std.specs.Prelude.{ℕ, ◌≡◌, false, List, [], ◌∷◌, Option, MatchOption}
 use Rattle.aig_graph.specs.Circuits.{Netlist}
 use Rattle.certificates.specs.declared.certificate.Certificate.{Certificate}
-use Rattle.retimed_circuits.specs.declared.counts.MergeCounts.{MergeCounts}
+use Rattle.merged_circuits.specs.declared.counts.MergeCounts.{MergeCounts}
 use Rattle.retimed_circuits.specs.Frames.{CleansTo}
 use Rattle.retimed_circuits.specs.Merging.{MergesIn}
 use Rattle.certificate_audits.specs.declared.outcome.End.{End}
@@ -10,8 +10,9 @@ use Rattle.certificate_audits.specs.declared.outcome.Replay.{Replay}
 use Rattle.certificate_audits.specs.Audits.{Audits, IsNext, IsMoveTaken, SavesNone}
 use Rattle.certificate_audits.specs.Ends.{is_accepted}
 
--- d is what c becomes by the blocks, one after another: the latches move over the set of a block that saves latches and keeps the bound, and the circuit is cleaned;
--- a last block that saves none moves nothing
+-- d is what c becomes by the blocks, one after another: the latches move over the set of a block
+-- that saves latches and keeps the bound, and the circuit is cleaned; a last block that saves none
+-- moves nothing
 pub data EndIn (bound : Option ℕ) : List ℕ → Netlist → List Certificate → Netlist → Type 0 where
   no_more : (held : List ℕ) (c : Netlist) → EndIn bound held c [] c
   at_end : (held : List ℕ) (c : Netlist) (block : Certificate) → SavesNone bound held c block → EndIn bound held c (block ∷ []) c
@@ -27,7 +28,7 @@ pub record Replays (bound : Option ℕ) (held : List ℕ) (c : Netlist) (blocks 
   pub audits : Audits bound held c blocks replay.audit.confirmed replay.audit.end
   pub last : IsLast bound held c blocks replay.audit.end replay.last
 
--- the same of blocks, the first of which is for c cleaned
+-- the replay of blocks, the first of which is for c cleaned
 pub record IsReplay (bound : Option ℕ) (held : List ℕ) (c : Netlist) (blocks : List Certificate) (replay : Replay) : Type 0 where
   pub first : Netlist
   pub kept : List ℕ
@@ -35,7 +36,7 @@ pub record IsReplay (bound : Option ℕ) (held : List ℕ) (c : Netlist) (blocks
   pub cleaned : CleansTo held c first kept now
   pub replays : Replays bound now first blocks replay
 
--- the same of a circuit whose latches were merged first: that of what c is merged to
+-- the replay of blocks of a circuit whose latches were merged first: that of what c is merged to
 pub record IsMergedReplay (bound : Option ℕ) (held : List ℕ) (c : Netlist) (blocks : List Certificate) (replay : Replay) : Type 0 where
   pub start : Netlist
   pub kept : List ℕ

@@ -1,7 +1,7 @@
-//! What one block shows of its circuit, and whether an audit ends with it.
+//! The judgement of one block for its circuit, and whether an audit ends with it.
 ghost use Rattle.std.specs.Prelude.{◌<◌, All, IfOk, MatchOption, Some, length};
 ghost use Rattle.certificates.specs.Verdicts.{IsVerdict};
-ghost use Rattle.retimed_circuits.specs.Bounded.{bounded};
+ghost use Rattle.path_levels.specs.Bounded.{bounded};
 ghost use Rattle.certificate_audits.specs.Audits.{IsVerdictBy, Saves};
 ghost use Rattle.certificate_audits.specs.Findings.{EndsWith, GoesOn, IsFinding};
 
@@ -9,20 +9,21 @@ use crate::moving::{Stage, moved_over};
 use crate::outcome::{Audit, BlockObjection, End};
 use aig_graph::{Circuit, Keep, NoMemory};
 use certificates::{Certificate, Verdict, check};
-use retimed_circuits::{bounded, levels};
+use path_levels::{bounded, levels};
 use std::alloc::Global;
 
 #[derive(Clone, Copy)]
 pub(crate) enum Finding {
     /// The block isn't confirmed.
     Objected(BlockObjection),
-    /// The set is least, there are fewer known latches after the move over it than before, and that keeps the bound.
+    /// The set is least, the move over it leaves fewer latches with a known reset, and the move
+    /// keeps the bound.
     Fewer,
-    /// The set is least, and there aren't fewer.
+    /// The set is least, and the move over it doesn't leave fewer latches.
     NotFewer,
 }
 
-/// The verdict on a block for the circuit bounded.
+/// Checks a block for the circuit bounded by `most`.
 fn bounded_verdict(
     alloc: Global,
     circuit: &Circuit,
@@ -38,7 +39,8 @@ fn bounded_verdict(
     verdict
 }
 
-/// The verdict on a block for the circuit: under a bound it passes too where it does for the circuit bounded.
+/// Checks a block for the circuit. Under a bound a block passes too if it passes for the bounded
+/// circuit.
 fn verdict(
     alloc: Global,
     circuit: &Circuit,
@@ -99,7 +101,7 @@ fn judge_saving(
     }
 }
 
-/// Judges a block for its circuit.
+/// Judges a block for the circuit of `stage`.
 fn judge(
     alloc: Global,
     stage: &Stage,
@@ -109,7 +111,7 @@ fn judge(
     requires { All (λ j. j < length stage.now.circuit.aig.latches) stage.now.keep }
     ensures { IfOk result (IsFinding bound stage.now.keep stage.now.circuit block.now) }
 {
-    // That it is a circuit is what its readers ensure.
+    // Tells the prover that it is a circuit.
     stage.circuit.known();
     let known = stage.circuit.aig().known_latches();
     match verdict(alloc, &stage.circuit, block, &stage.keep, bound)? {
@@ -119,7 +121,7 @@ fn judge(
     }
 }
 
-/// The audit of a block and of those after it, where it ends with this block.
+/// Returns the audit of `block` and of the blocks after it, if it ends with this block.
 pub(crate) fn end_at(
     alloc: Global,
     stage: &Stage,

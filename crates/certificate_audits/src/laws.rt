@@ -3,21 +3,26 @@ ghost use Rattle.aig_graph.specs.Circuits.{Netlist};
 ghost use Rattle.certificates.specs.declared.certificate.Certificate.{Certificate as Block};
 ghost use Rattle.certificate_audits.specs.Laws.{AuditLaw, CertifiedLaw, MergedAuditLaw, MergedCertifiedLaw, MergedReplayLaw, MergedReplayLevelLaw, ReplayLaw, ReplayLevelLaw};
 
-/// Where an audit ends certified, all blocks are confirmed, each set is least in its circuit, its count is the number of known
-/// latches after the move over it, and no closed set of the last circuit needs fewer latches than it has. Under a bound no move makes a
-/// path longer than that.
+/// States that if an audit ends certified, all blocks are confirmed and each set is least in its
+/// circuit.
+///
+/// The count of each block is the number of known latches after the move over its set. No closed
+/// set of the last circuit needs fewer latches than that has. Under a bound no move makes a path
+/// longer than the bound.
 pub fn certified_law()
     ensures { (bound : Option ℕ) (held : List ℕ) (c : Netlist) (blocks : List Block)
         → CertifiedLaw bound held c blocks }
 {}
 
-/// There is one audit: it rests on the circuit, the held latches and the blocks alone.
+/// States that there is one audit: it depends on the circuit, the held latches and the blocks
+/// alone.
 pub fn audit_law()
     ensures { (bound : Option ℕ) (held : List ℕ) (c : Netlist) (blocks : List Block)
         → AuditLaw bound held c blocks }
 {}
 
-/// The same of circuits whose latches were merged first: what an audit shows, it shows of what the circuit is merged to.
+/// States [`certified_law`] and [`audit_law`] of circuits whose latches are merged first. The audit
+/// is about the merged circuit.
 pub fn merged_audit_laws()
     ensures certified { (bound : Option ℕ) (held : List ℕ) (c : Netlist) (blocks : List Block)
         → MergedCertifiedLaw bound held c blocks }
@@ -25,9 +30,12 @@ pub fn merged_audit_laws()
         → MergedAuditLaw bound held c blocks }
 {}
 
-/// What blocks end in behaves as the circuit: it has the same values of all properties at every step, for all inputs and every choice of
-/// what free latches hold at the start. Under a bound it has no path longer than that, but for those that the circuit has. So it is whoever
-/// made the blocks, and where latches were merged first.
+/// States that the circuit that blocks end in behaves as the circuit that they begin with, whoever
+/// made the blocks.
+///
+/// It has the same values of all properties at every step, for all inputs and all values of free
+/// latches at the start. Under a bound no path is longer than the bound, but for those that the
+/// circuit has. Both hold too if latches are merged first.
 pub fn replay_laws()
     ensures streams { (bound : Option ℕ) (held : List ℕ) (c : Netlist) (blocks : List Block)
         → ReplayLaw bound held c blocks }

@@ -1,5 +1,7 @@
-//! Audits of retimed circuits by files of certificates: each block is judged for the circuit that the blocks before it make, and
-//! where it is confirmed, latches move over its set and the circuit is cleaned, whoever found the sets.
+//! Audits of retimed circuits by files of certificates, whoever found the sets.
+//!
+//! Each block is judged for the circuit that the blocks before it make. If it is confirmed, latches
+//! move over its set and the circuit is cleaned.
 #![tactic(auto)]
 
 mod judging;

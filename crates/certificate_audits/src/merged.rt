@@ -9,7 +9,7 @@ use certificates::Certificate;
 use latch_merging::{MergedStart, merged_start};
 use std::alloc::Global;
 
-/// The audit of blocks of what a circuit was merged to, and what they end in.
+/// Replays blocks from a merged circuit.
 fn replay_of(
     alloc: Global,
     start: MergedStart,
@@ -24,12 +24,12 @@ fn replay_of(
     replay
 }
 
-/// [`replay_blocks`](crate::replay_blocks) of what a circuit is merged to: for certificates of a run that merged latches before the
-/// first frame.
+/// Merges the circuit, and runs [`replay_blocks`](crate::replay_blocks) on the result. This is for
+/// certificates of a run that merged latches first.
 ///
 /// # Errors
 ///
-/// `NoMemory` where memory is refused.
+/// `NoMemory` if memory is refused.
 pub fn replay_merged(
     alloc: Global,
     circuit: &Circuit,

@@ -14,14 +14,14 @@ use clean::{Cleaned, clean};
 use rebuild::{MoveMarks, moved_by};
 use std::alloc::Global;
 
-/// A circuit that a block is for, and the latches that are held in it.
+/// The circuit that a block is for, and its held latches.
 #[derive(Drop)]
 pub(crate) struct Stage {
     pub(crate) circuit: Circuit,
     pub(crate) keep: Keep,
 }
 
-/// The circuit alone.
+/// Returns the circuit, and drops its held latches.
 pub(crate) fn circuit_of(stage: Stage) -> Circuit
     ensures { result ≡ stage.circuit }
 {
@@ -30,7 +30,7 @@ pub(crate) fn circuit_of(stage: Stage) -> Circuit
     circuit
 }
 
-/// What is left of a circuit that was cleaned, with its held latches.
+/// Makes a stage of a cleaned circuit and its held latches.
 pub(crate) fn stage_of(cleaned: Cleaned) -> Stage
     ensures circuit { result.circuit ≡ cleaned.circuit }
     ensures keep { result.keep ≡ cleaned.keep }
@@ -39,7 +39,7 @@ pub(crate) fn stage_of(cleaned: Cleaned) -> Stage
     Stage { circuit, keep }
 }
 
-/// The set of gates that rise.
+/// Makes a set of gates whose variables rise.
 fn set_of(alloc: Global, gates: &[u32]) -> Result<ClosedSet, NoMemory>
     requires { IsStrictlyIncreasing gates.now }
     ensures { IfOk result (λ set. set ≡ gates.now) }
@@ -52,7 +52,8 @@ fn set_of(alloc: Global, gates: &[u32]) -> Result<ClosedSet, NoMemory>
     }
 }
 
-/// The circuit with its latches moved over a set, and where the held ones stand then.
+/// Moves the latches of a circuit over `set`. The result has the held latches at their new
+/// positions.
 fn moved_stage(alloc: Global, stage: &Stage, set: &ClosedSet) -> Result<Stage, NoMemory>
     requires in_range { All (λ j. j < length stage.now.circuit.aig.latches) stage.now.keep }
     requires closed { IsClosedSet stage.now.circuit.aig stage.now.keep set.now }
@@ -68,7 +69,7 @@ fn moved_stage(alloc: Global, stage: &Stage, set: &ClosedSet) -> Result<Stage, N
     Ok(Stage { circuit, keep })
 }
 
-/// The same over the set of a block that saves latches.
+/// Moves the latches of a circuit over the set of `block`, which saves latches.
 pub(crate) fn moved_over(
     alloc: Global,
     stage: &Stage,
@@ -81,7 +82,7 @@ pub(crate) fn moved_over(
     ensures keep { IfOk result (λ after. after.keep
         ≡ held_over stage.now.keep stage.now.circuit block.now.gates) }
 {
-    // That the circuit is a graph is what its readers ensure.
+    // Tells the prover that the circuit is a graph.
     stage.circuit.known();
     let set = set_of(alloc, block.gates.as_slice())?;
     let moved = moved_stage(alloc, stage, &set);
@@ -89,7 +90,7 @@ pub(crate) fn moved_over(
     moved
 }
 
-/// The circuit of the next block: that of this one with its latches moved over the block's set, cleaned.
+/// Makes the circuit of the next block: moves latches over this block's set, and cleans.
 fn next_stage(alloc: Global, stage: &Stage, block: &Certificate) -> Result<Stage, NoMemory>
     requires in_range { All (λ j. j < length stage.now.circuit.aig.latches) stage.now.keep }
     requires saves { (bound : Option ℕ) × Saves bound stage.now.keep stage.now.circuit block.now }
@@ -107,7 +108,7 @@ fn next_stage(alloc: Global, stage: &Stage, block: &Certificate) -> Result<Stage
     }
 }
 
-/// The circuit of the next block, in place of this one.
+/// Makes the circuit of the next block, and drops this one.
 pub(crate) fn after_block(
     alloc: Global,
     stage: Stage,

@@ -1,4 +1,5 @@
-//! What an audit finds: how many blocks are confirmed, how it ends, why a block isn't confirmed, and the circuit that the blocks end in.
+//! The outcome of an audit: how many blocks are confirmed, how it ends, and the circuit that the
+//! blocks end in.
 ghost use Rattle.std.specs.Prelude.{◌≡◌};
 ghost use Rattle.certificate_audits.specs.Ends.{block_objection_name};
 
@@ -15,7 +16,7 @@ pub enum BlockObjection {
 }
 
 impl BlockObjection {
-    /// Its name, as reports print it.
+    /// Returns the name of the objection, as reports print it.
     pub fn name(self) -> &'static str
         ensures { result.now ≡ block_objection_name self }
     {
@@ -31,11 +32,13 @@ impl BlockObjection {
 pub enum End {
     /// There was no block.
     NoBlocks,
-    /// The last block is confirmed, and no closed set of its circuit needs fewer latches than there are.
+    /// The last block is confirmed, and no closed set of its circuit needs fewer latches than there
+    /// are.
     Certified,
     /// The last block is confirmed, and fewer latches are needed after the move over its set.
     Open,
-    /// A block is confirmed and no closed set of its circuit needs fewer latches, but another block follows.
+    /// A block is confirmed and no closed set of its circuit needs fewer latches, but another block
+    /// follows.
     BlocksFollow,
     /// A block isn't confirmed.
     Objected(BlockObjection),
@@ -44,7 +47,7 @@ pub enum End {
 impl End {
     ghost use Rattle.certificate_audits.specs.Ends.{is_accepted};
 
-    /// Whether each block is confirmed and none follows the end.
+    /// Returns true if each block is confirmed and none follows the end.
     pub fn is_accepted(self) -> bool
         ensures { result ≡ is_accepted self }
     {
@@ -55,26 +58,27 @@ impl End {
     }
 }
 
-/// What an audit found.
+/// The outcome of an audit.
 #[derive(Clone, Copy, PartialEq, Eq)]
 pub struct Audit {
-    /// How many blocks are confirmed: those before the one that ended the audit, and it where its certificate passes.
+    /// The number of confirmed blocks: those before the block that ended the audit, and that block
+    /// if its certificate passes.
     pub confirmed: usize,
-    /// How the audit ended.
+    /// The end of the audit.
     pub end: End,
 }
 
-/// What an audit found, and the circuit that its blocks end in.
+/// The outcome of an audit, and the circuit that its blocks end in.
 #[derive(Drop)]
 pub struct Replay {
-    /// What the audit found.
+    /// The outcome of the audit.
     pub audit: Audit,
-    /// What the circuit is after its latches moved over the set of each block that saves latches, cleaned after each move; none where
-    /// something speaks against a block.
+    /// The circuit after latches moved over the set of each block that saves latches, cleaned after
+    /// each move. `None` if something speaks against a block.
     pub last: Option<Circuit>,
 }
 
-/// What an audit found; the circuit is dropped.
+/// Returns the outcome of an audit, and drops the circuit.
 pub(crate) fn audit_of(replay: Replay) -> Audit
     ensures { result ≡ replay.audit }
 {

@@ -1,4 +1,4 @@
-//! Block after block.
+//! An audit from the first block to the last.
 ghost use Rattle.std.specs.Prelude.{ℕ, ◌≡◌, ◌<◌, All, IfOk, OnOk, IsErrOf, Option, length};
 ghost use Rattle.aig_graph.specs.Keep.{IsFirstMissing, NoneMissing, held_in, names_of};
 ghost use Rattle.aig_graph.specs.declared.holding.KeepError.TheVariants.{NoSuchName};
@@ -14,7 +14,8 @@ use certificates::Certificate;
 use clean::clean;
 use std::alloc::Global;
 
-/// What blocks end in, of which the last one, of this circuit, ended their audit so.
+/// Returns the circuit that blocks end in. `block` is the last of them, for the circuit of `stage`,
+/// and the audit ended with `end`.
 fn last_circuit(
     alloc: Global,
     stage: Stage,
@@ -39,7 +40,7 @@ fn last_circuit(
     }
 }
 
-/// What an audit found that ends with this block of this circuit, and what the blocks end in.
+/// Returns the replay of an audit that ends with `block`, for the circuit of `stage`.
 fn ended_with(
     alloc: Global,
     stage: Stage,
@@ -59,7 +60,8 @@ fn ended_with(
     }
 }
 
-/// The audit of blocks, the first of which is for this circuit, and what they end in.
+/// Audits blocks, the first of which is for the circuit of `first`. Returns the circuit that they
+/// end in too.
 fn replay_from(
     alloc: Global,
     first: Stage,
@@ -95,14 +97,16 @@ fn replay_from(
     })
 }
 
-/// [`audit_blocks`] where these latches are held, and the circuit that the blocks end in: where they are those of a whole run of
-/// `retime`, or of one that the limit of frames ended, it is what the run wrote.
+/// Audits blocks as [`audit_blocks`] does, with the latches `keep` held, and returns the circuit
+/// that they end in too.
 ///
-/// Where the last block saves latches, it takes one move and one cleaning more.
+/// For the blocks of a run of `retime`, also of one that its limit of frames ended, this is the
+/// circuit that the run wrote. If the last block saves latches, it takes one more move and one more
+/// cleaning.
 ///
 /// # Errors
 ///
-/// `NoMemory` where memory is refused.
+/// `NoMemory` if memory is refused.
 pub fn replay_blocks(
     alloc: Global,
     circuit: &Circuit,
@@ -117,7 +121,7 @@ pub fn replay_blocks(
     replay_from(alloc, stage_of(first), blocks, bound)
 }
 
-/// The audit of blocks where these latches are held.
+/// Audits blocks with the latches `keep` held.
 fn audit_held(
     alloc: Global,
     circuit: &Circuit,
@@ -134,18 +138,26 @@ fn audit_held(
     }
 }
 
-/// Audits blocks of certificates, frame by frame, as a circuit was retimed by: the first is judged for the circuit cleaned, and each
-/// further one for what the circuit is after its latches moved over the set of the block before, cleaned. The latches whose symbol
-/// has one of the names are held. It ends at the first block that isn't confirmed or that doesn't need fewer latches than there
-/// are, else at the last one. Under a bound on path length, as the run had it, a block is confirmed too whose set is least among those of
-/// gates that arrive within the bound; and none is whose move makes a path longer than the bound.
+/// Audits blocks of certificates, frame by frame, as they were made by a retiming of the circuit.
 ///
-/// Each block takes the time of `check`; one that another follows also takes one move and one cleaning. Only one circuit is
-/// kept at a time.
+/// The first block is judged for the cleaned circuit. Each further block is judged for the circuit
+/// after the block before: latches move over its set, and the circuit is cleaned. The latches whose
+/// symbol is one of `names` are held.
+///
+/// The audit ends at the first block that isn't confirmed or that doesn't need fewer latches than
+/// there are, and otherwise at the last one.
+///
+/// `bound` is the bound on path length that the run had. Under a bound a block is confirmed too if
+/// its set is least among the sets of gates that arrive within the bound. A block whose move makes
+/// a path longer than the bound isn't confirmed.
+///
+/// Each block takes the time of `check`. A block that another follows also takes one move and one
+/// cleaning. Only one circuit is kept at a time.
 ///
 /// # Errors
 ///
-/// `NoSuchName` where a name is that of no latch of the circuit, which is found first; `NoMemory` where memory is refused.
+/// `NoSuchName` if no latch of the circuit has a name; this is found first. `NoMemory` if memory is
+/// refused.
 pub fn audit_blocks(
     alloc: Global,
     circuit: &Circuit,
@@ -159,7 +171,7 @@ pub fn audit_blocks(
     ensures missing { (place : ℕ) → IsErrOf result (NoSuchName place)
         → IsFirstMissing (names_of names.now) circuit.now place }
 {
-    // That the held latches are among the circuit's is what its readers ensure.
+    // Tells the prover that the held latches are among the circuit's.
     circuit.known();
     let keep = keep_of(alloc, circuit, names)?;
     match audit_held(alloc, circuit, blocks, &keep, bound) {

@@ -1,6 +1,6 @@
 -- Texts of certificates, read.
 use Rattle.std.proofs.Common.{◌≡◌, ℕ, [], ◌∷◌, ◌++◌, refl, true, false, List, Ok, Err, codes}
-use Rattle.counted_io.specs.Lines.{lines, pieces, numbers_of}
+use Rattle.file_words.specs.Lines.{lines, pieces, numbers_of}
 use Rattle.frame_net.specs.declared.net.Point.{Point}
 use Rattle.certificates.specs.declared.fault.CertError.TheVariants.{BadHeader, BadLine, TooLarge, Truncated}
 use Rattle.aig_graph.specs.declared.choice.Choice.TheVariants.{Greatest, Smallest}

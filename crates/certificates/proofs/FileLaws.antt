@@ -1,9 +1,9 @@
 -- The lines before the blocks, and a file as a whole.
 use Rattle.std.proofs.Common.{ℕ, ◌+◌, ◌-◌, ◌≤◌, ◌≡◌, ◌⊎◌, inl, inr, length, List, [], Option, Some, None, Result, Ok, Err, arith, Bool, true, false, ◌==◌, cond, ap, ap₂, ◌∙◌, subst, codes}
 use Rattle.std.proofs.lemmas.Bool.{eqb-true, and_parts}
-use Rattle.counted_io.specs.Lines.{lines, is_word}
-use Rattle.counted_io.specs.Cuts.{IsFirst}
-use Rattle.counted_io.proofs.FirstLaws.{no_lines}
+use Rattle.file_words.specs.Lines.{lines, is_word}
+use Rattle.file_words.specs.Cuts.{IsFirst}
+use Rattle.file_words.proofs.FirstLaws.{no_lines}
 use Rattle.certificates.specs.declared.certificate.Certificate.{Certificate}
 use Rattle.certificates.specs.declared.fault.CertError.{CertError}
 use Rattle.certificates.specs.declared.fault.CertError.TheVariants.{BadHeader, BadLine, Truncated}

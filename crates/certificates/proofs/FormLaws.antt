@@ -5,8 +5,8 @@ use Rattle.std.proofs.lemmas.Bool.Decides.{Decides-eqb}
 use Rattle.std.proofs.lemmas.Slice.Eq.{starts_is}
 use Rattle.std.specs.List.{list_all}
 use Rattle.std.specs.Option.{option_and_then}
-use Rattle.counted_io.specs.Lines.{pieces, numbers_of}
-use Rattle.ascii_file.specs.Rows.{clamped, up_to_nine, row_of}
+use Rattle.file_words.specs.Lines.{pieces, numbers_of}
+use Rattle.ascii_file.specs.parts.Rows.{clamped, up_to_nine, row_of}
 use Rattle.certificates.specs.declared.fault.CertError.{CertError}
 use Rattle.certificates.specs.declared.fault.CertError.TheVariants.{BadLine, TooLarge}
 use Rattle.certificates.specs.declared.forms.FrameLine.{FrameLine}

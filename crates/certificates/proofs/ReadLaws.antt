@@ -3,8 +3,8 @@ use Rattle.std.proofs.Common.{ℕ, suc, zero, ◌+◌, ◌-◌, ◌^◌, ◌<◌
 use Rattle.std.proofs.lemmas.Bool.{and_parts, and_from, leb-true, le-leb, ne_eqb}
 use Rattle.std.proofs.lemmas.List.Folds.{list_all-append}
 use Rattle.std.specs.List.{list_all}
-use Rattle.counted_io.specs.Answering.{◌>>=◌}
-use Rattle.counted_io.specs.Lines.{with_front, lines, pieces, numbers_of, is_word}
+use Rattle.file_words.specs.Answering.{◌>>=◌}
+use Rattle.file_words.specs.Lines.{with_front, lines, pieces, numbers_of, is_word}
 use Rattle.frame_net.specs.declared.net.Point.{Point}
 use Rattle.certificates.specs.declared.certificate.Certificate.{Certificate}
 use Rattle.certificates.specs.declared.fault.CertError.{CertError}

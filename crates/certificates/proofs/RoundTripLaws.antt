@@ -4,10 +4,10 @@ use Rattle.std.proofs.Math.Seq.{take-append_seam}
 use Rattle.std.proofs.lemmas.Bool.{and_parts, and_from, cond-true, leb-true}
 use Rattle.std.specs.List.{list_all, flat_map}
 use Rattle.counted_io.specs.Line.{line}
-use Rattle.counted_io.specs.Answering.{◌>>=◌}
-use Rattle.counted_io.specs.Lines.{lines, pieces, is_number, digits_value}
-use Rattle.counted_io.specs.Cuts.{lacks}
-use Rattle.counted_io.proofs.DecimalLaws.{decimal-is_number, decimal-value, decimal-lacks, lacks-append, row_line, row-is_line, row_line-lacks_newline, numbers_of-row_line, lines-at_newline, pieces-at_space, pieces-at_end}
+use Rattle.file_words.specs.Answering.{◌>>=◌}
+use Rattle.file_words.specs.Lines.{lines, pieces, is_number, digits_value}
+use Rattle.file_words.specs.Cuts.{lacks}
+use Rattle.file_words.proofs.DecimalLaws.{decimal-is_number, decimal-value, decimal-lacks, lacks-append, row_line, row-is_line, row_line-lacks_newline, numbers_of-row_line, lines-at_newline, pieces-at_space, pieces-at_end}
 use Rattle.frame_net.specs.declared.net.Point.{Point}
 use Rattle.certificates.specs.declared.certificate.Certificate.{Certificate}
 use Rattle.certificates.specs.declared.fault.CertError.{CertError}

@@ -1,10 +1,10 @@
 -- A text, line after line.
 use Rattle.std.proofs.Common.{ℕ, suc, ◌+◌, ◌-◌, ◌≤◌, ◌≡◌, ◌⊎◌, inl, inr, length, List, [], ◌∷◌, Option, Some, None, Result, Ok, Err, refl, arith, Bool, true, false, ◌&&◌, ◌==◌, cond, ap, ◌∙◌}
 use Rattle.std.proofs.lemmas.Bool.{eqb-true}
-use Rattle.counted_io.specs.Answering.{◌>>=◌, Gives, Leads}
-use Rattle.counted_io.specs.Lines.{lines}
-use Rattle.counted_io.specs.Cuts.{IsFirst}
-use Rattle.counted_io.proofs.AnsweringLaws.{Fails-where}
+use Rattle.file_words.specs.Answering.{◌>>=◌, Gives, Leads}
+use Rattle.file_words.specs.Lines.{lines}
+use Rattle.file_words.specs.Cuts.{IsFirst}
+use Rattle.file_words.proofs.AnsweringLaws.{Fails-where}
 use Rattle.frame_net.specs.declared.net.Point.{Point}
 use Rattle.certificates.specs.declared.certificate.Certificate.{Certificate}
 use Rattle.certificates.specs.declared.fault.CertError.{CertError}

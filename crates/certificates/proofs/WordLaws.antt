@@ -3,10 +3,10 @@ use Rattle.std.proofs.Common.{ℕ, ◌-◌, ◌≡◌, length, List, [], ◌∷�
 use Rattle.std.proofs.Math.Seq.{take-append_seam}
 use Rattle.std.proofs.lemmas.Bool.{and_parts}
 use Rattle.std.specs.List.{list_all}
-use Rattle.counted_io.specs.Lines.{pieces, is_number, digits_value}
-use Rattle.counted_io.specs.Cuts.{Cuts}
-use Rattle.counted_io.proofs.DecimalLaws.{pieces-at_space}
-use Rattle.ascii_file.specs.Rows.{clamped}
+use Rattle.file_words.specs.Lines.{pieces, is_number, digits_value}
+use Rattle.file_words.specs.Cuts.{Cuts}
+use Rattle.file_words.proofs.DecimalLaws.{pieces-at_space}
+use Rattle.ascii_file.specs.parts.Rows.{clamped}
 use Rattle.frame_net.specs.declared.net.Point.{Point}
 use Rattle.certificates.specs.declared.fault.CertError.{CertError}
 use Rattle.certificates.specs.declared.fault.CertError.TheVariants.{BadLine, TooLarge}

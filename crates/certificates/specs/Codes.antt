@@ -3,6 +3,7 @@ use Rattle.std.specs.Prelude.{ℕ, List, Option, Some, None, codes}
 use Rattle.certificates.specs.declared.fault.CertError.{CertError}
 use Rattle.certificates.specs.declared.fault.CertError.TheVariants.{BadHeader, BadLine, TooLarge, Truncated, NoMemory}
 
+-- the number of a fault
 abbrev pub code_of : CertError → ℕ
 code_of (BadHeader at) = 1
 code_of (BadLine at) = 2

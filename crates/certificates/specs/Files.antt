@@ -1,8 +1,8 @@
 -- The text of certificates.
 use Rattle.std.specs.Prelude.{ℕ, ◌+◌, ◌-◌, ◌^◌, ◌==◌, ◌&&◌, ◌||◌, Bool, nat_le, List, [], ◌∷◌, ◌++◌, length, map, take, drop, slice_index_or, Option, Some, None, Result, Ok, Err, codes, if◌then◌else◌, zero, suc}
 use Rattle.std.specs.List.{list_all, starts_with}
-use Rattle.counted_io.specs.Answering.{◌>>=◌}
-use Rattle.counted_io.specs.Lines.{lines, pieces, is_number, digits_value, numbers_of, is_word}
+use Rattle.file_words.specs.Answering.{◌>>=◌}
+use Rattle.file_words.specs.Lines.{lines, pieces, is_number, digits_value, numbers_of, is_word}
 use Rattle.frame_net.specs.declared.net.Point.{Point}
 use Rattle.certificates.specs.declared.certificate.Certificate.{Certificate}
 use Rattle.certificates.specs.declared.fault.CertError.{CertError}
@@ -48,12 +48,14 @@ route_of words = if list_all is_point words then Some (Route (map point_of_word 
 abbrev pub begins_with : List ℕ → List ℕ → Bool
 begins_with word line = starts_with (λ a b. a == b) line word
 
+-- what a line of a file says: a frame, a gate or a route; nothing of other lines
 unfoldable pub saying_of : List ℕ → Option Saying
 saying_of line =
     if begins_with (codes "frame ") line then frame_saying (numbers_of (drop 6 line))
     else (if begins_with (codes "g ") line then gate_saying (numbers_of (drop 2 line))
     else (if begins_with (codes "r ") line then route_of (pieces (drop 2 line)) else None))
 
+-- each number that a line says is within the limit
 abbrev pub has_small_numbers : Saying → Bool
 has_small_numbers (Frame count gates routes) = is_small count && is_small gates && is_small routes
 has_small_numbers (Gate v) = is_small v
@@ -96,6 +98,7 @@ blocks_at_end end p = ended_by p.begun
     ended_by None = Ok p.blocks
     ended_by (Some block) = Err (Truncated end)
 
+-- the certificates of the lines that are left, which begin at `at`, or the first fault
 unfoldable pub read_blocks : ℕ → ℕ → Progress → List (List ℕ) → Result (List Certificate) CertError
 read_blocks at end p [] = blocks_at_end end p
 read_blocks at end p (line ∷ rest) = taken at p (saying_of line) >>= λ next. read_blocks (at + length line + 1) end next rest
@@ -112,6 +115,8 @@ with_choice choice (Err fault) = Err fault
 abbrev pub choice_in_line : List ℕ → Option Choice
 choice_in_line line = if is_word line (codes "choice greatest") then Some Greatest else (if is_word line (codes "choice smallest") then Some Smallest else None)
 
+-- the file after its line of the choice, which is `len` long; that line is at fault if there is no
+-- choice
 abbrev pub read_chosen : ℕ → ℕ → Option Choice → List (List ℕ) → ℕ → Result CertFile CertError
 read_chosen at end None rest len = Err (BadLine at)
 read_chosen at end (Some choice) rest len = with_choice choice (read_blocks (at + len + 1) end nothing_read rest)
@@ -121,6 +126,7 @@ abbrev pub read_second_version : ℕ → ℕ → List (List ℕ) → Result Cert
 read_second_version at end [] = Err (Truncated end)
 read_second_version at end (line ∷ rest) = read_chosen at end (choice_in_line line) rest (length line)
 
+-- the file of all lines, by the version that the first one names, or the first fault
 abbrev pub read_file : ℕ → List (List ℕ) → Result CertFile CertError
 read_file end [] = Err (BadHeader 0)
 read_file end (first ∷ rest) =

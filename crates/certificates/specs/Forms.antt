@@ -1,14 +1,16 @@
 -- What a line says, where a line of a certain form comes next: the form is looked at before the sizes.
 use Rattle.std.specs.Prelude.{ℕ, ◌==◌, ◌&&◌, Bool, true, false, List, ◌++◌, map, Option, Some, None, Result, Ok, Err, if◌then◌else◌}
 use Rattle.std.specs.List.{list_all}
-use Rattle.counted_io.specs.Lines.{is_number, digits_value}
-use Rattle.ascii_file.specs.Rows.{clamped}
+use Rattle.file_words.specs.Lines.{is_number, digits_value}
+use Rattle.ascii_file.specs.parts.Rows.{clamped}
 use Rattle.frame_net.specs.declared.net.Point.{Point}
 use Rattle.certificates.specs.declared.fault.CertError.{CertError}
 use Rattle.certificates.specs.declared.fault.CertError.TheVariants.{BadLine, TooLarge}
 use Rattle.certificates.specs.declared.forms.FrameLine.{FrameLine}
 use Rattle.certificates.specs.Files.{is_point, point_of_word, is_small, Saying, Frame, Gate, Route}
 
+-- the numbers of a line that begins a frame, or its fault: it is no such line, or a number is too
+-- large
 abbrev pub framed : ℕ → Option Saying → Result FrameLine CertError
 framed at (Some (Frame count gates routes)) = if is_small count && is_small gates && is_small routes then Ok (record { count = count; gates = gates; routes = routes }) else Err (TooLarge at)
 framed at saying = Err (BadLine at)

@@ -16,6 +16,7 @@ abbrev pub is_writable_block : Certificate → Bool
 is_writable_block block =
     is_small block.count && (is_small (length block.gates) && (is_small (length block.routes) && (list_all is_small block.gates && list_all is_writable_route block.routes)))
 
+-- counts, gates and variables are at most 2^28 - 1, and each route has a point
 abbrev pub is_writable : CertFile → Bool
 is_writable f = list_all is_writable_block f.blocks
 

@@ -3,6 +3,7 @@ use Rattle.std.specs.Prelude.{ℕ, List, codes}
 use Rattle.certificates.specs.declared.verdict.Objection.{Objection}
 use Rattle.certificates.specs.declared.verdict.Objection.TheVariants.{NotClosed, BadRoute, UsedTwice, CountDiffers}
 
+-- the number of a fault
 abbrev pub code_of : Objection → ℕ
 code_of NotClosed = 1
 code_of BadRoute = 2

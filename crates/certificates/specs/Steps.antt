@@ -1,6 +1,6 @@
 -- A text, line after line.
 use Rattle.std.specs.Prelude.{ℕ, ◌-◌, List, [], ◌∷◌, ◌++◌, length, None, Result}
-use Rattle.counted_io.specs.Lines.{lines}
+use Rattle.file_words.specs.Lines.{lines}
 use Rattle.frame_net.specs.declared.net.Point.{Point}
 use Rattle.certificates.specs.declared.certificate.Certificate.{Certificate}
 use Rattle.certificates.specs.declared.fault.CertError.{CertError}

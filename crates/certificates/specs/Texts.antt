@@ -33,5 +33,6 @@ abbrev pub choice_text : Choice → List ℕ
 choice_text Greatest = codes "choice greatest\n"
 choice_text Smallest = codes "choice smallest\n"
 
+-- the text of certificates that is written
 unfoldable pub file_text : CertFile → List ℕ
 file_text f = codes "fretime-cert 2\n" ++ choice_text f.choice ++ flat_map block_text f.blocks

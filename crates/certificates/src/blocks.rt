@@ -3,7 +3,7 @@
 ghost use Rattle.std.specs.Prelude.{ℕ, List, [], ◌≡◌, ◌<◌, ◌≤◌, suc, length, OnOk};
 ghost use Rattle.certificates.specs.declared.certificate.Certificate.{Certificate as Block};
 ghost use Rattle.certificates.specs.declared.fault.CertError.TheVariants.{NoMemory};
-ghost use Rattle.counted_io.specs.Answering.{Gives, Leads};
+ghost use Rattle.file_words.specs.Answering.{Gives, Leads};
 ghost use Rattle.certificates.specs.Files.{settled, nothing_read};
 ghost use Rattle.certificates.specs.Steps.{read_rest, certificate_block, block_with_gate, with_route, ended_blocks};
 ghost use Rattle.std.specs.Prelude.{◌++◌, ◌∷◌};
@@ -14,7 +14,7 @@ use crate::lines::next_line;
 use crate::words::route_line;
 use crate::{Certificate, Routes};
 use aig_graph::Sequence;
-use counted_io::Lines;
+use file_words::Lines;
 use frame_net::Point;
 use std::alloc::Global;
 

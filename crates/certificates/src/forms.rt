@@ -6,7 +6,7 @@ ghost use Rattle.certificates.specs.Forms.{framed, gated};
 
 use crate::fault::CertError;
 use ascii_file::NumberLine;
-use counted_io::Line;
+use file_words::Line;
 
 /// The greatest number in a file.
 const MAX_NUMBER: u32 = (1 << 28) - 1;

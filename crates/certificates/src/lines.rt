@@ -1,9 +1,9 @@
 ghost use Rattle.std.specs.Prelude.{◌≡◌, ◌≤◌, ◌-◌, [], length, IfOk, IfErr};
-ghost use Rattle.counted_io.specs.Cuts.{IsFirst};
+ghost use Rattle.file_words.specs.Cuts.{IsFirst};
 ghost use Rattle.certificates.specs.declared.fault.CertError.TheVariants.{Truncated};
 
 use crate::fault::CertError;
-use counted_io::{Line, Lines};
+use file_words::{Line, Lines};
 
 /// Takes the next line.
 ///

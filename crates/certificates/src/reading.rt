@@ -1,9 +1,9 @@
 //! The versions of a file of certificates differ before the first block alone: the first has no line of the choice, and its sets
 //! are the greatest. So the blocks of both are read by one function.
 ghost use Rattle.std.specs.Prelude.{ℕ, [], ◌≡◌, ◌⊎◌, ◌-◌, length, IfOk, IfErr, Ok, Err};
-ghost use Rattle.counted_io.specs.Lines as format;
+ghost use Rattle.file_words.specs.Lines as format;
 ghost use Rattle.certificates.specs.declared.fault.CertError.TheVariants.{NoMemory};
-ghost use Rattle.counted_io.specs.Answering.{Gives, Leads};
+ghost use Rattle.file_words.specs.Answering.{Gives, Leads};
 ghost use Rattle.certificates.specs.Files.{choice_in_line, nothing_read, read_file, read_second_version, read_text, with_choice};
 ghost use Rattle.certificates.specs.Steps.{read_rest};
 
@@ -12,7 +12,7 @@ use crate::fault::CertError;
 use crate::file::CertFile;
 use crate::lines::next_line;
 use aig_graph::Choice;
-use counted_io::{Lines, is_word};
+use file_words::{Lines, is_word};
 use std::alloc::Global;
 
 fn choice(text: &[u8]) -> Option<Choice>

@@ -1,16 +1,16 @@
 //! The points of a route. A number that is too great is read as `u32::MAX` at first, since the form of the whole line is looked
 //! at before the size of any number.
 ghost use Rattle.std.specs.Prelude.{◌≡◌, ◌∷◌, List, ℕ};
-ghost use Rattle.counted_io.specs.Lines.{pieces};
+ghost use Rattle.file_words.specs.Lines.{pieces};
 ghost use Rattle.certificates.specs.declared.fault.CertError.TheVariants.{NoMemory};
-ghost use Rattle.counted_io.specs.Answering.{Gives, Leads};
+ghost use Rattle.file_words.specs.Answering.{Gives, Leads};
 ghost use Rattle.certificates.specs.Files.{saying_of};
 ghost use Rattle.certificates.specs.Forms.{are_small, number_of, onto, routed, side_of, sized_points, spelt_at, spelt_point};
 
 use crate::fault::CertError;
 use crate::forms::{after_letters, is_small};
 use aig_graph::Sequence;
-use counted_io::{Line, cut, number};
+use file_words::{Line, cut, number};
 use frame_net::Point;
 use std::alloc::Global;
 

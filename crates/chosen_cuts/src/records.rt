@@ -1,37 +1,36 @@
-//! What a run keeps from circuit to circuit: flows, and the certificates of the sets that were found.
+//! The records that a run keeps from circuit to circuit: flows, and the certificates of the sets
+//! that were found.
 
-use aig_graph::{Circuit, ClosedSet, Keep, NoMemory};
-use certificates::{Certificate, Routes, Verdict};
-use cut_cert::certificate_of;
+use aig_graph::NoMemory;
+use certificates::Certificate;
 use std::alloc::Global;
 use std::mem;
 use unit_flows::{GateFlow, SpareTables, UnitFlow};
 
-/// What is kept from circuit to circuit.
+/// The flows and certificates that a run keeps from circuit to circuit.
 #[derive(Drop)]
 pub struct Records {
-    /// What the last flow did at the gates of the circuit that comes next: hints.
+    /// The last flow, at the gates of the circuit that comes next: hints.
     pub flows: Vec<GateFlow>,
-    /// Tables of the last flow of units, for the next one.
+    /// The tables of the last flow of units, for the next one to use again.
     pub spare: SpareTables,
-    /// Whether certificates are wanted. Where they aren't, none is made.
+    /// Records a certificate of each set. Otherwise none is made.
     pub certify: bool,
     /// The certificates of the sets that were found, in order.
     pub certificates: Vec<Certificate>,
-    /// How many sets a maximum flow of a network found, since no flow of units showed them.
+    /// The number of sets found by a maximum flow of a network, since no flow of units showed them.
     pub networks: u32,
 }
 
 impl Records {
-    ghost use Rattle.std.specs.Prelude.{◌≡◌, [], IfOk, OnOk, IsTrue, true, false};
+    ghost use Rattle.std.specs.Prelude.{◌≡◌, [], OnOk, true};
     ghost use Rattle.std.specs.Prelude.{ℕ, List};
     ghost use Rattle.aig_graph.specs.Circuits.{Netlist};
-    ghost use Rattle.aig_graph.specs.Border.{IsLeast};
     ghost use Rattle.certificates.specs.Verdicts.{IsVerdict};
-    ghost use Rattle.cut_cert.specs.Shown.{AreLeastRoutes};
+    ghost use Rattle.certificates.specs.declared.verdict.Verdict.TheVariants.{Yes};
     ghost use Rattle.chosen_cuts.specs.Certified.{AddsOne, AddsNone, ForgetsLast};
 
-    /// Nothing is known yet.
+    /// Returns records of nothing yet.
     pub fn new(alloc: Global, certify: bool) -> Records
         ensures certify { result.certify ≡ certify }
         ensures certificates { result.certificates.items ≡ [] }
@@ -71,7 +70,7 @@ impl Records {
         self.spare = spare;
     }
 
-    /// Forgets the last certificate, where certificates are wanted: that of a set which isn't taken after all.
+    /// Forgets the last certificate, if certificates are wanted: its set isn't taken after all.
     pub fn forget_last(&mut self)
         ensures { ForgetsLast self.old self.new }
     {
@@ -81,47 +80,13 @@ impl Records {
         }
     }
 
-    /// Adds the certificate of a least set, where certificates are wanted.
-    pub(crate) fn add(
-        &mut self,
-        alloc: Global,
-        circuit: &Circuit,
-        keep: &Keep,
-        set: &ClosedSet,
-        routes: Routes,
-    ) -> Result<(), NoMemory>
-        requires least { IsLeast circuit.now keep.now set.now }
-        requires routes { AreLeastRoutes circuit.now keep.now routes }
-        ensures { OnOk result (AddsOne circuit.now keep.now self.old self.new set.now) }
-    {
-        if self.certify {
-            let certificate = certificate_of(alloc, circuit, keep, set, routes)?;
-            self.certificates.push(certificate)?;
-        }
-        Ok(())
-    }
-
-    /// Adds a certificate where its verdict is `Yes`. Whether it is; else nothing changes. Certificates are wanted.
-    pub(crate) fn add_judged(
-        &mut self,
-        certificate: Certificate,
-        verdict: Verdict,
-    ) -> Result<bool, NoMemory>
+    /// Adds a certificate to records that want certificates.
+    pub(crate) fn add(&mut self, certificate: Certificate) -> Result<(), NoMemory>
         requires { self.old.certify ≡ true }
-        ensures adds { (c : Netlist) (held : List ℕ) → IsVerdict c held certificate verdict
-            → IfOk result (λ passes. IsTrue passes
-            → AddsOne c held self.old self.new certificate.gates) }
-        ensures kept { IfOk result (λ passes. passes ≡ false → AddsNone self.old self.new) }
+        ensures { (c : Netlist) (held : List ℕ) → IsVerdict c held certificate Yes
+            → OnOk result (AddsOne c held self.old self.new certificate.gates) }
     {
-        match verdict {
-            Verdict::Yes => {
-                self.certificates.push(certificate)?;
-                Ok(true)
-            }
-            Verdict::No(_) => {
-                drop(certificate);
-                Ok(false)
-            }
-        }
+        self.certificates.push(certificate)?;
+        Ok(())
     }
 }

@@ -4,9 +4,9 @@ use Rattle.std.proofs.Common.{ap, sym, ◌∙◌, arith, inl, inr, ⊎_elim}
 use Rattle.std.proofs.lemmas.Bool.{false≢true, or_cases}
 use Rattle.std.specs.Str.{bytes_eq}
 use Rattle.std.proofs.lemmas.Slice.Eq.{bytes_eq-Decides}
-use Rattle.circuit_files.specs.declared.named_fault.Fault.{Fault}
-use Rattle.circuit_files.specs.declared.named_fault.Fault.TheVariants.{BadHeader, TooLarge, MaxIndex, BadLine, BadLiteral, DefinedTwice, Undefined, Cycle, BadReset, BadDelta, Truncated, BadSymbol, Trailing, Width, TooMany, NoSuchName, NoSuchLatch, NoSuchProperty, TooManyNodes, TooManySteps, NotAMap, NoSuchLiteral, ShapesDiffer, NotClosed, BadRoute, UsedTwice, CountDiffers, TooLong, NoMemory, Device}
-use Rattle.circuit_files.specs.Faults.{all_faults, name_of, said_of, has_name, HaveOtherNames, IsCalled, IsNoName}
+use Rattle.circuit_files.specs.declared.pages.named_fault.Fault.{Fault}
+use Rattle.circuit_files.specs.declared.pages.named_fault.Fault.TheVariants.{BadHeader, TooLarge, MaxIndex, BadLine, BadLiteral, DefinedTwice, Undefined, Cycle, BadReset, BadDelta, Truncated, BadSymbol, Trailing, Width, TooMany, NoSuchName, NoSuchLatch, NoSuchProperty, TooManyNodes, TooManySteps, NotAMap, NoSuchLiteral, ShapesDiffer, NotClosed, BadRoute, UsedTwice, CountDiffers, TooLong, NoMemory, Device}
+use Rattle.circuit_files.specs.pages.Faults.{all_faults, name_of, said_of, has_name, HaveOtherNames, IsCalled, IsNoName}
 
 stands : (fault : Fault) → (k : ℕ) × (k < length all_faults) × (get_or all_faults k BadHeader ≡ fault)
 unfolding all_faults

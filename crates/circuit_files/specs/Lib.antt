@@ -6,10 +6,4 @@ pub mod Outcomes
 pub mod Reading
 pub mod WrittenFiles
 pub mod Laws
-pub mod Faults
-pub mod Files
-pub mod Lines
-pub mod Nearest
-pub mod Pages
-pub mod HintedLines
-pub mod Messages
+pub mod pages

@@ -3,6 +3,7 @@ use Rattle.std.specs.Prelude.{ℕ, List, Option, Some, None, codes}
 use Rattle.circuit_files.specs.declared.fault.ListError.{ListError}
 use Rattle.circuit_files.specs.declared.fault.ListError.TheVariants.{BadLine, TooLarge, NoMemory}
 
+-- the number of a fault
 abbrev pub code_of : ListError → ℕ
 code_of (BadLine at) = 1
 code_of (TooLarge at) = 2

@@ -2,8 +2,8 @@
 use Rattle.std.specs.Prelude.{ℕ, ◌+◌, ◌^◌, ◌==◌, ◌&&◌, not, ◌++◌, List, [], ◌∷◌, length, take, drop, position, Option, Some, None, Result, Ok, Err, if◌then◌else◌}
 use Rattle.std.specs.List.{list_any}
 use Rattle.std.specs.Str.{is_utf8}
-use Rattle.counted_io.specs.Lines.{lines}
-use Rattle.counted_io.specs.Reading.{read_lines}
+use Rattle.file_words.specs.Lines.{lines}
+use Rattle.file_words.specs.Reading.{read_lines}
 use Rattle.circuit_files.specs.declared.fault.ListError.{ListError}
 use Rattle.circuit_files.specs.declared.fault.ListError.TheVariants.{BadLine, TooLarge}
 

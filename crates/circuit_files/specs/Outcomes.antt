@@ -2,8 +2,8 @@
 use Rattle.std.specs.Prelude.{◌≡◌, ◌⊎◌, List, ℕ}
 use Rattle.std.specs.Borrow.{Bor}
 use Rattle.counted_io.specs.Output.{Output}
-use Rattle.counted_io.specs.declared.fault.ReadError.{ReadError}
-use Rattle.counted_io.specs.declared.fault.ReadError.TheVariants as reading
+use Rattle.file_words.specs.declared.fault.ReadError.{ReadError}
+use Rattle.file_words.specs.declared.fault.ReadError.TheVariants as reading
 use Rattle.counted_io.specs.declared.reading.ReadAllError.{ReadAllError}
 use Rattle.counted_io.specs.declared.reading.ReadAllError.TheVariants as whole
 use Rattle.circuit_files.specs.declared.fault.ListError.{ListError}
@@ -19,6 +19,7 @@ use Rattle.circuit_files.specs.declared.outcome.Outcome.TheVariants as ends
 use Rattle.circuit_files.specs.declared.outcome.Failure.{Failure}
 use Rattle.circuit_files.specs.declared.outcome.Failure.TheVariants as fails
 
+-- how a run with a failure ends
 abbrev pub outcome_of : Failure → Outcome
 outcome_of (fails.Refused path fault) = ends.Refused
 outcome_of (fails.RefusedStimulus path fault) = ends.Refused
@@ -56,22 +57,27 @@ failure_of_reading reading.NoMemory path = fails.Memory
 failure_of_reading reading.Device path = fails.Device path
 failure_of_reading fault path = fails.Refused path fault
 
+-- the failure that an error of reading a file is, with its path
 abbrev pub failure_of_bytes : ReadAllError → Bor (List ℕ) → Failure
 failure_of_bytes whole.NoMemory path = fails.Memory
 failure_of_bytes whole.Device path = fails.Device path
 
+-- the failure that a fault of a stimulus is, with the file's path
 abbrev pub failure_of_stimulus : StimError → Bor (List ℕ) → Failure
 failure_of_stimulus stimuli.NoMemory path = fails.Memory
 failure_of_stimulus fault path = fails.RefusedStimulus path fault
 
+-- the failure that a fault of a list is, with the file's path
 abbrev pub failure_of_list : ListError → Bor (List ℕ) → Failure
 failure_of_list lists.NoMemory path = fails.Memory
 failure_of_list fault path = fails.RefusedList path fault
 
+-- the failure that a fault of certificates is, with the file's path
 abbrev pub failure_of_certificates : CertError → Bor (List ℕ) → Failure
 failure_of_certificates certificates.NoMemory path = fails.Memory
 failure_of_certificates fault path = fails.RefusedCertificates path fault
 
+-- the failure that a fault of a counterexample is, with the file's path
 abbrev pub failure_of_witness : WitnessError → Bor (List ℕ) → Failure
 failure_of_witness witnesses.NoMemory path = fails.Memory
 failure_of_witness fault path = fails.RefusedWitness path fault

@@ -4,7 +4,7 @@ use Rattle.std.specs.Borrow.{Bor}
 use Rattle.aig_graph.specs.Graph.{Graph, free_latches}
 use Rattle.counted_io.specs.Input.{Input, ReadsAll}
 use Rattle.counted_io.specs.Output.{one_more}
-use Rattle.counted_io.specs.declared.fault.ReadError.{ReadError}
+use Rattle.file_words.specs.declared.fault.ReadError.{ReadError}
 use Rattle.lane_sim.specs.Stimuli.{read_text}
 use Rattle.lane_sim.specs.declared.fault.StimError.{StimError}
 use Rattle.lane_sim.specs.declared.stimulus.InputSequence.{InputSequence}

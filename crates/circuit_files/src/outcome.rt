@@ -5,7 +5,8 @@ ghost use Rattle.circuit_files.specs.Outcomes.{outcome_of, failure_of_bytes, fai
 
 use crate::ListError;
 use certificates::CertError;
-use counted_io::{ReadAllError, ReadError};
+use counted_io::ReadAllError;
+use file_words::ReadError;
 use lane_sim::StimError;
 use std::fmt;
 use std::fmt::{Display, Formatter};

@@ -1,9 +1,31 @@
 ghost use Rattle.std.specs.Prelude.{◌≡◌};
-ghost use Rattle.circuit_files.specs.Pages.{meaning_of, rule_of, advice_of};
+ghost use Rattle.circuit_files.specs.pages.Pages.{meaning_of, rule_of, advice_of};
 
-use crate::named_fault::Fault;
-use crate::page::Page;
-use crate::{circuit_pages as circuits, other_pages as others};
+mod circuit_pages;
+mod hints;
+mod line;
+mod message;
+mod name_hints;
+mod named_fault;
+mod near_faults;
+mod near_names;
+mod other_pages;
+mod page;
+mod reasons;
+mod returns;
+mod showing;
+mod smallest_file;
+mod spelling;
+
+use crate::pages::{circuit_pages as circuits, other_pages as others};
+pub use hints::{Told, give_hint, tell_page};
+pub use message::Message;
+pub use named_fault::Fault;
+pub use near_names::nearest;
+pub use page::Page;
+pub use returns::tell_returns;
+pub use showing::{printable, shown_line};
+pub use spelling::tell_spelling;
 
 impl Fault {
     /// What a user is told of it.

@@ -1,12 +1,12 @@
 ghost use Rattle.std.specs.Prelude.{◌≡◌, map};
-ghost use Rattle.counted_io.specs.Answering.{Gives};
+ghost use Rattle.file_words.specs.Answering.{Gives};
 ghost use Rattle.circuit_files.specs.declared.fault.ListError.TheVariants.{NoMemory};
 ghost use Rattle.circuit_files.specs.Entries.{paths};
 ghost use Rattle.circuit_files.specs.Lists as lists;
 
 use crate::entry::{Entry, entry_of};
 use crate::fault::ListError;
-use counted_io::{Line, Lines};
+use file_words::{Line, Lines};
 use std::alloc::Global;
 
 /// The lines that a list may have.

@@ -11,6 +11,7 @@ pub mod CleanLaws
 pub mod FrameLaws
 pub mod GatherLaws
 pub mod MergeStepLaws
+pub mod MergeAllLaws
 pub mod SubstitutionLaws
 pub mod KeptLaws
 pub mod FirstsLaws

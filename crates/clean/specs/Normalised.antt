@@ -1,4 +1,6 @@
 -- Circuits in which nothing is left to clean.
+-- A moved circuit has the gates outside the set, and then the copies. A copy is low if it reads a
+-- variable that is no copy.
 use Rattle.std.specs.Prelude.{ℕ, ◌+◌, ◌<◌, ◌≤◌, ◌≡◌, Bool, true, false, List, Some, slice_get}
 use Rattle.aig_graph.specs.declared.graph.Gate.{Gate}
 use Rattle.aig_graph.specs.declared.graph.Latch.{Latch}
@@ -13,7 +15,8 @@ pub record IsPlain (gate : Gate) : Type 0 where
   pub constant : 2 ≤ gate.rhs1
   pub apart : variable gate.rhs1 < variable gate.rhs0
 
--- each latch and gate is reached, no known latch that isn't held is constant or a duplicate of an earlier one, and each gate has a pair of its own
+-- each latch and gate is reached, no known latch that isn't held is constant or a duplicate of an
+-- earlier one, and each gate has a pair of its own
 pub record IsNormalised (held : List ℕ) (c : Netlist) : Type 0 where
   pub reached : (r : ℕ → Bool) → HoldsReads c.aig c.props held r → (v : ℕ) → first_latch c.aig ≤ v → v < variables_end c.aig → r v ≡ true
   pub moving : (j : ℕ) (latch : Latch) → slice_get c.aig.latches j ≡ Some latch → is_constant_latch c.aig held j latch ≡ false
@@ -21,7 +24,8 @@ pub record IsNormalised (held : List ℕ) (c : Netlist) : Type 0 where
   pub plain : (k : ℕ) (gate : Gate) → slice_get c.aig.gates k ≡ Some gate → IsPlain gate
   pub pairs : (i j : ℕ) (gate : Gate) → slice_get c.aig.gates i ≡ Some gate → slice_get c.aig.gates j ≡ Some gate → i ≡ j
 
--- the gates from number first on are copies; a low one reads a variable that is no copy. Each low copy is plain, and its pair is its own
+-- the gates from number first on are copies; a low one reads a variable that is no copy. Each low
+-- copy is plain, and its pair is its own
 pub record AreLowNormalised (g : Graph) (first : ℕ) : Type 0 where
   pub plain : (k : ℕ) (gate : Gate) → first ≤ k → slice_get g.gates k ≡ Some gate → variable gate.rhs1 < first_gate g + first → IsPlain gate
   pub pairs : (i k : ℕ) (gate : Gate) → first ≤ k → slice_get g.gates i ≡ Some gate → slice_get g.gates k ≡ Some gate → variable gate.rhs1 < first_gate g + first → i ≡ k

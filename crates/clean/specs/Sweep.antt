@@ -7,7 +7,8 @@ use Rattle.aig_graph.specs.Graph.{latches_and_gates, Graph, variable, first_latc
 use Rattle.aig_graph.specs.Marking.{mark_at}
 use Rattle.cleaned_circuits.specs.Reached.{stays, HoldsReads}
 
--- the marks of the variables from the first latch on, latches before gates, and the marked variables that wait to be read, in this order
+-- the marks of the variables from the first latch on, latches before gates, and the marked
+-- variables that wait to be read, in this order
 pub record Front : Type 0 where
   pub first : ℕ
   pub latches : ℕ
@@ -37,7 +38,8 @@ with_next r v = record { first = r.first; latches = r.latches; marks = r.marks; 
 unfoldable pub reach : Front → ℕ → Front
 reach r v = if nat_lt v r.first || is_marked r v then r else with_next (mark r v) v
 
--- the same before a sweep has come to the variable: it reads each gate that is marked then, so that no gate has to wait
+-- the same before a sweep has come to the variable: it reads each gate that is marked then, so that
+-- no gate has to wait
 unfoldable pub reach_in_sweep : Front → ℕ → Front
 reach_in_sweep r v = if nat_le (r.first + r.latches) v then mark r v else reach r v
 
@@ -69,7 +71,8 @@ pub record Waits (waiting : List ℕ) (v : ℕ) : Type 0 where
 abbrev pub IsGateBelow : Graph → ℕ → ℕ → Type 0
 IsGateBelow g n v = (first_gate g ≤ v) × (v < n)
 
--- marked variables wait, or are read later without waiting, or read marked ones; and each set that holds what it reads has them
+-- marked variables wait, or are read later without waiting, or read marked ones; and each set that
+-- holds what it reads has them
 pub record Sweeps (g : Graph) (p : Props) (held : List ℕ) (IsReadLater : ℕ → Type 0) (r : Front) : Type 0 where
   pub first : r.first ≡ first_latch g
   pub latches : r.latches ≡ length g.latches

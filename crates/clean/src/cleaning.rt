@@ -1,7 +1,8 @@
-//! Cleaning, pass after pass. A pass adds nothing, and what it replaces is read no more and goes: so one that leaves as many
-//! latches and gates as there were has changed nothing, and is the last. After a pass all gates differ and all is reached, so the next
-//! one changes something only where a latch doesn't stand for itself: where each does, it isn't made. What a caller is told of places, among the free latches
-//! and among the gates, is composed over all passes.
+//! Cleaning, pass after pass. A pass adds nothing, and what it replaces is read no more and goes:
+//! so one that leaves as many latches and gates as there were has changed nothing, and is the last.
+//! After a pass all gates differ and all is reached, so the next one changes something only where a
+//! latch doesn't stand for itself: where each does, it isn't made. What a caller is told of places,
+//! among the free latches and among the gates, is composed over all passes.
 ghost use Rattle.std.specs.Prelude.{◌≡◌, ◌<◌, ◌≤◌, ◌⊎◌, All, IfOk, false, length, map, slice_index, true};
 ghost use Rattle.std.specs.List.Sorted.{IsStrictlyIncreasing};
 ghost use Rattle.aig_graph.specs.Graph.{free_latches, latches_and_gates};
@@ -26,15 +27,17 @@ pub struct Cleaned {
     pub circuit: Circuit,
     /// The latches that were held, at their positions in what is left.
     pub keep: Keep,
-    /// Of each free latch that stays, its place, from 0, among the free latches of the circuit that was cleaned.
+    /// Of each free latch that stays, its place, from 0, among the free latches of the circuit that
+    /// was cleaned.
     pub kept_free: Sequence<u32>,
-    /// By variable from the first latch on, whether a latch or gate of the circuit that was cleaned stays; empty where all do. A hint: no
-    /// clause speaks of it.
+    /// By variable from the first latch on, whether a latch or gate of the circuit that was cleaned
+    /// stays; empty where all do. A hint: no clause speaks of it.
     pub kept: Vec<bool>,
 }
 
-/// The entries of a first list at the places that a second list names. Where the lists have the places of the free latches
-/// that stay, from one circuit to the next and from that one to a third, the result has those from the first to the third.
+/// The entries of a first list at the places that a second list names. Where the lists have the
+/// places of the free latches that stay, from one circuit to the next and from that one to a third,
+/// the result has those from the first to the third.
 ///
 /// # Errors
 ///
@@ -50,8 +53,8 @@ pub fn composed(alloc: Global, first: &[u32], second: &[u32]) -> Result<Vec<u32>
     Ok(places)
 }
 
-/// Whether each latch and gate stays over two passes, by the marks of the first pass and by those of the second, which has one for each that
-/// the first keeps. A hint: no clause speaks of it.
+/// Whether each latch and gate stays over two passes, by the marks of the first pass and by those
+/// of the second, which has one for each that the first keeps. A hint: no clause speaks of it.
 ///
 /// # Errors
 ///
@@ -67,8 +70,8 @@ pub fn kept_twice(alloc: Global, first: &[bool], second: &[bool]) -> Result<Vec<
     Ok(kept)
 }
 
-/// The pass after a pass. Where the places of the last pass are counted among the free latches of an earlier circuit, so are
-/// those of this one.
+/// The pass after a pass. Where the places of the last pass are counted among the free latches of
+/// an earlier circuit, so are those of this one.
 fn pass_after(alloc: Global, last: &Pass, spare: &mut Substitution) -> Result<Pass, NoMemory>
     requires in_range { All (λ j. j < length last.now.circuit.aig.latches) last.now.held.items }
     requires places { length last.now.kept_free.items ≡ free_latches last.now.circuit.aig }
@@ -101,8 +104,9 @@ fn is_settled(alloc: Global, circuit: &Circuit, held: &[u32]) -> Result<bool, No
     are_own_latches(alloc, aig, &held)
 }
 
-/// Whether another pass is to be made of what the last one left, with the latches at these positions held, before which there were so
-/// many latches and gates. One that is made in vain changes nothing, so where memory for a look at the latches is refused, it is made.
+/// Whether another pass is to be made of what the last one left, with the latches at these
+/// positions held, before which there were so many latches and gates. One that is made in vain
+/// changes nothing, so where memory for a look at the latches is refused, it is made.
 pub fn has_more(alloc: Global, circuit: &Circuit, held: &[u32], before: usize) -> bool
     requires { All (λ j. j < length circuit.now.aig.latches) held.now }
     ensures fewer { result ≡ true → latches_and_gates circuit.now.aig < before }
@@ -149,16 +153,18 @@ fn cleaned_by(last: Pass) -> Cleaned
     }
 }
 
-/// A circuit without its redundant latches and gates, cleaned pass after pass until one would change nothing.
+/// A circuit without its redundant latches and gates, cleaned pass after pass until one would
+/// change nothing.
 ///
-/// In a pass a latch that never leaves its reset becomes that constant, and a latch with the next literal and the known
-/// reset of an earlier one becomes that one. Gates come down to constants, to one of their literals, or to an earlier gate
-/// of the same literals. What no property and no held latch rests on goes, and numbers close up. Inputs and properties
-/// always stay, and so do the latches that are held, whose new positions it returns; free latches are never replaced. A latch that
-/// stays keeps its name.
+/// In a pass a latch that never leaves its reset becomes that constant, and a latch with the next
+/// literal and the known reset of an earlier one becomes that one. Gates come down to constants, to
+/// one of their literals, or to an earlier gate of the same literals. What no property and no held
+/// latch rests on goes, and numbers close up. Inputs and properties always stay, and so do the
+/// latches that are held, whose new positions it returns; free latches are never replaced. A latch
+/// that stays keeps its name.
 ///
-/// A pass is linear in the latches, gates, properties and names, but for the hash table of gates. A circuit of inputs alone
-/// takes kilobytes, however many they are.
+/// A pass is linear in the latches, gates, properties and names, but for the hash table of gates. A
+/// circuit of inputs alone takes kilobytes, however many they are.
 pub fn clean(alloc: Global, circuit: &Circuit, keep: &Keep) -> Result<Cleaned, NoMemory>
     requires in_range { All (λ j. j < length circuit.now.aig.latches) keep.now }
     ensures cleaned { IfOk result (λ c. Cleans c.circuit keep.now circuit.now c.kept_free) }

@@ -59,7 +59,8 @@ impl FirstLatches {
         Ok(())
     }
 
-    /// The literal of the first latch that this one duplicates, which is this one where there is none.
+    /// The literal of the first latch that this one duplicates, which is this one where there is
+    /// none.
     pub(crate) fn first_duplicate(&mut self, latch: Latch, own: Lit) -> Result<Lit, NoMemory>
         ensures literal { IfOk result (λ lit. lit ≡ substitute_or_own own
             (lookup (same_latch latch) self.old)) }

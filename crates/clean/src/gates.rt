@@ -1,10 +1,12 @@
-//! Structural hashing: a gate whose fan-ins, after replacement, say nothing new comes down to a literal, and one with the fan-ins
-//! of a kept gate to that gate's. Fan-ins stand with the larger literal first, so equal pairs are equal keys.
-ghost use Rattle.std.specs.Prelude.{◌≡◌, ◌+◌, ◌*◌, ◌++◌, ◌∷◌, ◌<◌, ◌^◌, [], None, OnOk, IfOk, length};
+//! Structural hashing: a gate whose fan-ins, after replacement, say nothing new comes down to a
+//! literal, and one with the fan-ins of a kept gate to that gate's. Fan-ins stand with the larger
+//! literal first, so equal pairs are equal keys. A gate's pair takes the place of what it read in
+//! one table, and only after that was read: its fan-ins come before it, so nothing reads it again.
+ghost use Rattle.std.specs.Prelude.{ℕ, ◌≡◌, ◌+◌, ◌*◌, ◌++◌, ◌∷◌, ◌<◌, ◌≤◌, ◌^◌, [], None, Some, OnOk, IfOk, length, map, slice_get};
 ghost use Rattle.std.specs.Map.{lookup};
-ghost use Rattle.aig_graph.specs.Graph.{variable, first_gate};
-ghost use Rattle.cleaned_circuits.specs.Merged.{same_fan_ins, known_substitute, substitute_or_own, kept_after, merge_gate, merge_gates};
-ghost use Rattle.clean.specs.Kept.{pairs};
+ghost use Rattle.aig_graph.specs.Graph.{IsGateAt, variable, first_gate};
+ghost use Rattle.cleaned_circuits.specs.Merged.{same_fan_ins, known_substitute, substitute_or_own, kept_after, merge_gate, merge_gates, replaced_gate};
+ghost use Rattle.clean.specs.Kept.{pairs, next_variable, IsEntered};
 
 use crate::kept::KeptGates;
 use crate::substitution::Substitution;
@@ -28,33 +30,26 @@ pub fn known_substitute(kept: &KeptGates, gate: &Gate) -> Option<Lit>
     }
 }
 
-/// Keeps the gate at a variable, and returns its literal.
-fn keep(kept: &mut KeptGates, gate: Gate, var: u32) -> Result<Lit, NoMemory>
-    requires new { lookup (same_fan_ins gate) (pairs kept.old) ≡ None }
-    requires few { var < 2 ^ 28 }
-    ensures literal { IfOk result (λ lit. lit ≡ 2 * var) }
-    ensures kept { OnOk result (pairs kept.new ≡ pairs kept.old ++ (gate, 2 * var) ∷ []) }
-{
-    let own = Lit::new(var, false);
-    kept.add(gate, own)?;
-    Ok(own)
-}
-
-/// What stands for the gate at a variable, which is kept where it comes down to no literal.
-fn substitute_for_gate(kept: &mut KeptGates, gate: Gate, var: u32) -> Result<Lit, NoMemory>
-    requires { var < 2 ^ 28 }
-    ensures literal { IfOk result (λ lit. lit ≡ substitute_or_own (2 * var)
+/// What stands for a gate, which gets the next entry and is kept where it comes down to no literal.
+fn substitute_for_gate(kept: &mut KeptGates, gate: Gate) -> Result<Lit, NoMemory>
+    requires { next_variable kept.old < 2 ^ 28 }
+    ensures literal { IfOk result (λ lit. lit ≡ substitute_or_own (2 * next_variable kept.old)
         (known_substitute (pairs kept.old) gate)) }
-    ensures kept { OnOk result (pairs kept.new ≡ kept_after (pairs kept.old) (2 * var) gate
-        (known_substitute (pairs kept.old) gate)) }
+    ensures kept { OnOk result (pairs kept.new ≡ kept_after (pairs kept.old)
+        (2 * next_variable kept.old) gate (known_substitute (pairs kept.old) gate)) }
+    ensures entered { OnOk result (IsEntered kept.old kept.new gate) }
 {
     match known_substitute(kept, &gate) {
-        Some(substitute) => Ok(substitute),
-        None => keep(kept, gate, var),
+        Some(substitute) => {
+            kept.pass_over(gate)?;
+            Ok(substitute)
+        }
+        None => kept.add(gate),
     }
 }
 
-/// One more gate, which comes down to a literal or is kept.
+/// One more gate, which comes down to a literal or is kept. Its entry is what stands for its
+/// literals.
 fn merge_gate(
     kept: &mut KeptGates,
     substitutes: &mut Substitution,
@@ -63,13 +58,71 @@ fn merge_gate(
     requires first { variable gate.rhs0 < length substitutes.old }
     requires second { variable gate.rhs1 < length substitutes.old }
     requires few { length substitutes.old < 2 ^ 28 }
-    ensures { OnOk result (record { substitutes = substitutes.new; kept = pairs kept.new } ≡
+    requires next { next_variable kept.old ≡ length substitutes.old }
+    ensures merged { OnOk result (record { substitutes = substitutes.new; kept = pairs kept.new } ≡
         merge_gate (record { substitutes = substitutes.old; kept = pairs kept.old }) gate) }
+    ensures entered { OnOk result (IsEntered kept.old kept.new
+        (replaced_gate substitutes.old gate)) }
 {
     let pair = substitutes.gate(gate);
-    let substitute = substitute_for_gate(kept, pair, substitutes.len())?;
+    let substitute = substitute_for_gate(kept, pair)?;
     substitutes.push(substitute)?;
     Ok(())
+}
+
+/// What stands for each variable, where `substitutes` has the variables before the gates, and none
+/// of these has an entry yet. What stands for a gate's literals takes their place.
+fn merge_all(kept: &mut KeptGates, substitutes: &mut Substitution) -> Result<(), NoMemory>
+    requires none { pairs kept.old ≡ [] }
+    requires before { kept.old.before ≡ [] }
+    requires next { next_variable kept.old ≡ length substitutes.old }
+    requires few { next_variable kept.old + length kept.old.gates ≤ 2 ^ 28 }
+    requires graph { (k : ℕ) (gate : Gate) → slice_get kept.old.gates k ≡ Some gate
+        → IsGateAt (next_variable kept.old + k) gate }
+    ensures substitutes { OnOk result (substitutes.new ≡
+        (merge_gates kept.old.gates (record {
+          substitutes = substitutes.old;
+          kept = [];
+        })).substitutes) }
+    ensures gates { OnOk result (kept.new.gates ≡
+        map (replaced_gate substitutes.new) kept.old.gates) }
+{
+    for place in 0..kept.len() {
+        let gate = kept.gate(place);
+        merge_gate(kept, substitutes, gate)?;
+    }
+    Ok(())
+}
+
+/// A copy of the gates.
+fn copied_gates(alloc: Global, aig: &Aig) -> Result<Vec<Gate>, NoMemory>
+    ensures { IfOk result (λ gates. gates.items ≡ aig.now.gates) }
+{
+    let mut gates = Vec::with_capacity(alloc, aig.gates().len())?;
+    gates.extend_from_slice(aig.gates())?;
+    Ok(gates)
+}
+
+/// What stands for each variable, where `substitutes` has the variables before the gates. Returns
+/// each gate with what stands for its literals.
+pub(crate) fn merged_gates(
+    alloc: Global,
+    aig: &Aig,
+    substitutes: &mut Substitution,
+) -> Result<Vec<Gate>, NoMemory>
+    requires { length substitutes.old ≡ first_gate aig.now }
+    ensures substitutes { OnOk result (substitutes.new ≡
+        (merge_gates aig.now.gates (record {
+          substitutes = substitutes.old;
+          kept = [];
+        })).substitutes) }
+    ensures gates { IfOk result (λ gates. gates.items ≡
+        map (replaced_gate substitutes.new) aig.now.gates) }
+{
+    let gates = copied_gates(alloc, aig)?;
+    let mut kept = KeptGates::over(alloc, aig, aig.first_gate(), gates)?;
+    merge_all(&mut kept, substitutes)?;
+    Ok(kept.into_gates())
 }
 
 /// What stands for each variable, where `substitutes` has the variables before the gates.
@@ -81,9 +134,6 @@ pub fn merge_gates(alloc: Global, aig: &Aig, substitutes: &mut Substitution) -> 
           kept = [];
         })).substitutes) }
 {
-    let mut kept = KeptGates::of(alloc, aig)?;
-    for gate in aig.gates() {
-        merge_gate(&mut kept, substitutes, *gate)?;
-    }
+    merged_gates(alloc, aig, substitutes)?;
     Ok(())
 }

@@ -1,11 +1,14 @@
-//! The gates that are kept so far, by linked lists of the gates that have one larger fan-in: in circuits these are few, so a look at one
-//! or two gates takes the place of a hash. A list takes `LONGEST` gates at most; what would make it longer, and gates that read inputs
-//! alone, stand in a hash table. Which of the two a gate stands in is for speed alone: a gate is looked for in both.
-ghost use Rattle.std.specs.Prelude.{◌≡◌, ◌++◌, ◌∷◌, [], None, IfOk, IfSome, OnErr, OnOk};
+//! Gates with an entry each, of which some are kept, by linked lists of the kept ones that have one
+//! larger fan-in: in circuits these are few, so a look at one or two gates takes the place of a
+//! hash. A list takes `LONGEST` gates at most; what would make it longer, and gates that read
+//! inputs alone, stand in a hash table. Which of the two a gate stands in is for speed alone: a
+//! gate is looked for in both. Entries are written over a table of gates from its first place on,
+//! so what a circuit reads gives way to what it comes to read.
+ghost use Rattle.std.specs.Prelude.{◌≡◌, ◌+◌, ◌*◌, ◌<◌, ◌≤◌, ◌^◌, ◌++◌, ◌∷◌, [], None, IfOk, IfSome, OnErr, OnOk, get_or, length};
 ghost use Rattle.std.specs.Map.{lookup};
 ghost use Rattle.cleaned_circuits.specs.Merged.{same_fan_ins};
 ghost use Rattle.aig_graph.specs.Graph.{variable};
-ghost use Rattle.clean.specs.Kept.{pairs, last_of, listed, IsListOf, SameLists};
+ghost use Rattle.clean.specs.Kept.{pairs, link_before, next_variable, no_gate, last_of, listed, put_at, IsEntered, IsListOf, SameLists};
 
 use aig_graph::{Aig, Gate, Lit, NoMemory};
 use indexmap::IndexMap;
@@ -15,20 +18,21 @@ use std::marker::Model;
 /// How many gates a list takes.
 const LONGEST: u32 = 32;
 
-/// A kept gate with its literal, and the link to the one before it in its list: one more than a place among the kept gates, and 0 where
-/// the list ends.
-#[derive(Clone, Copy)]
-pub(crate) struct KeptGate {
-    pub(crate) gate: Gate,
-    pub(crate) lit: Lit,
-    pub(crate) before: u32,
-}
+/// The link of a kept gate that has none before it in its list.
+const END: u32 = 1;
 
-/// The gates that are kept so far, each with the literal of its variable.
+/// Gates by entry, whose variables rise by one from entry to entry. Some of them are kept.
 pub struct KeptGates {
     first: u32,
-    gates: Vec<KeptGate>,
-    /// By variable from the first latch on, the link to the last gate that has it as its larger fan-in, and 0 where there is none.
+    /// The variable of the first entry.
+    own: u32,
+    /// By entry its gate. Gates that have no entry yet may follow.
+    gates: Vec<Gate>,
+    /// By entry 0 where the gate isn't kept, else the link to the kept gate before it in its list.
+    /// A link is two more than an entry's number.
+    before: Vec<u32>,
+    /// By variable from the first latch on, the link to the last gate that has it as its larger
+    /// fan-in, and 0 where there is none.
     lists: Vec<u32>,
     rest: IndexMap<Gate, Lit>,
 }
@@ -38,7 +42,9 @@ impl Drop for KeptGates {
     fn drop(self) {
         let KeptGates {
             first: _first,
+            own: _own,
             gates: _gates,
+            before: _before,
             lists: _lists,
             rest: _rest,
         } = self;
@@ -52,14 +58,18 @@ impl Model for KeptGates {
 
     ghost view = { λ k. record {
       first = k.first;
+      own = k.own;
       gates = k.gates.items;
+      before = k.before.items;
       lists = k.lists.items;
       rest = k.rest.entries;
     } };
 
     ghost invariant = { λ k. AreKept (record {
       first = k.first;
+      own = k.own;
       gates = k.gates.items;
+      before = k.before.items;
       lists = k.lists.items;
       rest = k.rest.entries;
     }) };
@@ -85,20 +95,85 @@ fn widen(lists: &mut Vec<u32>, count: usize) -> Result<(), NoMemory>
     Ok(())
 }
 
+/// The link of a kept gate, by what its list's link was.
+fn link_before(last: u32) -> u32
+    ensures { result ≡ link_before last }
+{
+    if last == 0 { END } else { last }
+}
+
+/// Writes a gate at a place, or after the last one.
+fn put(gates: &mut Vec<Gate>, place: usize, gate: Gate) -> Result<(), NoMemory>
+    ensures ok { OnOk result (gates.new.items ≡ put_at gates.old.items place gate) }
+    ensures err { OnErr result (gates.new.items ≡ gates.old.items) }
+{
+    if place < gates.len() {
+        gates[place] = gate;
+    } else {
+        gates.push(gate)?;
+    }
+    Ok(())
+}
+
 impl KeptGates {
-    /// No gates yet of such a circuit, with room for all that it has.
-    pub fn of(alloc: Global, aig: &Aig) -> Result<KeptGates, NoMemory>
-        ensures { IfOk result (λ kept. pairs kept ≡ []) }
+    /// No entries yet, of a circuit with such variables, over a table of gates. The first entry is
+    /// to have the variable `own`.
+    pub fn over(alloc: Global, aig: &Aig, own: u32, gates: Vec<Gate>) -> Result<KeptGates, NoMemory>
+        requires { own ≤ 2 ^ 28 }
+        ensures pairs { IfOk result (λ kept. pairs kept ≡ []) }
+        ensures next { IfOk result (λ kept. next_variable kept ≡ own) }
+        ensures before { IfOk result (λ kept. kept.before ≡ []) }
+        ensures gates { IfOk result (λ kept. kept.gates ≡ gates.items) }
     {
-        let variables = aig.latches_and_gates();
-        let gates = Vec::with_capacity(alloc, aig.gates().len())?;
-        let lists = vec![in alloc; 0; variables]?;
+        let first = aig.first_latch();
+        let before = Vec::with_capacity(alloc, aig.gates().len())?;
+        let lists = vec![in alloc; 0; aig.latches_and_gates()]?;
         Ok(KeptGates {
-            first: aig.first_latch(),
+            first,
+            own,
             gates,
+            before,
             lists,
             rest: IndexMap::new(alloc),
         })
+    }
+
+    /// The gates, of those that have an entry and of those that have none.
+    pub(crate) fn into_gates(self) -> Vec<Gate>
+        ensures { result.items ≡ self.gates }
+    {
+        let KeptGates {
+            first: _first,
+            own: _own,
+            gates,
+            before: _before,
+            lists: _lists,
+            rest: _rest,
+        } = self;
+        gates
+    }
+
+    /// How many gates there are, with those that have no entry yet.
+    pub(crate) fn len(&self) -> usize
+        ensures { result ≡ length self.now.gates }
+    {
+        self.gates.len()
+    }
+
+    /// The gate at a place.
+    pub(crate) fn gate(&self, place: usize) -> Gate
+        requires { place < length self.now.gates }
+        ensures { result ≡ get_or self.now.gates place no_gate }
+    {
+        self.gates[place]
+    }
+
+    /// The variable of the next entry.
+    pub fn next_variable(&self) -> u32
+        ensures value { result ≡ next_variable self.now }
+        ensures few { result ≤ 2 ^ 28 }
+    {
+        self.own + self.before.len() as u32
     }
 
     /// The link to the last gate of a variable's list.
@@ -119,12 +194,12 @@ impl KeptGates {
         ensures { result ≡ listed self.now gate }
     {
         let mut link = self.last_of(gate.rhs0.var());
-        while link > 0 {
-            let kept = self.gates[(link - 1) as usize];
-            if gate == kept.gate {
-                return Some(kept.lit);
+        while link > END {
+            let entry = link - 2;
+            if gate == self.gates[entry as usize] {
+                return Some(Lit::new(self.own + entry, false));
             }
-            link = kept.before;
+            link = self.before[entry as usize];
         }
         None
     }
@@ -150,7 +225,7 @@ impl KeptGates {
         if place >= self.lists.len() {
             return None;
         }
-        if self.is_short(self.lists[place]) & (self.gates.len() < u32::MAX as usize) {
+        if self.is_short(self.lists[place]) {
             Some(place)
         } else {
             None
@@ -161,60 +236,85 @@ impl KeptGates {
     fn is_short(&self, last: u32) -> bool {
         let mut link = last;
         for _ in 0..LONGEST {
-            if link == 0 {
+            if link <= END {
                 return true;
             }
-            let place = (link - 1) as usize;
-            if place >= self.gates.len() {
+            let entry = (link - 2) as usize;
+            if entry >= self.before.len() {
                 return true;
             }
-            link = self.gates[place].before;
+            link = self.before[entry];
         }
-        link == 0
+        link <= END
     }
 
     /// Gives a variable a list, where it comes after those of the circuit.
     pub fn cover(&mut self, var: u32) -> Result<(), NoMemory>
-        ensures { pairs self.new ≡ pairs self.old }
+        ensures pairs { pairs self.new ≡ pairs self.old }
+        ensures next { next_variable self.new ≡ next_variable self.old }
     {
         widen(&mut self.lists, var.saturating_sub(self.first) as usize + 1)
     }
 
-    /// Adds a gate to the list at a place, which is that of its larger fan-in.
-    fn add_to_list(&mut self, place: usize, gate: Gate, lit: Lit) -> Result<(), NoMemory>
+    /// Gives a gate the next entry, kept on the list at a place, which is that of its larger
+    /// fan-in.
+    fn add_to_list(&mut self, place: usize, gate: Gate) -> Result<(), NoMemory>
         requires new { lookup (same_fan_ins gate) (pairs self.old) ≡ None }
         requires list { IsListOf self.old (variable gate.rhs0) place }
-        ensures { OnOk result (pairs self.new ≡ pairs self.old ++ (gate, lit) ∷ []) }
+        requires few { next_variable self.old < 2 ^ 28 }
+        ensures pairs { OnOk result (pairs self.new ≡
+            pairs self.old ++ (gate, 2 * next_variable self.old) ∷ []) }
+        ensures entered { OnOk result (IsEntered self.old self.new gate) }
     {
-        let before = self.lists[place];
-        self.gates.push(KeptGate { gate, lit, before })?;
-        self.lists[place] = self.gates.len() as u32;
+        let before = link_before(self.lists[place]);
+        put(&mut self.gates, self.before.len(), gate)?;
+        self.before.push(before)?;
+        self.lists[place] = self.before.len() as u32 + 1;
         Ok(())
     }
 
-    /// Adds a gate to the hash table.
-    fn add_to_rest(&mut self, gate: &Gate, lit: Lit) -> Result<(), NoMemory>
-        requires { lookup (same_fan_ins gate.now) (pairs self.old) ≡ None }
-        ensures { OnOk result (pairs self.new ≡ pairs self.old ++ (gate.now, lit) ∷ []) }
+    /// Gives a gate the next entry, kept in the hash table.
+    fn add_to_rest(&mut self, gate: &Gate) -> Result<(), NoMemory>
+        requires new { lookup (same_fan_ins gate.now) (pairs self.old) ≡ None }
+        requires few { next_variable self.old < 2 ^ 28 }
+        ensures pairs { OnOk result (pairs self.new ≡
+            pairs self.old ++ (gate.now, 2 * next_variable self.old) ∷ []) }
+        ensures entered { OnOk result (IsEntered self.old self.new gate.now) }
     {
-        self.gates.reserve(1)?;
+        let lit = Lit::new(self.next_variable(), false);
+        put(&mut self.gates, self.before.len(), *gate)?;
+        self.before.reserve(1)?;
         insert_new(&mut self.rest, *gate, lit)?;
-        self.gates.push_reserved(KeptGate {
-            gate: *gate,
-            lit,
-            before: 0,
-        });
+        self.before.push_reserved(END);
         Ok(())
     }
 
-    /// Adds a gate of other literals than those of each kept one.
-    pub fn add(&mut self, gate: Gate, lit: Lit) -> Result<(), NoMemory>
-        requires { lookup (same_fan_ins gate) (pairs self.old) ≡ None }
-        ensures { OnOk result (pairs self.new ≡ pairs self.old ++ (gate, lit) ∷ []) }
+    /// Keeps a gate of other literals than those of each kept one, and returns the literal of its
+    /// entry, which is the next one.
+    pub fn add(&mut self, gate: Gate) -> Result<Lit, NoMemory>
+        requires new { lookup (same_fan_ins gate) (pairs self.old) ≡ None }
+        requires few { next_variable self.old < 2 ^ 28 }
+        ensures literal { IfOk result (λ lit. lit ≡ 2 * next_variable self.old) }
+        ensures pairs { OnOk result (pairs self.new ≡
+            pairs self.old ++ (gate, 2 * next_variable self.old) ∷ []) }
+        ensures entered { OnOk result (IsEntered self.old self.new gate) }
     {
+        let own = Lit::new(self.next_variable(), false);
         match self.room_of(gate.rhs0.var()) {
-            Some(place) => self.add_to_list(place, gate, lit),
-            None => self.add_to_rest(&gate, lit),
+            Some(place) => self.add_to_list(place, gate)?,
+            None => self.add_to_rest(&gate)?,
         }
+        Ok(own)
+    }
+
+    /// Gives a gate the next entry, and doesn't keep it.
+    pub(crate) fn pass_over(&mut self, gate: Gate) -> Result<(), NoMemory>
+        requires { next_variable self.old < 2 ^ 28 }
+        ensures pairs { OnOk result (pairs self.new ≡ pairs self.old) }
+        ensures entered { OnOk result (IsEntered self.old self.new gate) }
+    {
+        put(&mut self.gates, self.before.len(), gate)?;
+        self.before.push(0)?;
+        Ok(())
     }
 }

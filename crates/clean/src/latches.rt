@@ -1,6 +1,6 @@
-//! What stands for a latch: its reset's constant, where it never leaves that; else the first latch with its next literal and its
-//! known reset; else itself. Two free latches are never one, since they may begin with different values. A held latch stands for
-//! itself, and others may become it.
+//! What stands for a latch: its reset's constant, where it never leaves that; else the first latch
+//! with its next literal and its known reset; else itself. Two free latches are never one, since
+//! they may begin with different values. A held latch stands for itself, and others may become it.
 ghost use Rattle.std.specs.Prelude.{◌≡◌, ◌<◌, ◌+◌, ◌*◌, ◌&&◌, ◌||◌, ◌==◌, not, slice_get, length, true, Some, OnOk, IfOk};
 ghost use Rattle.aig_graph.specs.Graph.{first_latch, first_gate, is_free};
 ghost use Rattle.aig_graph.specs.Tables.{table};

@@ -3,7 +3,8 @@ ghost use Rattle.aig_graph.specs.Circuits.{Netlist};
 ghost use Rattle.aig_graph.specs.Move.{Move};
 ghost use Rattle.clean.specs.Laws.{MovedIsNormalised, NormalisedIsCleaned, CleanedIsNormalised, NothingToClean, NormalisedHasNormalisedCopies};
 
-/// A normalised circuit is normalised after a move, if the low copies are. And a normalised circuit is what it is cleaned to.
+/// A normalised circuit is normalised after a move, if the low copies are. And a normalised circuit
+/// is what it is cleaned to.
 pub fn normalised_laws()
     ensures moved { (m : Move) → MovedIsNormalised m }
     ensures cleaned { (held : List ℕ) (c : Netlist) → NormalisedIsCleaned held c }

@@ -1,6 +1,7 @@
-//! Whether the low copies of a moved circuit are normalised. Low copies are those that read a variable below all copies: only such a
-//! one can be equal to another gate, or come down to less. So these alone are put in a table, in which the gates outside are
-//! looked up, where a mark says that the smaller variable of a gate is one of a pair's.
+//! Whether the low copies of a moved circuit are normalised. Low copies are those that read a
+//! variable below all copies: only such a one can be equal to another gate, or come down to less.
+//! So these alone are put in a table, in which the gates outside are looked up, where a mark says
+//! that the smaller variable of a gate is one of a pair's.
 ghost use Rattle.std.specs.Prelude.{◌≡◌, ◌-◌, ◌≤◌, ◌↔◌, true, false, [], IfOk, IsTrue, is_some, length};
 ghost use Rattle.std.specs.Map.{lookup};
 ghost use Rattle.aig_graph.specs.Graph.{first_gate};
@@ -19,8 +20,8 @@ fn is_plain(gate: &Gate) -> bool
     gate.rhs1.code() >= 2 && gate.rhs1.var() < gate.rhs0.var()
 }
 
-/// Gathers the pairs of the copies that read a variable below `start`; false where one isn't plain or isn't the only one of
-/// its pair. Marks the smaller variable of each pair.
+/// Gathers the pairs of the copies that read a variable below `start`; false where one isn't plain
+/// or isn't the only one of its pair. Marks the smaller variable of each pair.
 fn gather(
     pairs: &mut Pairs,
     marks: &mut [bool],

@@ -1,5 +1,5 @@
-//! The first half of a pass: each literal reads what stands for it. Nothing goes and nothing is renumbered yet, so the streams
-//! are kept by this half alone.
+//! The first half of a pass: each literal reads what stands for it. Nothing goes and nothing is
+//! renumbered yet, so the streams are kept by this half alone.
 ghost use Rattle.std.specs.Prelude.{◌≡◌, ◌<◌, IfOk, length, map};
 ghost use Rattle.aig_graph.specs.Graph.{IsGraph, variable, variables_end};
 ghost use Rattle.aig_graph.specs.Circuits.{IsNetlist};
@@ -58,14 +58,19 @@ fn replaced_gates(
     Ok(gates)
 }
 
-/// The graph, reading what stands for what it reads.
-fn replaced_aig(alloc: Global, aig: &Aig, substitutes: &Substitution) -> Result<Aig, NoMemory>
+/// The graph, reading what stands for what it reads, as its gates do already.
+fn replaced_aig(
+    alloc: Global,
+    aig: &Aig,
+    substitutes: &Substitution,
+    gates: Vec<Gate>,
+) -> Result<Aig, NoMemory>
     requires long { length substitutes.now ≡ variables_end aig.now }
     requires graph { IsGraph (replaced_graph substitutes.now aig.now) }
+    requires gates { gates.items ≡ map (replaced_gate substitutes.now) aig.now.gates }
     ensures { IfOk result (λ after. after ≡ replaced_graph substitutes.now aig.now) }
 {
     let latches = replaced_latches(alloc, substitutes, aig)?;
-    let gates = replaced_gates(alloc, substitutes, aig)?;
     Ok(Aig::from_parts(aig.inputs(), latches, gates))
 }
 
@@ -84,25 +89,29 @@ pub fn replaced_circuit(
     requires netlist { IsNetlist (replaced_circuit substitutes.now circuit.now) }
     ensures { IfOk result (λ after. after ≡ replaced_circuit substitutes.now circuit.now) }
 {
-    let aig = replaced_aig(alloc, circuit.aig(), substitutes)?;
+    let gates = replaced_gates(alloc, substitutes, circuit.aig())?;
+    let aig = replaced_aig(alloc, circuit.aig(), substitutes, gates)?;
     let props = circuit.props().mapped(alloc, substitutes)?;
     let symbols = copied_symbols(alloc, circuit.symbols())?;
     Ok(Circuit::new(aig, props, symbols))
 }
 
-/// The circuit, reading what stands for what it reads: for each variable what a pass with these latches held puts in its place.
+/// The circuit, reading what stands for what it reads, as its gates do already: for each variable
+/// what a pass with these latches held puts in its place.
 pub(crate) fn merged_by(
     alloc: Global,
     circuit: &Circuit,
     held: &[u32],
     substitutes: &Substitution,
+    gates: Vec<Gate>,
 ) -> Result<Merged, NoMemory>
-    requires { substitutes.now ≡ substitutes_of circuit.now.aig held.now }
+    requires substitutes { substitutes.now ≡ substitutes_of circuit.now.aig held.now }
+    requires gates { gates.items ≡ map (replaced_gate substitutes.now) circuit.now.aig.gates }
     ensures aig { IfOk result (λ merged. merged.aig ≡ (merged_of held.now circuit.now).aig) }
     ensures props { IfOk result (λ merged. merged.props ≡ (merged_of held.now circuit.now).props) }
 {
     let _held = held;
-    let aig = replaced_aig(alloc, circuit.aig(), substitutes)?;
+    let aig = replaced_aig(alloc, circuit.aig(), substitutes, gates)?;
     let props = circuit.props().mapped(alloc, substitutes)?;
     Ok(Merged { aig, props })
 }

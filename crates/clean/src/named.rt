@@ -8,7 +8,8 @@ use crate::cleaning::{Cleaned, clean};
 use aig_graph::{Circuit, NoMemory, keep_by_names};
 use std::alloc::Global;
 
-/// A circuit, cleaned as by [`clean`], where the latches stay that the names hold; it has latches of all names.
+/// A circuit, cleaned as by [`clean`], where the latches stay that the names hold; it has latches
+/// of all names.
 pub fn clean_by_names(
     alloc: Global,
     circuit: &Circuit,

@@ -1,5 +1,5 @@
-//! One pass: first literals read what stands for them (`merged`), then what isn't reached goes (`trim`). Each half keeps the
-//! streams by itself.
+//! One pass: first literals read what stands for them (`merged`), then what isn't reached goes
+//! (`trim`). Each half keeps the streams by itself.
 ghost use Rattle.std.specs.Prelude.{◌≡◌, ◌<◌, All, IfOk, length};
 ghost use Rattle.aig_graph.specs.Graph.{IsGraph};
 ghost use Rattle.aig_graph.specs.Streams.{SameStreams};
@@ -23,13 +23,15 @@ pub(crate) struct Pass {
     pub(crate) circuit: Circuit,
     /// Of each free latch that stays, its place among the free latches before.
     pub(crate) kept_free: Vec<u32>,
-    /// By variable from the first latch on, whether a latch or gate of before stays. A hint: no clause speaks of it.
+    /// By variable from the first latch on, whether a latch or gate of before stays. A hint: no
+    /// clause speaks of it.
     pub(crate) kept: Vec<bool>,
     /// The new positions of the held latches.
     pub(crate) held: Vec<u32>,
 }
 
-/// The merged circuit, without what isn't reached. The new literals take the place of what the table held.
+/// The merged circuit, without what isn't reached. The new literals take the place of what the
+/// table held.
 pub(crate) fn trimmed(
     alloc: Global,
     circuit: &Circuit,
@@ -61,8 +63,8 @@ pub(crate) fn trimmed(
     })
 }
 
-/// One pass over a circuit, with the latches at these positions held. What literals are replaced by, in both of its halves, takes the place
-/// of what the table held.
+/// One pass over a circuit, with the latches at these positions held. What literals are replaced
+/// by, in both of its halves, takes the place of what the table held.
 pub(crate) fn run_pass(
     alloc: Global,
     circuit: &Circuit,
@@ -75,8 +77,8 @@ pub(crate) fn run_pass(
     ensures streams { IfOk result (λ pass. SameStreams circuit.now pass.circuit
         pass.kept_free.items) }
 {
-    put_substitutes(alloc, circuit.aig(), held, table)?;
-    let merged = merged_by(alloc, circuit, held, table)?;
+    let gates = put_substitutes(alloc, circuit.aig(), held, table)?;
+    let merged = merged_by(alloc, circuit, held, table, gates)?;
     let reached = reach_everything(alloc, &merged.aig, &merged.props, held)?;
     let pass = trimmed(alloc, circuit, held, &merged, &reached, table);
     drop(reached);

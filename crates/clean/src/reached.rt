@@ -1,6 +1,8 @@
-//! What the properties and the held latches rest on: a sweep over the gates from the last to the first, and a walk over what it leaves.
-//! Fan-ins come before their gates, so a gate that a property or a later gate reads is marked when the sweep comes to it, and needn't
-//! wait; latches do. The walk reads what waits, the last one first: the gates behind a latch's next literal lie close together.
+//! What the properties and the held latches rest on: a sweep over the gates from the last to the
+//! first, and a walk over what it leaves. Fan-ins come before their gates, so a gate that a
+//! property or a later gate reads is marked when the sweep comes to it, and needn't wait; latches
+//! do. The walk reads what waits, the last one first: the gates behind a latch's next literal lie
+//! close together.
 ghost use Rattle.std.specs.Prelude.{◌≡◌, ◌+◌, ◌*◌, ◌<◌, ◌≤◌, ◌∷◌, All, IfOk, OnOk, MatchOption, [], length, map};
 ghost use Rattle.std.specs.List.{flat_map};
 ghost use Rattle.aig_graph.specs.Graph.{variable, first_latch, variables_end, IsLiteralOf, latch_at};
@@ -13,8 +15,9 @@ use aig_graph::{Aig, Gate, Lit, NoMemory, Props, Sequence, mark_at};
 use std::alloc::Global;
 use std::marker::Model;
 
-/// The latches and gates that are reached: a mark for each variable from the first latch on, and the marked variables that wait to be
-/// read, the next one last. A variable waits once at most, so a walk that reads what waits is linear.
+/// The latches and gates that are reached: a mark for each variable from the first latch on, and
+/// the marked variables that wait to be read, the next one last. A variable waits once at most, so
+/// a walk that reads what waits is linear.
 pub(crate) struct Reached {
     first: u32,
     latches: usize,
@@ -66,7 +69,8 @@ impl Reached {
         })
     }
 
-    /// Marks the literal's variable and lets it wait, where it is a latch or a gate and isn't marked.
+    /// Marks the literal's variable and lets it wait, where it is a latch or a gate and isn't
+    /// marked.
     fn reach(&mut self, lit: Lit) -> Result<(), NoMemory>
         requires { variable lit < front_end self.old }
         ensures { OnOk result (self.new ≡ reach self.old (variable lit)) }

@@ -1,31 +1,35 @@
-//! What stands for each variable, in one pass over latches and then gates. One pass over the gates suffices, since a gate's
-//! fan-ins come before it: what stands for them is known when it is met. A gate may make a latch equal to another or constant, so
-//! passes are repeated (`cleaning`).
-ghost use Rattle.std.specs.Prelude.{◌≡◌, OnOk, length};
-ghost use Rattle.cleaned_circuits.specs.Merged.{substitutes_of};
+//! What stands for each variable, in one pass over latches and then gates. One pass over the gates
+//! suffices, since a gate's fan-ins come before it: what stands for them is known when it is met. A
+//! gate may make a latch equal to another or constant, so passes are repeated (`cleaning`).
+ghost use Rattle.std.specs.Prelude.{◌≡◌, IfOk, OnOk, length, map};
+ghost use Rattle.cleaned_circuits.specs.Merged.{replaced_gate, substitutes_of};
 
-use crate::gates::merge_gates;
+use crate::gates::merged_gates;
 use crate::held::Held;
 use crate::latches::latch_substitutes;
 use crate::substitution::Substitution;
-use aig_graph::{Aig, NoMemory};
+use aig_graph::{Aig, Gate, NoMemory};
 use std::alloc::Global;
 
-/// What stands for each variable: for a constant latch its constant, for a latch or a gate the first one that it duplicates, and for a
-/// gate that says nothing new the literal that it comes down to. They take the place of what the table held.
+/// What stands for each variable: for a constant latch its constant, for a latch or a gate the
+/// first one that it duplicates, and for a gate that says nothing new the literal that it comes
+/// down to. They take the place of what the table held. Returns each gate with what stands for its
+/// literals.
 fn fill_substitutes(
     alloc: Global,
     aig: &Aig,
     held: &Held<'_>,
     substitutes: &mut Substitution,
-) -> Result<(), NoMemory>
+) -> Result<Vec<Gate>, NoMemory>
     requires { length held.now.marks.items ≡ length aig.now.latches }
-    ensures { OnOk result (substitutes.new ≡ substitutes_of aig.now held.now.positions.now) }
+    ensures substitutes { OnOk result (substitutes.new ≡
+        substitutes_of aig.now held.now.positions.now) }
+    ensures gates { IfOk result (λ gates. gates.items ≡
+        map (replaced_gate substitutes.new) aig.now.gates) }
 {
     substitutes.renew(aig.first_latch(), aig.latches_and_gates())?;
     latch_substitutes(alloc, aig, held, substitutes)?;
-    merge_gates(alloc, aig, substitutes)?;
-    Ok(())
+    merged_gates(alloc, aig, substitutes)
 }
 
 /// The same, where the latches at these positions are held.
@@ -34,8 +38,10 @@ pub(crate) fn put_substitutes(
     aig: &Aig,
     held: &[u32],
     substitutes: &mut Substitution,
-) -> Result<(), NoMemory>
-    ensures { OnOk result (substitutes.new ≡ substitutes_of aig.now held.now) }
+) -> Result<Vec<Gate>, NoMemory>
+    ensures substitutes { OnOk result (substitutes.new ≡ substitutes_of aig.now held.now) }
+    ensures gates { IfOk result (λ gates. gates.items ≡
+        map (replaced_gate substitutes.new) aig.now.gates) }
 {
     let marks = Held::new(alloc, held, aig.latches().len())?;
     let done = fill_substitutes(alloc, aig, &marks, substitutes);

@@ -1,5 +1,6 @@
-//! What each variable is replaced by, in both steps of a pass: the literals that stand for others after merging, and the new
-//! numbers of what is kept. A table grows as the graph is walked, so a gate's fan-ins have their entries before the gate is met.
+//! What each variable is replaced by, in both steps of a pass: the literals that stand for others
+//! after merging, and the new numbers of what is kept. A table grows as the graph is walked, so a
+//! gate's fan-ins have their entries before the gate is met.
 ghost use Rattle.std.specs.Prelude.{◌≡◌, ◌+◌, ◌<◌, ◌≤◌, ◌^◌, ◌++◌, ◌∷◌, [], IfOk, OnOk, length};
 ghost use Rattle.aig_graph.specs.Graph.{variable};
 ghost use Rattle.cleaned_circuits.specs.Merged.{replaced, replaced_gate, replaced_latch};
@@ -9,8 +10,8 @@ use aig_graph::{Gate, Latch, Lit, NoMemory, Substitute};
 use std::alloc::Global;
 use std::marker::Model;
 
-/// A literal for each variable. The variables before the first latch, the constant and the inputs, stand for themselves
-/// and take no room: a circuit may have 2^28 - 1 inputs and nothing else.
+/// A literal for each variable. The variables before the first latch, the constant and the inputs,
+/// stand for themselves and take no room: a circuit may have 2^28 - 1 inputs and nothing else.
 pub struct Substitution {
     first: u32,
     literals: Vec<Lit>,
@@ -55,7 +56,8 @@ impl Substitution {
         }
     }
 
-    /// The variables before `first`, with room for `room` more, in place of what the table held and in its memory.
+    /// The variables before `first`, with room for `room` more, in place of what the table held and
+    /// in its memory.
     pub(crate) fn renew(&mut self, first: u32, room: usize) -> Result<(), NoMemory>
         requires { first ≤ 2 ^ 28 }
         ensures { OnOk result (self.new ≡ own_literals first) }

@@ -1,4 +1,5 @@
-//! A pass that tells what became of each latch, so that what a later circuit's latches hold can be told by those of an earlier one.
+//! A pass that tells what became of each latch, so that what a later circuit's latches hold can be
+//! told by those of an earlier one.
 ghost use Rattle.std.specs.Prelude.{◌≡◌, ◌<◌, ◌+◌, All, IfOk, length, slice_get};
 ghost use Rattle.aig_graph.specs.Graph.{first_latch};
 ghost use Rattle.aig_graph.specs.Tables.{table};
@@ -25,11 +26,13 @@ pub struct TracedPass {
     pub kept_free: Vec<u32>,
     /// The new positions of the held latches.
     pub held: Vec<u32>,
-    /// The literal that stands for each latch of the circuit before: a constant, or that of a latch.
+    /// The literal that stands for each latch of the circuit before: a constant, or that of a
+    /// latch.
     pub substitutes: Vec<Lit>,
     /// Whether each latch of the circuit before stays.
     pub stays: Vec<bool>,
-    /// By variable from the first latch on, whether a latch or gate of before stays. A hint: no clause speaks of it.
+    /// By variable from the first latch on, whether a latch or gate of before stays. A hint: no
+    /// clause speaks of it.
     pub kept: Vec<bool>,
 }
 
@@ -65,16 +68,17 @@ fn stays_of(alloc: Global, aig: &Aig, reached: &Reached) -> Result<Vec<bool>, No
     Ok(stays)
 }
 
-/// One pass of cleaning, with the latches at these positions held: the constants and latches that stand for latches, and what is
-/// dropped since nothing rests on it. [`clean`](crate::clean) makes as many as change something. Linear, as a pass of that.
+/// One pass of cleaning, with the latches at these positions held: the constants and latches that
+/// stand for latches, and what is dropped since nothing rests on it. [`clean`](crate::clean) makes
+/// as many as change something. Linear, as a pass of that.
 pub fn traced_pass(alloc: Global, circuit: &Circuit, held: &[u32]) -> Result<TracedPass, NoMemory>
     requires { All (λ j. j < length circuit.now.aig.latches) held.now }
     ensures { IfOk result (IsTraced held.now circuit.now) }
 {
     let mut table = Substitution::none(alloc);
-    put_substitutes(alloc, circuit.aig(), held, &mut table)?;
+    let gates = put_substitutes(alloc, circuit.aig(), held, &mut table)?;
     let substitutes = latch_literals(alloc, circuit.aig(), held, &table)?;
-    let merged = merged_by(alloc, circuit, held, &table)?;
+    let merged = merged_by(alloc, circuit, held, &table, gates)?;
     let reached = reach_everything(alloc, &merged.aig, &merged.props, held)?;
     let stays = stays_of(alloc, circuit.aig(), &reached)?;
     let pass = trimmed(alloc, circuit, held, &merged, &reached, &mut table)?;

@@ -1,5 +1,5 @@
-//! The second half of a pass: what isn't reached goes. A variable's new number is by how many reached ones come before it, so
-//! order is kept, and fan-ins still come first.
+//! The second half of a pass: what isn't reached goes. A variable's new number is by how many
+//! reached ones come before it, so order is kept, and fan-ins still come first.
 ghost use Rattle.std.specs.Prelude.{◌≡◌, ◌+◌, ◌<◌, ◌≤◌, All, IfOk, OnOk, Some, length, map, slice_get, if◌then◌else◌};
 ghost use Rattle.aig_graph.specs.Graph.{is_free, IsGraph, IsLiteralOf, first_latch, first_gate};
 ghost use Rattle.aig_graph.specs.Circuits.{IsNetlist};
@@ -15,7 +15,8 @@ use crate::substitution::Substitution;
 use aig_graph::{Aig, Circuit, Gate, Latch, Lit, NoMemory, Props, Reset, Symbols};
 use std::alloc::Global;
 
-/// A graph of which the latches and gates that aren't reached go, with the new literal of each variable.
+/// A graph of which the latches and gates that aren't reached go, with the new literal of each
+/// variable.
 #[derive(Clone, Copy)]
 pub(crate) struct Trim<'a> {
     pub(crate) aig: &'a Aig,

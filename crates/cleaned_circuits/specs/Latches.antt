@@ -18,6 +18,7 @@ constant_of Free = 0
 abbrev pub is_constant_latch : Graph → List ℕ → ℕ → Latch → Bool
 is_constant_latch g held j latch = not (is_free latch) && not (has held j) && (latch.next == 2 * (first_latch g + j) || latch.next == constant_of latch.reset)
 
+-- whether two resets are one
 abbrev pub same_reset : Reset → Reset → Bool
 same_reset r s = elim r [
   | Zero ↦ elim s [ Zero ↦ true | One ↦ false | Free ↦ false ]

@@ -24,6 +24,7 @@ replaced substitutes lit = signed_as lit (slice_index_or substitutes (variable l
 abbrev pub replaced_gate : List ℕ → Gate → Gate
 replaced_gate substitutes gate = gate_of (replaced substitutes gate.rhs0) (replaced substitutes gate.rhs1)
 
+-- whether two gates have the same fan-ins
 abbrev pub same_fan_ins : Gate → Gate → Bool
 same_fan_ins gate other = gate.rhs0 == other.rhs0 && gate.rhs1 == other.rhs1
 
@@ -47,6 +48,7 @@ abbrev pub kept_after : List (Gate × ℕ) → ℕ → Gate → Option ℕ → L
 kept_after kept own gate None = kept ++ (gate, own) ∷ []
 kept_after kept own gate (Some substitute) = kept
 
+-- one more gate: what is known to stand for it, or its own literal; in the latter case it is kept
 abbrev pub with_substitute : Merging → Gate → Option ℕ → Merging
 with_substitute m gate known = record {
   substitutes = m.substitutes ++ substitute_or_own (2 * length m.substitutes) known ∷ [];
@@ -57,6 +59,7 @@ with_substitute m gate known = record {
 abbrev pub merge_gate : Merging → Gate → Merging
 merge_gate m gate = let pair = replaced_gate m.substitutes gate in with_substitute m pair (known_substitute m.kept pair)
 
+-- one gate after another; each comes down to a literal or is kept
 unfoldable pub merge_gates : List Gate → Merging → Merging
 merge_gates [] m = m
 merge_gates (gate ∷ gates) m = merge_gates gates (merge_gate m gate)
@@ -91,5 +94,6 @@ replaced_graph substitutes g = record {
 abbrev pub replaced_circuit : List ℕ → Netlist → Netlist
 replaced_circuit substitutes c = record { aig = replaced_graph substitutes c.aig; props = mapped_props (replaced substitutes) c.props; symbols = c.symbols }
 
+-- the circuit in which each literal reads what stands for it; nothing is dropped yet
 abbrev pub merged_of : List ℕ → Netlist → Netlist
 merged_of held c = replaced_circuit (substitutes_of c.aig held) c

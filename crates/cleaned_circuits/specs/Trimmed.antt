@@ -30,6 +30,7 @@ renumbered_latch g s latch = record latch { next = renumbered g s latch.next }
 abbrev pub renumbered_gate : Graph → (ℕ → Bool) → Gate → Gate
 renumbered_gate g s gate = gate_of (renumbered g s gate.rhs0) (renumbered g s gate.rhs1)
 
+-- the graph without the latches and gates that do not stay, numbered anew; all inputs stay
 unfoldable pub trimmed_graph : Graph → (ℕ → Bool) → Graph
 trimmed_graph g s = record {
   inputs = g.inputs;
@@ -48,6 +49,8 @@ new_name g s name = record name { position = new_position g s name.position }
 unfoldable pub trimmed_symbols : Graph → (ℕ → Bool) → Symbols → Symbols
 trimmed_symbols g s names = record names { latches = map (new_name g s) (filter (λ name. s (first_latch g + name.position)) names.latches) }
 
+-- the circuit without what isn't reached: order is kept, numbers close up, and a latch's name goes
+-- with the latch
 abbrev pub trimmed_of : Netlist → (ℕ → Bool) → Netlist
 trimmed_of c s = record { aig = trimmed_graph c.aig s; props = mapped_props (renumbered c.aig s) c.props; symbols = trimmed_symbols c.aig s c.symbols }
 

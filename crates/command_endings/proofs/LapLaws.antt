@@ -5,9 +5,9 @@ use Rattle.std.specs.Option.{option_to_list}
 use Rattle.std.proofs.lemmas.Bool.{cond-true, cond-false}
 use Rattle.std.proofs.lemmas.List.{at_drop_more, at_drop_all}
 use Rattle.json_reports.specs.declared.times.FrameTimes.{FrameTimes}
-use Rattle.command_endings.specs.declared.laps.Lap.{Lap}
-use Rattle.command_endings.specs.declared.laps.Part.{Part}
-use Rattle.command_endings.specs.Laps.{look_of, frames_in, is_part, moving_first, moving_in, moving_of, time_in}
+use Rattle.command_endings.specs.declared.progress.laps.Lap.{Lap}
+use Rattle.command_endings.specs.declared.progress.laps.Part.{Part}
+use Rattle.command_endings.specs.progress.Laps.{look_of, frames_in, is_part, moving_first, moving_in, moving_of, time_in}
 
 -- an empty list, and a list of one and more, of which the first is of the kind, or isn't
 time-none : (part : Part) → time_in part [] ≡ 0

@@ -1,7 +1,7 @@
 -- The names of files, one file after another.
 use Rattle.std.proofs.Common.{ℕ, ◌+◌, ◌<◌, ◌≤◌, ◌≡◌, List, [], ◌∷◌, Result, Ok, drop, length, get_or, map, refl, ap, sym, ◌∙◌}
 use Rattle.std.proofs.lemmas.List.{at_drop_more, at_drop_all}
-use Rattle.counted_io.specs.Answering.{◌>>=◌}
+use Rattle.file_words.specs.Answering.{◌>>=◌}
 use Rattle.circuit_files.specs.declared.fault.ListError.{ListError}
 use Rattle.command_endings.specs.NameFiles.{with_names, with_names_of}
 use Rattle.command_endings.specs.declared.name_files.NameFile.{NameFile}

@@ -4,6 +4,4 @@ pub mod HeldNames
 pub mod Objects
 pub mod NameFiles
 pub mod RunOptions
-pub mod Lines
-pub mod Laps
-pub mod Shows
+pub mod progress

@@ -2,7 +2,7 @@
 use Rattle.std.specs.Prelude.{ℕ, ◌≡◌, ◌⊎◌, List, Option, Some, None, Result, Ok, Err, MatchResult}
 use Rattle.std.specs.Borrow.{Bor}
 use Rattle.counted_io.specs.Output.{Output, WritesAll, WritesPart}
-use Rattle.counted_io.specs.declared.fault.ReadError.TheVariants as reading
+use Rattle.file_words.specs.declared.fault.ReadError.TheVariants as reading
 use Rattle.lane_sim.specs.declared.difference.Place.{Place}
 use Rattle.serde_json.specs.Data.{Data}
 use Rattle.json_reports.specs.Lines.{json_line}

@@ -6,7 +6,8 @@ ghost use Rattle.command_endings.specs.Objects.{PrintsRefusal, SaysRefusal};
 ghost use Rattle.command_endings.specs.Objects as wanted;
 
 use circuit_files::Failure;
-use counted_io::{CountedWrite, ReadError};
+use counted_io::CountedWrite;
+use file_words::ReadError;
 use json_reports::{Fault, Refusal, print_refusal};
 use std::alloc::Global;
 

@@ -16,8 +16,9 @@ use circuit_files::{Failure, Outcome};
 use counted_io::CountedWrite;
 use json_reports::{MapCounts, PrintError, ReadLevels, Times};
 use lane_sim::Place;
+use merged_circuits::MergeCounts;
 use reports::{Agreement, JobReport, Remaining, Statistics};
-use retimed_circuits::{MergeCounts, Retimed};
+use retimed_circuits::Retimed;
 use std::alloc::Global;
 
 /// How a command ends that has printed an object, where there was room for it and standard output took all of it.

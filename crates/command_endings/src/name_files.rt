@@ -1,7 +1,7 @@
 //! Files of names of latches that are held: each line is a name, and an empty line is none.
 ghost use Rattle.std.specs.Prelude.{◌≡◌, IfErr, IfOk, MatchResult, Ok, OnOk, map, option_map, true};
 ghost use Rattle.counted_io.specs.Input.{ReadsAll};
-ghost use Rattle.counted_io.specs.Answering.{Gives};
+ghost use Rattle.file_words.specs.Answering.{Gives};
 ghost use Rattle.counted_io.specs.Streams.{is_stdin, source_name};
 ghost use Rattle.circuit_files.specs.Entries.{text_of};
 ghost use Rattle.circuit_files.specs.declared.fault.ListError.TheVariants.{NoMemory};
@@ -11,7 +11,8 @@ ghost use Rattle.command_endings.specs.NameFiles as wanted;
 
 use circuit_files::{Failure, ListError, bytes_at};
 use command_line::Task;
-use counted_io::{CountedRead, Line, Lines, Source};
+use counted_io::{CountedRead, Source};
+use file_words::{Line, Lines};
 use std::alloc::Global;
 use std::rt::Files;
 use std::str;

@@ -1,15 +1,20 @@
 //! When a run is shown.
 ghost use Rattle.std.specs.Prelude.{◌≡◌, ⊤};
-ghost use Rattle.command_endings.specs.Shows as wanted;
+ghost use Rattle.command_endings.specs.progress.Shows as wanted;
 
-use crate::lines::{Frame, State, clear_line, write_in_place, write_line};
-use crate::stopwatch::Stopwatch;
+mod laps;
+mod lines;
+mod stopwatch;
+
+use crate::progress::lines::{clear_line, write_in_place, write_line};
+use crate::progress::stopwatch::Stopwatch;
 use aig_graph::Aig;
 use backward_moves::{MoveStage, MoveWatcher};
 use command_line::Shown;
 use counted_io::CountedWrite;
 use frames::{FrameWatcher, Stage};
 use json_reports::Times;
+pub use lines::{Frame, State};
 use std::alloc::Global;
 use std::mem;
 use std::time::{Clock, Instant};

@@ -5,8 +5,8 @@ use Rattle.std.specs.Char.{digit_value}
 use Rattle.std.specs.Str.Parse.{IsNumeral, digits_value, without_leading_plus}
 use Rattle.clap.specs.Words.{first_value, found_of, matched_of, one_text, raw_values}
 use Rattle.clap.specs.declared.parser.matches.ArgMatches.{ArgMatches}
-use Rattle.counted_io.specs.declared.spelling.Spelling.{Spelling}
-use Rattle.counted_io.specs.declared.spelling.Spelling.TheVariants.{Ascii, Binary}
+use Rattle.file_words.specs.declared.spelling.Spelling.{Spelling}
+use Rattle.file_words.specs.declared.spelling.Spelling.TheVariants.{Ascii, Binary}
 use Rattle.counted_io.specs.Streams.{source_of, target_of}
 use Rattle.counted_io.specs.declared.source.Source.{Source}
 use Rattle.counted_io.specs.declared.target.Target.{Target}

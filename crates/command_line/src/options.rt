@@ -5,7 +5,8 @@ ghost use Rattle.command_line.specs.Asking.{AreOptions};
 use crate::values::{bound, choice, frames, keep, keep_latches, merge, sources, spelling};
 use aig_graph::Choice;
 use clap::ArgMatches;
-use counted_io::{Source, Spelling};
+use counted_io::Source;
+use file_words::Spelling;
 use frames::PathBound;
 use std::alloc::{AllocError, Global};
 

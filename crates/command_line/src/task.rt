@@ -4,7 +4,8 @@ ghost use Rattle.std.specs.Prelude.{◌≡◌};
 ghost use Rattle.command_line.specs.Asking.{command_of};
 
 use crate::options::RetimingOptions;
-use counted_io::{Source, Spelling, Target};
+use counted_io::{Source, Target};
+use file_words::Spelling;
 
 /// What is shown of a run on standard error while it goes on.
 #[derive(Clone, Copy, PartialEq, Eq)]

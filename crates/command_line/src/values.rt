@@ -7,7 +7,8 @@ ghost use Rattle.command_line.specs.Asking.{AreSources, IsBound, IsChoice, IsFla
 use crate::task::Shown;
 use aig_graph::Choice;
 use clap::ArgMatches;
-use counted_io::{Source, Spelling, Target};
+use counted_io::{Source, Target};
+use file_words::Spelling;
 use frames::PathBound;
 use std::alloc::{AllocError, Global};
 

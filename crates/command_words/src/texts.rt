@@ -179,10 +179,11 @@ pub(crate) const CHECK_LONG_ABOUT: &str =
 one to those of the other, as 'retime --map' writes it, and checks that by this
 map all properties of both are the same at each step, whoever made the files.
 
-Nothing is searched for. Gates with the same fan-ins are taken for one, and so
-are two literals that a constraint of MAP says to be equal. What has to be equal
-and isn't one literal then is not shown; a SAT solver may still show it, as
-docs/STATE_MAPS.md says.";
+Gates with the same fan-ins are taken for one, and so are two literals that a
+constraint of MAP says to be equal. If two literals that must be equal stay two,
+it is asked what follows gate by gate if one is 1 and the other isn't; and then
+cases are made, in which inputs and latches of IN are 0 or 1. What is open after
+that is not shown; a SAT solver may still show it, as docs/STATE_MAPS.md says.";
 
 pub(crate) const CHECK_EXAMPLE: &str = "Example:
   fretime retime counter.aag smaller.aag --map counter.map

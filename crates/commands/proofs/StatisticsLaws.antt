@@ -4,7 +4,7 @@ use Rattle.aig_graph.specs.Circuits.{Netlist}
 use Rattle.reports.specs.CircuitCounts.{statistics}
 use Rattle.reports.specs.declared.statistics.Statistics.{Statistics}
 use Rattle.counted_io.specs.Output.{Output}
-use Rattle.retimed_circuits.specs.declared.counts.MergeCounts.{MergeCounts}
+use Rattle.merged_circuits.specs.declared.counts.MergeCounts.{MergeCounts}
 use Rattle.reports.specs.Counts.{counts_text}
 use Rattle.json_reports.specs.Counts.{statistics_data}
 use Rattle.circuit_files.specs.declared.outcome.Outcome.{Outcome}

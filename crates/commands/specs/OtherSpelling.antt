@@ -1,7 +1,7 @@
 -- The spelling that a circuit is converted to.
 use Rattle.std.specs.Prelude.{Option, unwrap_or}
-use Rattle.counted_io.specs.declared.spelling.Spelling.{Spelling}
-use Rattle.counted_io.specs.declared.spelling.Spelling.TheVariants.{Ascii, Binary}
+use Rattle.file_words.specs.declared.spelling.Spelling.{Spelling}
+use Rattle.file_words.specs.declared.spelling.Spelling.TheVariants.{Ascii, Binary}
 
 abbrev pub other_spelling : Spelling → Spelling
 other_spelling Ascii = Binary

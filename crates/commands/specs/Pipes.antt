@@ -4,10 +4,10 @@ use Rattle.counted_io.specs.Input.{Input}
 use Rattle.counted_io.specs.Output.{Output, WritesAll}
 use Rattle.aig_binary.specs.Spellings.{text_in}
 use Rattle.ascii_file.specs.Laws.{IsWithinLimits}
-use Rattle.counted_io.specs.declared.spelling.Spelling.{Spelling}
+use Rattle.file_words.specs.declared.spelling.Spelling.{Spelling}
 use Rattle.aig_binary.specs.declared.reading.SpeltCircuit.{SpeltCircuit}
 use Rattle.aig_binary.specs.Ending.{Spells}
-use Rattle.retimed_circuits.specs.MapCircuits.{FreeStay, IsMapCircuit}
+use Rattle.state_maps.specs.MapCircuits.{FreeStay, IsMapCircuit}
 use Rattle.retimed_circuits.specs.declared.report.Retimed.{Retimed}
 use Rattle.frames.specs.Answering.{IsAnswer, IsAnswered, ReadsBack, text_for}
 use Rattle.frames.specs.Retiming.{IsRetimedHeld}
@@ -36,12 +36,15 @@ pub record IsPipe (task : Retiming) : Type 0 where
   pub alone : writes_stdout task.certificates ≡ false
   pub map_aside : writes_stdout task.map ≡ false
 
--- a map, where there is one, is that of the run: from the circuit that was read to the one that is written, whose free latches stay, in its spelling
+-- a map, where there is one, is that of the run: from the circuit that was read to the one that is
+-- written, whose free latches stay, in its spelling
 abbrev pub IsMapOf : Options → SpeltCircuit → Retimed → Option SpeltMap → Type 0
 IsMapOf options spelt r None = Unit {0}
 IsMapOf options spelt r (Some m) = IsMapCircuit spelt.circuit r.circuit r.kept_free m.circuit × FreeStay spelt.circuit r.circuit m.circuit × (m.spelling ≡ unwrap_or options.spelling spelt.spelling)
 
--- of a circuit that was read, this is the answer by the options, which is read back; its held latches stand where it is said, its levels are reported, and its map is made, where that is asked for
+-- of a circuit that was read, this is the answer by the options, which is read back; its held
+-- latches stand at `keep`, the levels of the circuit that was read are reported, and its map is
+-- made if that is asked for
 pub record IsAnswerOf (task : Retiming) (options : Options) (spelt : SpeltCircuit) (answer : Answer) : Type 0 where
   pub is : IsAnswer options spelt answer.retimed
   pub held : IsRetimedHeld options spelt.circuit answer.retimed answer.keep
@@ -60,7 +63,8 @@ pub record IsAnswerAt (FileGiven : List ℕ → List ℕ → Type 0) (task : Ret
   pub of : IsAnswerOf task options spelt answer
   pub writes : IsTargetGiven FileGiven task.output old new (text_for options spelt answer.retimed)
 
--- so was the answer, by the options of the task, of what it reads: of standard input, of the bytes that were left
+-- so was the answer, by the options of the task, of what it reads: of standard input, of the bytes
+-- that were left
 pub record WritesAnswer (FileGiven : List ℕ → List ℕ → Type 0) (task : Retiming) (input : Input) (old new : Output) (answer : Answer) : Type 0 where
   pub options : Options
   pub are_options : AreOptionsFor task options
@@ -89,7 +93,8 @@ pub record WritesBeside (FileGiven : List ℕ → List ℕ → Type 0) (task : R
   pub map_goes : WritesMap FileGiven task.map answer.map old between
   pub certificates_go : WritesCertificates FileGiven task.certificates (blocks_text task answer.retimed) between new
 
--- all that a retiming writes was written: the answer of what the task reads, its map, and its certificates
+-- all that a retiming writes was written: the answer of what the task reads, its map, and its
+-- certificates
 pub record WritesRetiming (FileGiven : List ℕ → List ℕ → Type 0) (task : Retiming) (input : Input) (old new : Output) (answer : Answer) : Type 0 where
   pub between : Output
   pub circuit : WritesAnswer FileGiven task input old between answer
@@ -104,8 +109,9 @@ pub record IsReportOf (FileGiven : List ℕ → List ℕ → Type 0) (task : Ret
   pub counts_are : mapped ≡ option_map (λ (m : SpeltMap). counts_of m.circuit) answer.map
   pub written : WritesRetiming FileGiven task input old new answer
 
--- the answer of what the task reads was written with all that is asked for, and then it was printed: on standard output, or, where a circuit, a map or
--- certificates went there, on standard error, of which a terminal is told more
+-- the answer of what the task reads was written with all that is asked for, and then it was
+-- printed: on standard output, or, where a circuit, a map or certificates went there, on standard
+-- error, of which a terminal is told more
 pub record PrintsRetiming (FileGiven : List ℕ → List ℕ → Type 0) (task : Retiming) (is_terminal : Bool) (input : Input) (old new said : Output) (result : Result Outcome Failure) : Type 0 where
   pub answer : Answer
   pub times : Option Times
@@ -116,8 +122,8 @@ pub record PrintsRetiming (FileGiven : List ℕ → List ℕ → Type 0) (task :
   pub shown : Output
   pub aside : takes_stdout task ≡ true → is_terminal ≡ false → SaysFrames task answer.retimed answer.keep answer.levels times (option_map (λ (m : SpeltMap). counts_of m.circuit) answer.map) shown said
 
--- the answer by the options of the task, of the bytes that standard input had left, was written, and nothing else; the levels are those of
--- the circuit of the bytes
+-- the answer by the options of the task, of the bytes that standard input had left, was written,
+-- and nothing else; the levels are those of the circuit of the bytes
 pub record AnswersPipe (task : Retiming) (input : Input) (old new : Output) (retimed : Retimed) (levels : ReadLevels) : Type 0 where
   pub options : Options
   pub are_options : AreOptionsFor task options
@@ -130,7 +136,8 @@ pub record WritesPipe (task : Retiming) (input : Input) (old new : Output) : Typ
   pub levels : ReadLevels
   pub answers : AnswersPipe task input old new retimed levels
 
--- the circuit that is read, of standard input that of the bytes that were left, was written in the chosen spelling, else in the one that wasn't read
+-- the circuit that is read, of standard input that of the bytes that were left, was written in the
+-- chosen spelling, else in the one that wasn't read
 pub record Converts (FileGiven : List ℕ → List ℕ → Type 0) (chosen : Option Spelling) (source : Source) (target : Target) (input : Input) (old new : Output) : Type 0 where
   pub spelt : SpeltCircuit
   pub read : is_stdin source ≡ true → Spells input spelt

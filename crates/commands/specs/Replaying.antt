@@ -3,7 +3,7 @@ use Rattle.std.specs.Prelude.{ℕ, ◌≡◌, Bool, true, false, List, Option, S
 use Rattle.std.specs.Global.{Vec}
 use Rattle.aig_graph.specs.Circuits.{Netlist}
 use Rattle.aig_binary.specs.Spellings.{spelling_of, text_in}
-use Rattle.counted_io.specs.declared.spelling.Spelling.TheVariants.{Ascii}
+use Rattle.file_words.specs.declared.spelling.Spelling.TheVariants.{Ascii}
 use Rattle.counted_io.specs.Input.{Input, ReadsAll}
 use Rattle.certificates.specs.declared.certificate.Certificate.{Certificate}
 use Rattle.certificate_audits.specs.Replays.{IsMergedReplay, IsReplay}
@@ -19,7 +19,8 @@ use Rattle.circuit_files.specs.declared.outcome.Failure.{Failure}
 use Rattle.command_endings.specs.Sources.{IsReadAt}
 use Rattle.commands.specs.declared.replaying.Judgement.{Judgement}
 
--- what the blocks end in for c, where the latches at these positions are held, under the bound, or, where latches were merged before the first frame, for what c is merged to
+-- what the blocks end in for c, where the latches at these positions are held, under the bound, or,
+-- where latches were merged before the first frame, for what c is merged to
 abbrev pub IsReplayFor : PathBound → Bool → List ℕ → Netlist → List Certificate → Replay → Type 0
 IsReplayFor bound false held c blocks replay = IsReplay (bound_for bound c) held c blocks replay
 IsReplayFor bound true held c blocks replay = IsMergedReplay (bound_for bound c) held c blocks replay
@@ -46,12 +47,13 @@ IsAboutRetimed (Some source) failure = IsAbout (source_name source) failure
 abbrev pub text_like : List ℕ → Netlist → List ℕ
 text_like bytes c = text_in (unwrap_or (spelling_of bytes) Ascii) c
 
--- what comes of comparing bytes with the circuit that blocks end in; nothing where there is none, since something speaks against a block
+-- what comes of comparing bytes with the circuit that blocks end in; nothing where there is none,
+-- since something speaks against a block
 abbrev pub IsAgreementWith : Option Netlist → List ℕ → Option Agreement → Type 0
 IsAgreementWith None bytes agreement = agreement ≡ None
 IsAgreementWith (Some c) bytes agreement = IsSomeAnd agreement (IsAgreement (text_like bytes c) bytes)
 
--- the same, and nothing where there are no bytes
+-- what comes of comparing bytes, if there are any, with the circuit that blocks end in
 abbrev pub IsAgreementOn : Option (List ℕ) → Option Netlist → Option Agreement → Type 0
 IsAgreementOn None last agreement = agreement ≡ None
 IsAgreementOn (Some bytes) last agreement = IsAgreementWith last bytes agreement

@@ -15,7 +15,7 @@ use Rattle.frames.specs.declared.errors.RetimeError.{RetimeError}
 use Rattle.frames.specs.declared.errors.RetimeError.TheVariants.{NoMemory, NoSuchLatch, NoSuchName}
 use Rattle.counted_io.specs.Output.{Output}
 use Rattle.retimed_circuits.specs.declared.report.Retimed.{Retimed}
-use Rattle.retimed_circuits.specs.Levels.{levels}
+use Rattle.path_levels.specs.Levels.{levels}
 use Rattle.reports.specs.RemainingCounts.{remaining}
 use Rattle.reports.specs.declared.remaining_counts.Remaining.{Remaining}
 use Rattle.reports.specs.Retimings.{retiming_text}
@@ -39,7 +39,8 @@ use Rattle.frames.specs.declared.options.Options.{Options}
 abbrev pub AreOptionsFor : Retiming → Options → Type 0
 AreOptionsFor task options = AreOptionsOf task.options task.options.frames (is_some task.certificates) options
 
--- the failure that an error of a run is, of a circuit in which the options hold latches: one of them is that of no latch, or no memory
+-- the failure that an error of a run is, of a circuit in which the options hold latches: one of
+-- them is that of no latch, or no memory
 abbrev pub IsFailureOfRun : Source → RetimingOptions → RetimeError → Failure → Type 0
 IsFailureOfRun source options NoMemory failure = failure ≡ fails.Memory
 IsFailureOfRun source options (NoSuchName number) failure = (name : Bor (List ℕ)) → slice_get options.keep.items number ≡ Some name → OfSource source (λ path. failure ≡ fails.NoSuchName path name)
@@ -51,7 +52,7 @@ IsFailureOf task (Read error) failure = OfSource task.input (λ path. failure �
 IsFailureOf task (Retime error) failure = IsFailureOfRun task.input task.options error failure
 IsFailureOf task (Write error) failure = (name : Bor (List ℕ)) × (name.now ≡ target_name task.output) × (failure ≡ fails.Device name)
 
--- the same of a run with a map, which may be refused
+-- the failure that an error of a run with a map is; a map that is too large is refused
 abbrev pub IsMapFailureOf : Retiming → AnswerError → Failure → Type 0
 IsMapFailureOf task (Bytes error) failure = IsFailureOf task error failure
 IsMapFailureOf task MapTooLarge failure = (outcome_of failure ≡ Refused) × ((map : Target) → task.map ≡ Some map → IsAbout (target_name map) failure)
@@ -61,8 +62,9 @@ abbrev pub HasFailed : Option Target → Failure → Type 0
 HasFailed None failure = ⊥
 HasFailed (Some target) failure = (outcome_of failure ≡ Device) × IsAbout (target_name target) failure
 
--- what the task's retiming leaves under a bound, or without one: the circuit, where its held latches stay, which stand at these positions;
--- fewer frames than the limit end where no set leaves fewer
+-- what the task's retiming leaves under a bound, or without one: the circuit, where its held
+-- latches stay, which stand at these positions; fewer frames than the limit end where no set leaves
+-- fewer
 abbrev pub remaining_of : Retiming → Option ℕ → Retimed → List ℕ → Remaining
 remaining_of task bound r held = remaining r.circuit held bound (nat_lt (length r.frames) task.options.frames)
 
@@ -84,7 +86,7 @@ pub record SaysFrames (task : Retiming) (r : Retimed) (held : List ℕ) (levels 
   pub ended : Result Outcome Failure
   pub prints : EndsPrintingFrames task.json task r held levels times mapped old new ended
 
--- what is printed of it is the same, certificates or none
+-- both are printed alike: certificates change nothing that is printed
 abbrev pub PrintsAlike : Retimed → Retimed → Type 0
 PrintsAlike r s = (retiming_text r ≡ retiming_text s)
     × ((task : Retiming) (held : List ℕ) (levels : ReadLevels) (times : Option Times) (mapped : Option MapCounts)

@@ -1,4 +1,5 @@
--- What is printed of an audit, and of a file that is compared with what its blocks end in, and how the run ends by it.
+-- What is printed of an audit, and of a file that is compared with what its blocks end in, and how
+-- the run ends by it.
 use Rattle.std.specs.Prelude.{ℕ, ◌≡◌, Bool, true, false, List, Option, Some, None, Result}
 use Rattle.aig_graph.specs.Circuits.{Netlist}
 use Rattle.aig_binary.specs.declared.reading.SpeltCircuit.{SpeltCircuit}
@@ -26,6 +27,7 @@ use Rattle.command_endings.specs.Sources.{AreCertificatesAt, IsCircuitAt}
 use Rattle.commands.specs.Replaying.{AreRetimedAt, IsJudgement, IsReplayFor}
 use Rattle.commands.specs.declared.replaying.Judgement.{Judgement}
 
+-- how a run ends by the end of an audit: done if nothing speaks against a block, else unconfirmed
 abbrev pub outcome_of_end : End → Outcome
 outcome_of_end NoBlocks = Done
 outcome_of_end Certified = Done
@@ -39,6 +41,7 @@ outcome_by None end = outcome_of_end end
 outcome_by (Some Same) end = outcome_of_end end
 outcome_by (Some (DiffersAt offset)) end = Unconfirmed
 
+-- how a run ends by the end of an audit and the compared file: unconfirmed if that differs
 abbrev pub outcome_of_judgement : Judgement → Outcome
 outcome_of_judgement judgement = outcome_by judgement.agreement judgement.audit.end
 
@@ -61,8 +64,8 @@ pub record EndsWithAudit (json : Bool) (blocks : List Certificate) (judgement : 
 abbrev pub IsReplayOf : Verification → Netlist → List Certificate → Replay → Type 0
 IsReplayOf task c blocks replay = IsReplayFor task.options.bound task.options.merge (held_by task.options c) c blocks replay
 
--- the audit of the blocks for this circuit, with the latches held that the task names, and what comes of comparing these bytes with
--- what they end in
+-- the audit of the blocks for this circuit, with the latches held that the task names, and what
+-- comes of comparing these bytes with what they end in
 pub record IsJudgedBy (task : Verification) (c : Netlist) (blocks : List Certificate) (bytes : Option (List ℕ)) (judgement : Judgement) : Type 0 where
   pub replay : Replay
   pub replays : IsReplayOf task c blocks replay

@@ -1,4 +1,5 @@
-//! From the circuit that `retime` reads to the one that it writes, with a map of states where one is asked for.
+//! The answer of `retime`: the circuit that is read, retimed and written, with a map of states if
+//! one is asked for.
 ghost use Rattle.std.specs.Prelude.{◌≡◌, ◌<◌, ◌≤◌, true, false, IfErr, IfOk, None, OnOk, Some, option_map};
 ghost use Rattle.aig_binary.specs.Spellings.{text_in};
 ghost use Rattle.counted_io.specs.Streams.{is_stdout, target_name};
@@ -18,20 +19,23 @@ use aig_graph::{Circuit, Keep, NoMemory};
 use circuit_files::{Failure, OutputFiles, close, file_at};
 use command_endings::{missing_latch, missing_name};
 use command_line::{Retiming, RetimingOptions};
-use counted_io::{CountedWrite, ReadError, Source, Target, WriteError};
+use counted_io::{CountedWrite, Source, Target, WriteError};
+use file_words::ReadError;
 use frames::{BytesError, FrameWatcher, NoFollower, Options, RetimeError, Retimed, Run, run_spelt};
 use json_reports::{MapCounts, ReadLevels};
 use mapped_answers::{AnswerError, Mapped, SpeltMap, retime_spelt_mapped, write_state_map};
+use path_levels::levels;
 use pulse::{Crew, OpenGate};
-use retimed_circuits::levels;
 use std::alloc::Global;
 use std::thread::Threads;
 
 /// The most workers of a crew.
 const MOST_WORKERS: u32 = 64;
 
-/// A retiming whose circuit is written, where its held latches stand, what is reported of the levels of the circuit that was read, the
-/// spelling of that, and its map where one is asked for.
+/// A retiming whose circuit is written.
+///
+/// It has the held latches of that circuit. It has the levels and the spelling of the circuit that
+/// was read, and the map if one is asked for.
 #[derive(Drop)]
 pub(crate) struct Answer {
     pub retimed: Retimed,
@@ -47,7 +51,7 @@ fn crew(task: &Retiming<'_>) -> Crew<OpenGate>
     Crew::new(task.workers.clamp(1, MOST_WORKERS), OpenGate)
 }
 
-/// The failure that an error of a run is, with the name of what it is about.
+/// Returns the failure for an error of a run, with the name that it is about.
 pub(crate) fn failure_of_run<'a>(
     error: RetimeError,
     input: Source<'a>,
@@ -63,7 +67,7 @@ pub(crate) fn failure_of_run<'a>(
     }
 }
 
-/// The failure that an error is, with the name of what it is about.
+/// Returns the failure for an error, with the name of the file that it is about.
 fn failure_of<'a>(error: BytesError, task: &Retiming<'a>) -> Failure<'a>
     ensures { IsFailureOf task.now error result }
 {
@@ -74,7 +78,7 @@ fn failure_of<'a>(error: BytesError, task: &Retiming<'a>) -> Failure<'a>
     }
 }
 
-/// The path of the map, where one is asked for.
+/// Returns the path of the map, or an empty one if none is asked for.
 fn map_name<'a>(task: &Retiming<'a>) -> &'a str
     ensures { (map : Target) → task.now.map ≡ Some map → result.now ≡ target_name map }
 {
@@ -84,7 +88,8 @@ fn map_name<'a>(task: &Retiming<'a>) -> &'a str
     }
 }
 
-/// The same of a run with a map: one that is too large fails as a file that says so in its first line.
+/// Returns the failure for an error of a run with a map. A map that is too large fails as a file
+/// whose first line says so.
 fn failure_of_mapping<'a>(error: AnswerError, task: &Retiming<'a>) -> Failure<'a>
     ensures { IsMapFailureOf task.now error result }
 {
@@ -94,7 +99,7 @@ fn failure_of_mapping<'a>(error: AnswerError, task: &Retiming<'a>) -> Failure<'a
     }
 }
 
-/// The levels of the circuit that was read, where an object tells them.
+/// Counts the levels of the circuit that was read, if an object of JSON reports them.
 fn levels_counted(
     alloc: Global,
     circuit: &Circuit,
@@ -109,7 +114,7 @@ fn levels_counted(
     }
 }
 
-/// What is reported of the levels of the circuit that was read.
+/// Returns the levels and the bound of the circuit that was read, as the task reports them.
 fn levels_for(alloc: Global, circuit: &Circuit, task: &Retiming<'_>) -> Result<ReadLevels, NoMemory>
     ensures { IfOk result (λ reported. reported ≡ levels_reported task.now circuit.now) }
 {
@@ -118,7 +123,7 @@ fn levels_for(alloc: Global, circuit: &Circuit, task: &Retiming<'_>) -> Result<R
     Ok(ReadLevels { counted, bound })
 }
 
-/// The circuit that was read, retimed and written without a map.
+/// Retimes the circuit that was read, and writes it, without a map.
 fn plain_to<'a, R: Threads + Sync, W: CountedWrite, V: FrameWatcher>(
     rt: &R,
     alloc: Global,
@@ -142,7 +147,7 @@ fn plain_to<'a, R: Threads + Sync, W: CountedWrite, V: FrameWatcher>(
     }
 }
 
-/// The same with its map.
+/// Retimes the circuit that was read, writes it, and makes its map.
 fn mapped_to<R: Threads + Sync, W: CountedWrite, V: FrameWatcher>(
     rt: &R,
     alloc: Global,
@@ -161,7 +166,7 @@ fn mapped_to<R: Threads + Sync, W: CountedWrite, V: FrameWatcher>(
     retime_spelt_mapped(rt, alloc, spelt, writer, options, &crew, watcher)
 }
 
-/// A run without a map, as an answer.
+/// Makes an answer of a run without a map.
 fn plain_answer(run: Run<NoFollower>, levels: ReadLevels, spelling: Spelling) -> Answer
     ensures retimed { result.retimed ≡ run.retimed }
     ensures keep { result.keep ≡ run.keep }
@@ -178,7 +183,7 @@ fn plain_answer(run: Run<NoFollower>, levels: ReadLevels, spelling: Spelling) ->
     }
 }
 
-/// A retiming with its map, as an answer.
+/// Makes an answer of a retiming with its map.
 fn mapped_answer(mapped: Mapped, levels: ReadLevels, spelling: Spelling) -> Answer
     ensures retimed { result.retimed ≡ mapped.retimed }
     ensures keep { result.keep ≡ mapped.keep }
@@ -195,7 +200,7 @@ fn mapped_answer(mapped: Mapped, levels: ReadLevels, spelling: Spelling) -> Answ
     }
 }
 
-/// How many gates and constraints the map has.
+/// Counts the gates and constraints of the map, if there is one.
 pub(crate) fn map_counts(answer: &Answer) -> Option<MapCounts>
     ensures { result ≡ option_map (λ map. counts_of map.circuit) answer.now.map }
 {
@@ -208,7 +213,8 @@ pub(crate) fn map_counts(answer: &Answer) -> Option<MapCounts>
     }
 }
 
-/// Writes the circuit that was read, retimed, and tells of its levels.
+/// Retimes the circuit that was read, and writes it. The answer has the levels of the circuit that
+/// was read.
 pub(crate) fn retime_to<'a, R: Threads + Sync, W: CountedWrite, V: FrameWatcher>(
     rt: &R,
     alloc: Global,
@@ -241,7 +247,7 @@ pub(crate) fn retime_to<'a, R: Threads + Sync, W: CountedWrite, V: FrameWatcher>
     }
 }
 
-/// Writes a map to what it is written to.
+/// Writes a map to `target`.
 fn write_map<R: OutputFiles, O: CountedWrite>(
     rt: &R,
     map: &SpeltMap,
@@ -263,7 +269,7 @@ fn write_map<R: OutputFiles, O: CountedWrite>(
     }
 }
 
-/// Writes the map where it is asked for.
+/// Writes the map to its target, if one is asked for.
 pub(crate) fn map_written<'a, R: OutputFiles, O: CountedWrite>(
     rt: &R,
     task: &Retiming<'a>,

@@ -22,14 +22,15 @@ fn other(spelling: Spelling) -> Spelling
     }
 }
 
-/// The chosen spelling, else the one that wasn't read.
+/// Returns the chosen spelling, or the one that wasn't read if none is chosen.
 fn spelling_for(read: Spelling, chosen: Option<Spelling>) -> Spelling
     ensures { result ≡ wanted.spelling_for read chosen }
 {
     chosen.unwrap_or(other(read))
 }
 
-/// Reads a circuit, and writes it in the chosen spelling, else in the one that wasn't read.
+/// Reads a circuit, and writes it in the chosen spelling, or in the one that wasn't read if none is
+/// chosen.
 pub fn convert<'a, R: Files + OutputFiles, I: CountedRead, O: CountedWrite>(
     rt: &R,
     alloc: Global,

@@ -1,4 +1,5 @@
-//! Whether a circuit can be drawn as it is asked for: around what has a name, or as a whole that isn't too large.
+//! The check that a circuit can be drawn as asked: around a node with a name, or as a whole that
+//! isn't too large.
 ghost use Rattle.std.specs.Prelude.{◌≡◌, ◌<◌, ◌↔◌, IsTrue, None, Some, MatchOption, MatchResult};
 ghost use Rattle.commands.specs.Drawings.{CanBeDrawn, IsRefusal};
 ghost use Rattle.commands.specs.Drawings as wanted;
@@ -8,10 +9,10 @@ use circuit_files::Failure;
 use command_line::Drawing;
 use pictures::has_node;
 
-/// The most nodes that a picture of a whole circuit has.
+/// The most nodes in a picture of a whole circuit.
 const MOST_NODES: u128 = 2000;
 
-/// How many nodes a picture of the whole circuit has; lists of any lengths have a sum.
+/// Counts the nodes of a picture of the whole circuit. In `u128` no sum of lengths overflows.
 fn nodes(circuit: &Circuit) -> u128
     ensures { result ≡ wanted.nodes circuit.now }
 {
@@ -24,14 +25,14 @@ fn nodes(circuit: &Circuit) -> u128
         + props.fairness.len() as u128
 }
 
-/// Whether a picture of the whole circuit would have too many nodes.
+/// Returns true if a picture of the whole circuit would have too many nodes.
 fn is_too_large(circuit: &Circuit) -> bool
     ensures { IsTrue result ↔ 2000 < wanted.nodes circuit.now }
 {
     nodes(circuit) > MOST_NODES
 }
 
-/// That something in the circuit has the name, or a picture calls something so.
+/// Checks that the circuit has the name, or that a picture gives it to one of its nodes.
 fn check_name<'a>(circuit: &Circuit, task: &Drawing<'a>, name: &'a str) -> Result<(), Failure<'a>>
     ensures { MatchResult result (λ _. CanBeDrawn (Some name.entry) circuit.now)
         (IsRefusal (Some name.entry) circuit.now task.now.input) }
@@ -43,7 +44,7 @@ fn check_name<'a>(circuit: &Circuit, task: &Drawing<'a>, name: &'a str) -> Resul
     }
 }
 
-/// That the circuit hasn't too many nodes.
+/// Checks that the circuit doesn't have too many nodes.
 fn check_size<'a>(circuit: &Circuit, task: &Drawing<'a>) -> Result<(), Failure<'a>>
     ensures { MatchResult result (λ _. CanBeDrawn None circuit.now)
         (IsRefusal None circuit.now task.now.input) }
@@ -55,7 +56,7 @@ fn check_size<'a>(circuit: &Circuit, task: &Drawing<'a>) -> Result<(), Failure<'
     }
 }
 
-/// That the circuit can be drawn as it is asked for.
+/// Checks that the circuit can be drawn as the task asks.
 pub(crate) fn check_drawable<'a>(circuit: &Circuit, task: &Drawing<'a>) -> Result<(), Failure<'a>>
     ensures { MatchResult result (λ _. CanBeDrawn task.now.around circuit.now)
         (IsRefusal task.now.around circuit.now task.now.input) }

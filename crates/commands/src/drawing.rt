@@ -20,14 +20,14 @@ use std::alloc::Global;
 use std::rt::Files;
 use std::thread::Threads;
 
-/// What a terminal is told where the next frame was to be shown and there is none.
+/// The line for a terminal if the next frame was to be shown and there is none.
 const NO_FRAME: &[u8] = b"no set of gates leaves fewer latches, so no frame is shown\n";
 
-/// The same where there is a bound.
+/// The line for a terminal if there is a bound too.
 const NO_FRAME_WITHIN: &[u8] =
     b"no set of gates leaves fewer latches and keeps the bound, so no frame is shown\n";
 
-/// The view of a scene that is asked for: of a neighbourhood, or of the whole circuit.
+/// Returns the view of a scene that the task asks for: of a neighbourhood, or of the whole circuit.
 fn view(alloc: Global, scene: &Scene, task: &Drawing<'_>) -> Result<View, NoMemory>
     ensures { IfOk result (IsViewOf scene.now.circuit scene.now.keep scene.now.set
         (shown scene.now.circuit task.now) (middle scene.now.circuit task.now)) }
@@ -84,7 +84,8 @@ fn draw<'a, W: CountedWrite>(
     written
 }
 
-/// Writes the picture of a scene to what the task writes. A file is made at the picture's first byte.
+/// Writes the picture of a scene to the target of the task. A file is made at the picture's first
+/// byte.
 fn draw_to<'a, R: OutputFiles, O: CountedWrite>(
     rt: &R,
     alloc: Global,
@@ -109,7 +110,7 @@ fn draw_to<'a, R: OutputFiles, O: CountedWrite>(
     }
 }
 
-/// What a terminal is told where no frame is shown.
+/// Returns the line for a terminal if no frame is shown.
 fn no_frame(bound: PathBound) -> &'static [u8] {
     match bound {
         PathBound::None => NO_FRAME,
@@ -117,7 +118,8 @@ fn no_frame(bound: PathBound) -> &'static [u8] {
     }
 }
 
-/// Tells on a terminal that the next frame moves no latches, where it was to be shown. A write that fails changes nothing.
+/// Tells on a terminal that the next frame moves no latches, if it was to be shown. A write that
+/// fails changes nothing.
 fn tell_no_frame<E: CountedWrite>(scene: &Scene, task: &Drawing<'_>, is_terminal: bool, err: &mut E)
     ensures { is_terminal ≡ false → E.output err.new ≡ E.output err.old }
 {
@@ -126,8 +128,10 @@ fn tell_no_frame<E: CountedWrite>(scene: &Scene, task: &Drawing<'_>, is_terminal
     }
 }
 
-/// Reads a circuit, and writes its picture. A file is made once all that can be refused was found right. Where standard
-/// error is a terminal, it is told there that no frame helps, if one was to be shown.
+/// Reads a circuit, and writes its picture. A file is made after everything that can be refused is
+/// checked.
+///
+/// If standard error is a terminal, a line there says that no frame helps, if one was to be shown.
 pub fn write_picture<
     'a,
     R: Files + OutputFiles + Threads + Sync,

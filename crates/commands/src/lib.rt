@@ -1,5 +1,7 @@
-//! What each command does that works on one circuit and simulates nothing for its user: retimes, draws,
-//! converts, prints statistics, and checks certificates. It reads files or standard input, and returns how the run ends.
+//! The commands on one circuit that simulate nothing for their user: `retime`, `dot`, `convert`,
+//! `stat` and `verify`.
+//!
+//! Each reads files or standard input, and returns how the run ends.
 #![tactic(auto)]
 
 mod answer;

@@ -1,4 +1,4 @@
-//! The circuit that blocks of certificates end in, and a file that is compared with it.
+//! The replay of certificates, and the comparison of a file with the circuit that they end in.
 ghost use Rattle.std.specs.Prelude.{◌≡◌, ◌<◌, All, IfErr, IfOk, length};
 ghost use Rattle.aig_binary.specs.Spellings.{text_in};
 ghost use Rattle.reports.specs.Agreements.{IsAgreement};
@@ -16,8 +16,10 @@ use reports::{Agreement, compare};
 use std::alloc::Global;
 use std::rt::Files;
 
-/// What blocks show of a circuit under a bound on levels, or without one, and whether a file has the circuit that they end in, where one
-/// was compared.
+/// The judgement of certificates of a circuit.
+///
+/// `bound` is the bound on levels, if there was one. `agreement` compares a file with the circuit
+/// that the certificates end in, if a file was given.
 #[derive(Clone, Copy)]
 pub(crate) struct Judgement {
     pub(crate) bound: Option<u32>,
@@ -25,8 +27,11 @@ pub(crate) struct Judgement {
     pub(crate) agreement: Option<Agreement>,
 }
 
-/// The audit of certificates of a run that held these latches, merged others first where that is said, and had this bound on levels; and the
-/// circuit that they end in.
+/// Replays the certificates `blocks` of a run of `circuit`, and returns their audit and the circuit
+/// that they end in.
+///
+/// The run held the latches `keep` and had the bound `bound`. It merged latches first if `merge` is
+/// true.
 pub(crate) fn replay_of(
     alloc: Global,
     circuit: &Circuit,
@@ -46,7 +51,7 @@ pub(crate) fn replay_of(
     }
 }
 
-/// The bytes of the file that is compared, where one is.
+/// Reads the bytes of the file to compare, if there is one.
 pub(crate) fn retimed_at<'a, R: Files, I: CountedRead>(
     rt: &R,
     alloc: Global,
@@ -66,7 +71,8 @@ pub(crate) fn retimed_at<'a, R: Files, I: CountedRead>(
     }
 }
 
-/// The text of a circuit in this spelling; there is room for so many bytes before it grows.
+/// Returns the text of a circuit in `spelling`. The buffer has room for `room` bytes before it
+/// grows.
 fn text_of(
     alloc: Global,
     circuit: &Circuit,
@@ -85,7 +91,7 @@ fn text_of(
     }
 }
 
-/// What comes of comparing bytes with the text of a circuit in their own spelling.
+/// Compares bytes with the text of a circuit in the spelling of the bytes.
 fn compared(alloc: Global, circuit: &Circuit, bytes: &[u8]) -> Result<Agreement, NoMemory>
     ensures { IfOk result (IsAgreement (text_like bytes.now circuit.now) bytes.now) }
 {
@@ -96,7 +102,7 @@ fn compared(alloc: Global, circuit: &Circuit, bytes: &[u8]) -> Result<Agreement,
     Ok(found)
 }
 
-/// What comes of comparing bytes with the circuit that blocks end in, where there is one.
+/// Compares bytes with `last`, the circuit that the certificates end in, if there is one.
 fn compared_with(
     alloc: Global,
     last: &Option<Circuit>,
@@ -113,7 +119,7 @@ fn compared_with(
     }
 }
 
-/// What comes of comparing bytes with the circuit that blocks end in, where there are both.
+/// Compares bytes with `last`, the circuit that the certificates end in, if there are both.
 fn agreement_of(
     alloc: Global,
     last: &Option<Circuit>,
@@ -127,7 +133,8 @@ fn agreement_of(
     }
 }
 
-/// What a replay shows that had this bound, or none, whose circuit is compared with these bytes.
+/// Judges a replay under `bound`, if there is one, and compares the circuit at its end with
+/// `bytes`.
 pub(crate) fn judged(
     alloc: Global,
     replay: Replay,

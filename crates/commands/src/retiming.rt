@@ -29,7 +29,7 @@ use std::rt::Files;
 use std::thread::Threads;
 use std::time::Clock;
 
-/// Writes the circuit that was read, retimed, to what the task writes.
+/// Retimes the circuit that was read, and writes it to the target of the task.
 fn retime_by<'a, R: OutputFiles + Threads + Sync, O: CountedWrite, V: FrameWatcher>(
     rt: &R,
     alloc: Global,
@@ -57,7 +57,7 @@ fn retime_by<'a, R: OutputFiles + Threads + Sync, O: CountedWrite, V: FrameWatch
     }
 }
 
-/// Reads what the task reads, and writes it, retimed, to what it writes.
+/// Reads the circuit of the task, retimes it, and writes it to the target of the task.
 fn retime_read<
     'a,
     R: Files + OutputFiles + Threads + Sync,
@@ -113,7 +113,7 @@ fn retimed<
     }
 }
 
-/// Writes the certificates of a retiming by this choice.
+/// Writes the certificates of a retiming. `choice` is its choice among least sets.
 fn put_certificates<W: CountedWrite>(
     choice: Choice,
     blocks: Sequence<Certificate>,
@@ -126,7 +126,7 @@ fn put_certificates<W: CountedWrite>(
     write_cert(&file, writer)
 }
 
-/// Writes the certificates of a retiming by this choice to what they are written to.
+/// Writes the certificates of a retiming by `choice` to `target`.
 fn write_certificates<R: OutputFiles, O: CountedWrite>(
     rt: &R,
     choice: Choice,
@@ -150,7 +150,7 @@ fn write_certificates<R: OutputFiles, O: CountedWrite>(
     }
 }
 
-/// Writes the certificates where they are asked for; they are taken out of the retiming.
+/// Writes the certificates if they are asked for. They are taken out of the retiming.
 fn certify<'a, R: OutputFiles, O: CountedWrite>(
     rt: &R,
     alloc: Global,
@@ -176,7 +176,7 @@ fn certify<'a, R: OutputFiles, O: CountedWrite>(
     }
 }
 
-/// Writes the map and the certificates where they are asked for.
+/// Writes the map and the certificates, each if it is asked for.
 fn write_beside<'a, R: OutputFiles, O: CountedWrite>(
     rt: &R,
     alloc: Global,
@@ -198,8 +198,10 @@ fn write_beside<'a, R: OutputFiles, O: CountedWrite>(
     certify(rt, alloc, task, &mut answer.retimed, out)
 }
 
-/// A retiming, where its held latches stand, what is reported of the levels of the circuit that was read, its spelling, how long the parts of the run took, where that was
-/// measured, and what its map has, where one is written.
+/// The parts of a finished run that [`print_frames`] needs.
+///
+/// `levels` and `spelling` are those of the circuit that was read. `times` has how long each part
+/// took, if that was measured, and `map` the counts of the map, if one is written.
 #[derive(Drop)]
 struct Timed {
     retimed: Retimed,
@@ -210,7 +212,7 @@ struct Timed {
     map: Option<MapCounts>,
 }
 
-/// What is reported of an answer whose parts took so long.
+/// Returns the parts of an answer that are printed, with the times of the run.
 fn with_times(answer: Answer, times: Option<Times>) -> Timed
     ensures retimed { result.retimed ≡ answer.retimed }
     ensures keep { result.keep ≡ answer.keep }
@@ -235,7 +237,8 @@ fn with_times(answer: Answer, times: Option<Times>) -> Timed
     }
 }
 
-/// Writes the circuit, and then the map and the certificates. Shows on standard error how far the run is, until the circuit is written.
+/// Retimes the circuit and writes it, and then the map and the certificates. Shows progress on
+/// standard error until the circuit is written.
 fn certified<
     'a,
     R: Files + OutputFiles + Threads + Sync + Clock,
@@ -290,7 +293,7 @@ fn certified<
     }
 }
 
-/// What the task's retiming leaves under its bound, or without one.
+/// Counts the circuit that the retiming leaves, and what holds its latches where they are.
 fn remaining(alloc: Global, task: &Retiming<'_>, timed: &Timed) -> Result<Remaining, NoMemory>
     ensures { IfOk result (λ left. left ≡ remaining_of task.now timed.now.levels.bound
         timed.now.retimed timed.now.keep) }
@@ -351,7 +354,8 @@ fn print_as<'a, W: CountedWrite>(
     }
 }
 
-/// Tells on a terminal why no more latches go, unless somebody asks for an object or for quiet. What can't be told changes nothing.
+/// Tells on a terminal why no more latches go, unless the task asks for an object of JSON or for
+/// quiet. A write that fails changes nothing.
 fn tell_remaining<E: CountedWrite>(
     alloc: Global,
     task: &Retiming<'_>,
@@ -369,8 +373,10 @@ fn tell_remaining<E: CountedWrite>(
     }
 }
 
-/// Prints the frames that were taken to standard output, or to standard error where a circuit, a map or certificates have been
-/// written to standard output: a write that fails there changes nothing.
+/// Prints the frames that were taken to standard output.
+///
+/// If a circuit, a map or certificates went there, it prints them to standard error, and a write
+/// that fails there changes nothing.
 fn print_frames<'a, O: CountedWrite, E: CountedWrite>(
     alloc: Global,
     task: &Retiming<'_>,
@@ -397,10 +403,10 @@ fn print_frames<'a, O: CountedWrite, E: CountedWrite>(
     }
 }
 
-/// Reads a circuit, writes it, retimed, its map and the certificates where they are asked for, and then prints the frames that were taken,
-/// as an object of JSON or in lines.
+/// Reads a circuit, and writes it retimed, with its map and its certificates if they are asked for.
+/// Then prints the frames that were taken, as an object of JSON or in lines.
 ///
-/// Shows how far the run is as the task asks, and on a terminal why no more latches go.
+/// Shows progress as the task asks, and says on a terminal why no more latches go.
 pub fn print_retimed<
     'a,
     R: Files + OutputFiles + Threads + Sync + Clock,

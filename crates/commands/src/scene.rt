@@ -1,5 +1,5 @@
-//! What `dot` draws: the circuit that is read, with its held latches, or where the next frame is asked for what that frame begins with, and the
-//! set that it takes.
+//! The scene that `dot` draws: the circuit that is read, or the circuit before the next frame and
+//! that frame's set.
 ghost use Rattle.std.specs.Prelude.{◌≡◌, IfOk, false};
 ghost use Rattle.command_endings.specs.RunOptions.{AreOptionsOf};
 ghost use Rattle.commands.specs.Drawings.{IsNextShown, IsRunBy, IsSceneOf, IsShownFor, IsShownOf};
@@ -17,17 +17,17 @@ use std::alloc::Global;
 use std::rt::Files;
 use std::thread::Threads;
 
-/// What a picture shows.
+/// The contents of a picture.
 #[derive(Drop)]
 pub(crate) struct Scene {
     pub(crate) circuit: Circuit,
     /// The latches that stay where they are.
     pub(crate) keep: Keep,
-    /// The gates that the next frame moves latches over, where that frame is shown and takes any.
+    /// The gates that the next frame moves latches over, if that frame is shown and takes any.
     pub(crate) set: Option<ClosedSet>,
 }
 
-/// The run under this bound.
+/// Returns the run under `bound`.
 fn under(run: Run<NoFollower>, bound: Option<u32>) -> Run<NoFollower>
     ensures retimed { result.retimed ≡ run.retimed }
     ensures keep { result.keep ≡ run.keep }
@@ -47,7 +47,7 @@ fn under(run: Run<NoFollower>, bound: Option<u32>) -> Run<NoFollower>
     }
 }
 
-/// The run of the circuit before its first frame.
+/// Runs the circuit up to its first frame.
 fn run_by<'a, R: Threads + Sync>(
     rt: &R,
     alloc: Global,
@@ -67,7 +67,7 @@ fn run_by<'a, R: Threads + Sync>(
     }
 }
 
-/// What a run came to, with this set.
+/// Makes a scene of the circuit of a run, with `set`.
 fn scene_with(run: Run<NoFollower>, set: Option<ClosedSet>) -> Scene
     ensures circuit { result.circuit ≡ run.retimed.circuit }
     ensures keep { result.keep ≡ run.keep }
@@ -83,7 +83,7 @@ fn scene_with(run: Run<NoFollower>, set: Option<ClosedSet>) -> Scene
     Scene { circuit, keep, set }
 }
 
-/// What is shown of a run: its circuit, and the set that its next frame takes.
+/// Makes a scene of the circuit of a run and the set that its next frame takes.
 fn shown_of<'a, R: Threads + Sync>(
     rt: &R,
     alloc: Global,
@@ -102,7 +102,7 @@ fn shown_of<'a, R: Threads + Sync>(
     }
 }
 
-/// The same of the run of a circuit by these options.
+/// Makes the scene of the next frame of the circuit, under `options`.
 fn shown_by<'a, R: Threads + Sync>(
     rt: &R,
     alloc: Global,
@@ -117,7 +117,7 @@ fn shown_by<'a, R: Threads + Sync>(
     shown_of(rt, alloc, run, options)
 }
 
-/// What is shown of the circuit before the next frame, with the set that this takes.
+/// Makes the scene of the circuit before its next frame, with the set that the frame takes.
 fn next_shown<'a, R: Threads + Sync>(
     rt: &R,
     alloc: Global,
@@ -134,7 +134,7 @@ fn next_shown<'a, R: Threads + Sync>(
     shown
 }
 
-/// The circuit that is read, and the latches that the task holds.
+/// Makes a scene of the circuit that is read and the latches that the task holds.
 fn as_read<'a>(alloc: Global, circuit: Circuit, task: &Drawing<'a>) -> Result<Scene, Failure<'a>>
     ensures { IfOk result (IsShownFor false task.now circuit) }
 {
@@ -151,7 +151,7 @@ fn as_read<'a>(alloc: Global, circuit: Circuit, task: &Drawing<'a>) -> Result<Sc
     }
 }
 
-/// What is shown of the circuit: itself, or where the next frame is asked for what that begins with, and its set.
+/// Makes the scene of a circuit: itself, or its next frame if the task asks for that.
 fn shown_for<'a, R: Threads + Sync>(
     rt: &R,
     alloc: Global,
@@ -168,7 +168,7 @@ fn shown_for<'a, R: Threads + Sync>(
     shown
 }
 
-/// The scene that the task asks for of the circuit that it reads.
+/// Reads the circuit of the task, and makes the scene that the task asks for.
 pub(crate) fn scene_for<'a, R: Files + Threads + Sync, I: CountedRead>(
     rt: &R,
     alloc: Global,

@@ -11,12 +11,12 @@ use command_endings::ended;
 use command_line::Counting;
 use counted_io::{CountedRead, CountedWrite};
 use latch_merging::merged_start;
+use merged_circuits::MergeCounts;
 use reports::{Statistics, print_counts};
-use retimed_circuits::MergeCounts;
 use std::alloc::Global;
 use std::rt::Files;
 
-/// How many latches of the circuit cleaned are merged, where none is held.
+/// Counts the latches of the cleaned circuit that are merged if none is held.
 fn merge_counts(alloc: Global, circuit: &Circuit) -> Result<MergeCounts, NoMemory>
     ensures { IfOk result (AreMergeCounts circuit.now) }
 {
@@ -26,7 +26,7 @@ fn merge_counts(alloc: Global, circuit: &Circuit) -> Result<MergeCounts, NoMemor
     Ok(counts)
 }
 
-/// The same, where that is asked for.
+/// Counts the latches that are merged, if the task asks for that.
 fn merge_counts_for(
     alloc: Global,
     circuit: &Circuit,
@@ -55,7 +55,8 @@ fn print_lines<'a, O: CountedWrite>(
     ended(print_counts(statistics, merged, out), Outcome::Done)
 }
 
-/// Prints what a circuit has, and how many of its latches are merged where that is known, as an object of JSON or in lines.
+/// Prints the counts of a circuit, as an object of JSON or in lines. `merged` counts the merged
+/// latches, if the task asks for that.
 fn print_merged<'a, O: CountedWrite>(
     alloc: Global,
     circuit: &Circuit,
@@ -79,7 +80,7 @@ fn print_merged<'a, O: CountedWrite>(
     }
 }
 
-/// Prints what a circuit has, as the task asks.
+/// Prints the counts of a circuit as the task asks.
 fn print_circuit<'a, O: CountedWrite>(
     alloc: Global,
     circuit: &Circuit,
@@ -96,7 +97,7 @@ fn print_circuit<'a, O: CountedWrite>(
     }
 }
 
-/// Reads a circuit, and prints what it has, as an object of JSON or in lines.
+/// Reads a circuit, and prints its counts, as an object of JSON or in lines.
 pub fn print_statistics<'a, R: Files, I: CountedRead, O: CountedWrite>(
     rt: &R,
     alloc: Global,

@@ -21,7 +21,7 @@ use std::alloc::Global;
 use std::fmt::Write;
 use std::rt::Files;
 
-/// What the certificates end in, where the latches are held that the task holds.
+/// Replays the certificates for the circuit with the latches that the task holds.
 fn replayed<'a>(
     alloc: Global,
     circuit: &Circuit,
@@ -44,7 +44,7 @@ fn replayed<'a>(
     }
 }
 
-/// What the certificates show, and whether these bytes are the circuit that they end in.
+/// Judges the certificates, and compares the circuit that they end in with `bytes`.
 fn judged_by<'a>(
     alloc: Global,
     circuit: &Circuit,
@@ -66,7 +66,7 @@ fn judged_by<'a>(
     }
 }
 
-/// How a run ends by the end of an audit.
+/// Returns how a run ends by the end of its audit.
 fn outcome_at(end: End) -> Outcome
     ensures { result ≡ outcome_of_end end }
 {
@@ -76,7 +76,7 @@ fn outcome_at(end: End) -> Outcome
     }
 }
 
-/// How a run ends by what the certificates show, and by whether a file has the circuit that they end in.
+/// Returns how a run ends by the audit and by the comparison with a file.
 fn outcome_of(judgement: &Judgement) -> Outcome
     ensures { result ≡ outcome_of_judgement judgement.now }
 {
@@ -99,7 +99,7 @@ fn print_outcome<'a, O: CountedWrite>(
     ended(printed, outcome_of(judgement))
 }
 
-/// Prints what certificates show as an object of JSON.
+/// Prints a judgement of certificates as an object of JSON.
 fn print_object<'a, O: CountedWrite>(
     alloc: Global,
     blocks: &[Certificate],
@@ -118,7 +118,7 @@ fn print_object<'a, O: CountedWrite>(
     command_endings::print_audit(alloc, blocks, audit, agreement, bound, outcome, out)
 }
 
-/// Prints what certificates show as an object of JSON or in lines.
+/// Prints a judgement of certificates as an object of JSON or in lines.
 fn print_as<'a, O: CountedWrite>(
     alloc: Global,
     blocks: &[Certificate],
@@ -137,7 +137,7 @@ fn print_as<'a, O: CountedWrite>(
     }
 }
 
-/// Prints what the certificates show, and whether these bytes are the circuit that they end in.
+/// Prints what the certificates show, and how `bytes` compare with the circuit that they end in.
 fn print_blocks<'a, O: CountedWrite>(
     alloc: Global,
     circuit: &Circuit,
@@ -154,7 +154,8 @@ fn print_blocks<'a, O: CountedWrite>(
     print_as(alloc, blocks, &judgement, task.json, out)
 }
 
-/// Prints what the certificates show, and whether the file that is compared is the circuit that they end in, where one is.
+/// Reads the file to compare, if there is one. Prints what the certificates show, and whether they
+/// end in that file's circuit.
 fn print_beside<'a, R: Files, I: CountedRead, O: CountedWrite>(
     rt: &R,
     alloc: Global,
@@ -178,7 +179,7 @@ fn print_beside<'a, R: Files, I: CountedRead, O: CountedWrite>(
     }
 }
 
-/// The circuit that the certificates are checked for.
+/// Reads the circuit that the certificates are about.
 fn circuit_of<'a, R: Files, I: CountedRead>(
     rt: &R,
     alloc: Global,
@@ -192,7 +193,7 @@ fn circuit_of<'a, R: Files, I: CountedRead>(
     circuit_at(rt, alloc, task.input, stdin)
 }
 
-/// The certificates that are checked.
+/// Reads the certificates to check.
 fn certificates_of<'a, R: Files, I: CountedRead>(
     rt: &R,
     alloc: Global,
@@ -206,7 +207,7 @@ fn certificates_of<'a, R: Files, I: CountedRead>(
     certificates_at(rt, alloc, task.certificates, stdin)
 }
 
-/// Says that a file has no certificate, and so what was checked. A failed write changes nothing.
+/// Says that a file has no certificate, and what was checked then. A failed write changes nothing.
 fn tell_of_none<M: Write>(task: &Verification<'_>, message: &mut M) {
     let _ = message.write_str(task.certificates.name());
     let _ = message.write_str(": no certificate: ");
@@ -216,7 +217,8 @@ fn tell_of_none<M: Write>(task: &Verification<'_>, message: &mut M) {
     });
 }
 
-/// Prints what the certificates that are read show. Where there is none, `message` gets a line that says so once that is done.
+/// Reads the certificates, and prints what they show. If there is none, `message` gets a line that
+/// says so at the end.
 fn print_file<'a, R: Files, I: CountedRead, O: CountedWrite, M: Write>(
     rt: &R,
     alloc: Global,
@@ -244,10 +246,15 @@ fn print_file<'a, R: Files, I: CountedRead, O: CountedWrite, M: Write>(
     }
 }
 
-/// Reads a circuit, then certificates, and then the circuit that they are to end in, where one is given. Prints whether each
-/// certificate is confirmed, and, where nothing speaks against one, whether they end in that circuit, byte for byte: as an object of
-/// JSON or in lines. Whether a name is that of no latch shows once all was read. Where there is no certificate, `message` gets a line that
-/// says so; a failed write there changes nothing.
+/// Reads a circuit, then certificates, and then the circuit that they should end in, if one is
+/// given.
+///
+/// Prints whether each certificate is confirmed, as an object of JSON or in lines. If nothing
+/// speaks against one, it prints whether they end in that circuit, byte for byte. A name that no
+/// latch has is found once all is read.
+///
+/// If there is no certificate, `message` gets a line that says so; a failed write there changes
+/// nothing.
 pub fn print_verification<'a, R: Files, I: CountedRead, O: CountedWrite, M: Write>(
     rt: &R,
     alloc: Global,

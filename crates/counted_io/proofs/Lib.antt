@@ -2,10 +2,3 @@ pub mod ResultLaws
 pub mod OutputLaws
 pub mod BufferedLaws
 pub mod InputLaws
-pub mod Examples
-pub mod DecimalLaws
-pub mod CutLaws
-pub mod FirstLaws
-pub mod AnsweringLaws
-pub mod NumberLaws
-pub mod ReadingLaws

@@ -13,6 +13,7 @@ fail_after inner calls failure = record { inner = inner; calls_left = calls; fai
 abbrev pub fail_after_inner : {T : Type 0} → FailAfter T → T
 fail_after_inner f = f.inner
 
+-- for tests: the reader or writer inside of one that passes on a byte a call
 abbrev pub one_byte_inner : {T : Type 0} → OneByte T → T
 one_byte_inner o = o.inner
 

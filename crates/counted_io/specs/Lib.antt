@@ -6,10 +6,3 @@ pub mod Line
 pub mod ReadErrors
 pub mod Fakes
 pub mod Streams
-pub mod Answering
-pub mod Codes
-pub mod Cuts
-pub mod Lines
-pub mod Numbers
-pub mod Reading
-pub mod Text

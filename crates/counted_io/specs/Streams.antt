@@ -19,10 +19,12 @@ source_of path = if is_stream path.now then sources.Stdin else sources.File path
 abbrev pub target_of : Bor (List ℕ) → Target
 target_of path = if is_stream path.now then targets.Stdout else targets.File path
 
+-- whether a source is standard input
 abbrev pub is_stdin : Source → Bool
 is_stdin sources.Stdin = true
 is_stdin (sources.File path) = false
 
+-- whether a target is standard output
 abbrev pub is_stdout : Target → Bool
 is_stdout targets.Stdout = true
 is_stdout (targets.File path) = false

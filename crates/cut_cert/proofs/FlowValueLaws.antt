@@ -12,7 +12,7 @@ use Rattle.aig_graph.specs.Move.{move_of}
 use Rattle.aig_graph.specs.Border.{border_size, IsLeast}
 use Rattle.aig_graph.proofs.SetLaws.{empty-closed}
 use Rattle.frame_net.specs.FlowNet.{FlowNet, IsFlowNet, node_count, start, row_len, head, mate, cap_at, capacity_between}
-use Rattle.flow_part.specs.Parts.{pair}
+use Rattle.pulse_parts.specs.Parts.{pair}
 use Rattle.frame_net.specs.Cuts.{IsNetworkOf, NoUnboundedLeaves, leaving}
 use Rattle.frame_net.proofs.SetCutLaws.{closed_sets_are_cuts-law}
 use Rattle.frame_net.proofs.NetLaws.{cuts_are_closed-law}

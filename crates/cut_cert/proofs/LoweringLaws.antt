@@ -7,7 +7,7 @@ use Rattle.frame_net.proofs.SumLaws.{sum_below-add, sum_below-same}
 use Rattle.frame_net.proofs.TheoryCutLaws.{sum_all_zero}
 use Rattle.frame_net.proofs.SparseRowLaws.{sum_one}
 use Rattle.frame_net.specs.FlowNet.{FlowNet, IsFlowNet, HasMate, node_count, start, row_len, head, mate}
-use Rattle.flow_part.specs.Parts.{pair}
+use Rattle.pulse_parts.specs.Parts.{pair}
 use Rattle.cut_cert.proofs.SinkWalkLaws.{arc-in, mate-pair}
 use Rattle.cut_cert.specs.Walks.{out_of, into, total_outflow, Comes, lowered, here, IsPreflowAt}
 

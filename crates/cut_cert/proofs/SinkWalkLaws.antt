@@ -6,7 +6,7 @@ use Rattle.frame_net.specs.Flow.{State, Walk, Reaches, IsSourceSide}
 use Rattle.frame_net.specs.Rows.{Rises}
 use Rattle.frame_net.proofs.SparseRowLaws.{sparse-at, sparse-none, find_head}
 use Rattle.frame_net.specs.FlowNet.{FlowNet, IsFlowNet, HasMate, node_count, start, row_len, head, mate}
-use Rattle.flow_part.specs.Parts.{pair}
+use Rattle.pulse_parts.specs.Parts.{pair}
 use Rattle.cut_cert.specs.Fronts.{SearchFront, is_marked, mark_node, reach_node}
 use Rattle.cut_cert.specs.SinkWalk.{reach_node_in_sweep, read_arc, read_arcs}
 use Rattle.cut_cert.proofs.FrontLaws.{Grows, Sweeps, Goes, reach-long, reach-new, reach-marked, mark-long, mark-marked, mark-goes, grows-self, grows-then, marked-within, no_front, sweeps-none, sweeps-few, sweeps-next, sweeps-read, reach-goes}

@@ -7,7 +7,7 @@ use Rattle.aig_graph.specs.Marking.{has}
 use Rattle.aig_graph.specs.Circuits.{Netlist}
 use Rattle.frame_net.specs.declared.net.Point.{Point}
 use Rattle.frame_net.specs.FlowNet.{FlowNet, IsFlowNet, node_count, head, point_of, capacity_between}
-use Rattle.flow_part.specs.Parts.{pair}
+use Rattle.pulse_parts.specs.Parts.{pair}
 use Rattle.frame_net.specs.Cuts.{IsNetworkOf}
 use Rattle.certificates.specs.Routes.{begins_at, may_step, goes_on, is_route, passed}
 use Rattle.certificates.proofs.RouteLaws.{passed-behind, passed-before}

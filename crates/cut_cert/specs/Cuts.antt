@@ -1,4 +1,5 @@
--- The greatest of the least cuts, the near side of a greatest flow, and the smallest of the least cuts.
+-- The greatest of the least cuts, the near side of a greatest flow, and the smallest of the least
+-- cuts.
 use Rattle.std.specs.Prelude.{◌≡◌, ℕ, ◌<◌, ◌≤◌, Bool, true, false, List}
 use Rattle.frame_net.specs.Flow.{State, IsPreflow, IsCut, cut_value}
 use Rattle.aig_graph.specs.Circuits.{Netlist}
@@ -14,7 +15,8 @@ IsGreatestLeastOf net s = (c : Netlist) (held : List ℕ) → IsNetworkOf c held
 abbrev pub NoneLeaves : ℕ → State → (ℕ → Bool) → Type 0
 NoneLeaves n s side = (v w : ℕ) → v < n → w < n → side v ≡ true → 0 < s.res v w → side w ≡ true
 
--- the nodes to which residual arcs lead from the source: the least set with the source that none leaves
+-- the nodes to which residual arcs lead from the source: the least set with the source that none
+-- leaves
 pub record IsNearSide (n : ℕ) (s : State) (side : ℕ → Bool) : Type 0 where
   pub with_source : side 0 ≡ true
   pub none_leaves : NoneLeaves n s side
@@ -26,7 +28,8 @@ pub record IsSmallestLeastCut (n : ℕ) (cap : ℕ → ℕ → ℕ) (side : ℕ 
   pub least : (other : ℕ → Bool) → IsCut other → cut_value n cap side ≤ cut_value n cap other
   pub smallest : (other : ℕ → Bool) → IsCut other → cut_value n cap other ≤ cut_value n cap side → (v : ℕ) → v < n → side v ≡ true → other v ≡ true
 
--- where no excess is left at inner nodes and residual arcs don't lead to the sink, the near side is the smallest least cut
+-- where no excess is left at inner nodes and residual arcs don't lead to the sink, the near side is
+-- the smallest least cut
 abbrev pub NearSideIsSmallest : Type 0
 NearSideIsSmallest = (n : ℕ) (cap : ℕ → ℕ → ℕ) (s : State) (side : ℕ → Bool) → 1 < n → IsPreflow n cap s
     → ((v : ℕ) → 1 < v → v < n → s.excess v ≡ 0) → IsNearSide n s side → side 1 ≡ false → IsSmallestLeastCut n cap side

@@ -27,13 +27,15 @@ all_steps (nodes ∷ walks) x y = steps_of 0 nodes x y + all_steps walks x y
 abbrev pub HasArc : FlowNet → ℕ → ℕ → Type 0
 HasArc net a b = (k : ℕ) × ((k < row_len net a) × (head net a k ≡ b))
 
--- the nodes of the points, each at the head of an arc from the one before, the first of an arc from node a
+-- the nodes of the points, each at the head of an arc from the one before, the first of an arc from
+-- node a
 abbrev pub IsWay : FlowNet → ℕ → List ℕ → List Point → Type 0
 IsWay net a [] [] = Unit {0}
 IsWay net a [] (p ∷ points) = ⊥
 IsWay net a (b ∷ nodes) [] = ⊥
 IsWay net a (b ∷ nodes) (p ∷ points) = HasArc net a b × ((point_of net b ≡ Some p) × IsWay net b nodes points)
 
+-- there are as many routes as ways, each the points of the nodes of its way
 abbrev pub AreWays : FlowNet → List (List ℕ) → List (List Point) → Type 0
 AreWays net [] [] = Unit {0}
 AreWays net [] (route ∷ routes) = ⊥
@@ -59,8 +61,8 @@ abbrev pub is_behind : Option Point → Bool
 is_behind None = false
 is_behind (Some p) = p.behind
 
--- whether the k-th arc from x has a residual: a route goes the other way, or it has a capacity, which one route takes up where it
--- leads to after a variable
+-- whether the k-th arc from x has a residual: a route goes the other way, or it has a capacity,
+-- which one route takes up where it leads to after a variable
 unfoldable pub is_open : FlowNet → List Bool → ℕ → ℕ → Bool
 is_open net used x k = slice_index_or used (mate net x k) false || (nat_lt 0 (cap_at net (start net x + k)) && not (is_behind (point_of net (head net x k)) && is_used net used x k))
 

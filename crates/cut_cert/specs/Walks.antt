@@ -6,7 +6,7 @@ use Rattle.aig_graph.specs.Marking.{has}
 use Rattle.aig_graph.specs.Circuits.{Netlist}
 use Rattle.frame_net.specs.declared.net.Point.{Point}
 use Rattle.frame_net.specs.FlowNet.{FlowNet, node_count, row_len, head, mate, cap_at, point_of, capacity_between}
-use Rattle.flow_part.specs.Parts.{pair}
+use Rattle.pulse_parts.specs.Parts.{pair}
 use Rattle.frame_net.specs.Cuts.{IsNetworkOf}
 use Rattle.certificates.specs.Routes.{is_route, passed}
 use Rattle.cut_cert.specs.Shown.{HasNoPointTwice}
@@ -91,7 +91,8 @@ points_of net (v ∷ nodes) = and_point (point_of net v) (points_of net nodes)
 unfoldable pub here : ℕ → ℕ → ℕ
 here v at = if v == at then 1 else 0
 
--- No pair carries more than its capacity, and at each inner node no more goes out than comes in; where a walk stands, less.
+-- No pair carries more than its capacity, and at each inner node no more goes out than comes in;
+-- where a walk stands, less.
 pub record IsPreflowAt (net : FlowNet) (xs : List ℕ) (at : ℕ) : Type 0 where
   pub long : length xs ≡ length net.heads
   pub within : (v w : ℕ) → v < node_count net → w < node_count net → pair net xs v w ≤ capacity_between net v w
@@ -106,7 +107,8 @@ pub record Ready (net : FlowNet) (xs past : List ℕ) : Type 0 where
   pub holds : IsPreflowAt net xs 1
   pub spent : (v : ℕ) → has past v ≡ true → Spent net xs v
 
--- what a walk has made: a route apart from the earlier ones, and of the units that reached the sink one less
+-- what a walk has made: a route apart from the earlier ones, and of the units that reached the sink
+-- one less
 pub record Walked (c : Netlist) (held : List ℕ) (net : FlowNet) (past : List ℕ) (reached : ℕ) (xs : List ℕ) (route : List Point) : Type 0 where
   pub holds : IsPreflowAt net xs 1
   pub right : is_route c held route ≡ true
@@ -115,7 +117,7 @@ pub record Walked (c : Netlist) (held : List ℕ) (net : FlowNet) (past : List �
   pub spent : (v : ℕ) → (has (passed route) v ≡ true) ⊎ (has past v ≡ true) → Spent net xs v
   pub count : into net xs 1 + 1 ≡ reached
 
--- the same in every circuit with this network
+-- what a walk has made, in every circuit with this network
 pub record WalkedBack (net : FlowNet) (old new : List ℕ) (route : List Point) : Type 0 where
   pub long : length new ≡ length net.heads
   pub less : total_outflow net new < total_outflow net old

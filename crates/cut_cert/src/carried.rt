@@ -1,4 +1,4 @@
-//! What arcs carry.
+//! The units of flow that each arc carries.
 ghost use Rattle.std.specs.Prelude.{◌≡◌, ℕ, ◌<◌, ◌≤◌, IfOk, MatchOption, length, replicate};
 ghost use Rattle.frame_net.specs.FlowNet.{node_count, row_len, head};
 ghost use Rattle.pulse.specs.Conditions.{IsMaxPreflow};
@@ -9,7 +9,7 @@ use frame_net::Net;
 use pulse::MaxPreflow;
 use std::alloc::Global;
 
-/// The flow over each arc, or 0 where it goes the other way.
+/// Returns the flow over each arc, or 0 if it goes the other way.
 pub(crate) fn carried_by_arcs(
     alloc: Global,
     net: &Net,
@@ -30,7 +30,7 @@ pub(crate) fn carried_by_arcs(
     Ok(carried)
 }
 
-/// The first place of a node's row, from one on, whose mate carries something.
+/// Finds the first place of a node's row, from `from` on, whose mate carries flow.
 pub(crate) fn incoming(net: &Net, carried: &[u32], node: u32, from: usize) -> Option<usize>
     requires node { node < node_count net.now }
     requires long { length carried.now ≡ length net.now.heads }
@@ -49,7 +49,8 @@ pub(crate) fn incoming(net: &Net, carried: &[u32], node: u32, from: usize) -> Op
     None
 }
 
-/// Takes one unit off the mate of an arc of the node's row, and answers that mate's tail.
+/// Takes one unit off the mate of the arc at `place` in the node's row, and returns that mate's
+/// tail.
 pub(crate) fn lower(net: &Net, carried: &mut [u32], node: u32, place: usize) -> u32
     requires comes { Comes net.now carried.old node place }
     requires long { length carried.old ≡ length net.now.heads }
@@ -63,7 +64,7 @@ pub(crate) fn lower(net: &Net, carried: &mut [u32], node: u32, place: usize) -> 
     net.heads(node)[place]
 }
 
-/// The first place of each row.
+/// Returns the first place of each node's row.
 pub(crate) fn first_places(alloc: Global, nodes: u32) -> Result<Vec<usize>, NoMemory>
     ensures { IfOk result (λ places. places.items ≡ replicate nodes 0) }
 {

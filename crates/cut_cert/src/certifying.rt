@@ -9,7 +9,7 @@ use aig_graph::{Circuit, ClosedSet, Keep, NoMemory, Sequence, count};
 use certificates::{Certificate, Routes};
 use std::alloc::Global;
 
-/// The members of a set.
+/// Returns the members of a set.
 fn members(alloc: Global, set: &ClosedSet) -> Result<Sequence<u32>, NoMemory>
     ensures { IfOk result (λ gates. gates ≡ set.now) }
 {
@@ -19,12 +19,15 @@ fn members(alloc: Global, set: &ClosedSet) -> Result<Sequence<u32>, NoMemory>
     }
 }
 
-/// The certificate of a least set: its gates, the size of its border, and routes that show that no closed set has a smaller one, as
-/// [`crate::routes`] finds them. It passes all tests of `certificates::check`.
+/// Makes the certificate of a least set: its gates, the size of its border, and routes as
+/// [`crate::routes`] finds them.
+///
+/// The routes show that no closed set has a smaller border. The certificate passes all tests of
+/// `certificates::check`.
 ///
 /// # Errors
 ///
-/// `NoMemory` where a table or the list of gates is refused.
+/// `NoMemory` if a table or the list of gates is refused.
 pub fn certificate_of(
     alloc: Global,
     circuit: &Circuit,

@@ -1,4 +1,4 @@
-//! All routes of a greatest flow.
+//! All routes of a maximum flow.
 ghost use Rattle.std.specs.Prelude.{IfOk};
 ghost use Rattle.pulse.specs.Conditions.{IsMaxPreflow};
 ghost use Rattle.cut_cert.specs.Shown.{AreLeastRoutesOf};
@@ -12,12 +12,15 @@ use frame_net::Net;
 use pulse::MaxPreflow;
 use std::alloc::Global;
 
-/// As many routes as the border of a least set has variables, by any maximum preflow of the circuit's network; no two of them
-/// pass after one variable, and none has a point twice. Linear in the network and in the arcs that are walked.
+/// Gathers the routes of any maximum preflow of the circuit's network. The number of them is that
+/// of the variables of a least set's border.
+///
+/// No two routes pass after one variable, and none has a point twice. Linear in the network and in
+/// the arcs that are walked.
 ///
 /// # Errors
 ///
-/// `NoMemory` where a table or a route is refused.
+/// `NoMemory` if a table or a route is refused.
 pub fn routes(alloc: Global, net: &Net, preflow: &MaxPreflow) -> Result<Routes, NoMemory>
     requires { IsMaxPreflow net.now preflow.now }
     ensures { IfOk result (AreLeastRoutesOf net.now) }

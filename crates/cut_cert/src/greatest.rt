@@ -23,7 +23,7 @@ fn marks_of(alloc: Global, net: &Net, preflow: &MaxPreflow) -> Result<Vec<bool>,
     Ok(side.into_marks())
 }
 
-/// The gate with this node before it, where the node isn't marked.
+/// Returns the gate that `node` stands before, if the node isn't marked.
 fn gate_of(net: &Net, marks: &[bool], node: u32) -> Option<u32>
     requires node { node < node_count net.now }
     requires long { length marks.now ≡ node_count net.now }
@@ -38,7 +38,7 @@ fn gate_of(net: &Net, marks: &[bool], node: u32) -> Option<u32>
     }
 }
 
-/// The gates whose nodes before them aren't marked, in the order of the nodes.
+/// Returns the gates with an unmarked node before them, in the order of the nodes.
 fn gates_of(alloc: Global, net: &Net, marks: &[bool]) -> Result<Vec<u32>, NoMemory>
     requires { length marks.now ≡ node_count net.now }
     ensures { IfOk result (λ gates. gates.items ≡ gates_of_nodes_below net.now
@@ -53,9 +53,11 @@ fn gates_of(alloc: Global, net: &Net, marks: &[bool]) -> Result<Vec<u32>, NoMemo
     Ok(gates)
 }
 
-/// The greatest least set of the circuit whose network it is, by any maximum preflow of that network. The nodes of a circuit's
-/// network stand in the order of its gates, so the gates rise; of another network whose gates don't, the empty set is returned.
-/// Linear in the network.
+/// Returns the greatest least set of the circuit with network `net`, by any maximum preflow of that
+/// network. Linear in the network.
+///
+/// The nodes of a circuit's network stand in the order of its gates, so the gates rise. If those of
+/// another network don't, the empty set is returned.
 pub fn greatest_cut(alloc: Global, net: &Net, preflow: &MaxPreflow) -> Result<ClosedSet, NoMemory>
     requires { IsMaxPreflow net.now preflow.now }
     ensures { IfOk result (IsGreatestLeastOf net.now) }
@@ -72,7 +74,7 @@ pub fn greatest_cut(alloc: Global, net: &Net, preflow: &MaxPreflow) -> Result<Cl
     }
 }
 
-/// The empty set.
+/// Returns the empty set.
 fn no_gates(alloc: Global) -> ClosedSet
     ensures { result ≡ [] }
 {

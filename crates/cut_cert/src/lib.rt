@@ -1,19 +1,27 @@
-//! The greatest least set of a circuit, by a maximum flow of its network: the gates whose node before can't reach the sink over arcs
-//! with a residual (Hurst, Mishchenko and Brayton, 2007). Every preflow with valid labels and no active node has the same such nodes,
-//! so which run found it doesn't matter, and excess that is left at nodes needn't be sent back.
+//! The chosen least set of a circuit by a maximum flow of its network, with routes that show it to
+//! be least.
 //!
-//! Beside it routes of a greatest flow: as many as the border of a least set has variables, from known latches to what reads from
-//! outside, no two of which pass after one variable. With a least set they are a certificate that anybody can check
-//! (`certificates`). The flow is walked back from the sink, one unit at a time; what each walk takes is taken from the flow. Excess
-//! that can't reach the sink is never walked.
+//! This engine finds and proves a set for every circuit (Hurst, Mishchenko and Brayton, 2007).
+//! `unit_flows` judges the faster search, which finds one of nearly all.
 //!
-//! The smallest least set is read off routes: the gates to which residual arcs lead from the source, by the flow of one unit along
-//! each of them. The near side of a greatest flow is the smallest of the least cuts, and it lies in each of them, whichever flow it
-//! is of.
+//! The greatest set has the gates whose node before can't reach the sink over arcs with a residual.
+//! All preflows with valid labels and no active node agree on these nodes. So it doesn't matter
+//! which run found the preflow, and excess left at nodes needn't be sent back.
+//!
+//! The smallest set is the near side, with one unit of flow along each route: the gates to which
+//! residual arcs lead from the source.
+//!
+//! Routes lead from known latches to what reads from outside, and no two of them pass after one
+//! variable. The number of them is that of the variables of a least set's border. With a least set
+//! they are a certificate that anybody can check (`certificates`).
+//!
+//! The flow is walked back from the sink, one unit at a time; each walk takes its unit from the
+//! flow. Excess that can't reach the sink is never walked.
 #![tactic(auto)]
 
 mod carried;
 mod certifying;
+mod chosen;
 mod gathering;
 mod greatest;
 mod lookup;
@@ -33,18 +41,23 @@ pub use certificates::{
     write_cert,
 };
 pub use certifying::certificate_of;
+pub use chosen::chosen_of_network;
 pub use gathering::routes;
 pub use greatest::greatest_cut;
 pub use nearest::near_cut;
 pub use preflow::{maximum_preflow, network};
 
-/// Of a flow with no excess at inner nodes whose residual arcs don't lead to the sink, the nodes to which they lead from the
-/// source are the smallest of the least cuts.
+/// States that the near side of a flow is the smallest of the least cuts, if no residual arcs lead
+/// to the sink.
+///
+/// The flow has no excess at inner nodes. The near side has the nodes to which residual arcs lead
+/// from the source.
 pub fn near_side_is_smallest()
     ensures { NearSideIsSmallest }
 {}
 
-/// The gates of the least cut that lies in every least cut are the least set that lies in every least set.
+/// States that the gates of the least cut that lies in every least cut are the least set that lies
+/// in every least set.
 pub fn smallest_cut_is_smallest_set()
     ensures { SmallestCutIsSmallestSet }
 {}

@@ -1,11 +1,12 @@
-//! The arc of a node's row to a point.
+//! The search for the arc from a node to a point.
 ghost use Rattle.std.specs.Prelude.{◌≡◌, ℕ, ◌<◌, MatchOption, Some, true};
 ghost use Rattle.frame_net.specs.FlowNet.{node_count, row_len, head, point_of};
 ghost use Rattle.cut_cert.specs.Steps.{precedes, PointsRise};
 
 use frame_net::{Net, Point};
 
-/// Whether a node comes before that of a point; the source and the sink come before all.
+/// Returns true if `node` comes before the node of a point. The source and the sink come before
+/// all.
 fn comes_before(net: &Net, node: u32, point: Point) -> bool
     requires { node < node_count net.now }
     ensures { result ≡ precedes (point_of net.now node) (Some point) }
@@ -16,8 +17,8 @@ fn comes_before(net: &Net, node: u32, point: Point) -> bool
     }
 }
 
-/// The place in a node's row of the arc to the node of a point, where there is one. The heads of a row stand in the order of
-/// their points: logarithmic in the row.
+/// Finds the place in a node's row of the arc to the node of a point, if there is one. The heads of
+/// a row stand in the order of their points, so the search is logarithmic.
 pub(crate) fn place_of(net: &Net, node: u32, point: Point) -> Option<usize>
     requires { node < node_count net.now }
     ensures within { MatchOption result (Unit {0}) (λ place. place < row_len net.now node) }

@@ -11,7 +11,7 @@ use certificates::Routes;
 use frame_net::Net;
 use std::alloc::Global;
 
-/// The gate with this node before it, where the node is marked.
+/// Returns the gate that `node` stands before, if the node is marked.
 fn gate_of(net: &Net, marks: &[bool], node: u32) -> Option<u32>
     requires node { node < node_count net.now }
     requires long { length marks.now ≡ node_count net.now }
@@ -26,7 +26,7 @@ fn gate_of(net: &Net, marks: &[bool], node: u32) -> Option<u32>
     }
 }
 
-/// The gates with a marked node before them, in the order of the nodes.
+/// Returns the gates with a marked node before them, in the order of the nodes.
 fn gates_of(alloc: Global, net: &Net, marks: &[bool]) -> Result<Vec<u32>, NoMemory>
     requires { length marks.now ≡ node_count net.now }
     ensures { IfOk result (λ gates. gates.items ≡ gates_of_nodes_below net.now
@@ -41,13 +41,18 @@ fn gates_of(alloc: Global, net: &Net, marks: &[bool]) -> Result<Vec<u32>, NoMemo
     Ok(gates)
 }
 
-/// The smallest least set of the circuit whose network it is, by any routes of it that are right, apart from one another,
-/// without a point twice, and as many as the border of a least set has variables, as `cut_cert::routes` finds them; with
-/// other routes, some set of gates. Linear in the network, and in the points of the routes but for a search in a row for each.
+/// Returns the smallest least set of the circuit with network `net`, by its routes as
+/// [`crate::routes`] finds them.
+///
+/// Other right routes serve too. No two of them may pass after one variable, and none may have a
+/// point twice. There must be one for each variable of a least set's border. With wrong routes it
+/// returns some set of gates.
+///
+/// Linear in the network and in the points of the routes, but for a search in a row for each point.
 ///
 /// # Errors
 ///
-/// `NoMemory` where a table or the list of gates is refused.
+/// `NoMemory` if a table or the list of gates is refused.
 pub fn near_cut(alloc: Global, net: &Net, routes: &Routes) -> Result<ClosedSet, NoMemory>
     ensures { IfOk result (IsSmallestLeastBy net.now routes.now) }
 {
@@ -67,7 +72,7 @@ pub fn near_cut(alloc: Global, net: &Net, routes: &Routes) -> Result<ClosedSet, 
     }
 }
 
-/// The empty set.
+/// Returns the empty set.
 fn no_gates(alloc: Global) -> ClosedSet
     ensures { result ≡ [] }
 {

@@ -1,4 +1,4 @@
-//! From a circuit to a maximum preflow of its network.
+//! The network of a circuit and its maximum preflow.
 ghost use Rattle.std.specs.Prelude.{IfOk};
 ghost use Rattle.frame_net.specs.Cuts.{IsNetworkOf};
 ghost use Rattle.pulse.specs.Conditions.{IsMaxPreflow};
@@ -9,11 +9,11 @@ use pulse::{Crew, MaxPreflow, PhaseGate, PulseError, run_with_global_relabeling}
 use std::alloc::Global;
 use std::thread::Threads;
 
-/// The network of a circuit and its held latches.
+/// Makes the network of a circuit and its held latches.
 ///
 /// # Errors
 ///
-/// `NoMemory`.
+/// `NoMemory` if memory is refused.
 pub fn network(alloc: Global, circuit: &Circuit, keep: &Keep) -> Result<Net, NoMemory>
     ensures { IfOk result (IsNetworkOf circuit.now keep.now) }
 {
@@ -23,17 +23,17 @@ pub fn network(alloc: Global, circuit: &Circuit, keep: &Keep) -> Result<Net, NoM
     let Ok(net) = Net::build(alloc, circuit.aig(), circuit.props(), &pass, keep) else {
         return Err(NoMemory);
     };
-    // That a network has a point for each side of a gate is what its reader ensures.
+    // Tells the prover that a network has a point for each side of a gate.
     net.known();
     net.known_points();
     Ok(net)
 }
 
-/// A maximum preflow of a network, by pulses with global relabeling.
+/// Finds a maximum preflow of a network, by pulses with global relabeling.
 ///
 /// # Errors
 ///
-/// `NoMemory`.
+/// `NoMemory` if memory is refused.
 pub fn maximum_preflow<G: PhaseGate>(
     rt: &(impl Threads + Sync),
     alloc: Global,

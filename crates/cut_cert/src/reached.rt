@@ -1,4 +1,5 @@
-//! What a walk over a network's arcs has reached. The queue is never taken from: a place in it walks from its front to its end.
+//! The nodes that a walk over a network's arcs has reached. Nothing leaves the queue: the walk
+//! moves a place in it from its front to its end.
 ghost use Rattle.std.specs.Prelude.{◌≡◌, ◌<◌, IfOk, OnOk, [], false, length, replicate, slice_get};
 ghost use Rattle.cut_cert.specs.Fronts.{is_marked, mark_node, reach_node};
 
@@ -6,8 +7,10 @@ use aig_graph::NoMemory;
 use std::alloc::Global;
 use std::marker::Model;
 
-/// A mark for each node, and marked nodes in the order in which they were reached. A node enters the queue at most once, so a
-/// walk that looks once at the arcs of each queued node is linear.
+/// A mark for each node, and marked nodes in the order in which they were reached.
+///
+/// A node enters the queue at most once, so a walk that looks once at the arcs of each queued node
+/// is linear.
 #[derive(Drop)]
 pub(crate) struct Reached {
     marks: Vec<bool>,
@@ -23,7 +26,7 @@ impl Model for Reached {
 }
 
 impl Reached {
-    /// None of so many nodes.
+    /// Returns a walk over `nodes` nodes that has reached none.
     pub(crate) fn none(alloc: Global, nodes: u32) -> Result<Reached, NoMemory>
         ensures { IfOk result (λ r. r ≡ record { marks = replicate nodes false; queue = [] }) }
     {
@@ -52,14 +55,14 @@ impl Reached {
         self.marks[node as usize] = true;
     }
 
-    /// The node at a place of the queue.
+    /// Returns the node at a place of the queue.
     pub(crate) fn queued(&self, place: usize) -> Option<u32>
         ensures { result ≡ slice_get self.now.queue place }
     {
         self.queue.get(place).copied()
     }
 
-    /// Whether a node is reached.
+    /// Returns true if a node is reached.
     pub(crate) fn has(&self, node: u32) -> bool
         requires { node < length self.now.marks }
         ensures { result ≡ is_marked self.now node }
@@ -67,7 +70,7 @@ impl Reached {
         self.marks[node as usize]
     }
 
-    /// The marks of all nodes.
+    /// Returns the marks of all nodes.
     pub(crate) fn into_marks(self) -> Vec<bool>
         ensures { result.items ≡ self.marks }
     {

@@ -1,5 +1,7 @@
-//! The nodes that reach the sink over residual arcs, by a walk backward from it: a sweep over the nodes by falling number, in
-//! which each row is read after the one behind it in memory, and a queue of those to which the sweep doesn't come any more.
+//! The nodes that reach the sink over residual arcs, by a walk backward from it.
+//!
+//! The walk sweeps over the nodes by falling number, so that rows are read in the order of memory.
+//! A queue has the nodes that the sweep has already passed.
 ghost use Rattle.std.specs.Prelude.{◌≡◌, ◌<◌, IfOk, OnOk, length, not, nat_lt, slice_index};
 ghost use Rattle.frame_net.specs.Flow.{IsSourceSide};
 ghost use Rattle.frame_net.specs.FlowNet.{node_count, row_len};
@@ -13,7 +15,7 @@ use frame_net::Net;
 use pulse::MaxPreflow;
 use std::alloc::Global;
 
-/// Whether an arc has a residual above 0.
+/// Returns true if an arc has a residual above 0.
 fn has_residual(preflow: &MaxPreflow, arc: u32) -> bool
     requires { arc < length preflow.now.flow.cells.residuals }
     ensures { result ≡ nat_lt 0 (slice_index preflow.now.flow.cells.residuals arc) }
@@ -21,8 +23,8 @@ fn has_residual(preflow: &MaxPreflow, arc: u32) -> bool
     preflow.residual(arc) > 0
 }
 
-/// Reaches a node, where a sweep over the nodes from the last down to 2 has come down to `swept`. A node to which it comes later
-/// isn't queued.
+/// Reaches a node when a sweep over the nodes, from the last down to 2, has come down to `swept`. A
+/// node that the sweep is still to visit isn't queued.
 fn reach_in_sweep(side: &mut Reached, node: u32, swept: u32) -> Result<(), NoMemory>
     requires { node < length side.old.marks }
     ensures { OnOk result (side.new ≡ reach_node_in_sweep swept side.old node) }
@@ -34,7 +36,8 @@ fn reach_in_sweep(side: &mut Reached, node: u32, swept: u32) -> Result<(), NoMem
     side.reach(node)
 }
 
-/// Reaches the nodes with a residual arc to `w`. An arc from such a node is the mate of one with tail `w`.
+/// Reaches the nodes with a residual arc to `w`. An arc from such a node is the mate of one with
+/// tail `w`.
 fn read(
     net: &Net,
     preflow: &MaxPreflow,
@@ -63,8 +66,10 @@ fn read(
     Ok(())
 }
 
-/// The nodes that reach the sink at the end of a run. Most reach it over arcs to higher nodes, so that the sweep comes to them and
-/// they aren't queued. The row of each is read once: linear in the network.
+/// Returns the nodes that reach the sink at the end of a run. The row of each is read once: linear
+/// in the network.
+///
+/// Most reach it over arcs to higher nodes, so the sweep visits them and they aren't queued.
 pub(crate) fn sink_side(alloc: Global, net: &Net, preflow: &MaxPreflow) -> Result<Reached, NoMemory>
     requires { IsMaxPreflow net.now preflow.now }
     ensures side { IfOk result (λ r. IsSourceSide (node_count net.now)

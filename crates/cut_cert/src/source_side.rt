@@ -9,7 +9,7 @@ use aig_graph::NoMemory;
 use frame_net::Net;
 use std::alloc::Global;
 
-/// Whether a node lies after a latch or a gate.
+/// Returns true if a node lies after a latch or a gate.
 fn is_behind(net: &Net, node: u32) -> bool
     requires { node < node_count net.now }
     ensures { result ≡ is_behind (point_of net.now node) }
@@ -20,7 +20,7 @@ fn is_behind(net: &Net, node: u32) -> bool
     }
 }
 
-/// Whether an arc with this head is one to after a variable that is marked.
+/// Returns true if an arc is used and its head lies after a variable.
 fn is_taken(net: &Net, used: &[bool], arc: usize, head: u32) -> bool
     requires head { head < node_count net.now }
     requires arc { arc < length used.now }
@@ -29,7 +29,7 @@ fn is_taken(net: &Net, used: &[bool], arc: usize, head: u32) -> bool
     is_behind(net, head) && used[arc]
 }
 
-/// Whether an arc of a node's row has a residual once the marked arcs are used.
+/// Returns true if an arc of a node's row has a residual once the marked arcs are used.
 fn is_open(net: &Net, used: &[bool], node: u32, place: usize) -> bool
     requires node { node < node_count net.now }
     requires place { place < row_len net.now node }
@@ -61,8 +61,8 @@ fn read(net: &Net, used: &[bool], side: &mut Reached, node: u32) -> Result<(), N
     Ok(())
 }
 
-/// Marks of the nodes to which open arcs lead from the source. A node enters the queue once and each arc is looked at once:
-/// linear in the network.
+/// Marks the nodes to which open arcs lead from the source. A node enters the queue once and each
+/// arc is looked at once: linear in the network.
 pub(crate) fn source_side(alloc: Global, net: &Net, used: &[bool]) -> Result<Vec<bool>, NoMemory>
     requires { length used.now ≡ length net.now.heads }
     ensures { IfOk result (λ marks. AreOfSource net.now used.now marks.items) }

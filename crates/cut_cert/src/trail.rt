@@ -8,7 +8,7 @@ use aig_graph::NoMemory;
 use frame_net::{Net, Point};
 use std::alloc::Global;
 
-/// A mark for each of so many nodes, none of which is set.
+/// Returns marks of `nodes` nodes, none of which is set.
 pub(crate) fn no_marks(alloc: Global, nodes: u32) -> Result<Vec<bool>, NoMemory>
     ensures { IfOk result (λ marks. marks.items ≡ replicate nodes false) }
 {
@@ -35,7 +35,7 @@ pub(crate) fn push_marked(
     Ok(())
 }
 
-/// Takes the last node.
+/// Takes the last node off the trail.
 fn pop_marked(nodes: &mut Vec<u32>, marks: &mut [bool]) -> Option<u32>
     requires on { AreOn (length marks.old) marks.old (reverse nodes.old.items) }
     ensures nodes { MatchOption result (reverse nodes.old.items ≡ [])
@@ -48,7 +48,7 @@ fn pop_marked(nodes: &mut Vec<u32>, marks: &mut [bool]) -> Option<u32>
     Some(node)
 }
 
-/// Takes a node that is there, and all after it.
+/// Takes `node`, which is on the trail, and all nodes after it off the trail.
 fn forget_loop(nodes: &mut Vec<u32>, marks: &mut [bool], node: u32)
     requires there { has (reverse nodes.old.items) node ≡ true }
     requires on { AreOn (length marks.old) marks.old (reverse nodes.old.items) }
@@ -62,7 +62,7 @@ fn forget_loop(nodes: &mut Vec<u32>, marks: &mut [bool], node: u32)
     }
 }
 
-/// Where a walk comes back to a node, takes that node and all after it.
+/// Takes `node` and all nodes after it off the trail, if a walk comes back to `node`.
 pub(crate) fn come_to(nodes: &mut Vec<u32>, marks: &mut [bool], node: u32)
     requires within { node < length marks.old }
     requires on { AreOn (length marks.old) marks.old (reverse nodes.old.items) }
@@ -74,7 +74,7 @@ pub(crate) fn come_to(nodes: &mut Vec<u32>, marks: &mut [bool], node: u32)
     }
 }
 
-/// The points of the nodes, the last first, with no node left.
+/// Takes all nodes off the trail, and returns their points, the last first.
 pub(crate) fn take_points(
     alloc: Global,
     net: &Net,

@@ -1,4 +1,4 @@
-//! The arcs over which routes go.
+//! The arcs that routes use.
 ghost use Rattle.std.specs.Prelude.{◌≡◌, ℕ, ◌+◌, ◌<◌, IfOk, OnOk, MatchOption, Some, true, List, length, slice_set, replicate, false};
 ghost use Rattle.frame_net.specs.FlowNet.{node_count, row_len, head, start, point_of};
 ghost use Rattle.cut_cert.specs.Steps.{PointsRise, IsWay, Adds, AreUsed};
@@ -9,7 +9,7 @@ use certificates::Routes;
 use frame_net::{Net, Point};
 use std::alloc::Global;
 
-/// Marks the arc from a node to that of a point, and answers its head.
+/// Marks the arc from a node to that of a point, and returns its head.
 fn mark_step(net: &Net, used: &mut [bool], node: u32, point: Point) -> Option<u32>
     requires node { node < node_count net.now }
     requires long { length used.old ≡ length net.now.heads }
@@ -26,7 +26,7 @@ fn mark_step(net: &Net, used: &mut [bool], node: u32, point: Point) -> Option<u3
     Some(net.heads(node)[place])
 }
 
-/// Marks the arcs over which a route goes from the source.
+/// Marks the arcs of a route from the source.
 fn mark_route(net: &Net, used: &mut [bool], route: &[Point])
     requires { length used.old ≡ length net.now.heads }
     ensures long { length used.new ≡ length used.old }
@@ -43,7 +43,7 @@ fn mark_route(net: &Net, used: &mut [bool], route: &[Point])
     }
 }
 
-/// Marks the arcs over which the routes go.
+/// Marks the arcs of the routes.
 fn mark_routes(net: &Net, used: &mut [bool], routes: &Routes)
     requires long { length used.old ≡ length net.now.heads }
     requires none { used.old ≡ replicate (length net.now.heads) false }
@@ -54,7 +54,7 @@ fn mark_routes(net: &Net, used: &mut [bool], routes: &Routes)
     }
 }
 
-/// A mark for each of so many, none of which is set.
+/// Returns `count` marks, none of which is set.
 pub(crate) fn no_marks(alloc: Global, count: usize) -> Result<Vec<bool>, NoMemory>
     ensures { IfOk result (λ marks. marks.items ≡ replicate count false) }
 {
@@ -62,7 +62,7 @@ pub(crate) fn no_marks(alloc: Global, count: usize) -> Result<Vec<bool>, NoMemor
     Ok(marks)
 }
 
-/// Marks of the arcs over which the routes go from the source, up to their last points.
+/// Returns marks of the arcs of the routes, from the source to their last points.
 pub(crate) fn used_arcs(alloc: Global, net: &Net, routes: &Routes) -> Result<Vec<bool>, NoMemory>
     ensures { IfOk result (λ used. AreUsed net.now routes.now used.items) }
 {

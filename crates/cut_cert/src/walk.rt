@@ -9,7 +9,8 @@ use aig_graph::NoMemory;
 use frame_net::{Net, Point};
 use std::alloc::Global;
 
-/// Goes back from a node over an arc that carries something, takes one unit off it, and answers its tail. None at the source.
+/// Goes back from a node over an arc that carries flow, takes one unit off it, and returns its
+/// tail. Returns `None` at the source.
 fn step_back(net: &Net, carried: &mut [u32], places: &mut [usize], at: u32) -> Option<u32>
     requires node { at < node_count net.now }
     requires long { length carried.old ≡ length net.now.heads }
@@ -25,8 +26,10 @@ fn step_back(net: &Net, carried: &mut [u32], places: &mut [usize], at: u32) -> O
     Some(lower(net, carried, at, place))
 }
 
-/// The nodes of a route, the last first. Each arc that is walked carried a unit, which is taken off it; the first is the mate
-/// of the sink's at this place. Where the walk comes back to a node, the loop is left out.
+/// Walks a route back from the sink, and returns its nodes, the last first.
+///
+/// Each walked arc carried a unit, which is taken off it. The first is the mate of the sink's arc
+/// at place `end`. If the walk comes back to a node, the loop is left out.
 fn walk(
     alloc: Global,
     net: &Net,
@@ -58,7 +61,8 @@ fn walk(
     Ok(nodes)
 }
 
-/// The route that ends with the mate of the sink's arc at this place, of which one unit is taken.
+/// Takes one unit off the route that ends with the mate of the sink's arc at place `end`, and
+/// returns the route.
 pub(crate) fn next_route(
     alloc: Global,
     net: &Net,

@@ -18,6 +18,7 @@ use Rattle.file_identities.specs.declared.identity.Identity.{Identity}
 use Rattle.file_identities.specs.declared.identity.Keeping.{Keeping}
 use Rattle.file_identities.specs.declared.identity.Keeping.TheVariants.{Bytes, Pipe, Device}
 
+-- whether a file of this role is written
 abbrev pub is_written : Role → Bool
 is_written roles.Original = false
 is_written roles.Read = false

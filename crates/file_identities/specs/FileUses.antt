@@ -111,14 +111,17 @@ written_by_moving moving =
 abbrev pub read_by_asking : Asking → List FileUse
 read_by_asking asking = given (Some (reading In asking.input) ∷ Some (reading Out asking.retimed) ∷ Some (original Map asking.map) ∷ [])
 
+-- the files that `lift` reads
 abbrev pub read_by_lifting : Lifting → List FileUse
 read_by_lifting lifting =
     given (Some (reading In lifting.input) ∷ Some (reading Out lifting.retimed) ∷ Some (reading Map lifting.map) ∷ Some (original WitnessFile lifting.witness) ∷ [])
 
+-- the files that `same` reads
 abbrev pub read_by_comparison : Comparison → List FileUse
 read_by_comparison comparison =
     given (Some (reading First comparison.first) ∷ Some (reading Second comparison.second) ∷ stimulus_of comparison.stimuli ∷ reading_if_asked Kept comparison.kept ∷ [])
 
+-- the files that `verify` reads
 abbrev pub read_by_verification : Verification → List FileUse
 read_by_verification verification =
     given (Some (reading In verification.input) ∷ Some (reading Certificates verification.certificates) ∷ reading_if_asked OutOption verification.retimed ∷ [])

@@ -43,6 +43,7 @@ pub record IsCutOf (c : Netlist) (held : List ℕ) (net : FlowNet) (s : List ℕ
   pub gates : AreGatesOf net side s
   pub count : leaving net side ≡ border_size (move_of c held s)
 
+-- each closed set is that of a cut, with equal sizes
 abbrev pub ClosedSetsAreCuts : Type 0
 ClosedSetsAreCuts = (c : Netlist) (held : List ℕ) (net : FlowNet) (s : List ℕ) → IsNetworkOf c held net → IsClosedSet c.aig held s → (side : ℕ → Bool) × IsCutOf c held net s side
 

@@ -23,6 +23,8 @@ residual_after_delivery t v w = (t.res v w + t.pushes w v) - t.pushes v w
 abbrev pub excess_after_delivery : ℕ → Moment → ℕ → ℕ
 excess_after_delivery n t v = (t.excess v + sum_below n (λ w. t.pushes w v)) - sum_below n (t.pushes v)
 
+-- the label of v after its delivery: an active node that keeps some of its excess rises to one
+-- above the least label of a node to which it has a residual, others keep theirs
 abbrev pub label_after_delivery : ℕ → Moment → ℕ → ℕ
 label_after_delivery n t v = cond (is_active n (state_of t) v && nat_lt (sum_below n (t.pushes v)) (t.excess v))
     (least_below n (λ w. cond (nat_lt 0 (residual_after_delivery t v w)) (t.label w + 1) n) n) (t.label v)
@@ -72,6 +74,8 @@ pub record IsAfterPulse (n : ℕ) (s : State) (t : Moment) : Type 0 where
   pub excess : (v : ℕ) → v < n → t.excess v ≡ next_excess n s v
   pub label : (v : ℕ) → v < n → t.next v ≡ next_label n s v
 
+-- all reads of a pulse in any order, and then all deliveries in any order, leave the state after
+-- the pulse
 abbrev pub AnyOrderIsPulse : Type 0
 AnyOrderIsPulse = (n : ℕ) (t : Moment) (reads delivers : List Event) → EachOnce n (nodes_of_events reads) → EachOnce n (nodes_of_events delivers)
     → IsAfterPulse n (state_of t) (deliver_all n (read_all n t (nodes_of_events reads)) (nodes_of_events delivers))

@@ -14,12 +14,15 @@ pub record FlowNet : Type 0 where
   pub latches : ℕ
   pub variables : List ℕ
 
+-- the number of nodes
 abbrev pub node_count : FlowNet → ℕ
 node_count net = length net.starts - 1
 
+-- the first arc of the tail
 abbrev pub start : FlowNet → ℕ → ℕ
 start net v = slice_index net.starts v
 
+-- how many arcs the tail has
 abbrev pub row_len : FlowNet → ℕ → ℕ
 row_len net v = start net (v + 1) - start net v
 
@@ -27,9 +30,11 @@ row_len net v = start net (v + 1) - start net v
 abbrev pub head : FlowNet → ℕ → ℕ → ℕ
 head net v k = slice_index net.heads (start net v + k)
 
+-- the mate of the k-th arc of tail v
 abbrev pub mate : FlowNet → ℕ → ℕ → ℕ
 mate net v k = slice_index net.mates (start net v + k)
 
+-- the capacity of an arc
 abbrev pub cap_at : FlowNet → ℕ → ℕ
 cap_at net arc = slice_index net.caps arc
 
@@ -44,6 +49,8 @@ pub record HasMate (net : FlowNet) (v k : ℕ) : Type 0 where
   pub arc : mate net v k ≡ start net (head net v k) + place
   pub back : head net (head net v k) place ≡ v
 
+-- the rows stand end to end with rising heads, each arc has a mate that leads back, and both
+-- capacities of a pair fit a word
 pub record IsFlowNet (net : FlowNet) : Type 0 where
   pub two : 2 < length net.starts
   pub short : length net.starts < 2 ^ 31
@@ -91,5 +98,6 @@ node_point sink = None
 node_point (before v) = Some (record { var = v; behind = false })
 node_point (after v) = Some (record { var = v; behind = true })
 
+-- the variable of a node and its side of it; the source and the sink have none
 abbrev pub point_of : FlowNet → ℕ → Option Point
 point_of net v = node_point (node_at net.latches net.variables v)

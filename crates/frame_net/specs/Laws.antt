@@ -21,6 +21,7 @@ pub record IsGreatestLeastCut (n : ℕ) (cap : ℕ → ℕ → ℕ) (side : ℕ 
   pub least : (other : ℕ → Bool) → IsCut other → cut_value n cap side ≤ cut_value n cap other
   pub greatest : (other : ℕ → Bool) → IsCut other → cut_value n cap other ≤ cut_value n cap side → (v : ℕ) → v < n → other v ≡ true → side v ≡ true
 
+-- if no node is active, the nodes that can't reach the sink are the greatest least cut
 abbrev pub SourceSideIsGreatest : Type 0
 SourceSideIsGreatest = (n : ℕ) (cap : ℕ → ℕ → ℕ) (s : State) (side : ℕ → Bool) → 1 < n → IsPreflow n cap s → IsValid n s
     → ((v : ℕ) → v < n → is_active n s v ≡ false) → IsSourceSide n s side → IsGreatestLeastCut n cap side
@@ -48,5 +49,6 @@ started n cap = record {
   label = λ v. cond (v == 0) n 0;
 }
 
+-- the start is a preflow with valid labels
 abbrev pub StartIsSound : Type 0
 StartIsSound = (n : ℕ) (cap : ℕ → ℕ → ℕ) → 1 < n → cap 0 0 ≡ 0 → IsPreflow n cap (started n cap) × IsValid n (started n cap)

@@ -1,4 +1,5 @@
-//! The capacities of a network's arcs. They never change once the network is made, so a flow of it owns the same table, and copies none.
+//! The capacities of a network's arcs. They never change once the network is made, so a flow of it
+//! shares the table, and copies none.
 ghost use Rattle.std.specs.Prelude.{◌≡◌, ◌<◌, IfOk, length, slice_index};
 
 use aig_graph::NoMemory;
@@ -6,7 +7,8 @@ use std::alloc::Global;
 use std::marker::Model;
 use std::sync::Arc;
 
-/// The capacities of all arcs, by arc: one table, which a network and its flows own together. The last of them drops it.
+/// The capacities of all arcs, by arc: one table, which a network and its flows own together. The
+/// last of them drops it.
 #[derive(Drop)]
 pub struct Capacities {
     table: Arc<Vec<u32>>,
@@ -21,7 +23,7 @@ impl Model for Capacities {
 }
 
 impl Capacities {
-    /// The capacities that the table holds, with one owner.
+    /// Returns the capacities that the table holds, with one owner.
     pub(crate) fn new(alloc: Global, table: Vec<u32>) -> Result<Capacities, NoMemory>
         ensures { IfOk result (λ c. c ≡ table.items) }
     {
@@ -29,7 +31,8 @@ impl Capacities {
         Ok(Capacities { table })
     }
 
-    /// One more owner of the same table. Takes no memory; it is refused only where the number of owners is at its limit.
+    /// Returns one more owner of the table. Takes no memory; it is refused only if the number of
+    /// owners is at its limit.
     pub fn share(&self) -> Result<Capacities, NoMemory>
         ensures { IfOk result (λ c. c ≡ self.now) }
     {
@@ -37,7 +40,7 @@ impl Capacities {
         Ok(Capacities { table })
     }
 
-    /// The capacity of an arc.
+    /// Returns the capacity of an arc.
     pub fn at(&self, arc: u32) -> u32
         requires { arc < length self.now }
         ensures { result ≡ slice_index self.now arc }
@@ -45,7 +48,7 @@ impl Capacities {
         self.table[arc as usize]
     }
 
-    /// The capacities by arc.
+    /// Returns the capacities by arc.
     pub fn as_slice(&self) -> &[u32]
         ensures { result.now ≡ self.now }
     {

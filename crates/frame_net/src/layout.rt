@@ -1,8 +1,9 @@
-//! Which nodes a network has, and what each is linked to. Nodes 0 and 1 are the source and the sink; then comes a node after each
-//! known latch, then for each passable gate one before it and one after it. A variable's number is counted as if a gate had one
-//! node: with two known latches and two passable gates the numbers are 2, 3, 4, 5, and the nodes 2, 3 (after the latches), 4 and
-//! 5 (before and after the first gate), 6 and 7 (the second). So the node before a gate is `2 * number - base`, where `base` is
-//! the first gate's number.
+//! The nodes of a network, and the links of each. Nodes 0 and 1 are the source and the sink; then
+//! comes a node after each known latch, then for each passable gate one before it and one after it.
+//! A variable's number is counted as if a gate had one node. With two known latches and two
+//! passable gates the numbers are 2, 3, 4, 5. The nodes are 2, 3 (after the latches), 4 and 5
+//! (before and after the first gate), 6 and 7 (the second). So the node before a gate is
+//! `2 * number - base`, and `base` is the first gate's number.
 ghost use Rattle.std.specs.Prelude.{ℕ, Bool, List, ◌≡◌, ◌+◌, ◌-◌, ◌<◌, ◌≤◌, ◌^◌, nat_le, take, length, IfOk, true, if◌then◌else◌};
 ghost use Rattle.std.specs.List.{slice_index_or};
 ghost use Rattle.aig_graph.specs.Counting.{count_below};
@@ -22,13 +23,15 @@ use aig_graph::{
 };
 use std::alloc::Global;
 
-/// A graph with its properties and held latches, and the tables by which its network is built, from the first latch on: whether a
-/// variable's output leaves the frame, and its number, which is that of the node after a latch, or of the one before a gate if each
-/// gate had one node. The ghost fields say that the tables are of this graph, so functions over a `Layout` need no premise for it.
+/// A graph with its properties and held latches, and the tables by which its network is built, from
+/// the first latch on. `leaving` says if a variable's output leaves the frame. `numbers` has the
+/// number of the node after a latch, or of the one before a gate if each gate had one node. The
+/// ghost fields say that the tables are of this graph, so functions over a `Layout` need no premise
+/// for it.
 #[derive(Drop)]
 pub struct Layout<'a> {
     pub aig: &'a Aig,
-    /// Read by clauses alone, as is `keep`: what the tables were made from.
+    /// The properties of which the tables were made. Like `keep`, only clauses read it.
     pub props: &'a Props,
     pub keep: &'a Keep,
     pub leaving: Vec<bool>,
@@ -87,7 +90,7 @@ fn has_node(aig: &Aig, pass: &PassSet, var: u32) -> bool
     aig.is_known_latch(var) || pass.has(var)
 }
 
-/// The entry of a variable, or 0 where the table has none.
+/// Returns the entry of a variable, or 0 if the table has none.
 fn entry_or_zero(entries: &[u32], first: u32, var: u32) -> u32
     ensures { result ≡ (if nat_le first var then slice_index_or entries.now
         (var - first) 0 else 0) }
@@ -98,7 +101,7 @@ fn entry_or_zero(entries: &[u32], first: u32, var: u32) -> u32
     entries.get((var - first) as usize).copied().unwrap_or(0)
 }
 
-/// The number of known latches, by the marks of the variables with nodes.
+/// Returns the number of known latches, by the marks of the variables with nodes.
 fn count_latches(marks: &[bool], latches: usize) -> u32
     requires among { latches ≤ length marks.now }
     requires small { latches ≤ 2 ^ 30 }
@@ -111,7 +114,7 @@ fn count_latches(marks: &[bool], latches: usize) -> u32
 impl<'a> Layout<'a> {
     ghost use Rattle.frame_net.specs.Layout.{nodes_of, capacity_of, links_in};
 
-    /// The tables of a graph, its properties and its held latches.
+    /// Returns the tables of a graph, its properties and its held latches.
     pub fn new(
         alloc: Global,
         aig: &'a Aig,
@@ -141,7 +144,7 @@ impl<'a> Layout<'a> {
         })
     }
 
-    /// What a node, which isn't the source or the sink, is linked to.
+    /// Returns the links of a node, which isn't the source or the sink.
     #[inline(always)]
     pub fn links(&self, v: u32) -> NodeLinks
         requires from { 2 ≤ v }
@@ -163,7 +166,7 @@ impl<'a> Layout<'a> {
         }
     }
 
-    /// What the node before a gate is linked to.
+    /// Returns the links of the node before a gate.
     fn before_links(&self, var: u32) -> NodeLinks
         requires from { first_gate self.now.aig.now ≤ var }
         requires below { var < variables_end self.now.aig.now }
@@ -182,7 +185,7 @@ impl<'a> Layout<'a> {
         }
     }
 
-    /// Whether the variable's output leaves the frame.
+    /// Returns true if the variable's output leaves the frame.
     fn is_observed(&self, var: u32) -> bool
         ensures { first_latch self.now.aig.now ≤ var → var < variables_end self.now.aig.now
             → result ≡ is_observed self.now.aig.now self.now.props.now self.now.keep.now var }
@@ -190,7 +193,7 @@ impl<'a> Layout<'a> {
         mark_at(self.leaving.as_slice(), self.aig.first_latch(), var)
     }
 
-    /// The variable's number.
+    /// Returns the variable's number.
     fn number(&self, var: u32) -> u32
         ensures { first_latch self.now.aig.now ≤ var → var < variables_end self.now.aig.now
             → result ≡ latch_number self.now.aig.now self.now.keep.now var }
@@ -198,7 +201,7 @@ impl<'a> Layout<'a> {
         entry_or_zero(self.numbers.as_slice(), self.aig.first_latch(), var)
     }
 
-    /// The number of nodes.
+    /// Returns the number of nodes.
     pub fn nodes(&self) -> u32
         ensures { result ≡ nodes_of self.now }
     {

@@ -1,5 +1,6 @@
-//! A network as compressed sparse rows: the arcs of a node stand side by side, and what an arc has stands in tables by its place.
-//! It never changes once it is made, so all workers read it, and a flow keeps its own table of residuals, by the same places.
+//! A network as compressed sparse rows: the arcs of a node stand side by side, and tables by place
+//! have the values of each arc. It never changes once it is made, so all workers read it, and a
+//! flow keeps its own table of residuals, by these places.
 ghost use Rattle.std.specs.Prelude.{◌≡◌, ℕ, ◌+◌, ◌<◌, ◌≤◌, IfOk, length, slice_index};
 ghost use Rattle.frame_net.specs.Passable.{IsPassSet};
 ghost use Rattle.frame_net.specs.Capacity.{IsNetOf};
@@ -14,16 +15,17 @@ use std::alloc::Global;
 use std::marker::Model;
 use std::ops::Range;
 
-/// Where a node lies: at the output of a latch or a gate (`behind`), or before a gate.
+/// The place of a node: at the output of a latch or a gate (`behind`), or before a gate.
 #[derive(Clone, Copy, Debug, PartialEq, Eq)]
 pub struct Point {
     pub var: u32,
     pub behind: bool,
 }
 
-/// A flow network: for each node the arcs with it as tail, by rising number of the head. Each arc has a mate from its
-/// head to its tail. Node 0 is the source and node 1 the sink; then there is a node after each known latch, in latch
-/// order, and for each passable gate, in gate order, one before and one after it.
+/// A flow network: for each node the arcs with it as tail, by rising number of the head. Each arc
+/// has a mate from its head to its tail. Node 0 is the source and node 1 the sink; then there is a
+/// node after each known latch, in latch order, and for each passable gate, in gate order, one
+/// before and one after it.
 pub struct Net {
     starts: Vec<u32>,
     heads: Vec<u32>,
@@ -60,8 +62,8 @@ impl Model for Net {
 }
 
 impl Net {
-    /// The network of a graph with these properties, passable gates and held latches. The passable gates are those of the
-    /// graph and the held latches. Linear in the graph, its properties and the network.
+    /// Builds the network of a graph with these properties, passable gates and held latches. Linear
+    /// in the graph, its properties and the network.
     pub fn build(
         alloc: Global,
         aig: &Aig,
@@ -94,43 +96,44 @@ impl Net {
         })
     }
 
-    /// That each network is one of rows whose arcs have mates. Costs nothing: a caller sees the value of a network alone, and has
-    /// what holds of every network by a call of this or of the next two.
+    /// Shows a caller, which sees the value of a network alone, that it has rows whose arcs have
+    /// mates. The next two calls show more of what holds of every network. Costs nothing.
     pub fn known(&self)
         ensures network { IsFlowNet self.now }
     {
         let _starts = self.starts.as_slice();
     }
 
-    /// That in each network the capacities of an arc and its mate, and those of all arcs of the source, fit in 32 bits.
+    /// Shows a caller that the capacities of an arc and its mate, and those of all arcs of the
+    /// source, fit in 32 bits.
     pub fn known_capacities(&self)
         ensures startable { IsStartable self.now }
     {
         let _starts = self.starts.as_slice();
     }
 
-    /// That in each network all nodes but the source and the sink have points.
+    /// Shows a caller that all nodes but the source and the sink have points.
     pub fn known_points(&self)
         ensures points { HasPoints self.now }
     {
         let _starts = self.starts.as_slice();
     }
 
-    /// The number of nodes, the source and the sink among them.
+    /// Returns the number of nodes, the source and the sink among them.
     pub fn nodes(&self) -> u32
         ensures { result ≡ node_count self.now }
     {
         (self.starts.len() - 1) as u32
     }
 
-    /// The number of arcs, the mates among them.
+    /// Returns the number of arcs, the mates among them.
     pub fn arcs(&self) -> usize
         ensures { result ≡ length self.now.heads }
     {
         self.heads.len()
     }
 
-    /// Where a node lies. The source and the sink have no point.
+    /// Returns the place of a node. The source and the sink have none.
     pub fn point(&self, v: u32) -> Option<Point>
         requires { v < node_count self.now }
         ensures { result ≡ point_of self.now v }
@@ -153,7 +156,7 @@ impl Net {
         })
     }
 
-    /// The first arc with a tail, or, at the number of nodes, the number of arcs.
+    /// Returns the first arc with tail `v`; the number of arcs if `v` is the number of nodes.
     pub fn start(&self, v: u32) -> usize
         requires { v ≤ node_count self.now }
         ensures { result ≡ start self.now v }
@@ -161,7 +164,7 @@ impl Net {
         self.starts[v as usize] as usize
     }
 
-    /// The arcs with a tail.
+    /// Returns the arcs with tail `v`.
     pub fn row(&self, v: u32) -> Range<u32>
         requires { v < node_count self.now }
         ensures start { result.start ≡ start self.now v }
@@ -170,7 +173,7 @@ impl Net {
         self.starts[v as usize]..self.starts[v as usize + 1]
     }
 
-    /// The heads of the arcs with a tail.
+    /// Returns the heads of the arcs with tail `v`.
     pub fn heads(&self, v: u32) -> &[u32]
         requires { v < node_count self.now }
         ensures len { length result.now ≡ row_len self.now v }
@@ -182,7 +185,7 @@ impl Net {
         &self.heads[from..to]
     }
 
-    /// The mates of the arcs with a tail.
+    /// Returns the mates of the arcs with tail `v`.
     pub fn mates(&self, v: u32) -> &[u32]
         requires { v < node_count self.now }
         ensures len { length result.now ≡ row_len self.now v }
@@ -194,7 +197,7 @@ impl Net {
         &self.mates[from..to]
     }
 
-    /// The head of an arc.
+    /// Returns the head of an arc.
     pub fn head(&self, arc: u32) -> u32
         requires { arc < length self.now.heads }
         ensures { result ≡ slice_index self.now.heads arc }
@@ -202,7 +205,7 @@ impl Net {
         self.heads[arc as usize]
     }
 
-    /// The mate of an arc: the arc from its head to its tail.
+    /// Returns the mate of an arc: the arc from its head to its tail.
     pub fn mate(&self, arc: u32) -> u32
         requires { arc < length self.now.heads }
         ensures { result ≡ slice_index self.now.mates arc }
@@ -210,7 +213,7 @@ impl Net {
         self.mates[arc as usize]
     }
 
-    /// The capacity of an arc, which is 0 for the mate of an arc of the circuit.
+    /// Returns the capacity of an arc, which is 0 for the mate of an arc of the circuit.
     pub fn cap(&self, arc: u32) -> u32
         requires { arc < length self.now.heads }
         ensures { result ≡ cap_at self.now arc }
@@ -218,14 +221,14 @@ impl Net {
         self.caps.at(arc)
     }
 
-    /// The capacities of all arcs, to share.
+    /// Returns the capacities of all arcs, to share.
     pub fn capacities(&self) -> &Capacities
         ensures { result.now ≡ self.now.caps }
     {
         &self.caps
     }
 
-    /// The capacities of all arcs.
+    /// Returns the capacities of all arcs.
     pub fn caps(&self) -> &[u32]
         ensures { result.now ≡ self.now.caps }
     {

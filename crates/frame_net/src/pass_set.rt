@@ -1,4 +1,5 @@
-//! The passable gates, in one pass: fan-ins come before their gates, so whether they are passable is known when a gate is met.
+//! The passable gates, in one pass: fan-ins come before their gates, so it is known if they are
+//! passable when a gate is met.
 ghost use Rattle.std.specs.Prelude.{ℕ, List, ◌≡◌, ◌&&◌, ◌||◌, ◌↔◌, ◌≤◌, IsTrue, IfOk, OnOk, length};
 ghost use Rattle.aig_graph.specs.Tables.{table};
 ghost use Rattle.aig_graph.specs.Marking.{mark_at};
@@ -10,8 +11,8 @@ ghost use Rattle.frame_net.specs.Passable.{is_passable, passable_gates, IsPassSe
 use aig_graph::{Aig, Gate, Keep, NoMemory, count_marks, mark_at};
 use std::alloc::Global;
 
-/// The passable gates of a graph, by a table from the first latch on: inputs, of which a short file can have hundreds of
-/// millions, have no entry.
+/// The passable gates of a graph, by a table from the first latch on: inputs, of which a short file
+/// can have hundreds of millions, have no entry.
 pub struct PassSet {
     first: u32,
     marks: Vec<bool>,
@@ -30,7 +31,7 @@ impl Drop for PassSet {
 }
 
 impl PassSet {
-    /// Whether the variable is a passable gate.
+    /// Returns true if the variable is a passable gate.
     pub fn has(&self, var: u32) -> bool
         ensures value { result ≡ mark_at self.now.first self.now.marks.items var }
         ensures passable { (g : Graph) (held : List ℕ) → IsPassSet g held self.now
@@ -39,7 +40,7 @@ impl PassSet {
         mark_at(self.marks.as_slice(), self.first, var)
     }
 
-    /// The number of passable gates.
+    /// Returns the number of passable gates.
     pub fn count(&self) -> u32
         ensures value { result ≡ self.now.count }
         ensures passable { (g : Graph) (held : List ℕ) → IsPassSet g held self.now
@@ -48,7 +49,7 @@ impl PassSet {
         self.count
     }
 
-    /// The marks of the passable gates, from the first latch on.
+    /// Returns the marks of the passable gates, from the first latch on.
     pub fn marks(&self) -> &[bool]
         ensures { result.now ≡ self.now.marks.items }
     {
@@ -56,7 +57,7 @@ impl PassSet {
     }
 }
 
-/// Whether the variable is a marked gate or a known latch that isn't held.
+/// Returns true if the variable is a marked gate or a known latch that isn't held.
 fn is_settled(marks: &[bool], aig: &Aig, keep: &Keep, var: u32) -> bool
     ensures { result ≡ (mark_at (first_latch aig.now) marks.now var || may_move aig.now
         keep.now var) }
@@ -73,7 +74,7 @@ fn rests_on_settled(marks: &[bool], aig: &Aig, keep: &Keep, gate: Gate) -> bool
     is_settled(marks, aig, keep, gate.rhs0.var()) && is_settled(marks, aig, keep, gate.rhs1.var())
 }
 
-/// The marks of the latches, which are no gates, with room for those of the gates.
+/// Returns the marks of the latches, which are no gates, with room for those of the gates.
 fn latch_marks(alloc: Global, aig: &Aig) -> Result<Vec<bool>, NoMemory>
     ensures { IfOk result (λ marks. (held : List ℕ)
         → marks.items
@@ -101,8 +102,9 @@ fn push_gates(marks: &mut Vec<bool>, aig: &Aig, keep: &Keep) -> Result<(), NoMem
     Ok(())
 }
 
-/// The passable gates: those of which each fan-in's variable is a known latch that isn't held, or a passable gate. Linear in
-/// the latches and gates, but for a search among the held latches.
+/// Returns the passable gates: those of which each fan-in's variable is a known latch that isn't
+/// held, or a passable gate. Linear in the latches and gates, but for a search among the held
+/// latches.
 pub fn passable(alloc: Global, aig: &Aig, keep: &Keep) -> Result<PassSet, NoMemory>
     ensures { IfOk result (λ pass. IsPassSet aig.now keep.now pass) }
 {

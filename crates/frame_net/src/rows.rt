@@ -1,4 +1,5 @@
-//! Walks over the row of one node: what it pushes, its residuals less its pushes, and its label by its residuals.
+//! Walks over the row of one node: its pushes, its residuals less its pushes, and its label by its
+//! residuals.
 ghost use Rattle.std.specs.Prelude.{◌≡◌, ℕ, ◌+◌, ◌-◌, ◌<◌, ◌≤◌, ◌^◌, nat_lt, ◌&&◌, cond, length, slice_index};
 ghost use Rattle.frame_net.specs.Flow.{sum_below, least_below};
 ghost use Rattle.frame_net.specs.Rows.{row_admissible, node_admissible, IsRowOfPushes};
@@ -31,7 +32,8 @@ fn push_excess(
     }
 }
 
-/// Writes the row of pushes of node `v`: by its excess and label where it is active, else 0s. `nodes` is the number of nodes.
+/// Writes the row of pushes of node `v`: by its excess and label if it is active, else 0s. `nodes`
+/// is the number of nodes.
 #[tactic(auto, using(crate::proofs::RowLaws::on_row, crate::proofs::RowLaws::off_row, crate::proofs::RowLaws::low_row))]
 pub fn write_pushes(
     heads: &[u32],
@@ -62,7 +64,7 @@ pub fn write_pushes(
     }
 }
 
-/// One more than the label of an arc's head where the arc has a residual, else `nodes`.
+/// Returns one more than the label of an arc's head if the arc has a residual, else `nodes`.
 fn label_over(residual: u32, label: u32, nodes: u32) -> u32
     requires { label + 1 < 2 ^ 32 }
     ensures { result ≡ cond (nat_lt 0 residual) (label + 1) nodes }
@@ -70,8 +72,8 @@ fn label_over(residual: u32, label: u32, nodes: u32) -> u32
     if residual > 0 { label + 1 } else { nodes }
 }
 
-/// The label that a node gets by its residuals `row`: the lesser of `nodes` and one more than the least label of a head to which
-/// it has a residual.
+/// Returns the label of a node by its residuals `row`: one more than the least label of a head to
+/// which it has a residual, at most `nodes`.
 pub fn relabel(heads: &[u32], row: &[u32], labels: &[u32], nodes: u32) -> u32
     requires heads { (k : ℕ) → k < length heads.now → slice_index heads.now k < length labels.now }
     requires row { length row.now ≡ length heads.now }

@@ -1,7 +1,7 @@
 //! What becomes of worked files. `tests/cases/batch` has it for other numbers of workers.
 use crate::batch_files::{CHAINS_ANSWER, NEGATED_ANSWER, PAIR_ANSWER};
 use batch_pool::{BatchError, Outcome};
-use counted_io::ReadError;
+use file_words::ReadError;
 
 /// Whether the file was retimed to this text, from so many latches to so many.
 fn is_done(outcome: &Outcome, text: &[u8], from: u32, to: u32) -> bool {

@@ -4,7 +4,9 @@ ghost use Rattle.pulse.specs.Conditions.{IsMaxPreflow};
 
 use crate::circuits::is_set;
 use crate::nets::net_of_text;
-use cut_cert::{greatest_cut, maximum_preflow, near_cut, routes};
+use aag_text::read_aag;
+use aig_graph::{Choice, Circuit, Keep};
+use cut_cert::{chosen_of_network, greatest_cut, maximum_preflow, near_cut, routes};
 use frame_net::Net;
 use pulse::{Crew, MaxPreflow, OpenGate, run_to_end};
 use std::alloc::Global;
@@ -68,4 +70,41 @@ fn are_both_of_text<R: Threads + Sync>(rt: &R, alloc: Global) -> bool {
 #[test]
 fn smallest_has_the_first_gate_and_greatest_has_both(rt: HostRuntime) {
     assert!(rt; are_both_of_text(&rt, rt.alloc()));
+}
+
+/// Returns whether the network of a circuit gives these gates by a choice, with two routes.
+fn is_chosen<R: Threads + Sync>(
+    rt: &R,
+    alloc: Global,
+    circuit: &Circuit,
+    choice: Choice,
+    gates: &[u32],
+) -> bool {
+    let crew = Crew::new(1, OpenGate);
+    match chosen_of_network(rt, alloc, circuit, &Keep::none(), choice, &crew) {
+        Ok((set, routes)) => {
+            let two = routes.len() == 2;
+            drop(routes);
+            two & is_set(Ok(set), gates)
+        }
+        Err(_) => false,
+    }
+}
+
+/// Returns whether the network of the circuit's text does so by either choice.
+fn are_chosen<R: Threads + Sync>(rt: &R, alloc: Global) -> bool {
+    match read_aag(alloc, TWO_LEAST_SETS) {
+        Ok(circuit) => {
+            let greatest = is_chosen(rt, alloc, &circuit, Choice::Greatest, &[7, 8]);
+            let smallest = is_chosen(rt, alloc, &circuit, Choice::Smallest, &[7]);
+            drop(circuit);
+            greatest & smallest
+        }
+        Err(_) => false,
+    }
+}
+
+#[test]
+fn network_has_the_chosen_set_and_its_routes(rt: HostRuntime) {
+    assert!(rt; are_chosen(&rt, rt.alloc()));
 }

@@ -1,6 +1,6 @@
 //! Distances in the first worked network, at the start of the flow.
-use flow_part::{exact_labels, start_parts};
 use frame_net::Net;
+use pulse_parts::{exact_labels, start_parts};
 use std::alloc::{AllocError, Global};
 
 /// Whether these are the distances at the start, when the source's arcs are full.

@@ -4,11 +4,11 @@
 use crate::held_gate::HeldGate;
 use crate::unit_parts::{BLOCKS, SHARED};
 use aig_graph::{Circuit, Keep, NoMemory};
-use chosen_cuts::{CutFlow, Shares, flow_in_parts};
 use pulse::{Crew, OpenGate, PhaseGate};
 use std::alloc::Global;
 use std::test::*;
 use std::thread::Threads;
+use unit_components::{CutFlow, Shares, flow_in_parts};
 use unit_flows::Frame;
 use unit_pulses::{Range, pulse_ranges};
 

@@ -8,11 +8,11 @@ use crate::meeting_gates::MeetingGate;
 use crate::wide_circuits::{BLOCK, FanIn, RACE, Units};
 use aag_text::read_aag;
 use aig_graph::{Choice, Circuit, ClosedSet, Keep, NoMemory};
-use chosen_cuts::{Sizes, chosen_by_sizes};
 use pulse::{Crew, OpenGate, PhaseGate};
 use std::alloc::Global;
 use std::test::*;
 use std::thread::Threads;
+use unit_components::{Sizes, chosen_by_sizes};
 use unit_flows::{Frame, GateFlow, UnitFlow};
 
 /// Each circuit is cut, and a part of over 64 places is large.

@@ -3,8 +3,8 @@ use Rattle.std.specs.Option.{unwrap_or}
 use Rattle.std.proofs.Common.{ℕ, ◌≡◌, List, Option, Some, Result, Ok, ap₂, sym, subst, ◌∙◌}
 use Rattle.counted_io.specs.Input.{Input}
 use Rattle.aig_graph.specs.Circuits.{Netlist}
-use Rattle.counted_io.specs.declared.fault.ReadError.{ReadError}
-use Rattle.counted_io.specs.declared.spelling.Spelling.{Spelling}
+use Rattle.file_words.specs.declared.fault.ReadError.{ReadError}
+use Rattle.file_words.specs.declared.spelling.Spelling.{Spelling}
 use Rattle.aig_binary.specs.declared.reading.SpeltCircuit.{SpeltCircuit}
 use Rattle.aig_binary.specs.Ending.{Spells}
 use Rattle.retimed_circuits.specs.Certified.{IsSameRetiming}

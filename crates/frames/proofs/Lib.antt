@@ -8,3 +8,4 @@ pub mod StageLaws
 pub mod FollowingLaws
 pub mod BeginningLaws
 pub mod HoldLaws
+pub mod LimitLaws

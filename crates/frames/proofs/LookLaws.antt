@@ -12,9 +12,9 @@ use Rattle.certificates.specs.declared.verdict.Verdict.TheVariants.{Yes}
 use Rattle.certificates.specs.Verdicts.{IsVerdict}
 use Rattle.chosen_cuts.specs.Certified.{AddsOne, ForgetsLast}
 use Rattle.chosen_cuts.specs.declared.records.Records.{Records}
-use Rattle.retimed_circuits.specs.Arrivals.{IsChosenWithin, IsClosedWithin}
-use Rattle.retimed_circuits.specs.Bounded.{BoundedLaw, bounded}
-use Rattle.retimed_circuits.specs.Levels.{levels}
+use Rattle.path_levels.specs.Arrivals.{IsChosenWithin, IsClosedWithin}
+use Rattle.path_levels.specs.Bounded.{BoundedLaw, bounded}
+use Rattle.path_levels.specs.Levels.{levels}
 use Rattle.retimed_circuits.specs.Certified.{IsCertificate, Passes, passes_bounded, passes_whole}
 use Rattle.retimed_circuits.specs.Frames.{IsFound, IsTooLong, count_over, found_whole, found_within, moved_over}
 use Rattle.retimed_circuits.proofs.FoundLaws.{found-closed, none-helps, within-least}

@@ -1,9 +1,10 @@
--- What becomes of a reader's bytes: the retimed circuit of those bytes, whose text is written, or an error.
+-- What becomes of a reader's bytes: the retimed circuit of those bytes, whose text is written, or
+-- an error.
 use Rattle.std.specs.Prelude.{ℕ, ◌≡◌, ⊤, Bool, List, Some, Result, Ok, Err, IfOk, IsErrOf, unwrap_or}
 use Rattle.counted_io.specs.Input.{Input}
 use Rattle.counted_io.specs.Output.{Output, WritesAll, WritesPart}
 use Rattle.counted_io.specs.declared.writing.WriteError.{WriteError}
-use Rattle.counted_io.specs.declared.fault.ReadError.{ReadError}
+use Rattle.file_words.specs.declared.fault.ReadError.{ReadError}
 use Rattle.ascii_file.specs.Laws.{IsWithinLimits}
 use Rattle.aig_binary.specs.Spellings.{read_any, text_in}
 use Rattle.aig_binary.specs.declared.reading.SpeltCircuit.{SpeltCircuit}
@@ -29,7 +30,8 @@ pub record IsAnswer (options : Options) (spelt : SpeltCircuit) (r : Retimed) : T
   pub names : NoneMissingBy options spelt.circuit
   pub retimed : IsRetimedBy options spelt.circuit r
 
--- the bytes that were left are those of a circuit, and r has no path longer than the options' bound for it, but for those that it has
+-- the bytes that were left are those of a circuit, and r has no path longer than the options' bound
+-- for it, but for those that it has
 pub record KeepsLevelsOf (options : Options) (input : Input) (r : Retimed) : Type 0 where
   pub spelt : SpeltCircuit
   pub spells : Spells input spelt
@@ -39,7 +41,8 @@ pub record KeepsLevelsOf (options : Options) (input : Input) (r : Retimed) : Typ
 abbrev pub ReadsBack : Options → SpeltCircuit → Retimed → Type 0
 ReadsBack options spelt r = read_any (text_for options spelt r) ≡ Ok r.circuit
 
--- the text of the answer was written whole, and nothing else; where the circuit was within the limits of a header, the text is read as the answer
+-- the text of the answer was written whole, and nothing else; if the circuit was within the limits
+-- of a header, the text is read as the answer
 pub record IsWritten (options : Options) (spelt : SpeltCircuit) (old new : Output) (r : Retimed) : Type 0 where
   pub answer : IsAnswer options spelt r
   pub writes : WritesAll old new (text_for options spelt r)
@@ -51,7 +54,8 @@ pub record StopsWriting (options : Options) (spelt : SpeltCircuit) (old new : Ou
   pub answer : IsAnswer options spelt retimed
   pub writes : WritesPart old new (text_for options spelt retimed)
 
--- why the circuit that was read wasn't retimed and written; nothing is written before the answer is whole
+-- why the circuit that was read wasn't retimed and written; nothing is written before the answer is
+-- whole
 abbrev pub IsStop : Options → SpeltCircuit → Output → Output → BytesError → Type 0
 IsStop options spelt old new (Read e) = ⊥
 IsStop options spelt old new (Retime NoMemory) = new ≡ old
@@ -59,24 +63,27 @@ IsStop options spelt old new (Retime (NoSuchName place)) = (new ≡ old) × IsFi
 IsStop options spelt old new (Retime (NoSuchLatch place)) = (new ≡ old) × IsFirstNoLatchBy options spelt.circuit place
 IsStop options spelt old new (Write e) = StopsWriting options spelt old new
 
--- the bytes that were left are those of a circuit in a spelling, its answer was written, and what was written is read as that answer
+-- the bytes that were left are those of a circuit in a spelling, its answer was written, and what
+-- was written is read as that answer
 pub record IsAnswered (input : Input) (old new : Output) (options : Options) (r : Retimed) : Type 0 where
   pub spelt : SpeltCircuit
   pub read : Spells input spelt
   pub written : IsWritten options spelt old new r
   pub reads_back : (left : List ℕ) → input.bytes ≡ Some left → ReadsBack options spelt r
 
--- the same options, but for whether certificates are wanted
+-- the options with certificates wanted, or not wanted
 abbrev pub certifying : Options → Bool → Options
 certifying options certify = record { spelling = options.spelling; max_frames = options.max_frames; choice = options.choice; certify = certify; keep = options.keep; keep_latches = options.keep_latches; merge = options.merge; bound = options.bound }
 
--- of the same bytes by the same options, with certificates or without, there is one answer but for the routes of certificates, and one text of it
+-- of the same bytes by the same options, with certificates or without, there is one answer but for
+-- the routes of certificates, and one text of it
 abbrev pub IsOneAnswer : List ℕ → Options → Type 0
 IsOneAnswer bytes options = (certify : Bool) (input other : Input) (old new before after : Output) (r s : Retimed) → input.bytes ≡ Some bytes → other.bytes ≡ Some bytes
     → (p : IsAnswered input old new options r) (q : IsAnswered other before after (certifying options certify) s)
     → IsSameRetiming options.certify certify r s × (text_for options p.spelt r ≡ text_for options q.spelt s)
 
--- the bytes were read to their end, and are those of a circuit in a spelling, but there is no whole answer
+-- the bytes were read to their end, and are those of a circuit in a spelling, but there is no whole
+-- answer
 pub record EndsWithoutAnswer (options : Options) (old new : Input) (before after : Output) (e : BytesError) : Type 0 where
   pub read : ReadsToEnd old new
   pub spelt : SpeltCircuit
@@ -108,13 +115,15 @@ pub record AreOfCircuit (input : Input) : Type 0 where
   pub spelt : SpeltCircuit
   pub spells : Spells input spelt
 
--- the bytes are those of a circuit of whose latches none has the name at this place, the first such name
+-- the bytes are those of a circuit of whose latches none has the name at this place, the first such
+-- name
 pub record IsMissingIn (options : Options) (input : Input) (place : ℕ) : Type 0 where
   pub spelt : SpeltCircuit
   pub spells : Spells input spelt
   pub missing : IsFirstMissingBy options spelt.circuit place
 
--- the bytes are those of a circuit that has no latch at the position at this place, the first such position
+-- the bytes are those of a circuit that has no latch at the position at this place, the first such
+-- position
 pub record IsNoLatchIn (options : Options) (input : Input) (place : ℕ) : Type 0 where
   pub spelt : SpeltCircuit
   pub spells : Spells input spelt

@@ -19,11 +19,12 @@ pub record IsCleanedRun {F : Type 0} (has_come : F → Netlist → Netlist → L
   pub underway : IsUnderway options bound d held 0 r now
   pub comes : ComesOn has_come old new d r.circuit r.kept_free
 
--- what is reported of a circuit with so many latches that was merged so
+-- the report of a circuit with `latches` latches that was merged to m
 abbrev pub read_before : MergedStart → ℕ → ReadCircuit
 read_before m latches = record { latches = latches; kept_free = m.kept_free; counts = m.counts }
 
--- a merged circuit cleaned, and it was followed; what is reported of the circuit that was merged is beside it
+-- a merged circuit cleaned, and it was followed; what is reported of the circuit that was merged is
+-- beside it
 pub record IsMergedFrom {F : Type 0} (has_come : F → Netlist → Netlist → List ℕ → Type 0) (options : Options) (bound : Option ℕ) (m : MergedStart) (latches : ℕ) (old new : F) (r : Retimed)
     (now : List ℕ) (read : Option ReadCircuit) : Type 0 where
   pub cleaned : IsCleanedRun has_come options bound m.circuit m.keep old new r now
@@ -43,12 +44,14 @@ pub record IsPlainReady {F : Type 0} (has_come : F → Netlist → Netlist → L
   pub unasked : options.merge ≡ false
   pub followed : IsFollowed has_come options bound c c (kept_by options c) (all_free c.aig) 0 r now f
 
--- what frames of c start from, with merging where the options ask for it, as what is reported of c tells
+-- what frames of c start from, with merging where the options ask for it, as what is reported of c
+-- tells
 abbrev pub StartsFrom : {F : Type 0} → (F → Netlist → Netlist → List ℕ → Type 0) → Options → Option ℕ → Netlist → Option ReadCircuit → Retimed → List ℕ → F → Type 0
 StartsFrom has_come options bound c None r now f = IsPlainReady has_come options bound c r now f
 StartsFrom has_come options bound c (Some read) r now f = IsMergedReady has_come options bound c read r now f
 
--- c, whose held latches are those that the options hold, with all of their names, before its first frame, under the bound that the options have for it
+-- c, whose held latches are those that the options hold, with all of their names, before its first
+-- frame, under the bound that the options have for it
 pub record IsRunBegun {F : Type 0} (has_come : F → Netlist → Netlist → List ℕ → Type 0) (options : Options) (bound : Option ℕ) (c : Netlist) (read : Option ReadCircuit) (r : Retimed)
     (now : List ℕ) (f : F) : Type 0 where
   pub names : Covers (names_in options) (kept_by options c) c

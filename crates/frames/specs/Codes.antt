@@ -13,11 +13,13 @@ retime_error_code NoMemory = 1
 retime_error_code (NoSuchName place) = 2
 retime_error_code (NoSuchLatch place) = 3
 
+-- the number of an error
 abbrev pub bytes_error_code : BytesError → ℕ
 bytes_error_code (Read e) = 1
 bytes_error_code (Retime e) = 2
 bytes_error_code (Write e) = 3
 
+-- the error of a run by that of holding latches
 abbrev pub of_hold_error : HoldError → RetimeError
 of_hold_error holding.NoMemory = NoMemory
 of_hold_error (holding.NoSuchName place) = NoSuchName place

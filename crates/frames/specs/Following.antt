@@ -1,5 +1,6 @@
--- What follows a run from circuit to circuit. That a follower has come from one circuit to another, whose free latches have these places
--- among those of the first, is a relation that each follower chooses.
+-- What follows a run from circuit to circuit. That a follower has come from one circuit to another,
+-- whose free latches have these places among those of the first, is a relation that each follower
+-- chooses.
 use Rattle.std.specs.Prelude.{ℕ, ◌≡◌, List, Option, length}
 use Rattle.aig_graph.specs.Circuits.{Netlist}
 use Rattle.aig_graph.specs.Graph.{free_latches}
@@ -18,11 +19,12 @@ use Rattle.frames.specs.Underway.{IsWholeRun, IsUnderway}
 abbrev pub HasComeTo : {F : Type 0} → (F → Netlist → Netlist → List ℕ → Type 0) → F → Netlist → Type 0
 HasComeTo has_come f d = (c : Netlist) × (kept : List ℕ) × has_come f c d kept
 
--- from d, wherever it had come from, it has come to e, which has the free latches of d at these places
+-- from d, wherever it had come from, it has come to e, which has the free latches of d at these
+-- places
 abbrev pub ComesOn : {F : Type 0} → (F → Netlist → Netlist → List ℕ → Type 0) → F → F → Netlist → Netlist → List ℕ → Type 0
 ComesOn has_come old new d e more = (c : Netlist) (kept : List ℕ) → length kept ≡ free_latches d.aig → has_come old c d kept → has_come new c e (composed kept more)
 
--- the same, where e has all free latches of d
+-- from d, wherever it had come from, it has come to e, which has all free latches of d
 abbrev pub ComesWhole : {F : Type 0} → (F → Netlist → Netlist → List ℕ → Type 0) → F → F → Netlist → Netlist → Type 0
 ComesWhole has_come old new d e = (c : Netlist) (kept : List ℕ) → has_come old c d kept → has_come new c e kept
 
@@ -41,8 +43,9 @@ pub record MovesFollowed {F : Type 0} (has_come : F → Netlist → Netlist → 
   pub moves : Moves options bound held c frame
   pub comes : ComesOn has_come old new c frame.cleaned.circuit frame.cleaned.kept_free
 
--- r is what n frames make of d, which is cleaned first, and the follower has come there from c: that is d itself, or was merged to d; kept has
--- the places of d's free latches among c's. The latches held in d stand at now
+-- r is what n frames make of d, which is cleaned first, and the follower has come there from c:
+-- that is d itself, or was merged to d; kept has the places of d's free latches among c's. The
+-- latches held in d stand at now
 pub record IsFollowed {F : Type 0} (has_come : F → Netlist → Netlist → List ℕ → Type 0) (options : Options) (bound : Option ℕ) (c d : Netlist) (held kept : List ℕ) (n : ℕ) (r : Retimed)
     (now : List ℕ) (f : F) : Type 0 where
   pub underway : IsUnderway options bound d held n r now

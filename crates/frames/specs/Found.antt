@@ -11,7 +11,7 @@ use Rattle.aig_graph.specs.Streams.{SameStreams}
 use Rattle.aig_graph.specs.declared.choice.Choice.{Choice}
 use Rattle.chosen_cuts.specs.Certified.{AddsOne}
 use Rattle.chosen_cuts.specs.declared.records.Records.{Records}
-use Rattle.retimed_circuits.specs.Levels.{levels}
+use Rattle.path_levels.specs.Levels.{levels}
 use Rattle.rebuild.specs.Marked.{AreMarksOf}
 use Rattle.rebuild.specs.Moved.{moved_of}
 use Rattle.retimed_circuits.specs.Frames.{CleansTo, IsFrame, held_over, moved_over, report_over}
@@ -50,7 +50,8 @@ pub record IsOver (c : Netlist) (held s : List ℕ) (found : Helping) : Type 0 w
 abbrev pub IsFoundOver : Netlist → List ℕ → List ℕ → Option Helping → Type 0
 IsFoundOver c held s found = MatchOption found (known_latches c.aig ≤ border_size (move_of c held s)) (IsOver c held s)
 
--- a look for a set: the chosen least set of d, with its certificate where certificates are wanted, and what is found over it in c
+-- a look for a set: the chosen least set of d, with its certificate where certificates are wanted,
+-- and what is found over it in c
 pub record IsLook (choice : Choice) (c d : Netlist) (held : List ℕ) (old new : Records) (found : Option Helping) : Type 0 where
   pub set : List ℕ
   pub chosen : IsChosen choice d held set
@@ -77,18 +78,21 @@ abbrev pub IsSetJudged : Option ℕ → Netlist → List ℕ → List ℕ → Op
 IsSetJudged bound c held s first (Decided found) = IsFoundOver c held s found × KeepsBound bound c held found
 IsSetJudged bound c held s first (TooLong most) = (bound ≡ Some most) × BreaksBound most c held first
 
--- the set that is found, which counts less than the known latches, the move over it, and the frame's report
+-- the set that is found, which counts less than the known latches, the move over it, and the
+-- frame's report
 pub record Helps (options : Options) (bound : Option ℕ) (held : List ℕ) (c : Netlist) (found : Helping) : Type 0 where
   pub set : IsHelpingSetBy options bound held c found.set
   pub prepared : IsPrepared c held found.set found.prepared
   pub report : found.report ≡ report_over held c found.set
 
--- what is found in c, if anything helps; a certificate of the set is added where certificates are wanted
+-- what is found in c, if anything helps; a certificate of the set is added where certificates are
+-- wanted
 pub record Finds (options : Options) (bound : Option ℕ) (held : List ℕ) (c : Netlist) (old new : Records) (result : Option Helping) : Type 0 where
   pub found : MatchOption result (NoneHelpsBy options bound held c) (Helps options bound held c)
   pub adds : AddsFound options bound held c old new
 
--- a frame over its set, which keeps the streams, says where the held latches stand then, and leaves nothing to clean
+-- a frame over its set, which keeps the streams, says where the held latches stand then, and leaves
+-- nothing to clean
 pub record Moves (options : Options) (bound : Option ℕ) (held : List ℕ) (c : Netlist) (frame : Frame) : Type 0 where
   pub set : IsHelpingSetBy options bound held c frame.set
   pub cleaned : CleansTo (held_over held c frame.set) (moved_over held c frame.set) frame.cleaned.circuit frame.cleaned.kept_free frame.cleaned.keep

@@ -11,3 +11,4 @@ pub mod Following
 pub mod Beginning
 pub mod Stages
 pub mod Answering
+pub mod Limits

@@ -4,6 +4,7 @@ use Rattle.aig_graph.specs.Circuits.{Netlist}
 use Rattle.aig_graph.specs.Keep.{AreLatches, Holding, IsFirstMissing, IsFirstNoLatch, NoneMissing, held_of, names_of}
 use Rattle.frames.specs.declared.options.Options.{Options}
 
+-- the names that the options hold
 abbrev pub names_in : Options → List (List ℕ)
 names_in options = names_of options.keep.items
 

@@ -33,7 +33,8 @@ pub record IsRetimedTo (merge : Bool) (bound : Option ℕ) (choice : Choice) (c 
 abbrev pub IsRetimedHeld : Options → Netlist → Retimed → List ℕ → Type 0
 IsRetimedHeld options c r now = IsRetimedTo options.merge (bound_in options c) options.choice c (holding_in options) options.max_frames options.certify r now
 
--- c retimed under this bound, where the latches at these positions are held, without merging, whatever the options say of that
+-- c retimed under this bound, where the latches at these positions are held, without merging,
+-- whatever the options say of that
 abbrev pub IsRetimedAsIs : Options → Option ℕ → Netlist → List ℕ → Retimed → Type 0
 IsRetimedAsIs options bound c held r = IsRetimedOver bound options.choice c held options.max_frames options.certify r
 
@@ -45,11 +46,13 @@ NoneHelpsBy options bound held c = NoneHelps bound options.choice held c
 abbrev pub IsHelpingSetBy : Options → Option ℕ → List ℕ → Netlist → List ℕ → Type 0
 IsHelpingSetBy options bound held c s = IsHelpingSet bound options.choice held c s
 
--- what the next frame of c takes: the set that is found, where it counts less than c has known latches; none where no set makes them fewer
+-- what the next frame of c takes: the set that is found, where it counts less than c has known
+-- latches; none where no set makes them fewer
 abbrev pub IsNextSet : Options → Option ℕ → List ℕ → Netlist → Option (List ℕ) → Type 0
 IsNextSet options bound held c set = MatchOption set (NoneHelpsBy options bound held c) (IsHelpingSetBy options bound held c)
 
--- d has c's streams, its held latches stand at now in d, and nothing is left to clean there; kept has the places of the free latches that stay
+-- d has c's streams, its held latches stand at now in d, and nothing is left to clean there; kept
+-- has the places of the free latches that stay
 pub record KeepsStreamsAndHeld (held : List ℕ) (c d : Netlist) (kept now : List ℕ) : Type 0 where
   pub streams : SameStreams c d kept
   pub stays : StayHeld held c now d

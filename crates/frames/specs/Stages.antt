@@ -6,13 +6,15 @@ use Rattle.retimed_circuits.specs.declared.report.Retimed.{Retimed}
 use Rattle.frames.specs.declared.watcher.Stage.{Stage}
 use Rattle.frames.specs.declared.watcher.Stage.TheVariants as stages
 
--- a stage that begins: of a look for a set how many frames were taken before, and how many known latches there are
+-- a stage that begins: of a look for a set how many frames were taken before, and how many known
+-- latches there are
 pub data Notification : Type 0 where
   Cleaning : Notification
   Looking : (taken latches : ℕ) → Notification
   Moving : Notification
   Writing : Notification
 
+-- what a stage notifies of as it begins
 abbrev pub notification_of : Stage → Notification
 notification_of stages.Cleaning = Cleaning
 notification_of (stages.Looking taken aig) = Looking taken (known_latches aig.now)
@@ -23,12 +25,13 @@ notification_of stages.Writing = Writing
 abbrev pub Notifies : {W : Type 0} → (W → List Notification → Type 0) → W → W → List Notification → Type 0
 Notifies was_notified old new stages = (before : List Notification) → was_notified old before → was_notified new (before ++ stages)
 
--- of each frame, the first of which is taken after so many: its set is looked for, and latches move over it
+-- of each frame, the first of which comes after `taken` frames: its set is looked for, and latches
+-- move over it
 unfoldable pub frame_stages : ℕ → List FrameReport → List Notification
 frame_stages taken [] = []
 frame_stages taken (report ∷ reports) = Looking taken report.before ∷ Moving ∷ frame_stages (suc taken) reports
 
--- where the limit leaves so many frames, a set is looked for once more, and none helps
+-- if the limit leaves a frame, a set is looked for once more, and none helps
 abbrev pub last_look : ℕ → ℕ → ℕ → List Notification
 last_look zero taken latches = []
 last_look (suc left) taken latches = Looking taken latches ∷ []

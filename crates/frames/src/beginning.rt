@@ -1,5 +1,7 @@
-//! What frames start from: a circuit cleaned, or, where the options ask for it, cleaned, merged and cleaned again. After that nobody needs
-//! the circuit that was read, so whoever owns it may drop it.
+//! The start of a run: the circuit that was read is cleaned. If the options ask for it, it is
+//! merged and cleaned again.
+//!
+//! After that nobody needs the circuit that was read, so a caller that owns it may drop it.
 ghost use Rattle.std.specs.Prelude.{ℕ, ◌≡◌, ◌<◌, false, All, IfOk, [], List, None, length, true};
 ghost use Rattle.aig_graph.specs.Laws.{all_free};
 ghost use Rattle.frames.specs.Beginning.{IsRunBegun, IsCleanedRun, IsMergedFrom};
@@ -16,7 +18,8 @@ use latch_merging::MergedStart;
 use retimed_circuits::Retimed;
 use std::alloc::Global;
 
-/// A cleaned circuit before any frame, followed to it under this bound. Of the circuit that was read, so many latches are reported.
+/// Returns a run that has no frames yet, from `start`, the cleaned circuit. `follower` has come to
+/// it. The circuit that was read had `read_latches` latches.
 fn begun<F>(
     alloc: Global,
     start: Cleaned,
@@ -54,7 +57,7 @@ fn begun<F>(
     }
 }
 
-/// The circuit cleaned, where these latches are held, by a follower that has come to it.
+/// Cleans `circuit` by `follower`, which has come to it, and returns the run that starts there.
 fn cleaned_run<F: RunFollower + Drop>(
     alloc: Global,
     follower: F,
@@ -81,7 +84,7 @@ fn cleaned_run<F: RunFollower + Drop>(
     }
 }
 
-/// What frames start from where no latches are merged.
+/// Begins a run that merges no latches.
 fn begun_as_is<F: RunFollower + Drop>(
     alloc: Global,
     follower: F,
@@ -102,7 +105,7 @@ fn begun_as_is<F: RunFollower + Drop>(
     Ok(Begun { run, read: None })
 }
 
-/// The merged circuit, of a circuit with so many latches, cleaned, and dropped.
+/// Cleans and drops the merged circuit of `start`. The circuit that was read had `latches` latches.
 fn merged_run<F: RunFollower + Drop>(
     alloc: Global,
     follower: F,
@@ -135,7 +138,7 @@ fn merged_run<F: RunFollower + Drop>(
     })
 }
 
-/// What frames start from where latches that always agree are merged.
+/// Begins a run that merges latches that always agree.
 fn begun_merged<F: RunFollower + Drop>(
     alloc: Global,
     follower: F,
@@ -163,7 +166,7 @@ fn begun_merged<F: RunFollower + Drop>(
     }
 }
 
-/// What frames start from under this bound, with merging where the options ask for it.
+/// Begins a run under `bound`, merged if the options ask for it.
 fn begun_under<F: RunFollower + Drop>(
     alloc: Global,
     follower: F,
@@ -185,12 +188,14 @@ fn begun_under<F: RunFollower + Drop>(
     }
 }
 
-/// Begins a run of a circuit: what its frames start from. The follower has come to the circuit, and these latches of it are held, which
-/// are those that the options hold ([`hold_by`](crate::hold_by)). [`finish`](crate::finish) takes the frames.
+/// Begins a run of `circuit`, up to its first frame. [`finish`](crate::finish) takes the frames.
+///
+/// `follower` has come to `circuit`, and `keep` has the latches that the options hold
+/// ([`hold_by`](crate::hold_by)).
 ///
 /// # Errors
 ///
-/// What stops the follower; memory that is refused.
+/// An error of the follower; `NoMemory` if memory is refused.
 pub fn begin<F: RunFollower + Drop>(
     alloc: Global,
     circuit: &Circuit,

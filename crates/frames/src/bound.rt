@@ -1,24 +1,27 @@
-//! How long paths may get. Moving latches forward makes paths longer: what stood behind a row of latches then stands in front of it.
+//! The bound on the length of paths. Moving latches forward makes paths longer: what stood behind a
+//! row of latches then stands in front of it.
 ghost use Rattle.std.specs.Prelude.{◌≡◌, IfOk};
 ghost use Rattle.frames.specs.Bounds.{bound_for, levels_named};
 
 use aig_graph::{Circuit, NoMemory};
-use retimed_circuits::levels;
+use path_levels::levels;
 use std::alloc::Global;
 
-/// How many gates a path may get. The longest path of the circuit that was read is never too long.
+/// How many gates a path may have. The longest path of the circuit that was read is never too long.
 #[derive(Clone, Copy, Debug, PartialEq, Eq)]
 pub enum PathBound {
     /// Any number.
     None,
-    /// So many, or as many as on the longest path of the circuit as it was read, if that has more.
+    /// At most `n` gates, for `Levels(n)`, or as many as the longest path of the circuit that was
+    /// read if that has more.
     Levels(u32),
-    /// As many as on the longest path of the circuit as it was read.
+    /// At most as many gates as the longest path of the circuit that was read.
     NoLonger,
 }
 
 impl PathBound {
-    /// How many gates a path may get in any circuit, where there is a bound: with [`PathBound::NoLonger`] none.
+    /// Returns how many gates a path may have in any circuit: 0 for [`PathBound::NoLonger`], and
+    /// `None` without a bound.
     pub fn levels(self) -> Option<u32>
         ensures { result ≡ levels_named self }
     {
@@ -29,11 +32,12 @@ impl PathBound {
         }
     }
 
-    /// The bound for a circuit as it was read, where there is one.
+    /// Returns the bound for a circuit as it was read. Its levels are counted only if there is a
+    /// bound.
     ///
     /// # Errors
     ///
-    /// Memory is refused, where the circuit's levels are asked for.
+    /// `NoMemory` if memory is refused for the levels.
     pub fn for_circuit(self, alloc: Global, circuit: &Circuit) -> Result<Option<u32>, NoMemory>
         ensures { IfOk result (λ bound. bound ≡ bound_for self circuit.now) }
     {

@@ -1,5 +1,8 @@
-//! A frame under a bound. Where the chosen least set makes a path longer than that, the chosen one of those sets is looked for whose gates
-//! arrive within the bound. They are the closed sets of a bounded circuit, so what finds sets and certifies them serves as it is.
+//! A frame under a bound on path length.
+//!
+//! If the chosen least set makes a path too long, closed sets are restricted to those whose gates
+//! arrive within the bound. The frame then takes the chosen least of these. They are the closed
+//! sets of a bounded circuit, so the search and its certificates serve unchanged.
 ghost use Rattle.std.specs.Prelude.{ℕ, ◌≡◌, List, Some, IfOk, IfSome};
 ghost use Rattle.aig_graph.specs.Chosen.{IsChosen};
 ghost use Rattle.aig_graph.specs.Circuits.{Netlist};
@@ -9,22 +12,23 @@ ghost use Rattle.frames.specs.Found.{IsAfterMove, IsFoundOver, IsSetJudged, IsOv
 use crate::helping::{Helping, PreparedMove};
 use aig_graph::{Choice, Circuit, ClosedSet, Keep, NoMemory};
 use chosen_cuts::{Records, chosen_least_along};
+use path_levels::levels;
 use pulse::{Crew, PhaseGate};
 use rebuild::moved;
-use retimed_circuits::levels;
 use std::alloc::Global;
 use std::thread::Threads;
 
-/// What becomes of what is found over the chosen least set.
+/// The judgement of a set under a bound.
 #[derive(Drop)]
 pub(crate) enum Judged {
-    /// It stays: nothing helps, or what helps keeps the bound.
+    /// The set stays: none helps, or the one that helps keeps the bound.
     Decided(Option<Helping>),
-    /// It makes a path longer than this bound.
+    /// The set makes a path longer than this bound.
     TooLong(u32),
 }
 
-/// What helps, with the circuit after its move, which is kept.
+/// Puts `after`, the circuit after the move, into the move that was prepared, so that it isn't made
+/// again.
 fn with_after(found: Helping, after: Circuit) -> Helping
     ensures { (c : Netlist) (held s : List ℕ) → IsOver c held s found
         → IsAfterMove c held found.set after → IsOver c held s result }
@@ -45,7 +49,7 @@ fn with_after(found: Helping, after: Circuit) -> Helping
     }
 }
 
-/// What helps, with the circuit after its move, unless that has more levels than the bound.
+/// Judges `found` by the levels of `after`, the circuit after its move: at most `most` are allowed.
 fn judged_after(
     alloc: Global,
     found: Helping,
@@ -70,7 +74,7 @@ fn judged_after(
     }
 }
 
-/// The circuit after the latches moved over the set.
+/// Returns the circuit after its latches moved over `set`.
 fn moved_circuit(
     alloc: Global,
     circuit: &Circuit,
@@ -84,7 +88,7 @@ fn moved_circuit(
     moved(alloc, circuit, set, keep)
 }
 
-/// What helps, unless it makes a path longer than the bound.
+/// Judges `found` by making its move: paths may have at most `most` gates.
 fn fitted(
     alloc: Global,
     circuit: &Circuit,
@@ -105,7 +109,8 @@ fn fitted(
     }
 }
 
-/// Judges what is found over the chosen least set. Without a bound it stays as it is, at no cost.
+/// Judges `first`, found without regard to the bound. If there is no bound it stays as it is, at no
+/// cost.
 pub(crate) fn judge(
     alloc: Global,
     circuit: &Circuit,
@@ -126,7 +131,7 @@ pub(crate) fn judge(
     }
 }
 
-/// The chosen least set of a circuit that is dropped then.
+/// Finds the chosen least set of `circuit` and drops the circuit.
 pub(crate) fn chosen_over<G: PhaseGate>(
     rt: &(impl Threads + Sync),
     alloc: Global,

@@ -1,4 +1,4 @@
-//! From a reader's bytes to a writer's.
+//! Retiming from the bytes of a reader to those of a writer.
 ghost use Rattle.std.specs.Prelude.{◌≡◌, ℕ, [], ◌∷◌, ◌++◌, IfOk, OnOk, IfErr, IsErrOf, unwrap_or};
 ghost use Rattle.aig_binary.specs.Ending.{IsReadError, ReadsToEnd, Spells};
 ghost use Rattle.counted_io.specs.Output.{Writes};
@@ -20,13 +20,15 @@ use crate::runs::{retimed_of, run_over};
 use crate::watcher::{FrameWatcher, NoWatcher, Stage};
 use aig_binary::{AnyReader, CircuitReader, Spelling, SpeltCircuit, read_circuit, write};
 use aig_graph::Circuit;
-use counted_io::{CountedRead, CountedWrite, ReadError, WriteError};
+use counted_io::{CountedRead, CountedWrite, WriteError};
+use file_words::ReadError;
 use pulse::{Crew, PhaseGate};
 use retimed_circuits::Retimed;
 use std::alloc::Global;
 use std::thread::Threads;
 
-/// Writes the retimed circuit in the chosen spelling, else in that of the circuit that was read, the fallback.
+/// Writes the retimed circuit in the spelling that the options choose, or in `fallback` if they
+/// choose none.
 fn write_answer<W: CountedWrite>(
     retimed: &Retimed,
     fallback: Spelling,
@@ -40,7 +42,7 @@ fn write_answer<W: CountedWrite>(
     write(&retimed.circuit, spelling, writer)
 }
 
-/// What a circuit's readers ensure: its literals and its names are in range.
+/// Tells the prover that the circuit's literals and names are in range. Costs nothing.
 fn in_range(circuit: &Circuit)
     ensures graph { IsGraph circuit.now.aig }
     ensures netlist { IsNetlist circuit.now }
@@ -48,8 +50,8 @@ fn in_range(circuit: &Circuit)
     circuit.known();
 }
 
-/// Retimes a circuit that was read, and writes it: what [`retime_bytes_watched`] does once it has read. Over the frames only the
-/// circuit's spelling is kept.
+/// Retimes a circuit that was read, and writes it, as [`retime_bytes_watched`] does after reading.
+/// The circuit is dropped before the first frame; only its spelling is kept.
 ///
 /// # Errors
 ///
@@ -78,7 +80,8 @@ pub fn retime_spelt<W: CountedWrite, G: PhaseGate, V: FrameWatcher>(
     }
 }
 
-/// [`retime_spelt`], with where the held latches stand in the circuit that is written.
+/// Retimes and writes as [`retime_spelt`] does, and returns the held latches of the written circuit
+/// too.
 ///
 /// # Errors
 ///
@@ -116,19 +119,24 @@ pub fn run_spelt<W: CountedWrite, G: PhaseGate, V: FrameWatcher>(
     }
 }
 
-/// Reads a circuit of either spelling to the end of the reader, retimes it, and writes it in the chosen spelling, else in that of the
-/// bytes.
+/// Reads a circuit of either spelling to the end of the reader, retimes it, and writes it. The
+/// spelling written is that of the options, or that of the bytes if they choose none.
 ///
-/// The reader is read to its end in pieces of at most 65536 bytes, also after a fault of the bytes, and no copy of them is kept.
-/// The circuit that was read is dropped once it is cleaned.
-/// Nothing is written before the whole answer is there. The text that is written rests on the bytes and the options alone, and is
-/// read as the circuit that is returned.
+/// The reader is read in pieces of at most 65536 bytes, to its end even after a fault of the bytes.
+/// No copy of the bytes is kept. The circuit that was read is dropped once it is cleaned.
+///
+/// Nothing is written before the whole answer is there. The written text depends on the bytes and
+/// the options alone, and reads as the returned circuit.
 ///
 /// # Errors
 ///
-/// `Read` where a read failed, where memory ran out before there was a circuit, and where the bytes are none; `Retime` where a
-/// name or a position is that of no latch of the circuit, or memory ran out after that; `Write` where a write failed: a beginning of the text
-/// was written then.
+/// `Read` if a read fails, if memory is refused before there is a circuit, or if the bytes are no
+/// circuit.
+///
+/// `Retime` if no latch has one of the names or positions of the options, or if memory is refused
+/// later.
+///
+/// `Write` if a write fails: a beginning of the text is written then.
 pub fn retime_bytes<R: CountedRead, W: CountedWrite, G: PhaseGate>(
     rt: &(impl Threads + Sync),
     alloc: Global,
@@ -155,7 +163,7 @@ pub fn retime_bytes<R: CountedRead, W: CountedWrite, G: PhaseGate>(
     retime_bytes_watched(rt, alloc, reader, writer, options, crew, &mut NoWatcher)
 }
 
-/// The circuit of a reader's bytes, by a reader of circuits that has been fed nothing yet.
+/// Reads a circuit with `circuits`, a reader of circuits that has been fed nothing yet.
 fn read_by<R: CountedRead, C: CircuitReader + Drop>(
     reader: &mut R,
     mut circuits: C,
@@ -168,8 +176,11 @@ fn read_by<R: CountedRead, C: CircuitReader + Drop>(
     read_circuit(reader, &mut circuits)
 }
 
-/// [`retime_bytes`], seen by a watcher, which is notified of the stages that [`retime_watched`](crate::retime_watched) notifies of, and that the
-/// circuit is written. Reading goes before its first stage. What `RetimesBytes` says is what the clauses of `retime_bytes` say.
+/// Retimes as [`retime_bytes`] does, under a watcher.
+///
+/// After reading, the watcher is notified of the stages of
+/// [`retime_watched`](crate::retime_watched), and then of the writing. `RetimesBytes` joins the
+/// clauses of `retime_bytes`.
 ///
 /// # Errors
 ///

@@ -1,21 +1,23 @@
-//! What stops a retiming, by the step that it stopped: reading, retiming or writing. A caller tells a circuit that is refused
-//! from a device that failed by the variant, and never by a text.
+//! The errors of a retiming, by the step that failed: reading, retiming or writing.
+//!
+//! A caller tells a refused circuit from a failed device by the variant, never by a text.
 ghost use Rattle.std.specs.Prelude.{◌≡◌};
 
 use aig_graph::{HoldError, NoMemory};
-use counted_io::{ReadError, WriteError};
+use counted_io::WriteError;
+use file_words::ReadError;
 use thiserror::Error;
 
 /// Why a circuit wasn't retimed.
 #[derive(Clone, Copy, Debug, PartialEq, Eq, Error)]
 pub enum RetimeError {
-    /// Out of memory.
+    /// Memory is refused.
     #[error("out of memory")]
     NoMemory,
-    /// The name at this place, from 0, of those whose latches are to be held is the first that no latch has.
+    /// The index, from 0, of the first name to be held that no latch has.
     #[error("no latch has name {0}")]
     NoSuchName(usize),
-    /// The position at this place, from 0, of those whose latches are to be held is the first that is that of no latch.
+    /// The index, from 0, of the first position to be held that is no latch's.
     #[error("position {0} is that of no latch")]
     NoSuchLatch(usize),
 }
@@ -23,7 +25,7 @@ pub enum RetimeError {
 impl RetimeError {
     ghost use Rattle.frames.specs.Codes.{retime_error_code};
 
-    /// The number of the error.
+    /// Returns the number of the error.
     pub fn code(self) -> u8
         ensures { result ≡ retime_error_code self }
     {
@@ -106,7 +108,7 @@ impl From<WriteError> for BytesError {
 impl BytesError {
     ghost use Rattle.frames.specs.Codes.{bytes_error_code};
 
-    /// The number of the kind of error.
+    /// Returns the number of the kind of error.
     pub fn code(self) -> u8
         ensures { result ≡ bytes_error_code self }
     {

@@ -1,4 +1,4 @@
-//! A run taken to its end; where latches were merged, what it came to is reported of the circuit that was read.
+//! A run to its end. If latches were merged, its report is made one of the circuit that was read.
 ghost use Rattle.std.specs.Prelude.{ℕ, ◌≡◌, ◌<◌, length, All, IfOk};
 ghost use Rattle.aig_graph.specs.Circuits.{Netlist};
 ghost use Rattle.frames.specs.Beginning.{IsRunBegun};
@@ -18,7 +18,7 @@ use retimed_circuits::Retimed;
 use std::alloc::Global;
 use std::thread::Threads;
 
-/// The merged circuit retimed, reported of the circuit that was read.
+/// Reports `retimed`, the answer for the merged circuit, as one for the circuit that was read.
 fn reported_of_read(alloc: Global, retimed: Retimed, read: ReadCircuit) -> Result<Retimed, NoMemory>
     requires { All (λ place. place < length read.kept_free) retimed.kept_free }
     ensures { IfOk result (λ r. r ≡ reported_of_read read retimed) }
@@ -47,7 +47,7 @@ fn reported_of_read(alloc: Global, retimed: Retimed, read: ReadCircuit) -> Resul
     }
 }
 
-/// A run from a merged circuit, reported of the circuit that was read.
+/// Reports a run from a merged circuit as one from the circuit that was read.
 fn run_of_read<F: RunFollower + Drop>(
     alloc: Global,
     run: Run<F>,
@@ -78,12 +78,14 @@ fn run_of_read<F: RunFollower + Drop>(
     }
 }
 
-/// Takes the frames of a run that was begun: the answer for every circuit that it was begun of. A watcher is notified of each look for a set
-/// and each move over one.
+/// Takes the frames of a run that was begun. The answer holds for every circuit that the run may
+/// have begun with.
+///
+/// The watcher is notified of each look for a set and of each move over one.
 ///
 /// # Errors
 ///
-/// What stops the follower; memory that is refused.
+/// An error of the follower; `NoMemory` if memory is refused.
 pub fn finish<F: RunFollower + Drop, G: PhaseGate, V: FrameWatcher>(
     rt: &(impl Threads + Sync),
     alloc: Global,

@@ -1,6 +1,10 @@
-//! What follows a run of frames from circuit to circuit, as a map of states does. It makes the cleanings itself, since it may want to know
-//! of each pass what a plain cleaning doesn't keep, and it sees each move by the marks that the move is made with, so that nothing is done
-//! twice. What it has followed so far is a relation that each follower chooses; the answer of the run doesn't depend on it.
+//! A follower goes with a run of frames from circuit to circuit, as a map of states does.
+//!
+//! It makes the cleanings itself, since it may need from each pass what a plain cleaning doesn't
+//! keep. It sees each move by the marks with which the move is made, so nothing is done twice.
+//!
+//! Each follower chooses the relation that says what it has followed so far. The answer of the run
+//! doesn't depend on it.
 ghost use Rattle.std.specs.Prelude.{ℕ, ◌≡◌, ◌<◌, ◌≤◌, ⊤, All, IfOk, List, OnOk, length};
 ghost use Rattle.aig_graph.specs.Circuits.{Netlist};
 ghost use Rattle.aig_graph.specs.Closed.{IsClosedSet};
@@ -23,10 +27,11 @@ use std::alloc::Global;
 
 /// Follows a run from circuit to circuit.
 pub trait RunFollower {
-    /// Why it can't follow any further.
+    /// The error if it can't follow any further.
     type Stop: From<NoMemory>;
 
-    /// It has come from the first circuit to the second one, whose free latches have these places among those of the first.
+    /// It has come from the first circuit to the second. The list has, for each free latch of the
+    /// second, its place among the free latches of the first.
     ghost has_come: { Self → Netlist → Netlist → List ℕ → Type 0 };
 
     /// Cleans the circuit that the run has come to, as `clean::clean` does.
@@ -43,7 +48,8 @@ pub trait RunFollower {
         ensures comes { IfOk result (λ d. ComesOn has_come self.old self.new circuit.now d.circuit
             d.kept_free) };
 
-    /// Cleans the circuit that was read, and merges its latches that always agree, as `latch_merging::merged_start` does.
+    /// Cleans the circuit that was read and merges its latches that always agree, as
+    /// `latch_merging::merged_start` does.
     fn clean_and_merge(
         &mut self,
         alloc: Global,
@@ -60,8 +66,8 @@ pub trait RunFollower {
         ensures comes { IfOk result (λ m. ComesOn has_come self.old self.new circuit.now m.circuit
             m.kept_free) };
 
-    /// Sees latches move over a closed set of the circuit that the run has come to, by the marks of the move. The moved circuit isn't
-    /// there yet.
+    /// Sees latches move over `set`, a closed set of the circuit that the run has come to. The
+    /// moved circuit isn't made yet: `marks` describe the move.
     fn see_move(
         &mut self,
         circuit: &Circuit,
@@ -77,7 +83,7 @@ pub trait RunFollower {
             (moved_of (move_of circuit.now keep.now set.now))) };
 }
 
-/// A follower that wants to know nothing: a run with it is a plain one.
+/// A follower that keeps nothing: a run with it is a plain one.
 #[derive(Clone, Copy)]
 pub struct NoFollower;
 

@@ -1,4 +1,5 @@
-//! One frame: the latches of a cleaned circuit move over the set that is found, and the circuit is cleaned again.
+//! One frame: the latches of a cleaned circuit move over the set that is found, and the circuit is
+//! cleaned again.
 ghost use Rattle.std.specs.Prelude.{ℕ, ◌≡◌, ◌<◌, [], ◌∷◌, All, IfOk, List, OnOk, MatchOption, length};
 ghost use Rattle.frames.specs.Certified.{AddsFound};
 ghost use Rattle.frames.specs.Following.{HasComeTo, IsMovedFollowed, MovesFollowed};
@@ -24,18 +25,18 @@ use std::mem;
 use std::thread::Threads;
 use unit_flows::{GateFlow, after_cleaning, after_move};
 
-/// The circuit that a frame makes, its report, and the set that latches moved over.
+/// A frame that was taken.
 #[derive(Drop)]
 pub(crate) struct Frame {
-    /// The circuit with its latches moved, cleaned, and its held latches.
+    /// The circuit after the move, cleaned, with its held latches.
     pub cleaned: Cleaned,
-    /// What the frame is reported as.
+    /// The report of the frame.
     pub report: FrameReport,
-    /// The set that was found in the circuit before.
+    /// The set that the latches moved over, of the circuit before the frame.
     pub set: ClosedSet,
 }
 
-/// The circuit after a move over the set, which is made here, unless it was made before.
+/// Returns the circuit after the move over `set`, made here if it wasn't made to count its levels.
 fn finished_move(
     alloc: Global,
     circuit: &Circuit,
@@ -58,7 +59,8 @@ fn finished_move(
     }
 }
 
-/// The circuit with its latches moved over the set, cleaned, which is followed.
+/// Moves the latches of `circuit` over `set`, and cleans the circuit after the move. `follower`
+/// sees both.
 fn moved_over<F: RunFollower>(
     alloc: Global,
     follower: &mut F,
@@ -83,7 +85,8 @@ fn moved_over<F: RunFollower>(
     settled(alloc, follower, after, held, copies)
 }
 
-/// The places, among so many gates, of those that a cleaning keeps, by its marks of latches and gates.
+/// Returns the places of the gates that a cleaning keeps. `kept` marks the latches and then the
+/// `gates` gates before it.
 fn kept_places(alloc: Global, kept: &[bool], gates: usize) -> Result<Vec<u32>, NoMemory> {
     let latches = kept.len().saturating_sub(gates);
     let mut places = Vec::new(alloc);
@@ -97,8 +100,9 @@ fn kept_places(alloc: Global, kept: &[bool], gates: usize) -> Result<Vec<u32>, N
     Ok(places)
 }
 
-/// What the flow did at each gate, by the gates after a move over the set and a cleaning that keeps the latches and gates with these marks;
-/// there are none where it keeps all.
+/// Carries the flow at each gate to the circuit after the move over `set` and its cleaning.
+///
+/// `kept` marks the latches and gates that the cleaning keeps; it is empty if it keeps all.
 fn carried(
     alloc: Global,
     circuit: &Circuit,
@@ -115,9 +119,10 @@ fn carried(
     after_cleaning(alloc, places.as_slice(), moved.as_slice())
 }
 
-/// The frame of the circuit that a run has come to, where one makes fewer latches: the set that is found, and what is left of it after its
-/// latches have moved over that and it is cleaned, which is followed. A watcher is notified of the move. Where the records want certificates,
-/// they get one of the circuit. Of the run only the follower changes.
+/// Takes the next frame of `run`, or returns `None` if no set leaves fewer latches.
+///
+/// Of the run only the follower changes. The watcher is notified of the move. The records get a
+/// certificate of the circuit if certificates are wanted.
 pub(crate) fn next_frame<F: RunFollower, G: PhaseGate, V: FrameWatcher>(
     rt: &(impl Threads + Sync),
     alloc: Global,

@@ -1,4 +1,4 @@
-//! The set that is found in a circuit, where it needs fewer latches.
+//! The closed set of a circuit that leaves fewer latches, if there is one.
 ghost use Rattle.std.specs.Prelude.{◌≡◌, IfOk};
 ghost use Rattle.aig_graph.specs.Closed.{IsClosedSet};
 ghost use Rattle.frames.specs.Found.{Finds, IsFoundOver, IsLook};
@@ -8,33 +8,35 @@ use crate::options::Options;
 use crate::run::Run;
 use aig_graph::{Choice, Circuit, ClosedSet, Keep, NoMemory};
 use chosen_cuts::{Records, chosen_least_along};
+use path_levels::bounded;
 use pulse::{Crew, PhaseGate};
 use rebuild::MoveMarks;
-use retimed_circuits::{FrameReport, bounded};
+use retimed_circuits::FrameReport;
 use std::alloc::Global;
 use std::thread::Threads;
 
 /// A move that is about to be made.
 #[derive(Drop)]
 pub(crate) struct PreparedMove {
-    /// Its marks.
+    /// The marks of the move.
     pub marks: MoveMarks,
-    /// The circuit after it, where that was made to count its levels.
+    /// The circuit after the move, if that was made to count its levels.
     pub after: Option<Circuit>,
 }
 
-/// A closed set over which a circuit has fewer latches, the move over it, and what its frame is reported as.
+/// A closed set that leaves the circuit fewer latches.
 #[derive(Drop)]
 pub(crate) struct Helping {
     /// The set.
     pub set: ClosedSet,
-    /// The move over it.
+    /// The move over the set.
     pub prepared: PreparedMove,
-    /// What the frame over it is reported as.
+    /// The report of the frame over the set.
     pub report: FrameReport,
 }
 
-/// The closed set with its report, where it counts less than the circuit has known latches.
+/// Prepares the move over `set`, or returns `None` if that leaves as many latches with a known
+/// reset or more.
 fn helping_over(
     alloc: Global,
     circuit: &Circuit,
@@ -62,8 +64,9 @@ fn helping_over(
     }
 }
 
-/// The chosen least set with its report, where it counts less than the circuit has known latches. A certificate of the set is added in any
-/// case, where certificates are wanted.
+/// Finds the chosen least set of `circuit`, if it leaves fewer latches.
+///
+/// A certificate of the set is recorded even if it doesn't, if certificates are wanted.
 fn least_helping<G: PhaseGate>(
     rt: &(impl Threads + Sync),
     alloc: Global,
@@ -79,9 +82,11 @@ fn least_helping<G: PhaseGate>(
     helping_over(alloc, circuit, keep, set)
 }
 
-/// The set that is found in the circuit that a run has come to, with its report, where it counts less than the circuit has known latches: the
-/// chosen least set, or, where that would make a path longer than the run's bound, the chosen one of those whose gates arrive within it. A
-/// certificate of the set is added in any case, where certificates are wanted.
+/// Finds the set of the next frame, if one leaves fewer latches with a known reset.
+///
+/// It is the chosen least set. If that breaks the run's bound, it is the chosen least one of the
+/// closed sets whose gates arrive within the bound. A certificate of the last set is recorded in
+/// any case, if certificates are wanted.
 pub(crate) fn helping_set<F, G: PhaseGate>(
     rt: &(impl Threads + Sync),
     alloc: Global,
@@ -95,7 +100,7 @@ pub(crate) fn helping_set<F, G: PhaseGate>(
 {
     let circuit = &run.retimed.circuit;
     let keep = &run.keep;
-    // That it is a circuit is what its readers ensure.
+    // Tells the prover that it is a circuit.
     circuit.known();
     let first = least_helping(rt, alloc, circuit, keep, options.choice, crew, records)?;
     match judge(alloc, circuit, keep, first, run.bound)? {

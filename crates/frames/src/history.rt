@@ -1,4 +1,4 @@
-//! What frames leave beside the circuit.
+//! The reports that frames leave beside the circuit.
 ghost use Rattle.std.specs.Prelude.{◌≡◌, ◌++◌, ◌∷◌, ◌<◌, [], length, IfOk};
 ghost use Rattle.std.specs.List.{All};
 ghost use Rattle.aig_graph.specs.Laws.{composed};
@@ -8,7 +8,8 @@ use clean::composed;
 use retimed_circuits::{FrameReport, Retimed};
 use std::alloc::Global;
 
-/// The places of the free latches that are left, how many latches were read, and the reports.
+/// The places of the free latches that are left, the number of latches that were read, and the
+/// reports of the frames.
 #[derive(Drop)]
 pub(crate) struct History {
     pub kept_free: Sequence<u32>,
@@ -16,7 +17,7 @@ pub(crate) struct History {
     pub frames: Sequence<FrameReport>,
 }
 
-/// The history of a retimed circuit; the circuit is dropped, and so are certificates.
+/// Returns the history of a retimed circuit, and drops the circuit and its certificates.
 pub(crate) fn history_of(retimed: Retimed) -> History
     ensures kept_free { result.kept_free ≡ retimed.kept_free }
     ensures read_latches { result.read_latches ≡ retimed.read_latches }
@@ -37,7 +38,7 @@ pub(crate) fn history_of(retimed: Retimed) -> History
     }
 }
 
-/// The reports, and one more.
+/// Appends a report to the reports.
 fn with_report(
     frames: Sequence<FrameReport>,
     report: FrameReport,
@@ -49,7 +50,8 @@ fn with_report(
     Ok(Sequence::from_vec(all))
 }
 
-/// The history, and one more frame, which leaves the free latches at these places.
+/// Appends a frame to the history. `places` has, for each free latch that the frame leaves, its
+/// place among those before.
 pub(crate) fn with_frame(
     alloc: Global,
     history: History,

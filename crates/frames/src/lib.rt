@@ -1,6 +1,8 @@
-//! Minimum-register forward retiming, frame after frame: the latches of a cleaned circuit move over its chosen least set, the greatest or the smallest, and
-//! the circuit is cleaned again, until no closed set needs fewer latches (Hurst, Mishchenko and Brayton, 2007). A bound says how long paths may
-//! get by that.
+//! Minimum-register forward retiming, frame after frame (Hurst, Mishchenko and Brayton, 2007).
+//!
+//! In each frame latches move over the chosen least set of a cleaned circuit, the greatest or the
+//! smallest, and it is cleaned again. The run ends if no closed set needs fewer latches. A bound
+//! may limit how long paths get.
 #![tactic(auto)]
 
 mod beginning;
@@ -14,6 +16,7 @@ mod frame;
 mod helping;
 mod history;
 mod laws;
+mod limits;
 mod next;
 mod options;
 mod retiming;
@@ -31,9 +34,11 @@ pub use errors::{BytesError, RetimeError};
 pub use finishing::finish;
 pub use follower::{NoFollower, RunFollower};
 pub use laws::answer_law;
+pub use limits::retimed_limits_law;
+pub use merged_circuits::MergeCounts;
 pub use next::next_set;
 pub use options::Options;
-pub use retimed_circuits::{FrameReport, MergeCounts, Retimed};
+pub use retimed_circuits::{FrameReport, Retimed};
 pub use run::{Begun, ReadCircuit, Run};
 pub use runs::{hold_by, retime, retime_watched, run_watched};
 pub use watcher::{FrameWatcher, NoWatcher, Stage};

@@ -1,5 +1,5 @@
-//! The set that the next frame of a run takes, for whoever shows it. The rule is that of the frames themselves: it is looked for as they
-//! look for it, and no latch moves.
+//! The set that the next frame of a run takes, for a caller that shows it. It is looked for as the
+//! frames do, and no latch moves.
 ghost use Rattle.std.specs.Prelude.{◌≡◌, IfOk};
 ghost use Rattle.frames.specs.Retiming.{IsNextSet};
 
@@ -12,7 +12,7 @@ use pulse::{Crew, PhaseGate};
 use std::alloc::Global;
 use std::thread::Threads;
 
-/// The set of what helps; the rest is let go.
+/// Returns the set of `found` and drops the rest.
 fn set_of(found: Helping) -> ClosedSet
     ensures { result ≡ found.set }
 {
@@ -21,12 +21,15 @@ fn set_of(found: Helping) -> ClosedSet
     set
 }
 
-/// The set over which the next frame of a run moves latches, where one makes fewer: the chosen least set, or, where that would make a path
-/// longer than the run's bound, the chosen one of those whose gates arrive within it.
+/// Finds the set over which the next frame of `run` moves latches, or returns `None` if no set
+/// leaves fewer.
+///
+/// It is the chosen least set. If that breaks the run's bound, it is the chosen least one of the
+/// closed sets whose gates arrive within the bound.
 ///
 /// # Errors
 ///
-/// `NoMemory` where memory is refused.
+/// `NoMemory` if memory is refused.
 pub fn next_set<F, G: PhaseGate>(
     rt: &(impl Threads + Sync),
     alloc: Global,

@@ -1,4 +1,4 @@
-//! Frame after frame.
+//! The loop over frames: each starts from the circuit that the frame before left.
 ghost use Rattle.std.specs.Prelude.{ℕ, ◌≡◌, suc, List, [], ◌∷◌, ◌++◌, length, IfOk, Option};
 ghost use Rattle.aig_graph.specs.Circuits.{Netlist};
 ghost use Rattle.aig_graph.specs.Graph.{known_latches};
@@ -21,7 +21,8 @@ use retimed_circuits::Retimed;
 use std::alloc::Global;
 use std::thread::Threads;
 
-/// What one more frame makes of a retimed circuit, and its held latches. The circuit is dropped, and with it the frame's set.
+/// Adds `frame` to the report of `retimed`, and returns it with the latches held in the frame's
+/// circuit. The circuit before and the frame's set are dropped.
 fn after_frame(
     alloc: Global,
     retimed: Retimed,
@@ -65,7 +66,7 @@ fn after_frame(
     }
 }
 
-/// A run that takes this frame, which was followed.
+/// Takes `frame`, which was followed, into the run.
 fn taken<F: RunFollower + Drop>(
     alloc: Global,
     run: Run<F>,
@@ -106,7 +107,7 @@ fn taken<F: RunFollower + Drop>(
     }
 }
 
-/// Tells a watcher that the set of the next frame is looked for.
+/// Notifies the watcher that the set of the next frame is looked for.
 fn enter_looking<V: FrameWatcher>(retimed: &Retimed, watcher: &mut V)
     ensures { Notifies V.was_notified watcher.old watcher.new
         (Looking (length retimed.now.frames) (known_latches retimed.now.circuit.aig) ∷ []) }
@@ -117,8 +118,10 @@ fn enter_looking<V: FrameWatcher>(retimed: &Retimed, watcher: &mut V)
     });
 }
 
-/// What frames make of a cleaned circuit, one after another, each followed; the records get a certificate of each circuit that is looked
-/// at, where they are wanted. Of the circuit that was read nothing is needed.
+/// Takes frames from a cleaned circuit until none helps or the limit is reached.
+///
+/// The records get a certificate of each circuit that is looked at, if certificates are wanted. The
+/// circuit that was read isn't needed.
 fn all_frames<F: RunFollower + Drop, G: PhaseGate, V: FrameWatcher>(
     rt: &(impl Threads + Sync),
     alloc: Global,
@@ -155,7 +158,7 @@ fn all_frames<F: RunFollower + Drop, G: PhaseGate, V: FrameWatcher>(
     Ok(run)
 }
 
-/// A run with the certificates that were recorded. Takes no memory.
+/// Puts the recorded certificates into the run. Takes no memory.
 fn certified<F>(run: Run<F>, records: Records) -> Run<F>
     ensures circuit { result.retimed.circuit ≡ run.retimed.circuit }
     ensures kept_free { result.retimed.kept_free ≡ run.retimed.kept_free }
@@ -196,7 +199,8 @@ fn certified<F>(run: Run<F>, records: Records) -> Run<F>
     }
 }
 
-/// A run of a cleaned circuit to its end, with the certificates that are wanted: the answer for every circuit that it is the cleaning of.
+/// Runs from a cleaned circuit to the end, with certificates if they are wanted. The answer holds
+/// for every circuit that it is the cleaning of.
 pub(crate) fn run_to_end<F: RunFollower + Drop, G: PhaseGate, V: FrameWatcher>(
     rt: &(impl Threads + Sync),
     alloc: Global,

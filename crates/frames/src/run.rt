@@ -1,35 +1,39 @@
 use aig_graph::{Keep, Sequence};
-use retimed_circuits::{MergeCounts, Retimed};
+use merged_circuits::MergeCounts;
+use retimed_circuits::Retimed;
 
-/// A run under way: what it has come to, and what has followed it there.
+/// A run under way: the circuit that it has come to, and the follower that went with it.
 #[derive(Drop)]
 pub struct Run<F> {
-    /// The circuit that the run has come to, and what is reported of it so far.
+    /// The circuit that the run has come to, and its report so far.
     pub retimed: Retimed,
-    /// Its held latches.
+    /// The latches of it that are held.
     pub keep: Keep,
-    /// What has followed it.
+    /// The follower that went with the run.
     pub follower: F,
-    /// How many gates may be on a path, where there is a bound: that of the options for the circuit that was read.
+    /// The most gates that a path may have, if there is a bound. The options set it for the circuit
+    /// that was read.
     pub bound: Option<u32>,
 }
 
-/// What is reported of the circuit that was read, beside what becomes of the one that it was merged to.
+/// The report of the circuit that was read, if it was merged. The rest of the report is of the
+/// merged circuit.
 #[derive(Drop)]
 pub struct ReadCircuit {
-    /// How many latches it has.
+    /// The number of its latches.
     pub latches: u32,
-    /// Of each free latch of the merged circuit the place, from 0, among its free latches.
+    /// For each free latch of the merged circuit its place, from 0, among the free latches of this
+    /// one.
     pub kept_free: Sequence<u32>,
-    /// How many latches were merged.
+    /// The numbers of latches that were merged.
     pub counts: MergeCounts,
 }
 
-/// A run before its first frame. It needs the circuit that was read no more.
+/// A run before its first frame. It doesn't need the circuit that was read.
 #[derive(Drop)]
 pub struct Begun<F> {
-    /// The cleaned circuit.
+    /// The run at its cleaned circuit.
     pub run: Run<F>,
-    /// Where latches were merged, what is reported of the circuit that was read.
+    /// The report of the circuit that was read, if its latches were merged.
     pub read: Option<ReadCircuit>,
 }

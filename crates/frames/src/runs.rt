@@ -1,4 +1,4 @@
-//! Whole runs that nothing follows.
+//! Whole runs without a follower.
 ghost use Rattle.std.specs.Prelude.{ℕ, ◌≡◌, ◌<◌, All, IfOk, List, OnOk, IsErrOf, length};
 ghost use Rattle.aig_graph.specs.Circuits.{Netlist};
 ghost use Rattle.frames.specs.Beginning.{IsRunBegun};
@@ -22,13 +22,14 @@ use retimed_circuits::Retimed;
 use std::alloc::Global;
 use std::thread::Threads;
 
-/// The latches of a circuit that the options hold: by their names, and by their positions. Looked up once, where a run begins; each step of
-/// it says where they stand then.
+/// Finds the latches that the options hold, by name and by position.
+///
+/// They are looked up once, as a run begins. Each step of the run says where they stand afterwards.
 ///
 /// # Errors
 ///
-/// `NoSuchLatch` where a position is that of no latch of the circuit, which is found first; `NoSuchName` where a name is; `NoMemory` where
-/// memory is refused.
+/// `NoSuchLatch` if a position is no latch's; this is found first. `NoSuchName` if no latch has a
+/// name. `NoMemory` if memory is refused.
 pub fn hold_by(alloc: Global, circuit: &Circuit, options: &Options) -> Result<Keep, RetimeError>
     ensures keep { IfOk result (λ keep. keep ≡ kept_by options.now circuit.now) }
     ensures latches { OnOk result (AreLatchesBy options.now circuit.now) }
@@ -43,7 +44,7 @@ pub fn hold_by(alloc: Global, circuit: &Circuit, options: &Options) -> Result<Ke
     Ok(keep)
 }
 
-/// Begins a run that nothing follows, where the latches can be held.
+/// Begins a run without a follower, if the latches can be held.
 fn begin_plain(
     alloc: Global,
     circuit: &Circuit,
@@ -64,7 +65,7 @@ fn begin_plain(
     Ok(begun)
 }
 
-/// Takes its frames.
+/// Takes the frames of a run without a follower.
 fn finish_plain<G: PhaseGate, V: FrameWatcher>(
     rt: &(impl Threads + Sync),
     alloc: Global,
@@ -86,7 +87,7 @@ fn finish_plain<G: PhaseGate, V: FrameWatcher>(
     Ok(end)
 }
 
-/// The retiming of a run that ended; where its held latches stand is let go.
+/// Returns the retiming of a run that ended, and drops its held latches.
 pub(crate) fn retimed_of(run: Run<NoFollower>) -> Retimed
     ensures { result ≡ run.retimed }
 {
@@ -95,20 +96,25 @@ pub(crate) fn retimed_of(run: Run<NoFollower>) -> Retimed
     retimed
 }
 
-/// Cleans a circuit and retimes it forward, frame by frame: the latches move over the chosen least set of the circuit, and the
-/// circuit is cleaned again. It ends where no closed set needs fewer latches than there are, or at the limit of frames. Under a
-/// bound on path length a frame whose set would make a longer path takes the chosen one of those sets whose gates arrive within
-/// the bound, and the run ends where that doesn't help either. The
-/// latches whose names or positions the options have stay. Where the options ask for it, latches that always agree are merged before the
-/// first frame. The answer is the same for every crew, but for the routes of certificates.
+/// Cleans a circuit and retimes it forward, frame by frame: the latches move over the chosen least
+/// set, and the circuit is cleaned again.
 ///
-/// A frame costs what its maximum flow costs, and is linear in the circuit but for that; what it made is dropped before the next
-/// one begins.
+/// The run ends if no closed set needs fewer latches than there are, or at the limit of frames.
+/// Under a bound on path length a frame may not take a set that makes a longer path. It then takes
+/// the chosen least one among the closed sets whose gates arrive within the bound. The run ends if
+/// that doesn't help either.
+///
+/// The latches whose names or positions the options have stay. If the options ask for it, latches
+/// that always agree are merged before the first frame. The answer doesn't depend on the crew, but
+/// for the routes of certificates.
+///
+/// A frame costs its maximum flow, and beside that time linear in the circuit. What it made is
+/// dropped before the next frame begins.
 ///
 /// # Errors
 ///
-/// `NoSuchLatch` where a position that the options have is that of no latch of the circuit, and `NoSuchName` where a name is, which are
-/// found first; `NoMemory` where memory is refused.
+/// `NoSuchLatch` if a position of the options is no latch's, and `NoSuchName` if no latch has a
+/// name; these are found first. `NoMemory` if memory is refused.
 pub fn retime<G: PhaseGate>(
     rt: &(impl Threads + Sync),
     alloc: Global,
@@ -129,8 +135,10 @@ pub fn retime<G: PhaseGate>(
     retime_watched(rt, alloc, circuit, options, crew, &mut NoWatcher)
 }
 
-/// [`retime`], seen by a watcher, which changes nothing of the answer. It is notified of the cleaning, of each look for a set and each
-/// move over one, and of the last look, which finds that none helps, where the limit leaves a frame.
+/// Retimes as [`retime`] does, under a watcher, which doesn't change the answer.
+///
+/// The watcher is notified of the cleaning, of each look for a set, and of each move over one. The
+/// last look finds that no set helps, unless the limit of frames ends the run.
 ///
 /// # Errors
 ///
@@ -161,7 +169,7 @@ pub fn retime_watched<G: PhaseGate, V: FrameWatcher>(
     }
 }
 
-/// [`retime_watched`], with where the held latches stand in the retimed circuit.
+/// Retimes as [`retime_watched`] does, and returns the held latches of the retimed circuit too.
 ///
 /// # Errors
 ///
@@ -187,7 +195,7 @@ pub fn run_watched<G: PhaseGate, V: FrameWatcher>(
     ensures notified { IfOk result (λ run. Notifies V.was_notified watcher.old watcher.new
         (stages_of options.now.max_frames run.retimed)) }
 {
-    // That it is a circuit is what its readers ensure.
+    // Tells the prover that it is a circuit.
     circuit.known();
     watcher.enter(Stage::Cleaning);
     let begun = begin_plain(alloc, circuit, options)?;
@@ -195,7 +203,8 @@ pub fn run_watched<G: PhaseGate, V: FrameWatcher>(
     Ok(run)
 }
 
-/// [`run_watched`] of a circuit that nobody needs once it is cleaned: it is dropped then, before the first frame.
+/// Retimes as [`run_watched`] does, and drops the circuit once it is cleaned, before the first
+/// frame.
 ///
 /// # Errors
 ///
@@ -221,7 +230,7 @@ pub(crate) fn run_over<G: PhaseGate, V: FrameWatcher>(
     ensures notified { IfOk result (λ run. Notifies V.was_notified watcher.old watcher.new
         (stages_of options.now.max_frames run.retimed)) }
 {
-    // That it is a circuit is what its readers ensure.
+    // Tells the prover that it is a circuit.
     circuit.known();
     watcher.enter(Stage::Cleaning);
     let begun = begin_plain(alloc, &circuit, options);

@@ -1,5 +1,5 @@
-//! A moved circuit, cleaned where there is something to clean: mostly there is nothing, and a look at its low copies, which costs a
-//! fraction of a cleaning, tells.
+//! The cleaning of a moved circuit, which mostly has nothing to clean. A look at its low copies
+//! tells so for a fraction of the cost of a cleaning.
 ghost use Rattle.std.specs.Prelude.{ℕ, ◌≡◌, ◌<◌, ◌≤◌, ◌-◌, All, IfOk, List, length, true};
 ghost use Rattle.aig_graph.specs.Circuits.{IsNetlist};
 ghost use Rattle.aig_graph.specs.Graph.{IsGraph};
@@ -12,7 +12,7 @@ use aig_graph::{Circuit, Keep, NoMemory};
 use clean::{Cleaned, all_places, are_low_normalised};
 use std::alloc::Global;
 
-/// A circuit as what it is cleaned to, which it is if it is normalised. All latches and gates stay, so none is marked.
+/// Returns a normalised circuit as its own cleaning. All latches and gates stay, so none is marked.
 fn as_cleaned<E: From<NoMemory>>(alloc: Global, circuit: Circuit, keep: Keep) -> Result<Cleaned, E>
     ensures circuit { IfOk result (λ d. d.circuit ≡ circuit) }
     ensures keep { IfOk result (λ d. d.keep ≡ keep) }
@@ -33,7 +33,7 @@ fn as_cleaned<E: From<NoMemory>>(alloc: Global, circuit: Circuit, keep: Keep) ->
     }
 }
 
-/// A circuit cleaned, which is followed.
+/// Cleans a circuit by the follower.
 fn cleaned<F: RunFollower>(
     alloc: Global,
     follower: &mut F,
@@ -45,12 +45,12 @@ fn cleaned<F: RunFollower>(
     ensures { IfOk result (IsCleanedFollowed F.has_come keep.now circuit.now follower.old
         follower.new) }
 {
-    // That it is a circuit is what its readers ensure.
+    // Tells the prover that it is a circuit.
     circuit.known();
     follower.clean(alloc, circuit, keep)
 }
 
-/// A circuit cleaned, which is followed, and dropped.
+/// Cleans a circuit by the follower, and drops it.
 fn cleaned_over<F: RunFollower>(
     alloc: Global,
     follower: &mut F,
@@ -67,7 +67,8 @@ fn cleaned_over<F: RunFollower>(
     cleaned
 }
 
-/// Whether the low copies are normalised, of a circuit whose last gates are so many copies.
+/// Returns true if the low copies are normalised. `copies` is the number of copied gates; they are
+/// the last gates.
 fn is_settled(alloc: Global, circuit: &Circuit, copies: usize) -> Result<bool, NoMemory>
     requires { copies ≤ length circuit.now.aig.gates }
     ensures lows { IfOk result (λ yes. yes ≡ true → AreLowNormalised circuit.now.aig
@@ -78,8 +79,8 @@ fn is_settled(alloc: Global, circuit: &Circuit, copies: usize) -> Result<bool, N
     are_low_normalised(alloc, circuit.aig(), copies)
 }
 
-/// A moved circuit with its held latches, whose last gates are so many copies, cleaned, which is followed. It is its own cleaning where its
-/// low copies are normalised.
+/// Cleans a moved circuit, unless its low copies are already normalised. `copies` is the number of
+/// copied gates; they are the last gates.
 pub(crate) fn settled<F: RunFollower>(
     alloc: Global,
     follower: &mut F,

@@ -1,20 +1,24 @@
-//! What a run of frames calls as each of its stages begins, for callers that show how far it is, or measure it. What a watcher was notified of so
-//! far is a relation that each watcher chooses: a run says by it of which stages it notified, in which order.
+//! A watcher is called as each stage of a run of frames begins, for callers that show how far a run
+//! is, or measure it.
+//!
+//! Each watcher chooses the relation that says of which stages it was notified so far. By it a run
+//! states its notifications, in order.
 ghost use Rattle.std.specs.Prelude.{List, ⊤, [], ◌∷◌};
 ghost use Rattle.frames.specs.Stages.{Notifies, Notification, notification_of};
 
 use aig_graph::Aig;
 
-/// What a run does from now on.
+/// The stage of a run that begins.
 #[derive(Clone, Copy)]
 pub enum Stage<'a> {
     /// Cleans the circuit that was read.
     Cleaning,
     /// Looks for the set of the next frame.
     Looking {
-        /// How many frames were taken before.
+        /// The number of frames that were taken before.
         taken: usize,
-        /// The graph that the set is looked for in; its latches with a known reset and its gates are counted by who wants to know.
+        /// The graph that is searched for the set. A watcher counts its latches with a known reset
+        /// and its gates if it needs them.
         aig: &'a Aig,
     },
     /// Moves latches over the set that was found, and cleans.
@@ -23,8 +27,10 @@ pub enum Stage<'a> {
     Writing,
 }
 
-/// Sees a run under way. `enter` is called as each stage begins, in order, on the thread of the call. A stage ends where the next one
-/// begins, and the last one with the call. The answer doesn't depend on what `enter` does.
+/// Sees a run under way. The answer doesn't depend on what it does.
+///
+/// `enter` is called as each stage begins, in order, on the thread of the call. A stage ends as the
+/// next one begins, and the last stage ends with the call.
 pub trait FrameWatcher {
     /// The watcher has been notified of these stages.
     ghost was_notified: { Self → List Notification → Type 0 };
@@ -32,8 +38,8 @@ pub trait FrameWatcher {
     fn enter(&mut self, stage: Stage<'_>)
         ensures { Notifies was_notified self.old self.new (notification_of stage.entry ∷ []) };
 
-    /// Hears, after the last frame, how many sets of the run a maximum flow of a network found,
-    /// since no flow of units showed them. This is no stage.
+    /// Hears, after the last frame, how many sets of the run were found by a maximum flow of a
+    /// network. No flow of units showed those sets. This is no stage.
     fn count_networks(&mut self, networks: u32)
         ensures { Notifies was_notified self.old self.new [] };
 }

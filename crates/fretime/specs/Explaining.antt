@@ -2,10 +2,10 @@
 use Rattle.std.specs.Prelude.{ℕ, ◌≡◌, ◌==◌, ◌⊎◌, List, [], ◌∷◌, ◌++◌, Option, Some, None, codes, if◌then◌else◌}
 use Rattle.std.specs.List.{flat_map}
 use Rattle.counted_io.specs.Output.{Output, WritesPart}
-use Rattle.circuit_files.specs.Faults.{IsCalled, IsNoName, name_of}
-use Rattle.circuit_files.specs.Files.{smallest_file}
-use Rattle.circuit_files.specs.Pages.{advice_of, meaning_of, rule_of}
-use Rattle.circuit_files.specs.declared.named_fault.Fault.{Fault}
+use Rattle.circuit_files.specs.pages.Faults.{IsCalled, IsNoName, name_of}
+use Rattle.circuit_files.specs.pages.Files.{smallest_file}
+use Rattle.circuit_files.specs.pages.Pages.{advice_of, meaning_of, rule_of}
+use Rattle.circuit_files.specs.declared.pages.named_fault.Fault.{Fault}
 use Rattle.circuit_files.specs.Outcomes.{outcome_of}
 use Rattle.circuit_files.specs.declared.outcome.Failure.{Failure}
 use Rattle.circuit_files.specs.declared.outcome.Outcome.{Outcome}
@@ -20,6 +20,7 @@ indented_byte b = if b == 10 then codes "\n    " else b ∷ []
 unfoldable pub indented : List ℕ → List ℕ
 indented file = codes "    " ++ (flat_map indented_byte file ++ 10 ∷ [])
 
+-- the part of a page that shows a smallest file with the fault
 unfoldable pub file_part : List ℕ → List ℕ
 file_part [] = codes "The smallest file that has it is the empty one.\n\n"
 file_part (b ∷ bs) = codes "A smallest file that has it:\n\n" ++ (indented (b ∷ bs) ++ 10 ∷ [])
@@ -47,6 +48,7 @@ pub record IsUnexplained (name : List ℕ) (old new : Output) (ended : Outcome) 
   pub ends : ended ≡ CommandLine
   pub quiet : new ≡ old
 
+-- the page of the fault with this name was printed, or no fault has the name and nothing was
 abbrev pub Explains : List ℕ → Output → Output → Outcome → Type 0
 Explains name old new ended = IsExplained name old new ended ⊎ IsUnexplained name old new ended
 

@@ -16,7 +16,7 @@ use Rattle.simulation_commands.specs.Comparing.{PrintsFinding}
 use Rattle.map_commands.specs.Checking.{PrintsCheck}
 use Rattle.map_commands.specs.Products.{PrintsAsked}
 use Rattle.map_commands.specs.Lifted.{PrintsLift}
-use Rattle.map_commands.specs.Moving.{PrintsMoves}
+use Rattle.backward_command.specs.Moving.{PrintsMoves}
 use Rattle.commands.specs.Drawings.{PrintsPicture}
 use Rattle.simulation_commands.specs.Verdicts.{PrintsVerdict}
 use Rattle.commands.specs.Pipes.{Converts, IsPipe, PrintsRetiming, WritesPipe}

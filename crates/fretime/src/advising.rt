@@ -1,7 +1,8 @@
 //! What a terminal is told where a command did its work, and what it found may be owed to how it was called.
 use circuit_files::{Fault, Outcome, tell_page, tell_spelling};
 use command_line::{Shown, Task, Verification};
-use counted_io::{Buffered, CountedWrite, Spelling, Target};
+use counted_io::{Buffered, CountedWrite, Target};
+use file_words::Spelling;
 use frames::PathBound;
 use std::rt::Files;
 

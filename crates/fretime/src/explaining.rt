@@ -3,7 +3,7 @@ ghost use Rattle.std.specs.Prelude.{◌≡◌, IfErr, IfOk};
 ghost use Rattle.std.specs.List.{flat_map};
 ghost use Rattle.counted_io.specs.Buffered.{Puts};
 ghost use Rattle.counted_io.specs.Output.{Output, Writes};
-ghost use Rattle.circuit_files.specs.Files.{smallest_file};
+ghost use Rattle.circuit_files.specs.pages.Files.{smallest_file};
 ghost use Rattle.circuit_files.specs.Outcomes.{outcome_of};
 ghost use Rattle.circuit_files.specs.declared.outcome.Outcome.TheVariants.{CommandLine, Memory};
 ghost use Rattle.command_endings.specs.Printing.{Prints, ending};

@@ -3,7 +3,7 @@ use Rattle.std.proofs.Common.{◌≡◌, [], ◌∷◌, Some, None, true, refl}
 use Rattle.std.specs.Prelude.{ℕ, List, codes}
 use Rattle.std.specs.Borrow.{Bor}
 use Rattle.std.specs.Fmt.{digits}
-use Rattle.counted_io.specs.declared.fault.ReadError.TheVariants.{BadHeader}
+use Rattle.file_words.specs.declared.fault.ReadError.TheVariants.{BadHeader}
 use Rattle.reports.specs.declared.agreement.Agreement.TheVariants.{DiffersAt}
 use Rattle.reports.specs.declared.batch.JobReport.TheVariants.{Done, Refused}
 use Rattle.certificates.specs.declared.verdict.Objection.TheVariants.{BadRoute}

@@ -23,7 +23,7 @@ use Rattle.serde_json.specs.Written.{has_float, items_have_float, members_have_f
 use Rattle.certificate_audits.specs.Ends.{block_objection_name}
 use Rattle.json_reports.specs.Audits.{agreement_data, audit_data, block_data, objection_at}
 use Rattle.json_reports.specs.Batches.{batch_data, job_data}
-use Rattle.retimed_circuits.specs.declared.counts.MergeCounts.{MergeCounts}
+use Rattle.merged_circuits.specs.declared.counts.MergeCounts.{MergeCounts}
 use Rattle.json_reports.specs.Counts.{circuit_data, map_data, merge_data, statistics_data}
 use Rattle.json_reports.specs.Differences.{difference_data, shapes_data}
 use Rattle.json_reports.specs.Faults.{fault_data, fault_offset}

@@ -11,6 +11,7 @@ use Rattle.reports.specs.declared.agreement.Agreement.TheVariants.{Same, Differs
 use Rattle.serde_json.specs.Data.{Data, null, string, object, member, no_members}
 use Rattle.json_reports.specs.Members.{count, array_of, or_null}
 
+-- the name of the end of an audit
 abbrev pub end_name : End → List ℕ
 end_name NoBlocks = codes "NoBlocks"
 end_name Certified = codes "Certified"

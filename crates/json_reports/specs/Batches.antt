@@ -1,6 +1,6 @@
 -- What became of the files of a batch, as an object.
 use Rattle.std.specs.Prelude.{ℕ, List, codes}
-use Rattle.counted_io.specs.declared.fault.ReadError.TheVariants as files
+use Rattle.file_words.specs.declared.fault.ReadError.TheVariants as files
 use Rattle.reports.specs.declared.batch.JobReport.{JobReport}
 use Rattle.reports.specs.declared.batch.JobReport.TheVariants.{Done, Refused, NoMemory, NoSuchLatch, NoSuchName}
 use Rattle.serde_json.specs.Data.{Data, null, string, object, member, no_members}
@@ -15,6 +15,7 @@ latches_data before after = object (member (codes "after") (count after) (member
 abbrev pub file_data : Data → Data → Data
 file_data fault latches = object (member (codes "fault") fault (member (codes "latches") latches no_members))
 
+-- the object of a file of a batch: its fault, or its latches before and after
 abbrev pub job_data : JobReport → Data
 job_data (Done before after) = file_data null (latches_data before after)
 job_data (Refused fault) = file_data (fault_data (faults.Circuit fault)) null

@@ -3,7 +3,7 @@ use Rattle.std.specs.Prelude.{codes, Option}
 use Rattle.reports.specs.declared.statistics.Counts.{Counts}
 use Rattle.reports.specs.declared.statistics.Statistics.{Statistics}
 use Rattle.serde_json.specs.Data.{Data, string, object, member, no_members}
-use Rattle.retimed_circuits.specs.declared.counts.MergeCounts.{MergeCounts}
+use Rattle.merged_circuits.specs.declared.counts.MergeCounts.{MergeCounts}
 use Rattle.json_reports.specs.declared.counts.MapCounts.{MapCounts}
 use Rattle.json_reports.specs.Members.{count, or_null}
 

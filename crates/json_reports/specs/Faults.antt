@@ -1,6 +1,6 @@
 -- The names of faults, and their offsets.
 use Rattle.std.specs.Prelude.{ℕ, List, Option, None, codes}
-use Rattle.counted_io.specs.Codes as circuits
+use Rattle.file_words.specs.Codes as circuits
 use Rattle.lane_sim.specs.Codes as stimuli
 use Rattle.circuit_files.specs.ListCodes as lists
 use Rattle.certificates.specs.Codes as certificates
@@ -10,6 +10,7 @@ use Rattle.json_reports.specs.Members.{count, or_null}
 use Rattle.json_reports.specs.declared.fault.Fault.{Fault}
 use Rattle.json_reports.specs.declared.fault.Fault.TheVariants.{Circuit, Stimulus, FileList, Certificates, Witness, NoSuchName, NoSuchLatch, TooManyNodes, TooManySteps, NotAMap, NoSuchLiteral, Device}
 
+-- the name of a fault of any kind of file
 abbrev pub fault_name : Fault → List ℕ
 fault_name (Circuit fault) = circuits.name_of fault
 fault_name (Stimulus fault) = stimuli.name_of fault
@@ -24,6 +25,7 @@ fault_name NotAMap = codes "NotAMap"
 fault_name NoSuchLiteral = codes "NoSuchLiteral"
 fault_name Device = codes "Device"
 
+-- the offset of a fault, if it has one
 abbrev pub fault_offset : Fault → Option ℕ
 fault_offset (Circuit fault) = circuits.offset_of fault
 fault_offset (Stimulus fault) = stimuli.offset_of fault

@@ -1,4 +1,5 @@
 -- Values of JSON, and the members of objects.
+-- `docs/FORMAT.md` says what each member is.
 use Rattle.std.specs.Prelude.{ℕ, List, Option, Some, None, map}
 use Rattle.std.specs.Borrow.{Bor}
 use Rattle.std.specs.List.{fold}

@@ -5,6 +5,7 @@ use Rattle.json_reports.specs.Faults.{fault_data}
 use Rattle.json_reports.specs.Members.{count, or_null}
 use Rattle.json_reports.specs.declared.refusal.Refusal.{Refusal}
 
+-- the fault of a command, with the path of the file, and the name that no latch has
 abbrev pub refusal_data : Refusal → Data
 refusal_data r =
     object (member (codes "command") (string r.command.now)

@@ -35,6 +35,8 @@ held_back_data h is_least =
 abbrev pub networks_of : Option Times → Option ℕ
 networks_of times = option_map (λ t. t.networks) times
 
+-- each frame, what the written circuit has, the latches that were read, the free latches that
+-- stayed, what holds latches, and the time of each part
 abbrev pub retiming_data : Retimed → ReadLevels → Remaining → Option Times → Option MapCounts → Data
 retiming_data r levels left times mapped =
     object (member (codes "after") (circuit_data left.counts)

@@ -8,6 +8,7 @@ use Rattle.json_reports.specs.declared.times.Times.{Times}
 abbrev pub frame_times_data : FrameTimes → Data
 frame_times_data t = object (member (codes "looking") (count t.looking) (member (codes "moving") (count t.moving) no_members))
 
+-- the times of a run: reading, cleaning, each frame, writing
 abbrev pub times_data : Times → Data
 times_data t =
     object (member (codes "cleaning") (count t.cleaning)

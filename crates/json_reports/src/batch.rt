@@ -8,7 +8,7 @@ ghost use Rattle.serde_json.specs.Data.{null};
 
 use crate::fault::{Fault, fault_object};
 use crate::members::{Scalar, object_with, scalars_object};
-use counted_io::ReadError;
+use file_words::ReadError;
 use reports::JobReport;
 use serde_json::Value;
 use std::alloc::{AllocError, Global};

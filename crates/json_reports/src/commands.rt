@@ -20,8 +20,9 @@ use certificate_audits::Audit;
 use certificates::Certificate;
 use counted_io::CountedWrite;
 use lane_sim::Place;
+use merged_circuits::MergeCounts;
 use reports::{Agreement, JobReport, Remaining, Statistics};
-use retimed_circuits::{MergeCounts, Retimed};
+use retimed_circuits::Retimed;
 use std::alloc::Global;
 
 /// Prints what [`retiming_object`] makes, on a line.

@@ -6,8 +6,8 @@ ghost use Rattle.json_reports.specs.Counts.{circuit_data, map_data, merge_data, 
 ghost use Rattle.json_reports.specs.Members.{or_null};
 
 use crate::members::{Scalar, put_made, put_scalars, scalars_object};
+use merged_circuits::MergeCounts;
 use reports::{Counts, Statistics};
-use retimed_circuits::MergeCounts;
 use serde_json::{Map, Value};
 use std::alloc::{AllocError, Global};
 

@@ -6,7 +6,7 @@ ghost use Rattle.json_reports.specs.Faults.{fault_data};
 use crate::members::{Scalar, scalars_object};
 use certificates::CertError;
 use circuit_files::ListError;
-use counted_io::ReadError;
+use file_words::ReadError;
 use lane_sim::StimError;
 use serde_json::Value;
 use std::alloc::{AllocError, Global};

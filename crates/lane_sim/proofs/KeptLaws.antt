@@ -6,9 +6,9 @@ use Rattle.std.proofs.lemmas.Bool.{cases_lt, false≢true, ltb-false, leb-false}
 use Rattle.std.proofs.lemmas.List.{get_or_append_left, length_push}
 use Rattle.std.proofs.lemmas.List.Elements.{All-push}
 use Rattle.std.proofs.lemmas.Option.{slice_get-get_or}
-use Rattle.counted_io.specs.Answering.{◌>>=◌, Fails}
-use Rattle.counted_io.specs.Numbers.{number_of}
-use Rattle.counted_io.specs.Reading.{read_lines}
+use Rattle.file_words.specs.Answering.{◌>>=◌, Fails}
+use Rattle.file_words.specs.Numbers.{number_of}
+use Rattle.file_words.specs.Reading.{read_lines}
 use Rattle.lane_sim.specs.Kept.{ArePlaces, after_last, counted, next_place, read_place, with_place}
 use Rattle.lane_sim.specs.declared.fault.StimError.{StimError}
 use Rattle.lane_sim.specs.declared.fault.StimError.TheVariants.{BadLine}

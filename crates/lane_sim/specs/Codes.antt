@@ -6,6 +6,7 @@ use Rattle.lane_sim.specs.declared.fault.SimError.{SimError}
 use Rattle.lane_sim.specs.declared.fault.SimError.TheVariants.{Shape}
 use Rattle.lane_sim.specs.declared.fault.SimError.TheVariants as sim
 
+-- the number of a fault of a stimulus
 abbrev pub stim_error_code : StimError → ℕ
 stim_error_code (BadLine at) = 1
 stim_error_code (Width at) = 2
@@ -26,6 +27,7 @@ offset_of (Width at) = Some at
 offset_of (TooMany at) = Some at
 offset_of NoMemory = None
 
+-- the number of an error of simulating
 abbrev pub sim_error_code : SimError → ℕ
 sim_error_code Shape = 1
 sim_error_code sim.NoMemory = 2

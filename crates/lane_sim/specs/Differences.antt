@@ -11,6 +11,7 @@ pub record HaveSameShape (c d : Netlist) : Type 0 where
   pub shape : SameShape c d
   pub free : free_latches d.aig ≡ free_latches c.aig
 
+-- the circuits have other numbers of inputs, of free latches, or of properties
 abbrev pub DifferInShape : Netlist → Netlist → Type 0
 DifferInShape c d = HaveSameShape c d → ⊥
 
@@ -19,6 +20,7 @@ pub record HaveKeptShape (kept : List ℕ) (c d : Netlist) : Type 0 where
   pub shape : SameShape c d
   pub free : length kept ≡ free_latches d.aig
 
+-- the circuits don't have one shape, with these free latches kept
 abbrev pub DifferInKeptShape : List ℕ → Netlist → Netlist → Type 0
 DifferInKeptShape kept c d = HaveKeptShape kept c d → ⊥
 

@@ -1,10 +1,10 @@
 -- Which free latches of a circuit another one has: the list of them, and what a stimulus of the first is for the other.
 use Rattle.std.specs.Prelude.{ℕ, ◌+◌, ◌-◌, ◌<◌, ◌++◌, ◌||◌, ◌==◌, List, [], ◌∷◌, Option, Some, None, Result, Ok, Err, All, length, map, nat_lt, nat_le, slice_get, if◌then◌else◌}
 use Rattle.std.specs.List.Sorted.{IsStrictlyIncreasing}
-use Rattle.counted_io.specs.Answering.{◌>>=◌}
-use Rattle.counted_io.specs.Lines.{lines}
-use Rattle.counted_io.specs.Numbers.{number_of}
-use Rattle.counted_io.specs.Reading.{read_lines}
+use Rattle.file_words.specs.Answering.{◌>>=◌}
+use Rattle.file_words.specs.Lines.{lines}
+use Rattle.file_words.specs.Numbers.{number_of}
+use Rattle.file_words.specs.Reading.{read_lines}
 use Rattle.lane_sim.specs.Traces.{choice_of}
 use Rattle.lane_sim.specs.declared.stimulus.InputSequence.{InputSequence}
 use Rattle.lane_sim.specs.declared.fault.StimError.{StimError}
@@ -24,6 +24,7 @@ abbrev pub after_last : Option ℕ → ℕ
 after_last None = 0
 after_last (Some place) = place + 1
 
+-- the least place that may follow
 abbrev pub next_place : List ℕ → ℕ
 next_place kept = after_last (slice_get kept (length kept - 1))
 

@@ -1,7 +1,7 @@
 //! Which free latches of a circuit another one has: reading a list of them, and the stimulus of the first for the other.
 ghost use Rattle.std.specs.Prelude.{◌≡◌, IfOk, false, map, length};
 ghost use Rattle.std.specs.List.{slice_index_or};
-ghost use Rattle.counted_io.specs.Answering.{Gives};
+ghost use Rattle.file_words.specs.Answering.{Gives};
 ghost use Rattle.lane_sim.specs.Kept.{ArePlaces, for_kept, next_place, read_place};
 ghost use Rattle.lane_sim.specs.Kept as wanted;
 ghost use Rattle.lane_sim.specs.Traces.{choice_of};
@@ -10,7 +10,7 @@ ghost use Rattle.lane_sim.specs.declared.fault.StimError.TheVariants as faults;
 use crate::fault::StimError;
 use crate::stimulus::InputSequence;
 use aig_graph::{NoMemory, Sequence};
-use counted_io::{Line, Lines, number};
+use file_words::{Line, Lines, number};
 use std::alloc::Global;
 
 /// Reads which of so many free latches were kept, as many as `count`: a line for each, with its place from 0 among them, in order.

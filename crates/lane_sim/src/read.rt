@@ -1,7 +1,7 @@
 //! Reading a stimulus.
 ghost use Rattle.std.specs.Prelude.{◌≡◌, ◌==◌, ◌++◌, ◌∷◌, [], IfOk, length};
 ghost use Rattle.std.specs.List.{list_all};
-ghost use Rattle.counted_io.specs.Answering.{Gives};
+ghost use Rattle.file_words.specs.Answering.{Gives};
 ghost use Rattle.lane_sim.specs.declared.fault.StimError.TheVariants.{NoMemory};
 ghost use Rattle.lane_sim.specs.Stimuli.{is_digit, values_of, begin, step};
 ghost use Rattle.lane_sim.specs.Stimuli as stimuli;
@@ -9,7 +9,7 @@ ghost use Rattle.lane_sim.specs.Stimuli as stimuli;
 use crate::fault::StimError;
 use crate::stimulus::{InputSequence, Stimulus};
 use aig_graph::Sequence;
-use counted_io::{Line, Lines};
+use file_words::{Line, Lines};
 use std::alloc::{AllocError, Global};
 
 /// The sequences that a stimulus may have.

@@ -7,12 +7,12 @@ use Rattle.aig_graph.specs.Graph.{Graph, IsGraph, IsGateAt, variable, variables_
 use Rattle.cleaned_circuits.specs.Merged.{Merging, merging_from, replaced, replaced_graph, replaced_latch, substitutes_after}
 use Rattle.cleaned_circuits.proofs.SubstituteLaws.{after-within}
 use Rattle.cleaned_circuits.proofs.MergedLaws.{IsGraph-replaced, SubstitutesWithin, from_latch, length-replaced_latches, replaced-first_latch, replaced-latch}
-use Rattle.retimed_circuits.specs.Counts.{merged_latches}
-use Rattle.retimed_circuits.specs.Partitions.{IsCoarsest, IsFiner, IsInductive, IsMerged}
-use Rattle.retimed_circuits.specs.Readings.{read, from_reset, ReadsAs, as_itself, as_constant, as_first, IsReading, leaves, substitutes_by, signature}
-use Rattle.retimed_circuits.proofs.CoarserLaws.{coarser-substitutes}
-use Rattle.retimed_circuits.proofs.FinerLaws.{coarsest-one}
-use Rattle.retimed_circuits.proofs.ReadingLaws.{are-leaves}
+use Rattle.merged_circuits.specs.Counts.{merged_latches}
+use Rattle.merged_circuits.specs.Partitions.{IsCoarsest, IsFiner, IsInductive, IsMerged}
+use Rattle.merged_circuits.specs.Readings.{read, from_reset, ReadsAs, as_itself, as_constant, as_first, IsReading, leaves, substitutes_by, signature}
+use Rattle.merged_circuits.proofs.CoarserLaws.{coarser-substitutes}
+use Rattle.merged_circuits.proofs.FinerLaws.{coarsest-one}
+use Rattle.merged_circuits.proofs.ReadingLaws.{are-leaves}
 use Rattle.latch_merging.specs.Rounds.{first_round, next_round, signature_of}
 use Rattle.latch_merging.proofs.CoarsestLaws.{IsRound, first-coarser, first-reading, round-finer, round-last, round-reading}
 use Rattle.latch_merging.proofs.SameRunLaws.{run-same}

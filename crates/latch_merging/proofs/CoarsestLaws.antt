@@ -14,13 +14,13 @@ use Rattle.aig_graph.proofs.CountingLaws.{count-within}
 use Rattle.cleaned_circuits.specs.Latches.{constant_of}
 use Rattle.cleaned_circuits.specs.Merged.{replaced}
 use Rattle.cleaned_circuits.proofs.LatchLaws.{constant-even}
-use Rattle.retimed_circuits.specs.Readings.{own_literal, read, may_merge, from_reset, ReadsAs, as_itself, as_constant, as_first, IsReading, leaves, substitutes_by, signature}
-use Rattle.retimed_circuits.specs.Partitions.{IsInductive, IsFiner, IsCoarsest}
-use Rattle.retimed_circuits.proofs.ReadingLaws.{from_reset-twice, from_reset-zero, from_reset-constant, form, form-variable, replaced-constant, replaced-latch_literal}
-use Rattle.retimed_circuits.proofs.ClassRunLaws.{replaced-signed}
-use Rattle.retimed_circuits.proofs.CoarserLaws.{coarser-substitutes, substitutes_by-constant}
+use Rattle.merged_circuits.specs.Readings.{own_literal, read, may_merge, from_reset, ReadsAs, as_itself, as_constant, as_first, IsReading, leaves, substitutes_by, signature}
+use Rattle.merged_circuits.specs.Partitions.{IsInductive, IsFiner, IsCoarsest}
+use Rattle.merged_circuits.proofs.ReadingLaws.{from_reset-twice, from_reset-zero, from_reset-constant, form, form-variable, replaced-constant, replaced-latch_literal}
+use Rattle.merged_circuits.proofs.ClassRunLaws.{replaced-signed}
+use Rattle.merged_circuits.proofs.CoarserLaws.{coarser-substitutes, substitutes_by-constant}
 use Rattle.latch_merging.specs.declared.signature.Signature.{Signature}
-use Rattle.retimed_circuits.specs.Counts.{is_merged, merged_latches}
+use Rattle.merged_circuits.specs.Counts.{is_merged, merged_latches}
 use Rattle.latch_merging.specs.Rounds.{constant_signature, signature_of, next_round, round_by, first_read, first_round}
 use Rattle.latch_merging.specs.Names.{IsRough}
 use Rattle.latch_merging.proofs.RoundLaws.{After, alone, by_constant, by_first, after, Led, led, leader-same, leader-constant, length-round}

@@ -16,10 +16,10 @@ use Rattle.cleaned_circuits.specs.Latches.{constant_of}
 use Rattle.cleaned_circuits.specs.Merged.{Merging, replaced, replaced_gate, same_fan_ins, known_substitute, substitute_or_own, kept_after, with_substitute, merge_gate, merge_gates, merging_from, substitutes_after}
 use Rattle.cleaned_circuits.proofs.LatchLaws.{constant-even}
 use Rattle.cleaned_circuits.proofs.SubstituteLaws.{lookup_push, same_fan_ins-is, gate_substitutes, with_false, with_true, with_equal, with_opposite, with_earlier, replaced-variable, AreLeaves, length-substitutes_after, length-merge_gate}
-use Rattle.retimed_circuits.specs.Readings.{own_literal, read, may_merge, from_reset, ReadsAs, as_itself, as_constant, as_first, leaves, substitutes_by, signature}
-use Rattle.retimed_circuits.specs.Partitions.{IsInductive}
-use Rattle.retimed_circuits.proofs.ReadingLaws.{are-leaves, leaf-low, leaf-latch, from_reset-twice, from_reset-zero, replaced-latch_literal}
-use Rattle.retimed_circuits.proofs.ClassRunLaws.{comes-zero, comes-one, comes-equal, comes-opposite, gate_of-either, replaced-signed}
+use Rattle.merged_circuits.specs.Readings.{own_literal, read, may_merge, from_reset, ReadsAs, as_itself, as_constant, as_first, leaves, substitutes_by, signature}
+use Rattle.merged_circuits.specs.Partitions.{IsInductive}
+use Rattle.merged_circuits.proofs.ReadingLaws.{are-leaves, leaf-low, leaf-latch, from_reset-twice, from_reset-zero, replaced-latch_literal}
+use Rattle.merged_circuits.proofs.ClassRunLaws.{comes-zero, comes-one, comes-equal, comes-opposite, gate_of-either, replaced-signed}
 use Rattle.latch_merging.specs.declared.signature.Signature.{Signature}
 use Rattle.latch_merging.specs.Names.{is_marked, HaveOneSignature, AreAlike, AreLeaving, regrouped, key_of}
 use Rattle.latch_merging.proofs.CoarsestLaws.{signature_is}

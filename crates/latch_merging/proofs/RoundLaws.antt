@@ -8,8 +8,8 @@ use Rattle.aig_graph.specs.Graph.{Graph}
 use Rattle.aig_graph.proofs.TableLaws.{length-table, table-at}
 use Rattle.cleaned_circuits.specs.Latches.{constant_of}
 use Rattle.cleaned_circuits.specs.Merged.{substitute_or_own}
-use Rattle.retimed_circuits.specs.Readings.{own_literal, read, may_merge, from_reset}
-use Rattle.retimed_circuits.proofs.ReadingLaws.{from_reset-twice, from_reset-zero}
+use Rattle.merged_circuits.specs.Readings.{own_literal, read, may_merge, from_reset}
+use Rattle.merged_circuits.proofs.ReadingLaws.{from_reset-twice, from_reset-zero}
 use Rattle.clean.specs.Kept.{or_else}
 use Rattle.clean.proofs.KeptLaws.{lookup-push, or_else-none}
 use Rattle.latch_merging.specs.declared.signature.Signature.{Signature}

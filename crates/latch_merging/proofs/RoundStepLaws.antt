@@ -7,10 +7,10 @@ use Rattle.aig_graph.specs.Graph.{Graph, first_latch, variables_end}
 use Rattle.aig_graph.specs.Tables.{table}
 use Rattle.cleaned_circuits.specs.Merged.{merging_from, substitutes_after}
 use Rattle.cleaned_circuits.proofs.SubstituteLaws.{length-merge_gates}
-use Rattle.retimed_circuits.specs.Readings.{from_reset, leaves, own_literal, read, substitutes_by, signature}
-use Rattle.retimed_circuits.proofs.ReadingLaws.{length-leaves}
+use Rattle.merged_circuits.specs.Readings.{from_reset, leaves, own_literal, read, substitutes_by, signature}
+use Rattle.merged_circuits.proofs.ReadingLaws.{length-leaves}
 use Rattle.latch_merging.specs.declared.signature.Signature.{Signature}
-use Rattle.retimed_circuits.specs.Counts.{is_merged}
+use Rattle.merged_circuits.specs.Counts.{is_merged}
 use Rattle.latch_merging.specs.Rounds.{first_read, first_round, next_read, round_by, signature_of}
 use Rattle.clean.specs.Substitutions.{from_first, own_literals}
 use Rattle.aig_graph.proofs.TableLaws.{entry, table-end}

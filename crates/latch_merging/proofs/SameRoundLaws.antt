@@ -7,7 +7,7 @@ use Rattle.aig_graph.proofs.TableLaws.{table-same}
 use Rattle.aig_graph.proofs.ListLaws.{slice_get-map_none}
 use Rattle.cleaned_circuits.specs.Merged.{replaced_graph, replaced_latch}
 use Rattle.cleaned_circuits.proofs.MergedLaws.{length-replaced_latches, replaced-latch}
-use Rattle.retimed_circuits.specs.Readings.{from_reset, may_merge, own_literal, read, substitutes_by, signature}
+use Rattle.merged_circuits.specs.Readings.{from_reset, may_merge, own_literal, read, substitutes_by, signature}
 use Rattle.clean.specs.Kept.{or_else}
 use Rattle.latch_merging.specs.Rounds.{first_read, first_round, first_of_signature, has_signature, has_signature_at, next_read, next_round, read_first, round_by, started, signature_of}
 

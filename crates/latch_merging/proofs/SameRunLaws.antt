@@ -7,8 +7,8 @@ use Rattle.aig_graph.specs.Value.{signed_as}
 use Rattle.aig_graph.specs.Building.{gate_of}
 use Rattle.cleaned_circuits.specs.Merged.{Merging, known_substitute, merge_gate, merge_gates, replaced, replaced_gate, with_substitute}
 use Rattle.cleaned_circuits.proofs.SubstituteLaws.{length-merge_gate}
-use Rattle.retimed_circuits.proofs.ClassRunLaws.{gate_of-either}
-use Rattle.retimed_circuits.proofs.CoarserLaws.{substitutes-stay}
+use Rattle.merged_circuits.proofs.ClassRunLaws.{gate_of-either}
+use Rattle.merged_circuits.proofs.CoarserLaws.{substitutes-stay}
 
 -- a gate that reads what stands for its literals
 pair-same : (substitutes finer : List ℕ) (gate : Gate) → replaced substitutes (replaced finer gate.rhs0) ≡ replaced substitutes gate.rhs0

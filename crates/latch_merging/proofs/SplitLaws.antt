@@ -9,9 +9,9 @@ use Rattle.aig_graph.specs.Graph.{Graph, IsGraph, IsGateAt, variable, first_latc
 use Rattle.aig_graph.specs.Value.{signed_as}
 use Rattle.aig_graph.specs.Building.{gate_of}
 use Rattle.cleaned_circuits.specs.Merged.{replaced, replaced_gate, known_substitute}
-use Rattle.retimed_circuits.specs.Readings.{read, may_merge, from_reset, leaves, signature}
-use Rattle.retimed_circuits.specs.Partitions.{IsInductive}
-use Rattle.retimed_circuits.proofs.ReadingLaws.{leaf-low, leaf-latch, from_reset-constant, from_reset-twice}
+use Rattle.merged_circuits.specs.Readings.{read, may_merge, from_reset, leaves, signature}
+use Rattle.merged_circuits.specs.Partitions.{IsInductive}
+use Rattle.merged_circuits.proofs.ReadingLaws.{leaf-low, leaf-latch, from_reset-constant, from_reset-twice}
 use Rattle.latch_merging.specs.declared.signature.Signature.{Signature}
 use Rattle.latch_merging.specs.Rounds.{round_by}
 use Rattle.latch_merging.specs.Names.{is_marked, IsTaken, IsLeft, AreMarkedReaders, IsRenamed, IsNamed, AreNamed, AreSignatures, AreCarried, IsGateNamed, AreGatesNamed, is_leaving, AreLeaving, key_of, class_of, HaveOneSignature, AreAlike, regrouped, AreRegrouped, IsUnmarked, AreAtRest, IsRough}

@@ -9,9 +9,9 @@ use Rattle.aig_graph.specs.Laws.{all_free}
 use Rattle.aig_graph.specs.Streams.{SameStreams}
 use Rattle.aig_graph.proofs.StreamLaws.{same_streams-transitive, composed-every}
 use Rattle.cleaned_circuits.specs.Merged.{replaced_graph, replaced_latch}
-use Rattle.retimed_circuits.specs.Counts.{AreCounts}
-use Rattle.retimed_circuits.specs.Partitions.{IsMerged}
-use Rattle.retimed_circuits.specs.Readings.{substitutes_by}
+use Rattle.merged_circuits.specs.Counts.{AreCounts}
+use Rattle.merged_circuits.specs.Partitions.{IsMerged}
+use Rattle.merged_circuits.specs.Readings.{substitutes_by}
 use Rattle.retimed_circuits.specs.Frames.{CleansTo}
 use Rattle.retimed_circuits.specs.Merging.{MergesIn}
 use Rattle.retimed_circuits.specs.Names.{StayHeld}

@@ -2,7 +2,7 @@
 use Rattle.std.specs.Prelude.{ℕ, List}
 use Rattle.aig_graph.specs.Graph.{IsGraph}
 use Rattle.aig_graph.specs.Circuits.{Netlist}
-use Rattle.retimed_circuits.specs.Partitions.{IsCoarsest, IsMerged}
+use Rattle.merged_circuits.specs.Partitions.{IsCoarsest, IsMerged}
 
 -- the reading by which a circuit is merged is the coarsest inductive one of the merged circuit too
 abbrev pub MergesNoMore : List ℕ → Netlist → Netlist → Type 0

@@ -1,4 +1,5 @@
--- Names of variables, by which a reading is found: what is marked to be looked at again, and what agrees with its fan-ins' names.
+-- Names of variables, by which a reading is found: what is marked to be looked at again, and what
+-- agrees with its fan-ins' names.
 use Rattle.std.specs.Prelude.{ℕ, ◌+◌, ◌-◌, ◌*◌, ◌/◌, ◌++◌, [], ◌∷◌, ◌<◌, ◌≤◌, ◌≡◌, ◌==◌, ◌&&◌, ◌⊎◌, not, Bool, true, false, List, length, slice_get, slice_index_or, slice_set, suc, zero, Option, Some, None, if◌then◌else◌}
 use Rattle.std.specs.Map.{lookup}
 use Rattle.aig_graph.specs.declared.graph.Gate.{Gate}
@@ -6,8 +7,8 @@ use Rattle.aig_graph.specs.declared.graph.Latch.{Latch}
 use Rattle.aig_graph.specs.Graph.{Graph, variable, first_latch}
 use Rattle.cleaned_circuits.specs.Latches.{constant_of}
 use Rattle.cleaned_circuits.specs.Merged.{known_substitute, replaced_gate}
-use Rattle.retimed_circuits.specs.Readings.{from_reset, leaves, may_merge, own_literal, read, signature, IsReading}
-use Rattle.retimed_circuits.specs.Partitions.{IsInductive, IsFiner}
+use Rattle.merged_circuits.specs.Readings.{from_reset, leaves, may_merge, own_literal, read, signature, IsReading}
+use Rattle.merged_circuits.specs.Partitions.{IsInductive, IsFiner}
 use Rattle.latch_merging.specs.declared.signature.Signature.{Signature}
 use Rattle.latch_merging.specs.Rounds.{constant_signature, has_signature}
 
@@ -32,12 +33,14 @@ abbrev pub IsTaken : List Bool → List Bool → Option ℕ → Type 0
 IsTaken old new None = (new ≡ old) × ((k : ℕ) → is_marked new k ≡ false)
 IsTaken old new (Some place) = (place < length old) × (is_marked old place ≡ true) × (new ≡ slice_set old place false)
 
--- the last of the first n fan-ins that read a variable, by one more than its place; 0 where there is none
+-- the last of the first n fan-ins that read a variable, by one more than its place; 0 where there
+-- is none
 unfoldable pub last_reader : List ℕ → ℕ → ℕ → ℕ
 last_reader sources v zero = 0
 last_reader sources v (suc n) = if slice_index_or sources n 0 == v then suc n else last_reader sources v n
 
--- the variables that latches and gates read, by place: first the latches' next literals, then two for each gate
+-- the variables that latches and gates read, by place: first the latches' next literals, then two
+-- for each gate
 pub record AreSources (g : Graph) (sources : List ℕ) : Type 0 where
   pub long : length sources ≡ length g.latches + 2 * length g.gates
   pub latches : (j : ℕ) (latch : Latch) → slice_get g.latches j ≡ Some latch → slice_index_or sources j 0 ≡ variable latch.next
@@ -55,6 +58,7 @@ pub record IsLinked (first v : ℕ) (heads heads_new links links_new : List ℕ)
   pub before : v < first → (heads_new ≡ heads) × (links_new ≡ links ++ 0 ∷ [])
   pub from_there : first ≤ v → (heads_new ≡ slice_set heads (v - first) (suc (length links))) × (links_new ≡ links ++ slice_index_or heads (v - first) 0 ∷ [])
 
+-- links that lead from each variable over all fan-ins that read it
 pub record AreReaders (g : Graph) (heads links : List ℕ) : Type 0 where
   pub sources : List ℕ
   pub are_sources : AreSources g sources
@@ -103,7 +107,8 @@ AreNamed g names pairs marks =
     (i : ℕ) (gate : Gate) → slice_get g.gates i ≡ Some gate
     → (is_marked marks i ≡ true) ⊎ (known_substitute pairs (replaced_gate (leaves g names) gate) ≡ Some (read names (length g.latches + i)))
 
--- the signature of a latch that isn't marked is the name of its next literal, negated where its reset is 1
+-- the signature of a latch that isn't marked is the name of its next literal, negated where its
+-- reset is 1
 abbrev pub AreSignatures : Graph → List ℕ → List ℕ → List Bool → Type 0
 AreSignatures g names signatures marks = (j : ℕ) (latch : Latch) → slice_get g.latches j ≡ Some latch → (is_marked marks j ≡ true) ⊎ (read signatures j ≡ signature (leaves g names) latch)
 
@@ -143,7 +148,8 @@ pub record IsLeft (old new : List Bool) (place : ℕ) (leaves : Bool) : Type 0 w
   pub stays : leaves ≡ false → new ≡ old
   pub others : (k : ℕ) → (k ≡ place → ⊥) → is_marked new k ≡ is_marked old k
 
--- the signature of each latch is the name of its next literal, and those that may be merged and leave their signatures are marked
+-- the signature of each latch is the name of its next literal, and those that may be merged and
+-- leave their signatures are marked
 pub record AreLeaving (g : Graph) (held names old new : List ℕ) (leaving : List Bool) : Type 0 where
   pub signature : (j : ℕ) (latch : Latch) → slice_get g.latches j ≡ Some latch → read new j ≡ signature (leaves g names) latch
   pub marked : (j : ℕ) (latch : Latch) → slice_get g.latches j ≡ Some latch → is_marked leaving j ≡ is_leaving g held names old j latch
@@ -182,6 +188,7 @@ renamed_latch places names class signature latch = from_reset latch.reset (group
 abbrev pub regrouped : List Bool → List ℕ → List ℕ → (Signature → ℕ) → ℕ → Latch → ℕ
 regrouped leaving names signatures group j latch = if is_marked leaving j then from_reset latch.reset (group (key_of names signatures j latch)) else read names j
 
+-- the marked latches have the names of their groups, the others keep theirs
 abbrev pub AreRegrouped : Graph → List Bool → List ℕ → List ℕ → (Signature → ℕ) → List ℕ → Type 0
 AreRegrouped g leaving names signatures group renamed = (j : ℕ) (latch : Latch) → slice_get g.latches j ≡ Some latch → read renamed j ≡ regrouped leaving names signatures group j latch
 

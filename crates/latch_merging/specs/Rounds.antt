@@ -6,7 +6,7 @@ use Rattle.aig_graph.specs.Graph.{Graph}
 use Rattle.aig_graph.specs.Tables.{table}
 use Rattle.cleaned_circuits.specs.Latches.{constant_of}
 use Rattle.cleaned_circuits.specs.Merged.{substitute_or_own}
-use Rattle.retimed_circuits.specs.Readings.{from_reset, may_merge, own_literal, read, substitutes_by, signature}
+use Rattle.merged_circuits.specs.Readings.{from_reset, may_merge, own_literal, read, substitutes_by, signature}
 use Rattle.clean.specs.Kept.{or_else}
 use Rattle.latch_merging.specs.declared.signature.Signature.{Signature}
 
@@ -21,7 +21,8 @@ constant_signature = record { class = 0; literal = 0 }
 abbrev pub signature_of : Graph → List ℕ → ℕ → Latch → Signature
 signature_of g reads j latch = record { class = from_reset latch.reset (read reads j); literal = signature (substitutes_by g reads) latch }
 
--- whether there is a latch that may be merged, of this class and signature, where latches have these
+-- whether there is a latch that may be merged, of this class and signature, where latches have
+-- these
 abbrev pub has_signature_at : List ℕ → (ℕ → Latch → Signature) → Signature → ℕ → Option Latch → Bool
 has_signature_at held keys key i None = false
 has_signature_at held keys key i (Some latch) = may_merge held i latch && has_signature key (keys i latch)
@@ -31,15 +32,16 @@ abbrev pub started : Graph → ℕ → Option Latch → ℕ
 started g i None = 0
 started g i (Some latch) = from_reset latch.reset (own_literal g i)
 
--- the first of the constant and the latches below n that is of this class and signature: 0, or the latch's literal, negated where its reset is 1
+-- the first of the constant and the latches below n that is of this class and signature: 0, or the
+-- latch's literal, negated where its reset is 1
 unfoldable pub first_of_signature : Graph → List ℕ → (ℕ → Latch → Signature) → Signature → ℕ → Option ℕ
 first_of_signature g held keys key zero = if has_signature key constant_signature then Some 0 else None
 first_of_signature g held keys key (suc n) =
     or_else (first_of_signature g held keys key n)
     (if has_signature_at held keys key n (slice_get g.latches n) then Some (started g n (slice_get g.latches n)) else None)
 
--- what latch j reads as after a round, where this is the first of its class and signature: itself where there is none, and
--- where it may not be merged
+-- what latch j reads as after a round, where this is the first of its class and signature: itself
+-- where there is none, and where it may not be merged
 abbrev pub read_first : Graph → List ℕ → ℕ → Latch → Option ℕ → ℕ
 read_first g held j latch first =
     if may_merge held j latch then from_reset latch.reset (substitute_or_own (from_reset latch.reset (own_literal g j)) first) else own_literal g j
@@ -48,7 +50,8 @@ abbrev pub next_read : Graph → List ℕ → (ℕ → Latch → Signature) → 
 next_read g held keys j None = 0
 next_read g held keys j (Some latch) = read_first g held j latch (first_of_signature g held keys (keys j latch) j)
 
--- the reading in which each latch reads as the first of its class and signature, where latches have these
+-- the reading in which each latch reads as the first of its class and signature, where latches have
+-- these
 unfoldable pub round_by : Graph → List ℕ → (ℕ → Latch → Signature) → List ℕ
 round_by g held keys = table 0 (length g.latches) (λ j. next_read g held keys j (slice_get g.latches j))
 
@@ -61,6 +64,7 @@ abbrev pub first_read : Graph → List ℕ → ℕ → Option Latch → ℕ
 first_read g held j None = 0
 first_read g held j (Some latch) = if may_merge held j latch then constant_of latch.reset else own_literal g j
 
+-- the reading in which all latches that may be merged are of the constant's class
 unfoldable pub first_round : Graph → List ℕ → List ℕ
 first_round g held = table 0 (length g.latches) (λ j. first_read g held j (slice_get g.latches j))
 
@@ -77,6 +81,7 @@ entries_after entries own key (Some literal) = entries
 abbrev pub read_by_signature : Graph → List ℕ → List (Signature × ℕ) → Signature → ℕ → Latch → ℕ
 read_by_signature g held entries key j latch = read_first g held j latch (lookup (has_signature key) entries)
 
+-- the entries after a latch that may be merged: it joins the class of its signature, or begins one
 abbrev pub entries_by_signature : Graph → List ℕ → List (Signature × ℕ) → Signature → ℕ → Latch → List (Signature × ℕ)
 entries_by_signature g held entries key j latch =
     if may_merge held j latch then entries_after entries (from_reset latch.reset (own_literal g j)) key (lookup (has_signature key) entries) else entries

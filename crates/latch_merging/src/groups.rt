@@ -1,6 +1,9 @@
-//! Latches with another signature than before, in groups of one class and signature; and the names that the groups get. A
-//! group that is all of its class, or the largest of those that are, keeps the name of its class, so that few latches are renamed. That
-//! is for speed alone: whatever names the groups get, two latches of one group have one.
+//! Groups of the latches that leave their signature in a turn, by class and signature, and the
+//! names of the groups.
+//!
+//! A group that is all of its class keeps the name of the class. If several groups make up a class,
+//! the largest keeps it. So few latches are renamed. That is for speed alone: whatever the names,
+//! two latches of one group have one name.
 ghost use Rattle.std.specs.Prelude.{◌≡◌};
 ghost use Rattle.std.specs.Map.{lookup};
 ghost use Rattle.latch_merging.specs.Rounds.{has_signature};
@@ -11,7 +14,7 @@ use aig_graph::{Aig, Lit, MAX_VARIABLES, NoMemory};
 use indexmap::IndexMap;
 use std::alloc::Global;
 
-/// Latches of one class and signature.
+/// Latches of one class and signature, counted.
 #[derive(Clone, Copy)]
 struct Group {
     class: Lit,
@@ -62,7 +65,7 @@ impl Groups {
         self.places.get(signature).copied()
     }
 
-    /// One more latch.
+    /// Adds a latch to the group of its signature.
     pub(crate) fn add(&mut self, signature: Signature) -> Result<(), NoMemory> {
         let Some(place) = self.find(&signature) else {
             return self.begin(signature);
@@ -73,7 +76,7 @@ impl Groups {
         Ok(())
     }
 
-    /// The name of a group.
+    /// Returns the name of a group.
     pub(crate) fn name(&self, signature: &Signature) -> Lit
         ensures { result ≡ group_name self.now.places.entries self.now.names.items signature.now }
     {
@@ -82,7 +85,8 @@ impl Groups {
     }
 }
 
-/// How many variables have the name of a class; how many of them leave it in a turn, and one more than the place of their largest group.
+/// The number of variables with the name of a class, and in a turn the number of them that leave
+/// it. `largest` is one more than the place of its largest group, or 0.
 #[derive(Clone, Copy)]
 struct Class {
     size: u32,
@@ -90,19 +94,19 @@ struct Class {
     largest: u32,
 }
 
-/// A class that nothing is of.
+/// A class of no variables.
 const NO_CLASS: Class = Class {
     size: 0,
     leaving: 0,
     largest: 0,
 };
 
-/// A place in 32 bits, which has as many as there can be latches.
+/// Returns a place in 32 bits, which hold as many places as there can be latches.
 fn short(place: usize) -> u32 {
     place.min(u32::MAX as usize) as u32
 }
 
-/// How many latches the group has that comes right before a place; none where there is no such group.
+/// Returns the number of latches in the group right before a place, or 0 if there is no such group.
 fn size_before(groups: &[Group], place: u32) -> u32 {
     let at = place.wrapping_sub(1) as usize;
     if at < groups.len() {
@@ -112,8 +116,10 @@ fn size_before(groups: &[Group], place: u32) -> u32 {
     }
 }
 
-/// The classes of latches, the constant's first, and then one for each latch that others may read as. Each but the constant's has for its name
-/// the variable that is as many after `before` as it is after the constant's.
+/// The classes of latches: the constant's first, and then one for each latch that others may read
+/// as.
+///
+/// The name of the class at a place above 0 is the variable `before` plus that place.
 #[derive(Drop)]
 pub(crate) struct Classes {
     before: u32,
@@ -121,7 +127,7 @@ pub(crate) struct Classes {
 }
 
 impl Classes {
-    /// Those of a reading.
+    /// Returns the classes of a reading.
     pub(crate) fn of(alloc: Global, aig: &Aig, reads: &[Lit]) -> Result<Classes, NoMemory> {
         let none = vec![in alloc; NO_CLASS; reads.len().saturating_add(1)]?;
         let mut classes = Classes {
@@ -135,7 +141,7 @@ impl Classes {
         Ok(classes)
     }
 
-    /// One more variable has the name of a class.
+    /// Counts one more variable with the name of a class.
     fn grow(&mut self, class: Lit) {
         let at = self.place(class);
         if at < self.classes.len() {
@@ -164,7 +170,7 @@ impl Classes {
         }
     }
 
-    /// Whether the group at a place keeps the name of its class.
+    /// Returns true if the group at a place keeps the name of its class.
     fn keeps(&self, group: &Group, place: u32) -> bool {
         let at = self.place(group.class);
         if at >= self.classes.len() {
@@ -174,7 +180,7 @@ impl Classes {
         (class.leaving == class.size) & (class.largest == place.saturating_add(1))
     }
 
-    /// A group leaves its class for one of its own.
+    /// Takes a group out of its class, and returns the name of a class of its own.
     fn part(&mut self, group: &Group) -> Result<Lit, NoMemory> {
         let at = self.place(group.class);
         if at < self.classes.len() {
@@ -196,7 +202,7 @@ impl Classes {
         }
     }
 
-    /// The name of the group at a place, where all groups are counted.
+    /// Returns the name of the group at a place, once all groups are counted.
     fn name_of(&mut self, group: &Group, place: u32) -> Result<Lit, NoMemory> {
         if self.keeps(group, place) {
             return Ok(group.class);
@@ -204,7 +210,7 @@ impl Classes {
         self.part(group)
     }
 
-    /// Nothing leaves a class any more.
+    /// Ends the turn for a class: nothing leaves it any more.
     fn settle(&mut self, class: Lit) {
         let at = self.place(class);
         if at < self.classes.len() {
@@ -213,7 +219,7 @@ impl Classes {
         }
     }
 
-    /// Puts the name of each group.
+    /// Appends the name of each group to `names`.
     fn put_names(&mut self, groups: &[Group], names: &mut Vec<Lit>) -> Result<(), NoMemory> {
         for place in 0..groups.len() {
             self.count(groups, &groups[place], short(place));

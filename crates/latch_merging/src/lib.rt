@@ -1,7 +1,8 @@
-//! Latches that always agree, merged: those that an inductive partition holds together read as the first of their class.
+//! Merging of latches that always agree: those that an inductive partition holds together read as
+//! the first of their class.
 //!
-//! Merging once is enough: of a circuit whose latches were merged it finds nothing more. So frames start from a circuit that was
-//! cleaned and merged once, where that is asked for.
+//! Merging once is enough: in a circuit whose latches were merged it finds nothing more. So frames
+//! start from a circuit that is cleaned and merged once, if that is asked for.
 #![tactic(auto)]
 
 mod groups;

@@ -1,5 +1,5 @@
-//! Marks by place, of which the first is taken out again and again. Between which places they lie is kept, so that to take one out costs
-//! what lies before it.
+//! Marks by place, from which the first is taken again and again. All lie from `low` to before
+//! `high`, so taking one costs what lies before it.
 ghost use Rattle.std.specs.Prelude.{◌≡◌, IfOk, replicate};
 ghost use Rattle.latch_merging.specs.Names.{IsAdded, IsTaken};
 
@@ -27,7 +27,7 @@ impl Model for Marks {
 }
 
 impl Marks {
-    /// So many places, all with this mark.
+    /// Returns `places` places, all with `mark`.
     pub(crate) fn all(alloc: Global, mark: bool, places: usize) -> Result<Marks, NoMemory>
         ensures { IfOk result (λ marks. marks ≡ replicate places mark) }
     {
@@ -50,12 +50,12 @@ impl Marks {
         }
     }
 
-    /// Whether there may be a mark.
+    /// Returns true if there may be a mark.
     pub(crate) fn any(&self) -> bool {
         self.low < self.high
     }
 
-    /// Takes the first mark out.
+    /// Takes the first mark out, and returns its place.
     pub(crate) fn take(&mut self) -> Option<usize>
         ensures { IsTaken self.old self.new result }
     {

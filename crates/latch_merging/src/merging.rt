@@ -1,13 +1,18 @@
-//! Latches that always agree, merged. A round over the whole circuit parts each class by its latches' signatures, from the class that has
-//! all of them on. Where rounds part fewer and fewer latches they are done after a few. Else, as in a delay line or a counter, of which each
-//! round parts a latch, splitting goes on from what they made, by what changed; a round after it shows that no class is parted any more, and
-//! where names ran out, rounds go on until none is. A round parts a class exactly where one latch more reads as itself, so the number of those
-//! that read as another says when it was the last.
+//! Merging of latches that always agree, by rounds over the whole circuit, and by splitting if
+//! rounds take long.
+//!
+//! A round parts each class by its latches' signatures; the first class has all latches. If each
+//! round parts fewer latches, they end after a few. Otherwise each may part one latch, as in a
+//! delay line or a counter. Splitting then goes on from their reading, by what changed.
+//!
+//! A round after splitting shows that no class is parted any more. If names ran out, rounds go on
+//! until none is. A round parts a class exactly if one more latch reads as itself. So the number of
+//! latches that read as another tells which round was the last.
 ghost use Rattle.std.specs.Prelude.{◌≡◌, ◌<◌, IfOk, length, nat_lt};
 ghost use Rattle.aig_graph.specs.Laws.{all_free};
 ghost use Rattle.aig_graph.specs.Streams.{SameStreams};
-ghost use Rattle.retimed_circuits.specs.Partitions.{IsCoarsest, IsMerged};
-ghost use Rattle.retimed_circuits.specs.Counts.{AreCounts, merged_latches};
+ghost use Rattle.merged_circuits.specs.Partitions.{IsCoarsest, IsMerged};
+ghost use Rattle.merged_circuits.specs.Counts.{AreCounts, merged_latches};
 ghost use Rattle.latch_merging.specs.Names.{IsRough};
 ghost use Rattle.latch_merging.specs.Rounds.{next_round};
 
@@ -16,26 +21,26 @@ use crate::rounds::{first_round, merged_latches, next_round};
 use crate::splitting::split_reading;
 use aig_graph::{Aig, Circuit, Keep, Lit, NoMemory};
 use clean::Held;
-use retimed_circuits::MergeCounts;
+use merged_circuits::MergeCounts;
 use std::alloc::Global;
 
-/// How many rounds there are before splitting, at most.
+/// The most rounds before splitting.
 const MOST_ROUNDS: u32 = 64;
 
-/// How many of them may part more than three quarters of what the one before parted.
+/// The most of them that may part more than three quarters of what the round before parted.
 const MOST_SLOW: u32 = 2;
 
-/// Whether rounds come to an end soon.
+/// The pace at which rounds part latches, which tells if they end soon.
 #[derive(Drop)]
 struct Pace {
-    /// How many latches the last round parted.
+    /// The number of latches that the last round parted.
     parted: usize,
-    /// How many rounds parted more than three quarters of what the one before parted.
+    /// The number of rounds that parted more than three quarters of what the round before parted.
     slow: u32,
 }
 
 impl Pace {
-    /// Whether rounds go on after one that parted so many latches.
+    /// Returns true if rounds go on after one that parted `parted` latches.
     fn goes_on(&mut self, parted: usize) -> bool {
         if parted.saturating_mul(4) > self.parted.saturating_mul(3) {
             self.slow = self.slow.saturating_add(1);
@@ -45,7 +50,7 @@ impl Pace {
     }
 }
 
-/// A reading, and what a round makes of it.
+/// A reading, and the one after a round.
 #[derive(Drop)]
 struct Round {
     reads: Vec<Lit>,
@@ -53,7 +58,7 @@ struct Round {
 }
 
 impl Round {
-    /// The round of a reading.
+    /// Makes a round of a reading.
     fn of(alloc: Global, aig: &Aig, held: &Held<'_>, reads: Vec<Lit>) -> Result<Round, NoMemory>
         requires held { length held.now.marks.items ≡ length aig.now.latches }
         requires reads { length reads.items ≡ length aig.now.latches }
@@ -65,7 +70,7 @@ impl Round {
         Ok(Round { reads, next })
     }
 
-    /// The first round.
+    /// Makes the first round.
     fn first(alloc: Global, aig: &Aig, held: &Held<'_>) -> Result<Round, NoMemory>
         requires { length held.now.marks.items ≡ length aig.now.latches }
         ensures rough { IfOk result (λ round. IsRough aig.now held.now.positions.now
@@ -77,7 +82,7 @@ impl Round {
         Round::of(alloc, aig, held, reads)
     }
 
-    /// The round after this one.
+    /// Makes the round after this one.
     fn after(self, alloc: Global, aig: &Aig, held: &Held<'_>) -> Result<Round, NoMemory>
         requires held { length held.now.marks.items ≡ length aig.now.latches }
         requires next { length self.next.items ≡ length aig.now.latches }
@@ -90,7 +95,7 @@ impl Round {
         Round::of(alloc, aig, held, next)
     }
 
-    /// The round of what splitting makes of what this one made.
+    /// Splits the reading after this round, and makes a round of the result.
     fn split(self, alloc: Global, aig: &Aig, held: &Held<'_>) -> Result<Round, NoMemory>
         requires held { length held.now.marks.items ≡ length aig.now.latches }
         requires next { IsRough aig.now held.now.positions.now self.next.items }
@@ -105,7 +110,7 @@ impl Round {
         Round::of(alloc, aig, held, finer)
     }
 
-    /// How many latches the round parted from another one that they read as.
+    /// Counts the latches that the round parted from another one that they read as.
     fn parted(&self, aig: &Aig) -> usize
         requires reads { length self.now.reads.items ≡ length aig.now.latches }
         requires next { length self.now.next.items ≡ length aig.now.latches }
@@ -114,7 +119,7 @@ impl Round {
         before.saturating_sub(merged_latches(aig, self.next.as_slice()))
     }
 
-    /// Whether the round parted a class.
+    /// Returns true if the round parted a class.
     fn parts(&self, aig: &Aig) -> bool
         requires reads { length self.now.reads.items ≡ length aig.now.latches }
         requires next { length self.now.next.items ≡ length aig.now.latches }
@@ -124,7 +129,7 @@ impl Round {
         merged_latches(aig, self.next.as_slice()) < merged_latches(aig, self.reads.as_slice())
     }
 
-    /// The round itself where it parted no class, else that of what splitting makes.
+    /// Returns the round itself if it parted no class, and otherwise one after splitting.
     fn settled(self, alloc: Global, aig: &Aig, held: &Held<'_>) -> Result<Round, NoMemory>
         requires held { length held.now.marks.items ≡ length aig.now.latches }
         requires rough { IsRough aig.now held.now.positions.now self.reads.items }
@@ -135,7 +140,7 @@ impl Round {
         ensures next { IfOk result (λ round. round.next.items
             ≡ next_round aig.now held.now.positions.now round.reads.items) }
     {
-        // That its literals are in range is what the graph's readers ensure.
+        // Tells the prover that the graph's literals are in range.
         aig.known();
         if self.parts(aig) {
             self.split(alloc, aig, held)
@@ -144,7 +149,7 @@ impl Round {
         }
     }
 
-    /// The reading.
+    /// Returns the reading.
     fn reads(self) -> Vec<Lit>
         ensures { result.items ≡ self.reads.items }
     {
@@ -153,7 +158,7 @@ impl Round {
     }
 }
 
-/// The last of the rounds that come before splitting.
+/// Makes rounds until splitting is due, and returns the last of them.
 fn rounds_before(alloc: Global, aig: &Aig, held: &Held<'_>) -> Result<Round, NoMemory>
     requires { length held.now.marks.items ≡ length aig.now.latches }
     ensures rough { IfOk result (λ round. IsRough aig.now held.now.positions.now
@@ -176,7 +181,7 @@ fn rounds_before(alloc: Global, aig: &Aig, held: &Held<'_>) -> Result<Round, NoM
     Ok(round)
 }
 
-/// What latches read as by the coarsest inductive reading.
+/// Finds the coarsest inductive reading: what each latch reads as.
 pub(crate) fn coarsest_reading(
     alloc: Global,
     aig: &Aig,
@@ -194,25 +199,29 @@ pub(crate) fn coarsest_reading(
     Ok(round.reads())
 }
 
-/// A circuit in which latches that always agree are one, and how many were merged.
+/// A circuit in which latches that always agree are one, and the number of merged latches.
 #[derive(Drop)]
 pub struct MergedCircuit {
-    /// The circuit; all its latches, gates and names are still there.
+    /// The circuit. All its latches, gates and names are still there.
     pub circuit: Circuit,
-    /// How many of its latches nothing reads any more, since they read as others.
+    /// The numbers of latches that nothing reads any more, since they read as others.
     pub counts: MergeCounts,
 }
 
-/// A circuit in which latches that always agree are one: by the coarsest partition of the constant and the latches of known reset that
-/// aren't held, in which those of a class have the same signature, by their next literals. Each reads as the first of its class, negated where
-/// their resets differ, or as the constant. All latches, gates and names stay, and what nothing reads any more goes in cleaning.
+/// Merges the latches that always agree. All latches, gates and names stay; cleaning removes what
+/// nothing reads any more.
 ///
-/// A round is linear in the latches and gates, but for two hash tables. Where rounds don't end soon, classes are parted by what changed since they
-/// were looked at, so the cost is that of the latches and gates that read what was parted, each time it is.
+/// The constant and the latches of known reset that aren't held are partitioned. The partition is
+/// the coarsest in which those of a class have one signature, by their next literals. Each reads as
+/// the first of its class, negated if their resets differ, or as the constant.
+///
+/// A round is linear in the latches and gates, but for two hash tables. If rounds don't end soon,
+/// classes are parted by what changed since they were looked at. The cost is then that of the
+/// latches and gates that read a parted variable, each time it is parted.
 ///
 /// # Errors
 ///
-/// `NoMemory` where memory is refused.
+/// `NoMemory` if memory is refused.
 pub fn merge_latches(
     alloc: Global,
     circuit: &Circuit,

@@ -1,4 +1,4 @@
-//! The names of gates, by the names of their fan-ins.
+//! The names of gates, by the pair of names of their fan-ins.
 ghost use Rattle.std.specs.Prelude.{◌≡◌, ◌++◌, ◌∷◌, [], None, IfOk, OnOk};
 ghost use Rattle.std.specs.Map.{lookup};
 ghost use Rattle.cleaned_circuits.specs.Merged.{known_substitute, same_fan_ins};
@@ -9,11 +9,9 @@ use clean::{KeptGates, known_substitute};
 use std::alloc::Global;
 use std::marker::Model;
 
-/// The names of pairs that come down to neither.
+/// The names of pairs that don't reduce to a constant or to one of their two names.
 #[derive(Drop)]
 pub(crate) struct PairNames {
-    /// The variable of the next name.
-    next: u32,
     names: KeptGates,
 }
 
@@ -28,47 +26,37 @@ impl Model for PairNames {
 }
 
 impl PairNames {
-    /// None, where names begin with this variable.
+    /// Returns no names. The first one given will be the variable `first`.
     pub(crate) fn none(alloc: Global, aig: &Aig, first: u32) -> Result<PairNames, NoMemory>
         ensures { IfOk result (λ pairs. pairs ≡ []) }
     {
-        let names = KeptGates::of(alloc, aig)?;
-        Ok(PairNames { next: first, names })
+        let room = Vec::with_capacity(alloc, aig.gates().len())?;
+        let names = KeptGates::over(alloc, aig, first.min(MAX_VARIABLES as u32), room)?;
+        Ok(PairNames { names })
     }
 
-    /// The name that a pair comes down to, or has.
+    /// Returns the name that a pair reduces to or has.
     fn known(&self, pair: &Gate) -> Option<Lit>
         ensures { result ≡ known_substitute self.now pair.now }
     {
         known_substitute(&self.names, pair)
     }
 
-    fn add(&mut self, pair: Gate, name: Lit) -> Result<(), NoMemory>
-        requires { lookup (same_fan_ins pair) self.old ≡ None }
-        ensures { OnOk result (self.new ≡ self.old ++ (pair, name) ∷ []) }
-    {
-        self.names.cover(pair.rhs0.var())?;
-        self.names.add(pair, name)?;
-        self.next = self.next.saturating_add(1);
-        Ok(())
-    }
-
-    /// A new name for a pair that has none, or none where they have run out.
+    /// Gives a new name to a pair that has none, or returns `None` if names have run out.
     fn add_new(&mut self, pair: Gate) -> Result<Option<Lit>, NoMemory>
         requires { known_substitute self.old pair ≡ None }
         ensures { IfOk result (IsNamed self.old self.new pair) }
     {
-        let var = self.next;
-        if (var as usize) < MAX_VARIABLES {
-            let name = Lit::new(var, false);
-            self.add(pair, name)?;
+        self.names.cover(pair.rhs0.var())?;
+        if (self.names.next_variable() as usize) < MAX_VARIABLES {
+            let name = self.names.add(pair)?;
             Ok(Some(name))
         } else {
             Ok(None)
         }
     }
 
-    /// The name of a pair, or none where names have run out.
+    /// Returns the name of a pair, or `None` if names have run out.
     pub(crate) fn name(&mut self, pair: Gate) -> Result<Option<Lit>, NoMemory>
         ensures { IfOk result (IsNamed self.old self.new pair) }
     {

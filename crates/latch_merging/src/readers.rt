@@ -1,4 +1,5 @@
-//! Which latches and gates read a variable, as linked lists: each fan-in links to the one before it that reads the same variable.
+//! The latches and gates that read a variable, as linked lists: each fan-in links to the one before
+//! it that reads that variable.
 ghost use Rattle.std.specs.Prelude.{◌≡◌, ◌<◌, ◌≤◌, ◌+◌, ◌*◌, ◌^◌, IfOk, OnOk, length};
 ghost use Rattle.aig_graph.specs.Graph.{first_latch};
 ghost use Rattle.latch_merging.specs.Names.{AreMarkedReaders, AreReaders, AreSources, IsLinked, IsReaderMarked};
@@ -7,22 +8,24 @@ use crate::marks::Marks;
 use aig_graph::{Aig, NoMemory};
 use std::alloc::Global;
 
-/// What is marked, to be looked at again.
+/// The latches and gates that are marked, to be looked at again.
 #[derive(Drop)]
 pub(crate) struct Marked {
     pub(crate) latches: Marks,
     pub(crate) gates: Marks,
 }
 
-/// The readers of each variable from the first latch on. A link is one more than the place of a fan-in, and 0 where a list ends; the
-/// fan-ins are those of the latches, and after them those of the gates.
+/// The readers of each variable from the first latch on.
+///
+/// A link is one more than the place of a fan-in, and 0 at the end of a list. The fan-ins are those
+/// of the latches, and after them those of the gates.
 #[derive(Drop)]
 pub(crate) struct Readers {
     heads: Vec<u32>,
     links: Vec<u32>,
 }
 
-/// The variables that the latches and the gates read.
+/// Returns the variables that the latches and the gates read, fan-in by fan-in.
 fn sources_of(alloc: Global, aig: &Aig) -> Result<Vec<u32>, NoMemory>
     ensures { IfOk result (λ sources. AreSources aig.now sources.items) }
 {
@@ -50,7 +53,8 @@ fn mark_reader(marked: &mut Marked, latches: usize, place: usize)
     }
 }
 
-/// Links the next fan-in, which reads the variable of an entry, if it has one.
+/// Links the next fan-in, which reads `var`, if that has a list: each variable from `first` on has
+/// one.
 fn link(heads: &mut Vec<u32>, links: &mut Vec<u32>, first: u32, var: u32) -> Result<(), NoMemory>
     requires var { first ≤ var → var < first + length heads.old.items }
     requires few { length links.old.items < 2 ^ 31 }
@@ -69,7 +73,7 @@ fn link(heads: &mut Vec<u32>, links: &mut Vec<u32>, first: u32, var: u32) -> Res
 }
 
 impl Readers {
-    /// Those of a circuit.
+    /// Returns the readers in a circuit.
     pub(crate) fn of(alloc: Global, aig: &Aig) -> Result<Readers, NoMemory>
         ensures { IfOk result (λ readers. AreReaders aig.now readers.heads.items
             readers.links.items) }

@@ -1,9 +1,12 @@
-//! Merging in its two halves, for who needs the reading as well: what each latch reads as, and the circuit in which the latches read so.
+//! Merging in its two halves, for callers that need the reading too.
+//!
+//! The first finds the reading of each latch, and the second makes the circuit in which the latches
+//! read so.
 ghost use Rattle.std.specs.Prelude.{IfOk};
 ghost use Rattle.aig_graph.specs.Laws.{all_free};
 ghost use Rattle.aig_graph.specs.Streams.{SameStreams};
-ghost use Rattle.retimed_circuits.specs.Counts.{AreCounts};
-ghost use Rattle.retimed_circuits.specs.Partitions.{IsCoarsest, IsMerged};
+ghost use Rattle.merged_circuits.specs.Counts.{AreCounts};
+ghost use Rattle.merged_circuits.specs.Partitions.{IsCoarsest, IsMerged};
 
 use crate::merging::{MergedCircuit, coarsest_reading};
 use crate::rounds::{counts_of, substitutes_by};
@@ -11,12 +14,14 @@ use aig_graph::{Circuit, Keep, Lit, NoMemory};
 use clean::{Held, replaced_circuit};
 use std::alloc::Global;
 
-/// What each latch reads as where latches that always agree are merged: itself, an earlier latch, negated where their resets differ, or
-/// a constant. Costs what merging costs, but for the circuit.
+/// Returns what each latch reads as if latches that always agree are merged.
+///
+/// It is the latch itself, an earlier latch, negated if their resets differ, or a constant. Costs
+/// what merging costs, but for the circuit.
 ///
 /// # Errors
 ///
-/// `NoMemory` where memory is refused.
+/// `NoMemory` if memory is refused.
 pub fn latch_reading(alloc: Global, circuit: &Circuit, keep: &Keep) -> Result<Vec<Lit>, NoMemory>
     ensures { IfOk result (λ reads. IsCoarsest circuit.now.aig keep.now reads.items) }
 {
@@ -25,12 +30,15 @@ pub fn latch_reading(alloc: Global, circuit: &Circuit, keep: &Keep) -> Result<Ve
     coarsest_reading(alloc, aig, &held)
 }
 
-/// The circuit in which the latches read so, as [`merge_latches`](crate::merge_latches) makes it, where these are held. Linear in the
-/// latches and gates, but for a hash table; the reading is dropped before the circuit is made.
+/// Makes the circuit in which the latches read as `reads` says, as
+/// [`merge_latches`](crate::merge_latches) does.
+///
+/// Linear in the latches and gates, but for a hash table. The reading is dropped before the circuit
+/// is made.
 ///
 /// # Errors
 ///
-/// `NoMemory` where memory is refused.
+/// `NoMemory` if memory is refused.
 pub fn merged_by(
     alloc: Global,
     circuit: &Circuit,

@@ -1,20 +1,23 @@
-//! One round of merging latches: each class of a reading is parted by its latches' signatures, where all latches read so. Whatever is
-//! inductive and finer than the reading stays finer than what the round makes of it.
+//! One round of merging latches: each class of a reading is parted by its latches' signatures under
+//! that reading.
+//!
+//! An inductive reading that is finer than the one before the round stays finer than the one after
+//! it.
 ghost use Rattle.std.specs.Prelude.{◌≡◌, ◌<◌, ◌∷◌, [], slice_get, length, Some, OnOk, IfOk};
 ghost use Rattle.std.specs.Map.{lookup};
 ghost use Rattle.aig_graph.specs.Graph.{variable};
 ghost use Rattle.cleaned_circuits.specs.Merged.{substitute_or_own};
-ghost use Rattle.retimed_circuits.specs.Readings.{from_reset, may_merge, substitutes_by, signature};
-ghost use Rattle.retimed_circuits.specs.Counts.{constant_latches, counts_of, is_constant, merged_latches};
+ghost use Rattle.merged_circuits.specs.Readings.{from_reset, may_merge, substitutes_by, signature};
+ghost use Rattle.merged_circuits.specs.Counts.{constant_latches, counts_of, is_constant, merged_latches};
 ghost use Rattle.latch_merging.specs.Rounds.{constant_signature, entries_by_signature, first_read, first_round, has_signature, next_round, read_by_signature, entries_after};
 
 use crate::signature::{FirstOfSignature, Signature};
 use aig_graph::{Aig, Latch, Lit, NoMemory, Reset};
 use clean::{Held, Substitution, constant_of, merge_gates, own_literal};
-use retimed_circuits::MergeCounts;
+use merged_circuits::MergeCounts;
 use std::alloc::Global;
 
-/// Whether the latch at a place may be merged.
+/// Returns true if the latch at a place may be merged.
 pub(crate) fn may_merge(held: &Held<'_>, place: usize, latch: &Latch) -> bool
     requires { place < length held.now.marks.items }
     ensures { result ≡ may_merge held.now.positions.now place latch.now }
@@ -23,7 +26,7 @@ pub(crate) fn may_merge(held: &Held<'_>, place: usize, latch: &Latch) -> bool
     latch.reset != Reset::Free && !is_held
 }
 
-/// What stands for each variable, where latches read so.
+/// Returns the literal that stands for each variable if latches read as `reads` says.
 pub(crate) fn substitutes_by(
     alloc: Global,
     aig: &Aig,
@@ -40,7 +43,7 @@ pub(crate) fn substitutes_by(
     Ok(substitutes)
 }
 
-/// What a latch reads as before the first round.
+/// Returns what a latch reads as before the first round.
 pub(crate) fn first_read(aig: &Aig, held: &Held<'_>, place: usize, latch: &Latch) -> Lit
     requires there { slice_get aig.now.latches place ≡ Some latch.now }
     requires held { length held.now.marks.items ≡ length aig.now.latches }
@@ -53,7 +56,8 @@ pub(crate) fn first_read(aig: &Aig, held: &Held<'_>, place: usize, latch: &Latch
     }
 }
 
-/// The reading before the first round: all that may be merged are of the constant's class.
+/// Returns the reading before the first round: all latches that may be merged are in the constant's
+/// class.
 pub(crate) fn first_round(alloc: Global, aig: &Aig, held: &Held<'_>) -> Result<Vec<Lit>, NoMemory>
     requires { length held.now.marks.items ≡ length aig.now.latches }
     ensures { IfOk result (λ reads. reads.items ≡ first_round aig.now held.now.positions.now) }
@@ -65,7 +69,7 @@ pub(crate) fn first_round(alloc: Global, aig: &Aig, held: &Held<'_>) -> Result<V
     Ok(reads)
 }
 
-/// The class of a latch that reads as a literal, and its signature.
+/// Returns the class and the signature of a latch that reads as `reads`.
 fn signature_of(substitutes: &Substitution, reads: Lit, latch: &Latch) -> Signature
     requires { variable latch.now.next < length substitutes.now }
     ensures class { result.class ≡ from_reset latch.now.reset reads }
@@ -78,7 +82,7 @@ fn signature_of(substitutes: &Substitution, reads: Lit, latch: &Latch) -> Signat
     }
 }
 
-/// What a latch that may be merged reads as after a round.
+/// Returns what a latch that may be merged reads as after a round.
 fn merged_read(
     firsts: &mut FirstOfSignature,
     signature: Signature,
@@ -95,7 +99,8 @@ fn merged_read(
     Ok(first.signed_as(start))
 }
 
-/// What the latch at a place reads as after a round, where it has this signature and the first ones before it are these.
+/// Returns what the latch at a place reads as after a round. It has `signature`, and `firsts` has
+/// the first latches of signatures before it.
 pub(crate) fn next_read(
     firsts: &mut FirstOfSignature,
     aig: &Aig,
@@ -119,7 +124,8 @@ pub(crate) fn next_read(
     }
 }
 
-/// The reading after a round, where these stand for the variables, and nothing but the constant has a signature yet.
+/// Returns the reading after a round. `substitutes` stand for the variables, and only the constant
+/// is in `firsts` yet.
 fn next_reads(
     alloc: Global,
     aig: &Aig,
@@ -144,7 +150,7 @@ fn next_reads(
     Ok(next)
 }
 
-/// The reading after a round, where these stand for the variables.
+/// Returns the reading after a round, in which `substitutes` stand for the variables.
 fn next_by(
     alloc: Global,
     aig: &Aig,
@@ -164,7 +170,7 @@ fn next_by(
     next
 }
 
-/// The reading after a round.
+/// Returns the reading after a round.
 pub(crate) fn next_round(
     alloc: Global,
     aig: &Aig,
@@ -182,7 +188,7 @@ pub(crate) fn next_round(
     next
 }
 
-/// How many latches read as another.
+/// Counts the latches that read as another.
 pub(crate) fn merged_latches(aig: &Aig, reads: &[Lit]) -> usize
     requires { length reads.now ≡ length aig.now.latches }
     ensures { result ≡ merged_latches aig.now reads.now }
@@ -202,19 +208,19 @@ fn is_constant(lit: Lit) -> bool
     lit.var() == 0
 }
 
-/// How many latches read as a constant.
+/// Counts the latches that read as a constant.
 fn constant_latches(reads: &[Lit]) -> usize
     ensures { result ≡ constant_latches reads.now }
 {
     reads.iter().filter(|lit| is_constant(**lit)).count()
 }
 
-/// How many latches read as another, and how many of these as a constant.
+/// Counts the latches that read as another, and those of them that read as a constant.
 pub(crate) fn counts_of(aig: &Aig, reads: &[Lit]) -> MergeCounts
     requires { length reads.now ≡ length aig.now.latches }
     ensures { result ≡ counts_of aig.now reads.now }
 {
-    // That they are counted by 32 bits is what the graph's readers ensure.
+    // Tells the prover that 32 bits count the latches.
     aig.known();
     MergeCounts {
         merged: merged_latches(aig, reads) as u32,

@@ -1,5 +1,5 @@
-//! What parts the latches of a class: a table has for each class, and for each signature of its latches, the first one. The
-//! constant is the first of its class, and has the signature 0.
+//! The table that parts the latches of a class: it has the first latch of each class and signature.
+//! The constant is the first of its class, and has the signature 0.
 ghost use Rattle.std.specs.Prelude.{◌≡◌, ◌++◌, ◌∷◌, [], None, OnOk, IfOk};
 ghost use Rattle.std.specs.Map.{lookup};
 ghost use Rattle.cleaned_circuits.specs.Merged.{substitute_or_own};
@@ -10,14 +10,15 @@ use indexmap::IndexMap;
 use std::alloc::Global;
 use std::marker::Model;
 
-/// A class, by what its latches read as, and the signature of a latch of it. Both literals are negated where the latch's reset is 1.
+/// The class of a latch, by what its latches read as, and the latch's signature. Both literals are
+/// negated if the latch's reset is 1.
 #[derive(Clone, Copy, PartialEq, Eq, Hash)]
 pub(crate) struct Signature {
     pub(crate) class: Lit,
     pub(crate) literal: Lit,
 }
 
-/// The first of each class and signature, by its own literal, negated where its reset is 1.
+/// The first latch of each class and signature, by its own literal, negated if its reset is 1.
 pub(crate) struct FirstOfSignature {
     literals: IndexMap<Signature, Lit>,
 }
@@ -49,7 +50,7 @@ impl FirstOfSignature {
         }
     }
 
-    /// The constant alone.
+    /// Returns a table of the constant alone.
     pub(crate) fn new(alloc: Global) -> Result<FirstOfSignature, NoMemory>
         ensures { IfOk result (λ firsts. firsts ≡ (constant_signature, 0) ∷ []) }
     {
@@ -68,7 +69,7 @@ impl FirstOfSignature {
         self.literals.get(signature).copied()
     }
 
-    /// Adds one of another class or signature than each.
+    /// Adds the first latch of a class and signature that the table doesn't have.
     fn add(&mut self, signature: Signature, own: Lit) -> Result<(), NoMemory>
         requires { lookup (has_signature signature) self.old ≡ None }
         ensures { OnOk result (self.new ≡ self.old ++ (signature, own) ∷ []) }
@@ -77,7 +78,7 @@ impl FirstOfSignature {
         Ok(())
     }
 
-    /// The first of this class and signature, which is this one where there is none.
+    /// Returns the first latch of a class and signature. If there is none, `own` becomes the first.
     pub(crate) fn first(&mut self, signature: Signature, own: Lit) -> Result<Lit, NoMemory>
         ensures literal { IfOk result (λ lit. lit ≡ substitute_or_own own
             (lookup (has_signature signature) self.old)) }

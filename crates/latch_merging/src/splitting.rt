@@ -1,12 +1,17 @@
-//! A reading that is as coarse as each inductive one, by names: latches of one class have one name. They begin with those of such a reading. In a turn
-//! the signature of a latch is the name of its next literal, those of a class that leave their signature get another name, group by group,
-//! and then gates get the name of their fan-ins' pair. What reads a variable that got another name is marked, and what is marked alone
-//! is looked at, so a turn costs what it changes: a delay line no more than it is long.
+//! Splitting: a reading by names, which is as coarse as each inductive one. Latches of one class
+//! have one name.
+//!
+//! Names begin with a reading of that kind. In each turn the signature of a latch is the name of
+//! its next literal. The latches of a class that leave their signature get another name, group by
+//! group. Then each gate gets the name of its fan-ins' pair.
+//!
+//! The readers of a renamed variable are marked, and only what is marked is looked at. So a turn
+//! costs what it changes: a delay line costs no more than its length.
 ghost use Rattle.std.specs.Prelude.{ℕ, List, true, ◌≡◌, ◌<◌, ◌+◌, ◌++◌, ◌∷◌, [], IfOk, IfSome, OnOk, length, replicate, slice_get, Some};
 ghost use Rattle.aig_graph.specs.declared.graph.Gate.{Gate as Pair};
 ghost use Rattle.aig_graph.specs.Graph.{variable, first_latch, variables_end};
 ghost use Rattle.cleaned_circuits.specs.Merged.{replaced, replaced_gate};
-ghost use Rattle.retimed_circuits.specs.Readings.{from_reset, leaves};
+ghost use Rattle.merged_circuits.specs.Readings.{from_reset, leaves};
 ghost use Rattle.latch_merging.specs.Rounds.{constant_signature, round_by};
 ghost use Rattle.latch_merging.specs.Names.{AreAtRest, AreLeaving, AreNamed, AreReaders, AreRegrouped, AreSignatures, IsRenamed, IsRough, IsUnmarked, class_of, group_name, renamed_latch, signature_by, AreCarried, AreGatesNamed, IsGateNamed, IsLeft};
 
@@ -20,7 +25,8 @@ use aig_graph::{Aig, Gate, Latch, Lit, NoMemory};
 use clean::{Held, constant_of};
 use std::alloc::Global;
 
-/// The name of a literal, where these are the names of the variables from the first latch on. Each before it is its own name.
+/// Returns the name of a literal. `names` has those of the variables from the first latch on; each
+/// variable before is its own name.
 fn named(aig: &Aig, names: &[Lit], lit: Lit) -> Lit
     requires long { length names.now ≡ length aig.now.latches + length aig.now.gates }
     requires within { variable lit < variables_end aig.now }
@@ -35,7 +41,7 @@ fn named(aig: &Aig, names: &[Lit], lit: Lit) -> Lit
     }
 }
 
-/// Gives the variable of an entry another name, and marks what reads it.
+/// Gives the variable of an entry the name `name`, and marks its readers if that is another name.
 fn rename(
     aig: &Aig,
     readers: &Readers,
@@ -58,7 +64,7 @@ fn rename(
     }
 }
 
-/// Names the gate at a place, which was marked. Not, where names have run out.
+/// Names the gate at a place, which was marked. Returns false if names have run out.
 fn name_gate(
     aig: &Aig,
     readers: &Readers,
@@ -95,7 +101,7 @@ fn name_gate(
     Ok(true)
 }
 
-/// Names the gates that are marked.
+/// Names the gates that are marked. Returns false if names have run out.
 fn name_gates(
     aig: &Aig,
     readers: &Readers,
@@ -123,7 +129,7 @@ fn name_gates(
     Ok(false)
 }
 
-/// The class of a latch, and its signature.
+/// Returns the class of a latch, and its signature.
 fn signature_now(aig: &Aig, names: &[Lit], place: usize, latch: &Latch) -> Signature
     requires there { slice_get aig.now.latches place ≡ Some latch.now }
     requires long { length names.now ≡ length aig.now.latches + length aig.now.gates }
@@ -154,7 +160,8 @@ fn leave(
     Ok(())
 }
 
-/// Gives the marked latches their signatures by the names, and marks and groups those that may be merged and leave their signatures.
+/// Gives the marked latches their signatures by the names. Marks and groups those that may be
+/// merged and leave their signatures. Returns true if it came to the end.
 fn update_signatures(
     aig: &Aig,
     held: &Held<'_>,
@@ -190,7 +197,7 @@ fn update_signatures(
     Ok(false)
 }
 
-/// The name of a latch's group.
+/// Returns the name of a latch's group.
 fn name_by_group(groups: &Groups, class: Lit, signature: Lit, latch: &Latch) -> Lit
     ensures { result ≡ renamed_latch groups.now.places.entries groups.now.names.items class signature
         latch.now }
@@ -203,7 +210,8 @@ fn name_by_group(groups: &Groups, class: Lit, signature: Lit, latch: &Latch) -> 
     groups.name(&key).signed_as(start)
 }
 
-/// Gives the marked latches the names of their groups.
+/// Gives the latches marked in `leaving` the names of their groups. Returns true if it came to the
+/// end.
 fn rename_latches(
     aig: &Aig,
     readers: &Readers,
@@ -239,16 +247,17 @@ fn rename_latches(
     false
 }
 
-/// The names so far, what they were made of, and what is to be looked at again.
+/// The names so far, the tables that they were made of, and the marks of what is to be looked at
+/// again.
 struct Splitting {
     readers: Readers,
     marked: Marked,
-    /// By variable from the first latch on.
+    /// The names of variables, from the first latch on.
     names: Vec<Lit>,
     /// The signature of each latch.
     signatures: Vec<Lit>,
     pairs: PairNames,
-    /// Marks for one turn.
+    /// Marks of the latches that leave their signature, for one turn.
     leaving: Marks,
 }
 
@@ -267,7 +276,7 @@ impl Drop for Splitting {
 }
 
 impl Splitting {
-    /// Before any gate has a name; latches have those of a reading.
+    /// Starts with the names of latches that a reading gives, before any gate has a name.
     fn start(alloc: Global, aig: &Aig, reads: &[Lit]) -> Result<Splitting, NoMemory>
         ensures readers { IfOk result (λ s. AreReaders aig.now s.readers.heads.items
             s.readers.links.items) }
@@ -305,7 +314,7 @@ impl Splitting {
         })
     }
 
-    /// Names the gates that are marked.
+    /// Names the gates that are marked. Returns false if names have run out.
     fn name_gates(&mut self, aig: &Aig) -> Result<bool, NoMemory>
         requires readers { AreReaders aig.now self.old.readers.heads.items
             self.old.readers.links.items }
@@ -331,7 +340,7 @@ impl Splitting {
         )
     }
 
-    /// One turn. Whether it went to its end.
+    /// Takes one turn. Returns true if it came to the end.
     fn turn(
         &mut self,
         alloc: Global,
@@ -379,7 +388,7 @@ impl Splitting {
         Ok(updated & renamed & named)
     }
 
-    /// Turns until nothing is marked.
+    /// Takes turns until nothing is marked. Returns true if they came to the end.
     fn run(
         &mut self,
         alloc: Global,
@@ -410,7 +419,7 @@ impl Splitting {
         Ok(false)
     }
 
-    /// Turns to the end: the reading by the names then, or none where names run out.
+    /// Takes turns to the end. Returns the reading by the names then, or `None` if names run out.
     fn reading(
         &mut self,
         alloc: Global,
@@ -435,7 +444,7 @@ impl Splitting {
     }
 }
 
-/// The names before the first turn: what latches read as, and any for the gates.
+/// Returns the names before the first turn: what latches read as, and the constant for the gates.
 fn first_names(alloc: Global, aig: &Aig, reads: &[Lit]) -> Result<Vec<Lit>, NoMemory>
     ensures { IfOk result (λ names. names.items ≡ reads.now ++ replicate (length aig.now.gates) 0) }
 {
@@ -448,7 +457,7 @@ fn first_names(alloc: Global, aig: &Aig, reads: &[Lit]) -> Result<Vec<Lit>, NoMe
     Ok(names)
 }
 
-/// The class of a latch by its name.
+/// Returns the class of a latch by its name.
 fn class_by(name: Lit, latch: &Latch) -> Signature
     ensures class { result.class ≡ from_reset latch.now.reset name }
     ensures literal { result.literal ≡ 0 }
@@ -459,7 +468,8 @@ fn class_by(name: Lit, latch: &Latch) -> Signature
     }
 }
 
-/// The reading in which each latch reads as the first of its name, where nothing but the constant has a name yet.
+/// Returns the reading in which each latch reads as the first of its name. Only the constant is in
+/// `firsts` yet.
 fn reads_by_names(
     alloc: Global,
     aig: &Aig,
@@ -482,7 +492,7 @@ fn reads_by_names(
     Ok(reads)
 }
 
-/// The reading in which each latch reads as the first of its name.
+/// Returns the reading in which each latch reads as the first of its name.
 fn reading_by_names(
     alloc: Global,
     aig: &Aig,
@@ -500,7 +510,7 @@ fn reading_by_names(
     reads
 }
 
-/// What splitting makes of a reading, or none where names run out.
+/// Splits a reading, or returns `None` if names run out.
 fn finer_reading(
     alloc: Global,
     aig: &Aig,
@@ -519,7 +529,8 @@ fn finer_reading(
     finer
 }
 
-/// What splitting makes of a reading that is as coarse as each inductive one: another one that is, and that is inductive too, but where names run out.
+/// Splits a reading that is as coarse as each inductive one. The result is as coarse too, and is
+/// inductive unless names ran out.
 pub(crate) fn split_reading(
     alloc: Global,
     aig: &Aig,

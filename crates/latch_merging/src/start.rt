@@ -1,17 +1,19 @@
-//! A circuit cleaned, and then merged. It is cleaned first so that a class's first latch is one that something rests on, and so that a
-//! circuit in which no two latches agree is what it is without merging.
+//! The start of a run that merges: a circuit cleaned, and then merged.
+//!
+//! It is cleaned first so that a class's first latch is one that something depends on. Also, a
+//! circuit in which no two latches agree is then what it is without merging.
 ghost use Rattle.std.specs.Prelude.{◌≡◌, ◌<◌, All, IfOk, length};
 ghost use Rattle.aig_graph.specs.Laws.{all_free};
 ghost use Rattle.aig_graph.specs.Streams.{SameStreams};
-ghost use Rattle.retimed_circuits.specs.Counts.{AreCounts};
-ghost use Rattle.retimed_circuits.specs.Partitions.{IsMerged};
+ghost use Rattle.merged_circuits.specs.Counts.{AreCounts};
+ghost use Rattle.merged_circuits.specs.Partitions.{IsMerged};
 ghost use Rattle.retimed_circuits.specs.Merging.{MergesIn};
 ghost use Rattle.retimed_circuits.specs.Names.{StayHeld};
 
 use crate::merging::{MergedCircuit, merge_latches};
 use aig_graph::{Circuit, Keep, NoMemory, Sequence};
 use clean::{Cleaned, clean};
-use retimed_circuits::MergeCounts;
+use merged_circuits::MergeCounts;
 use std::alloc::Global;
 
 /// A circuit that was cleaned and then merged.
@@ -19,15 +21,16 @@ use std::alloc::Global;
 pub struct MergedStart {
     /// The merged circuit, which isn't cleaned again.
     pub circuit: Circuit,
-    /// The latches that were held, at their positions in it.
+    /// The held latches, at their positions in that circuit.
     pub keep: Keep,
-    /// Of each of its free latches the place, from 0, among the free latches of the circuit that was given.
+    /// For each free latch of that circuit its place, from 0, among the free latches of the circuit
+    /// that was given.
     pub kept_free: Sequence<u32>,
-    /// How many latches of the cleaned circuit were merged.
+    /// The numbers of latches of the cleaned circuit that were merged.
     pub counts: MergeCounts,
 }
 
-/// What a circuit that was cleaned is merged to, where its held latches take no part.
+/// Merges the latches of a cleaned circuit. Its held latches take no part.
 fn start_of(alloc: Global, cleaned: Cleaned) -> Result<MergedStart, NoMemory>
     ensures merged { IfOk result (λ m. IsMerged cleaned.keep cleaned.circuit m.circuit) }
     ensures counted { IfOk result (λ m. AreCounts cleaned.circuit.aig cleaned.keep m.counts) }
@@ -55,11 +58,12 @@ fn start_of(alloc: Global, cleaned: Cleaned) -> Result<MergedStart, NoMemory>
     }
 }
 
-/// A circuit cleaned, and its latches that always agree merged, where the held latches stay and take no part.
+/// Cleans a circuit, and merges its latches that always agree. The held latches stay and take no
+/// part.
 ///
 /// # Errors
 ///
-/// `NoMemory` where memory is refused.
+/// `NoMemory` if memory is refused.
 pub fn merged_start(alloc: Global, circuit: &Circuit, keep: &Keep) -> Result<MergedStart, NoMemory>
     requires in_range { All (λ j. j < length circuit.now.aig.latches) keep.now }
     ensures merges { IfOk result (λ m. MergesIn keep.now circuit.now m.circuit m.kept_free
@@ -68,7 +72,7 @@ pub fn merged_start(alloc: Global, circuit: &Circuit, keep: &Keep) -> Result<Mer
     ensures stay { IfOk result (λ m. StayHeld keep.now circuit.now m.keep m.circuit) }
     ensures in_range { IfOk result (λ m. All (λ j. j < length m.circuit.aig.latches) m.keep) }
 {
-    // That it is a circuit is what its readers ensure.
+    // Tells the prover that it is a circuit.
     circuit.known();
     let cleaned = clean(alloc, circuit, keep)?;
     start_of(alloc, cleaned)

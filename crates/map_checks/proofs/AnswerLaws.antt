@@ -3,9 +3,9 @@ use Rattle.std.proofs.Common.{◌≡◌, List, [], ℕ}
 use Rattle.aig_graph.specs.Circuits.{Netlist, IsNetlist}
 use Rattle.aig_graph.specs.Graph.{IsGraph}
 use Rattle.aig_graph.specs.Streams.{SameStreams}
-use Rattle.retimed_circuits.specs.States.{IsStateMap}
-use Rattle.retimed_circuits.specs.MapCircuits.{IsMapCircuit, is_kept, mapped}
-use Rattle.retimed_circuits.proofs.MapLaws.{maps-give-streams}
+use Rattle.state_maps.specs.States.{IsStateMap}
+use Rattle.state_maps.specs.MapCircuits.{IsMapCircuit, is_kept, mapped}
+use Rattle.state_maps.proofs.MapLaws.{maps-give-streams}
 use Rattle.map_checks.specs.Answers.{AreFitting, MapsFirstStates, KeepsStates}
 
 -- a fitting map that begins at first states and keeps steps is a map of states, and both circuits have the same streams

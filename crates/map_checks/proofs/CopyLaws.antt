@@ -6,7 +6,8 @@ use Rattle.aig_graph.specs.declared.graph.Gate.{Gate}
 use Rattle.aig_graph.specs.Graph.{Graph, IsGraph, IsGateAt, first_gate, variable}
 use Rattle.aig_graph.specs.Value.{signed, signed_as}
 use Rattle.aig_graph.proofs.SignLaws.{value_signed, value_signed_as, variable-signed_as}
-use Rattle.map_checks.specs.Shared.{Grows, IsBoth, IsNegated, IsSharedLiteral, Respects, Shared, gates_of}
+use Rattle.aig_graph.specs.Gates.{Gates, Grows, IsNegated, Respects, gates_of}
+use Rattle.map_checks.specs.Shared.{IsBoth, IsSharedLiteral}
 use Rattle.map_checks.specs.Copies.{AreShared, Copy, CopiesValues, copied_end, copy_of, with_literal}
 use Rattle.map_checks.proofs.SharedLaws.{shared-more}
 
@@ -43,7 +44,7 @@ module _ (c : Copy) (new : ℕ) where
   end-more = omega (arith, length_push c.literals new)
 
   -- a copy's literals and a new one that is shared are shared after the gates have grown
-  pub shared-push : (k l : Shared) → Grows k l → AreShared k c → IsSharedLiteral l new → AreShared l (with_literal c new)
+  pub shared-push : (k l : Gates) → Grows k l → AreShared k c → IsSharedLiteral l new → AreShared l (with_literal c new)
   shared-push k l grows within here lit less = elim (cases_lt (variable lit) (copied_end c)) [
     | inl before ↦ (let P : ℕ → Type 0 = λ n. IsSharedLiteral l n in subst P (sym (copy-before lit before)) (shared-more k l grows (copy_of c lit) (within lit before)))
     | inr rest ↦ (
@@ -68,7 +69,7 @@ module _ (c : Copy) (new : ℕ) where
   ]
 
 -- one more gate copied: a and b stand for its fan-ins, lit for their conjunction, and new for that
-module _ (g : Graph) (k l : Shared) (grows : Grows k l) (gate : Gate) (i : ℕ) (there : slice_get g.gates i ≡ Some gate) (valid : IsGraph g) (c : Copy) (long : copied_end c ≡ first_gate g + i) where
+module _ (g : Graph) (k l : Gates) (grows : Grows k l) (gate : Gate) (i : ℕ) (there : slice_get g.gates i ≡ Some gate) (valid : IsGraph g) (c : Copy) (long : copied_end c ≡ first_gate g + i) where
   -- the fan-ins of the next gate have been copied
   pub fan-ins-there : (variable gate.rhs0 < copied_end c) × (variable gate.rhs1 < copied_end c)
   fan-ins-there =

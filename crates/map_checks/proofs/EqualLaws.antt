@@ -6,7 +6,7 @@ use Rattle.aig_graph.specs.Graph.{variable}
 use Rattle.aig_graph.specs.Value.{signed, signed_as}
 use Rattle.aig_graph.proofs.SignLaws.{value_signed, value_signed_as}
 use Rattle.aig_graph.proofs.PlacesLaws.{slice_get_push}
-use Rattle.map_checks.specs.Shared.{IsNegated}
+use Rattle.aig_graph.specs.Gates.{IsNegated}
 use Rattle.map_checks.specs.Equal.{Equal, IsRight, signed_substitute_or_own, standing_for}
 
 -- what stands for a literal has the literal's value, where what stands for each variable has that variable's

@@ -6,7 +6,7 @@ use Rattle.aig_graph.specs.declared.graph.Gate.{Gate}
 use Rattle.aig_graph.specs.Graph.{Graph, IsGraph, IsGateAt, IsLiteralOf, first_gate, gate_at, variable}
 use Rattle.aig_graph.proofs.FoldingLaws.{gate_at-is}
 use Rattle.aig_graph.proofs.KindLaws.{GatePlace, gate_place}
-use Rattle.map_checks.specs.Shared.{IsNegated, Respects, gates_of}
+use Rattle.aig_graph.specs.Gates.{IsNegated, Respects, gates_of}
 use Rattle.map_checks.specs.Facts.{IsFact}
 
 -- the literal of the same variable with the other sign

@@ -9,12 +9,13 @@ use Rattle.aig_graph.specs.Graph.{Graph, IsGraph, first_gate, first_latch, varia
 use Rattle.aig_graph.specs.Value.{next_value, signed, signed_as, value_within}
 use Rattle.aig_graph.proofs.KindLaws.{element}
 use Rattle.aig_graph.proofs.SignLaws.{value_signed, value_signed_as}
-use Rattle.retimed_circuits.specs.States.{Digits, State, after_step}
-use Rattle.retimed_circuits.specs.MapCircuits.{mapped}
-use Rattle.retimed_circuits.proofs.WithinLaws.{within_laws}
+use Rattle.state_maps.specs.States.{Digits, State, after_step}
+use Rattle.state_maps.specs.MapCircuits.{mapped}
+use Rattle.state_maps.proofs.WithinLaws.{within_laws}
 use Rattle.std.proofs.lemmas.List.Elements.{All-map}
 use Rattle.aig_graph.proofs.ListLaws.{map-map, map-same}
-use Rattle.map_checks.specs.Shared.{Grows, IsNegated, IsSharedLiteral, Respects, Shared, shared_end, gates_of}
+use Rattle.aig_graph.specs.Gates.{Gates, Grows, IsNegated, Respects, gates_end, gates_of}
+use Rattle.map_checks.specs.Shared.{IsSharedLiteral}
 use Rattle.map_checks.specs.Equal.{Equal, IsRight, StaysRight}
 use Rattle.map_checks.specs.Copies.{AreShared, Copy, CopiesValues, IsCopy, copied_end, copy_of}
 use Rattle.map_checks.specs.Images.{StandForLatches, Assumes, IsFaithfulCopy, Learns, Views, in_first, in_map, in_map_later, in_second_mapped, nexts_of, copy_of_literals}
@@ -48,7 +49,7 @@ leaves-follow leaves n values own negated own_negated end low each lit less = el
 ]
 
 -- literals of leaves are shared where each listed one is, and all variables before the first are
-pub leaves-shared : (k : Shared) (leaves : Copy) → leaves.first ≤ shared_end k → ((j : ℕ) → j < length leaves.literals → IsSharedLiteral k (get_or leaves.literals j 0)) → AreShared k leaves
+pub leaves-shared : (k : Gates) (leaves : Copy) → leaves.first ≤ gates_end k → ((j : ℕ) → j < length leaves.literals → IsSharedLiteral k (get_or leaves.literals j 0)) → AreShared k leaves
 leaves-shared k leaves few each lit less = elim (cases_lt (variable lit) leaves.first) [
   | inl before ↦ (let P : ℕ → Type 0 = λ n. IsSharedLiteral k n in subst P (sym (copy-low leaves lit before)) (omega (arith, before, few)))
   | inr from ↦ (
@@ -59,12 +60,12 @@ leaves-shared k leaves few each lit less = elim (cases_lt (variable lit) leaves.
 ]
 
 -- what stands for each latch is shared
-pub latches-shared : (k : Shared) (e : Equal) (c : Graph) (first : ℕ) (leaves : Copy) → k.first ≡ first_gate c → first ≤ first_latch c → StandForLatches e c first leaves → AreShared k leaves
+pub latches-shared : (k : Gates) (e : Equal) (c : Graph) (first : ℕ) (leaves : Copy) → k.first ≡ first_gate c → first ≤ first_latch c → StandForLatches e c first leaves → AreShared k leaves
 latches-shared k e c first leaves after few are =
     leaves-shared k leaves (omega (arith, are.from, few, after)) (λ j less. omega (arith, are.below j (omega (arith, less, are.long)), are.long, less, after))
 
 -- values of the shared literals remain such with fewer gates, and with equalities that are right where the old ones are
-pub views-fewer : (k l : Shared) (e f : Equal) (c : Graph) (x : Digits) (s : State) (values : ℕ → Bool) → Grows k l → StaysRight e f → Views l e c x s values → Views k f c x s values
+pub views-fewer : (k l : Gates) (e f : Equal) (c : Graph) (x : Digits) (s : State) (values : ℕ → Bool) → Grows k l → StaysRight e f → Views l e c x s values → Views k f c x s values
 views-fewer k l e f c x s values grows stays views = record {
   respects = respects-fewer k l grows values views.respects;
   right = stays values views.respects.negation views.right;
@@ -73,7 +74,7 @@ views-fewer k l e f c x s values grows stays views = record {
 }
 
 -- a view stays one as gates and equalities come
-pub view-later : (k l : Shared) (e f : Equal) (c g : Graph) (own : Digits → State → ℕ → Bool) (copy : Copy) → Grows k l → StaysRight e f → IsFaithfulCopy k f c g own copy → AreShared l copy → IsFaithfulCopy l e c g own copy
+pub view-later : (k l : Gates) (e f : Equal) (c g : Graph) (own : Digits → State → ℕ → Bool) (copy : Copy) → Grows k l → StaysRight e f → IsFaithfulCopy k f c g own copy → AreShared l copy → IsFaithfulCopy l e c g own copy
 view-later k l e f c g own copy grows stays view within = record {
   long = view.long;
   within = within;
@@ -81,7 +82,7 @@ view-later k l e f c g own copy grows stays view within = record {
 }
 
 -- a copy over leaves that have their values
-module _ (k : Shared) (e f : Equal) (c g : Graph) (own : Digits → State → ℕ → Bool) (leaves copy : Copy) (respects : (x : Digits) (s : State) → Respects (gates_of g) (own x s)) (stays : StaysRight e f)
+module _ (k : Gates) (e f : Equal) (c g : Graph) (own : Digits → State → ℕ → Bool) (leaves copy : Copy) (respects : (x : Digits) (s : State) → Respects (gates_of g) (own x s)) (stays : StaysRight e f)
     (long : copied_end leaves ≡ first_gate g) where
   -- a copy of a graph over leaves that have their values is a view of the graph
   pub view-of : IsCopy k f g leaves copy
@@ -97,7 +98,7 @@ module _ (k : Shared) (e f : Equal) (c g : Graph) (own : Digits → State → �
   }
 
 -- the values of the constant and the inputs
-pub inputs-same : (k : Shared) (e : Equal) (c d : Graph) → IsGraph d → d.inputs ≡ c.inputs → (x : Digits) (s t : State) (values : ℕ → Bool) → Views k e c x s values → (v : ℕ) → v < first_latch d
+pub inputs-same : (k : Gates) (e : Equal) (c d : Graph) → IsGraph d → d.inputs ≡ c.inputs → (x : Digits) (s t : State) (values : ℕ → Bool) → Views k e c x s values → (v : ℕ) → v < first_latch d
     → values (2 * v) ≡ value_within d x t (2 * v)
 inputs-same k e c d valid same x s t values views zero less = views.respects.constant ∙ sym (within_laws d valid x t).constant
 inputs-same k e c d valid same x s t values views (suc i) less =
@@ -105,13 +106,28 @@ inputs-same k e c d valid same x s t values views (suc i) less =
     let place : 2 * suc i ≡ 2 * (1 + i) = omega arith in
     ap values place ∙ views.inputs i (omega (arith, less, same)) ∙ sym (laws.input i (omega (arith, less))) ∙ sym (ap (value_within d x t) place)
 
+-- the values of all literals before the gates
+pub leaf-value : (k : Gates) (e : Equal) (c : Graph) → IsGraph c → (x : Digits) (s : State) (values : ℕ → Bool) → Views k e c x s values → (lit : ℕ) → variable lit < first_gate c → values lit ≡ value_within c x s lit
+leaf-value k e c valid x s values views lit less =
+    value_signed values views.respects.negation lit ∙ ap (signed lit) (go (variable lit) less) ∙ sym (value_signed (value_within c x s) (within_laws c valid x s).negation lit)
+  where
+    go : (v : ℕ) → v < first_gate c → values (2 * v) ≡ value_within c x s (2 * v)
+    go v less = elim (cases_lt v (first_latch c)) [
+      | inl low ↦ inputs-same k e c c valid refl x s s values views v low
+      | inr from ↦ (
+          let j : ℕ = v - first_latch c in
+          let place : 2 * v ≡ 2 * (first_latch c + j) = omega (arith, from) in
+          let within : j < length c.latches = omega (arith, less, from) in
+          ap values place ∙ views.latches j within ∙ sym (latch-value c valid x s j within) ∙ sym (ap (value_within c x s) place))
+    ]
+
 -- the constant alone, before the inputs of a map
-pub constant-same : (k : Shared) (e : Equal) (c m : Graph) → IsGraph m → (x y : Digits) (s t : State) (values : ℕ → Bool) → Views k e c x s values → (v : ℕ) → v < 1 → values (2 * v) ≡ value_within m y t (2 * v)
+pub constant-same : (k : Gates) (e : Equal) (c m : Graph) → IsGraph m → (x y : Digits) (s t : State) (values : ℕ → Bool) → Views k e c x s values → (v : ℕ) → v < 1 → values (2 * v) ≡ value_within m y t (2 * v)
 constant-same k e c m valid x y s t values views zero less = views.respects.constant ∙ sym (within_laws m valid y t).constant
 constant-same k e c m valid x y s t values views (suc i) less = absurd (omega arith)
 
 -- the gates of c
-pub view-first : (k : Shared) (e f : Equal) (c : Netlist) (leaves copy : Copy) → IsGraph c.aig → StandForLatches e c.aig (first_latch c.aig) leaves → StaysRight e f → IsCopy k f c.aig leaves copy
+pub view-first : (k : Gates) (e f : Equal) (c : Netlist) (leaves copy : Copy) → IsGraph c.aig → StandForLatches e c.aig (first_latch c.aig) leaves → StaysRight e f → IsCopy k f c.aig leaves copy
     → IsFaithfulCopy k e c.aig c.aig (in_first c) copy
 view-first k e f c leaves copy valid are stays is =
     let g : Graph = c.aig in
@@ -124,7 +140,7 @@ view-first k e f c leaves copy valid are stays is =
     ∙ sym (ap (value_within g x s) place ∙ latch-value g valid x s j (omega (arith, less, are.long))))
 
 -- the map over the latches of c
-pub view-map : (k : Shared) (e f : Equal) (c : Graph) (m : Netlist) (leaves copy : Copy) → IsGraph m.aig → m.aig.inputs ≡ length c.latches → m.aig.latches ≡ [] → StandForLatches e c 1 leaves → StaysRight e f
+pub view-map : (k : Gates) (e f : Equal) (c : Graph) (m : Netlist) (leaves copy : Copy) → IsGraph m.aig → m.aig.inputs ≡ length c.latches → m.aig.latches ≡ [] → StandForLatches e c 1 leaves → StaysRight e f
     → IsCopy k f m.aig leaves copy → IsFaithfulCopy k e c m.aig (in_map m) copy
 view-map k e f c m leaves copy valid wide combinational are stays is =
     let g : Graph = m.aig in
@@ -144,7 +160,7 @@ next-at (latch ∷ latches) own zero less = refl
 next-at (latch ∷ latches) own (suc j) less = next-at latches own j (omega arith)
 
 -- the map a step later
-pub view-later_map : (k l : Shared) (e f : Equal) (c m : Netlist) (before copy : Copy) → IsGraph m.aig → IsGraph c.aig → m.aig.inputs ≡ length c.aig.latches → m.aig.latches ≡ [] → Grows k l
+pub view-later_map : (k l : Gates) (e f : Equal) (c m : Netlist) (before copy : Copy) → IsGraph m.aig → IsGraph c.aig → m.aig.inputs ≡ length c.aig.latches → m.aig.latches ≡ [] → Grows k l
     → IsFaithfulCopy k e c.aig c.aig (in_first c) before → StaysRight e f → IsCopy l f m.aig (copy_of_literals 1 before (nexts_of c.aig.latches)) copy → IsFaithfulCopy l e c.aig m.aig (in_map_later c m) copy
 view-later_map k l e f c m before copy valid own_valid wide combinational grows view stays is =
     let g : Graph = m.aig in
@@ -174,7 +190,7 @@ view-later_map k l e f c m before copy valid own_valid wide combinational grows 
     read-at (x ∷ xs) (suc j) latch e = read-at xs j latch e
 
 -- the gates of d over the outputs of the map
-pub view-second : (k l : Shared) (e f : Equal) (c : Graph) (d m : Netlist) (before copy : Copy) → IsGraph d.aig → IsNetlist m → d.aig.inputs ≡ c.inputs → length m.props.outputs ≡ length d.aig.latches → Grows k l
+pub view-second : (k l : Gates) (e f : Equal) (c : Graph) (d m : Netlist) (before copy : Copy) → IsGraph d.aig → IsNetlist m → d.aig.inputs ≡ c.inputs → length m.props.outputs ≡ length d.aig.latches → Grows k l
     → IsFaithfulCopy k e c m.aig (in_map m) before → StaysRight e f → IsCopy l f d.aig (copy_of_literals (first_latch d.aig) before m.props.outputs) copy → IsFaithfulCopy l e c d.aig (in_second_mapped d m) copy
 view-second k l e f c d m before copy valid netlist same many grows view stays is =
     let g : Graph = d.aig in
@@ -230,7 +246,7 @@ nexts-within g valid = go g.latches (λ j latch e. valid.latches j latch e)
     go (latch ∷ latches) each (suc j) d less = go latches (λ i other e. each (suc i) other e) j d (omega arith)
 
 -- the literals of a list that a copy has are shared
-pub picked-shared : (k : Shared) (first : ℕ) (c : Copy) (lits : List ℕ) → first ≤ shared_end k → AreShared k c → All (λ lit. variable lit < copied_end c) lits → AreShared k (copy_of_literals first c lits)
+pub picked-shared : (k : Gates) (first : ℕ) (c : Copy) (lits : List ℕ) → first ≤ gates_end k → AreShared k c → All (λ lit. variable lit < copied_end c) lits → AreShared k (copy_of_literals first c lits)
 picked-shared k first c lits few within all =
     leaves-shared k (copy_of_literals first c lits) few (λ j less.
     let inside : j < length lits = omega (arith, less, length-map lits (copy_of c)) in
@@ -242,17 +258,17 @@ pub ones-of : (own : ℕ → Bool) (lits : List ℕ) → All (λ b. b ≡ true) 
 ones-of own lits all k d less = sym (get_or-map own lits k d false less) ∙ all k false (omega (arith, less, length-map lits own))
 
 -- what was learnt, and then more
-pub learns-then : (k l : Shared) (c : Graph) (m : Netlist) (e f h : Equal) → Grows k l → Learns k c m e f → Learns l c m f h → Learns l c m e h
+pub learns-then : (k l : Gates) (c : Graph) (m : Netlist) (e f h : Equal) → Grows k l → Learns k c m e f → Learns l c m f h → Learns l c m e h
 learns-then k l c m e f h grows one two values x s views kept =
     let right : IsRight f values = one values x s (views-fewer k l e e c x s values grows (λ vs negated right. right) views) kept in
     two values x s (record { respects = views.respects; right = right; inputs = views.inputs; latches = views.latches }) kept
 
 -- what the constraints of a copy of the map say
-pub learns-of : (l : Shared) (c : Graph) (m : Netlist) (e f h : Equal) (copy : Copy) → IsGraph m.aig → IsFaithfulCopy l e c m.aig (in_map m) copy → StaysRight e f → Assumes m copy f h → Learns l c m e h
+pub learns-of : (l : Gates) (c : Graph) (m : Netlist) (e f h : Equal) (copy : Copy) → IsGraph m.aig → IsFaithfulCopy l e c m.aig (in_map m) copy → StaysRight e f → Assumes m copy f h → Learns l c m e h
 learns-of l c m e f h copy valid view stays assumes values x s views kept =
     assumes values (in_map m x s) views.respects.negation (graph-respects m.aig valid s (λ j. false)) (view.follows values x s views) (ones-of (in_map m x s) m.props.constraints kept)
     (stays values views.respects.negation views.right)
 
 -- a copy whose literals are shared has its literals shared after the gates have grown
-pub shared-later : (k l : Shared) (c : Copy) → Grows k l → AreShared k c → AreShared l c
+pub shared-later : (k l : Gates) (c : Copy) → Grows k l → AreShared k c → AreShared l c
 shared-later k l c grows within lit less = shared-more k l grows (copy_of c lit) (within lit less)

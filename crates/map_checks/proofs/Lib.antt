@@ -6,7 +6,9 @@ pub mod ImageLaws
 pub mod StepLaws
 pub mod StartLaws
 pub mod AnswerLaws
-pub mod ShapeLaws
-pub mod SameLaws
+pub mod MarkLaws
+pub mod ReadLaws
+pub mod PartLaws
+pub mod CaseLaws
 pub mod ResetLaws
 pub mod SideLaws

@@ -6,9 +6,10 @@ use Rattle.aig_graph.specs.declared.graph.Reset.TheVariants.{Zero, One, Free}
 use Rattle.aig_graph.specs.Graph.{Graph, IsGraph, first_gate, first_latch, free_before, variable}
 use Rattle.aig_graph.specs.Value.{opening, opening_at, value_within, opening_literal}
 use Rattle.aig_graph.proofs.KindLaws.{element}
-use Rattle.retimed_circuits.specs.States.{opening_state}
-use Rattle.retimed_circuits.proofs.WithinLaws.{within_laws}
-use Rattle.map_checks.specs.Shared.{AreGates, IsNegated, IsSharedLiteral, Shared, shared_end}
+use Rattle.state_maps.specs.States.{opening_state}
+use Rattle.state_maps.proofs.WithinLaws.{within_laws}
+use Rattle.aig_graph.specs.Gates.{AreGates, Gates, IsNegated, gates_end}
+use Rattle.map_checks.specs.Shared.{IsSharedLiteral}
 use Rattle.map_checks.specs.Equal.{Equal}
 use Rattle.map_checks.specs.Copies.{AreShared, Copy, IsCopy}
 use Rattle.map_checks.specs.Images.{Views}
@@ -22,14 +23,14 @@ opening-within n own less One = omega (arith, less)
 opening-within n own less Free = less
 
 -- the literals of what the latches hold at step 0 are shared
-pub resets-shared : (c : Graph) (k : Shared) (leaves : Copy) → k.first ≡ first_gate c → AreOpeningLiterals c leaves → AreShared k leaves
+pub resets-shared : (c : Graph) (k : Gates) (leaves : Copy) → k.first ≡ first_gate c → AreOpeningLiterals c leaves → AreShared k leaves
 resets-shared c k leaves after are =
     leaves-shared k leaves (omega (arith, are.first, after)) (λ j less.
     let inside : j < length c.latches = omega (arith, less, are.long) in
     let there = element c.latches j inside in
     let read : get_or leaves.literals j 0 ≡ opening_literal there.0.reset (2 * (first_latch c + j)) = are.each j there.0 there.1 in
-    let own : variable (2 * (first_latch c + j)) < shared_end k = omega (arith, inside, after) in
-    subst (λ (n : ℕ). IsSharedLiteral k n) (sym read) (opening-within (shared_end k) (2 * (first_latch c + j)) own there.0.reset))
+    let own : variable (2 * (first_latch c + j)) < gates_end k = omega (arith, inside, after) in
+    subst (λ (n : ℕ). IsSharedLiteral k n) (sym read) (opening-within (gates_end k) (2 * (first_latch c + j)) own there.0.reset))
 
 -- the literal of what a latch holds at step 0 has that value
 opening-value : (values : ℕ → Bool) → values 0 ≡ false → IsNegated values → (own : ℕ) (b : Bool) (r : Reset) → values own ≡ opening r b → values (opening_literal r own) ≡ opening r b
@@ -38,7 +39,7 @@ opening-value values constant negated own b One same = negated 0 ∙ ap not cons
 opening-value values constant negated own b Free same = same
 
 -- a copy of the map over the resets has, for each choice, the values of the map in that first state
-pub reset-image : (c m : Graph) (k : Shared) (e : Equal) (leaves copy : Copy) → IsGraph m → m.inputs ≡ length c.latches → m.latches ≡ [] → AreGates k → k.first ≡ first_gate c → e.substitutes ≡ [] → AreOpeningLiterals c leaves
+pub reset-image : (c m : Graph) (k : Gates) (e : Equal) (leaves copy : Copy) → IsGraph m → m.inputs ≡ length c.latches → m.latches ≡ [] → AreGates k → k.first ≡ first_gate c → e.substitutes ≡ [] → AreOpeningLiterals c leaves
     → IsCopy k e m leaves copy → IsResetImage c m copy
 reset-image c m k e leaves copy valid wide combinational are after none resets is = record {
   long = is.long;

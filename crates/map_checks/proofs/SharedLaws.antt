@@ -1,22 +1,25 @@
--- Shared gates, as one more is put among them.
-use Rattle.std.proofs.Common.{◌⊎◌, inl, inr, ℕ, ◌+◌, ◌*◌, ◌<◌, ◌≡◌, Bool, not, ◌&&◌, List, [], ◌∷◌, ◌++◌, length, slice_get, Some, refl, arith, ap, sym, ◌∙◌, subst}
+-- Gates gates, as one more is put among them.
+use Rattle.std.proofs.Common.{◌⊎◌, inl, inr, ℕ, ◌+◌, ◌-◌, ◌*◌, ◌<◌, ◌≤◌, ◌≡◌, Bool, not, ◌&&◌, List, [], ◌∷◌, ◌++◌, length, slice_get, Some, refl, arith, ap, sym, ◌∙◌, subst}
+use Rattle.std.proofs.lemmas.Option.{none-some}
 use Rattle.std.proofs.Math.Bool.{and-true, and_self}
 use Rattle.std.proofs.lemmas.List.{length-map, length_push, map_push}
 use Rattle.aig_graph.specs.declared.literal.TheConstants.{MAX_VARIABLES}
 use Rattle.aig_graph.specs.declared.graph.Gate.{Gate}
+use Rattle.aig_graph.specs.declared.graph.Latch.{Latch}
 use Rattle.aig_graph.specs.Building.{gate_of}
-use Rattle.aig_graph.specs.Graph.{IsGateAt}
+use Rattle.aig_graph.specs.Graph.{Graph, IsGateAt, IsGraph, first_gate}
 use Rattle.aig_graph.proofs.SignLaws.{gate_of-below, gate_of-ordered, value-gate_of}
 use Rattle.aig_graph.proofs.PlacesLaws.{slice_get_push, slice_get-append_left, slice_get-append_right}
 use Rattle.map_checks.specs.declared.shared.SharedGate.{SharedGate}
-use Rattle.map_checks.specs.Shared.{Shared, AreGates, Grows, IsBoth, IsFolded, IsSharedLiteral, Respects, shared_end, shared_gates}
+use Rattle.aig_graph.specs.Gates.{AreGates, Gates, Grows, Respects, gates_end, gates_of}
+use Rattle.map_checks.specs.Shared.{IsBoth, IsFolded, IsSharedLiteral, shared_gates}
 
 -- shared gates that stay as they are count as grown
-pub grows-itself : (k : Shared) → Grows k k
+pub grows-itself : (k : Gates) → Grows k k
 grows-itself k = record { first = refl; long = omega arith; gates = λ j gate e. e }
 
 -- shared gates that grow twice have grown from the first to the last
-pub grows-transitive : (k l m : Shared) → Grows k l → Grows l m → Grows k m
+pub grows-transitive : (k l m : Gates) → Grows k l → Grows l m → Grows k m
 grows-transitive k l m p q = record {
   first = q.first ∙ p.first;
   long = omega (arith, p.long, q.long);
@@ -24,7 +27,7 @@ grows-transitive k l m p q = record {
 }
 
 -- values that respect more gates respect fewer
-pub respects-fewer : (k l : Shared) → Grows k l → (values : ℕ → Bool) → Respects l values → Respects k values
+pub respects-fewer : (k l : Gates) → Grows k l → (values : ℕ → Bool) → Respects l values → Respects k values
 respects-fewer k l grows values p = record {
   constant = p.constant;
   negation = p.negation;
@@ -32,7 +35,7 @@ respects-fewer k l grows values p = record {
 }
 
 -- a literal that is shared stays shared as gates grow
-pub shared-more : (k l : Shared) → Grows k l → (lit : ℕ) → IsSharedLiteral k lit → IsSharedLiteral l lit
+pub shared-more : (k l : Gates) → Grows k l → (lit : ℕ) → IsSharedLiteral k lit → IsSharedLiteral l lit
 shared-more k l grows lit within = omega (arith, grows.first, grows.long, within)
 
 -- what becomes of the gates: all as they were, or one more
@@ -40,14 +43,14 @@ abbrev pub Takes : List Gate → List Gate → Gate → Type 0
 Takes gates new gate = (new ≡ gates) ⊎ (new ≡ gates ++ gate ∷ [])
 
 module _ (first : ℕ) (gates new : List Gate) (gate : Gate) (takes : Takes gates new gate) where
-  abbrev before : Shared
+  abbrev before : Gates
   before = record { first = first; gates = gates }
 
-  abbrev after : Shared
+  abbrev after : Gates
   after = record { first = first; gates = new }
 
   -- each gate reads what is before, also after one that does so was put at the end where there is room
-  pub gates-after : AreGates before → shared_end before < MAX_VARIABLES → IsGateAt (shared_end before) gate → AreGates after
+  pub gates-after : AreGates before → gates_end before < MAX_VARIABLES → IsGateAt (gates_end before) gate → AreGates after
   gates-after are room at = elim takes [
     | inl same ↦ (let P : List Gate → Type 0 = λ gs. AreGates (record { first = first; gates = gs }) in subst P (sym same) are)
     | inr more ↦ (
@@ -78,7 +81,7 @@ module _ (first : ℕ) (gates new : List Gate) (gate : Gate) (takes : Takes gate
   ]
 
 -- a gate's literal
-pub both-at : (k : Shared) (gate : Gate) (place lit : ℕ) → slice_get k.gates place ≡ Some gate → place < length k.gates → lit ≡ 2 * (k.first + place) → IsBoth k gate.rhs0 gate.rhs1 lit
+pub both-at : (k : Gates) (gate : Gate) (place lit : ℕ) → slice_get k.gates place ≡ Some gate → place < length k.gates → lit ≡ 2 * (k.first + place) → IsBoth k gate.rhs0 gate.rhs1 lit
 both-at k gate place lit there within at = record {
   within = omega (arith, within, at);
   is = λ values respects. ap values at ∙ respects.gates place gate there;
@@ -99,22 +102,22 @@ folded-equal gate same = record {
 }
 
 -- what stands for a gate of two literals stands for these in either order
-pub both-folded : (k : Shared) (a b lit : ℕ) → IsSharedLiteral k a → IsSharedLiteral k b → IsFolded (gate_of a b) lit → IsBoth k a b lit
+pub both-folded : (k : Gates) (a b lit : ℕ) → IsSharedLiteral k a → IsSharedLiteral k b → IsFolded (gate_of a b) lit → IsBoth k a b lit
 both-folded k a b lit first second folded = record {
-  within = omega (arith, folded.below, gate_of-below (shared_end k) a b first second);
+  within = omega (arith, folded.below, gate_of-below (gates_end k) a b first second);
   is = λ values respects. folded.is values respects.constant respects.negation ∙ value-gate_of values a b;
 }
 
 -- what is 1 where both fan-ins of the gate of two literals are is 1 where both literals are
-pub both-either : (k : Shared) (a b lit : ℕ) → IsBoth k (gate_of a b).rhs0 (gate_of a b).rhs1 lit → IsBoth k a b lit
+pub both-either : (k : Gates) (a b lit : ℕ) → IsBoth k (gate_of a b).rhs0 (gate_of a b).rhs1 lit → IsBoth k a b lit
 both-either k a b lit both = record {
   within = both.within;
   is = λ values respects. both.is values respects ∙ value-gate_of values a b;
 }
 
 -- the gate of two shared literals may stand at the end of the shared gates
-pub gate-at : (k : Shared) (a b : ℕ) → IsSharedLiteral k a → IsSharedLiteral k b → IsGateAt (shared_end k) (gate_of a b)
-gate-at k a b first second = record { ordered = gate_of-ordered a b; below = gate_of-below (shared_end k) a b first second }
+pub gate-at : (k : Gates) (a b : ℕ) → IsSharedLiteral k a → IsSharedLiteral k b → IsGateAt (gates_end k) (gate_of a b)
+gate-at k a b first second = record { ordered = gate_of-ordered a b; below = gate_of-below (gates_end k) a b first second }
 
 -- one more gate stands after the others
 pub takes-one : (old new : List SharedGate) (shared : SharedGate) → new ≡ old ++ shared ∷ [] → Takes (shared_gates old) (shared_gates new) shared.gate
@@ -128,3 +131,25 @@ last-there old new shared place e at =
     ∙ ap (λ (gates : List Gate). slice_get gates place) (map_push (λ (s : SharedGate). s.gate) old shared)
     ∙ ap (λ (n : ℕ). slice_get (shared_gates old ++ gate ∷ []) n) (omega (arith, at, length-map old (λ (s : SharedGate). s.gate)))
     ∙ slice_get-append_right (shared_gates old) (gate ∷ []) 0
+
+-- the gates as those of a graph whose inputs are the variables before them
+module _ (k : Gates) (are : AreGates k) (one : 1 ≤ k.first) (latches : List Latch) (gates : List Gate) (none : latches ≡ []) (all : gates ≡ k.gates) where
+  abbrev as_graph : List Latch → List Gate → Graph
+  as_graph ls gs = record { inputs = k.first - 1; latches = ls; gates = gs }
+
+  -- they are a graph
+  pub shared-graph : IsGraph (as_graph latches gates)
+  shared-graph =
+      let P : List Latch → List Gate → Type 0 = λ ls gs. IsGraph (as_graph ls gs) in
+      let here : P [] k.gates = record {
+        small = omega (arith, are.small, one);
+        latches = λ j latch e. absurd (none-some latch e);
+        gates = λ j gate e. (let place : k.first + j ≡ first_gate (as_graph [] k.gates) + j = omega (arith, one) in subst (λ (n : ℕ). IsGateAt n gate) place (are.gates j gate e));
+      } in
+      subst (λ (ls : List Latch). P ls gates) (sym none) (subst (P []) (sym all) here)
+
+  -- its gates are these
+  pub shared-gates_of : gates_of (as_graph latches gates) ≡ k
+  shared-gates_of =
+      let at : first_gate (as_graph [] k.gates) ≡ k.first = omega (arith, one) in
+      ap (λ (ls : List Latch). gates_of (as_graph ls gates)) none ∙ ap (λ (gs : List Gate). gates_of (as_graph [] gs)) all ∙ ap (λ (n : ℕ). record { first = n; gates = k.gates }) at

@@ -19,8 +19,8 @@ use Rattle.aig_graph.proofs.FreeLaws.{is_free_at, free-count}
 use Rattle.aig_graph.proofs.KindLaws.{latch_at-first_latch}
 use Rattle.aig_graph.specs.Counting.{count_below}
 use Rattle.aig_graph.proofs.PlacesLaws.{count-lt}
-use Rattle.retimed_circuits.specs.States.{opening_state}
-use Rattle.retimed_circuits.specs.MapCircuits.{mapped}
+use Rattle.state_maps.specs.States.{opening_state}
+use Rattle.state_maps.specs.MapCircuits.{mapped}
 use Rattle.map_checks.specs.Copies.{Copy, copy_of}
 use Rattle.map_checks.specs.Starts.{AreRising, AreStarts, IsFreeLatch, IsOpening, IsResetImage, StartsAs, Takes}
 use Rattle.map_checks.specs.Answers.{MapsFirstStates}

@@ -1,23 +1,27 @@
--- A step of the first circuit is one of the second, where the literals of the copies are one.
-use Rattle.std.proofs.Common.{ℕ, ◌+◌, ◌*◌, ◌≡◌, suc, zero, Bool, false, List, [], ◌∷◌, length, map, get_or, slice_get, refl, arith, ap, sym, ◌∙◌, subst}
-use Rattle.std.proofs.lemmas.List.{length-map}
+-- What is shown of the parts of a step, and that a step of the first circuit is one of the second where all are.
+use Rattle.std.proofs.Common.{ℕ, ◌+◌, ◌*◌, ◌<◌, ◌≡◌, suc, zero, Bool, true, false, List, [], ◌∷◌, ◌++◌, length, map, replicate, get_or, slice_get, Some, refl, arith, ap, sym, ◌∙◌, subst, length-append}
+use Rattle.std.specs.List.{All}
+use Rattle.std.proofs.lemmas.List.{ext_get_or, get_or-map, length-map, length-replicate}
+use Rattle.std.proofs.lemmas.List.Elements.{All-nil, All-replicate}
 use Rattle.std.proofs.lemmas.Option.{none-some}
 use Rattle.aig_graph.specs.declared.graph.Latch.{Latch}
-use Rattle.aig_graph.specs.declared.properties.Props.{Props}
-use Rattle.aig_graph.specs.Circuits.{Netlist, IsNetlist}
-use Rattle.aig_graph.specs.Graph.{Graph, IsGraph, IsGateAt, first_gate, variables_end}
-use Rattle.aig_graph.specs.Mapped.{mapped_props}
+use Rattle.aig_graph.specs.Circuits.{Netlist}
+use Rattle.aig_graph.specs.Graph.{Graph, IsGraph, IsGateAt, first_gate}
+use Rattle.aig_graph.specs.Streams.{property_literals}
+use Rattle.aig_graph.proofs.ShapeLaws.{as-many}
 use Rattle.aig_graph.specs.Value.{next_value, value_within}
-use Rattle.retimed_circuits.specs.States.{Digits, SameReads, State, after_step}
-use Rattle.retimed_circuits.specs.MapCircuits.{is_kept, mapped}
-use Rattle.retimed_circuits.proofs.WithinLaws.{within_laws}
+use Rattle.state_maps.specs.States.{Digits, SameReads, State, after_step}
+use Rattle.state_maps.specs.MapCircuits.{is_kept, mapped}
+use Rattle.state_maps.proofs.WithinLaws.{within_laws}
 use Rattle.aig_graph.proofs.ListLaws.{from_map}
-use Rattle.map_checks.specs.Shared.{AreGates, Shared}
+use Rattle.aig_graph.specs.Gates.{AreGates, Gates}
 use Rattle.map_checks.specs.Equal.{Equal}
-use Rattle.map_checks.specs.Copies.{Copy, CopiesValues}
-use Rattle.map_checks.specs.Images.{AreSettled, AreComparedCopies, Views, in_first, in_map_later, in_second_mapped, nexts_of}
-use Rattle.map_checks.specs.Answers.{KeepsStates}
-use Rattle.map_checks.proofs.ImageLaws.{copied-list, copied-lists, copied-ones, latch-value, nexts-within}
+use Rattle.map_checks.specs.Images.{Views, in_first, in_map_later, in_second_mapped, nexts_of}
+use Rattle.map_checks.specs.Answers.{AreFitting, KeepsStates}
+use Rattle.map_checks.specs.Parts.{AreMarkedEqual, ArePairs, AreShownWhere, AssumesCase, IsMarked, IsShownWhere, given, parts, wanted}
+use Rattle.map_checks.proofs.ImageLaws.{latch-value}
+use Rattle.map_checks.proofs.MarkLaws.{marked-within}
+use Rattle.map_checks.proofs.ReadLaws.{append-parts, reads-of}
 use Rattle.aig_graph.proofs.StreamLaws.{funext}
 
 -- a latch that reads the constant
@@ -25,10 +29,10 @@ abbrev pub loose : Latch → Latch
 loose latch = record latch { next = 0 }
 
 -- the shared gates over the inputs and latches of c, as a graph
-abbrev pub graph_of : Graph → Shared → Graph
+abbrev pub graph_of : Graph → Gates → Graph
 graph_of c k = record { inputs = c.inputs; latches = map loose c.latches; gates = k.gates }
 
-module _ (c : Graph) (k : Shared) (are : AreGates k) (after : k.first ≡ first_gate c) where
+module _ (c : Graph) (k : Gates) (are : AreGates k) (after : k.first ≡ first_gate c) where
   many : length (map loose c.latches) ≡ length c.latches
   many = length-map c.latches loose
 
@@ -69,47 +73,92 @@ nexts-read [] own j = refl
 nexts-read (latch ∷ latches) own zero = refl
 nexts-read (latch ∷ latches) own (suc j) = nexts-read latches own j
 
-module _ (k : Shared) (e : Equal) (c d m : Netlist) (before later after : Copy) (are : AreGates k) (place : k.first ≡ first_gate c.aig) (none : e.substitutes ≡ []) (first : IsNetlist c) (second : IsNetlist d) (second_graph : IsGraph d.aig)
-    (map_is : IsNetlist m) (sides : AreComparedCopies k e c d m before later after) (settled : AreSettled c d m before later after) where
+-- what a case shows: equal literals among the gates are parts that are what they must be
+module _ (k : Gates) (e f h : Equal) (c d m : Netlist) (are : AreGates k) (place : k.first ≡ first_gate c.aig) (none : e.substitutes ≡ []) (lits others case : List ℕ) (pairs : ArePairs k f h c d m lits others)
+    (assumes : AssumesCase k c case e f) (marks : List Bool) (long : length marks ≡ length lits) (equal : AreMarkedEqual k h lits others marks) where
+  shown-where : (part : ℕ) → IsMarked marks part → IsShownWhere c d m case part
+  shown-where part marked x s kept ones =
+      let values : ℕ → Bool = value_within (graph_of c.aig k) x s in
+      let begun : Views k e c.aig x s values = views-there c.aig k are place e none x s in
+      let views : Views k f c.aig x s values = record { respects = begun.respects; right = assumes values x s begun ones; inputs = begun.inputs; latches = begun.latches } in
+      let within : part < length lits = omega (arith, marked-within marks part marked, long) in
+      ap (λ (bs : List Bool). get_or bs part false) (sym (pairs.lits_are values x s views kept))
+      ∙ get_or-map values lits part 0 false within
+      ∙ equal part marked values begun.respects (pairs.right values x s views kept)
+      ∙ sym (get_or-map values others part 0 false (omega (arith, within, pairs.long, pairs.as_long)))
+      ∙ ap (λ (bs : List Bool). get_or bs part false) (pairs.others_are values x s views kept)
+
+  -- the marked parts are shown where the case holds
+  pub are-shown : AreShownWhere c d m case marks
+  are-shown = record { long = long ∙ pairs.long; shown = shown-where }
+
+-- where all parts are shown the map keeps states
+module _ (c d m : Netlist) (fitting : AreFitting c d m) (all : (part : ℕ) → part < parts d m → IsShownWhere c d m [] part) where
   module _ (x : Digits) (s : State) (holds : is_kept m s) where
-    abbrev values : ℕ → Bool
-    values = value_within (graph_of c.aig k) x s
+    abbrev kept_later : List Bool
+    kept_later = map (in_map_later c m x s) m.props.constraints
 
-    abbrev views : Views k e c.aig x s values
-    views = views-there c.aig k are place e none x s
+    abbrev held_later : List Bool
+    held_later = map (in_map_later c m x s) m.props.outputs
 
-    all : CopiesValues before (variables_end c.aig) values (in_first c x s) × CopiesValues later (variables_end m.aig) values (in_map_later c m x s) × CopiesValues after (variables_end d.aig) values (in_second_mapped d m x s)
-    all = sides.follows values x s views holds
+    abbrev nexts_later : List Bool
+    nexts_later = map (in_second_mapped d m x s) (nexts_of d.aig.latches)
+
+    abbrev ones : List Bool
+    ones = replicate (length m.props.constraints) true
+
+    kept-long : length kept_later ≡ length ones
+    kept-long = length-map m.props.constraints (in_map_later c m x s) ∙ sym (length-replicate (length m.props.constraints) true)
+
+    held-long : length held_later ≡ length nexts_later
+    held-long =
+        omega (arith, length-map m.props.outputs (in_map_later c m x s), length-map (nexts_of d.aig.latches) (in_second_mapped d m x s), length-map d.aig.latches (λ latch. latch.next), fitting.outputs)
+
+    both-long : length (kept_later ++ held_later) ≡ length (ones ++ nexts_later)
+    both-long = omega (arith, length-append kept_later held_later, length-append ones nexts_later, kept-long, held-long)
+
+    given-long : length (given c d m x s) ≡ parts d m
+    given-long =
+        omega (
+          arith,
+          length-append (kept_later ++ held_later) (map (in_second_mapped d m x s) (property_literals d.props)),
+          length-append kept_later held_later,
+          length-map m.props.constraints (in_map_later c m x s),
+          length-map m.props.outputs (in_map_later c m x s),
+          length-map (property_literals d.props) (in_second_mapped d m x s),
+        )
+
+    wanted-long : length (wanted c d m x s) ≡ length (given c d m x s)
+    wanted-long =
+        omega (
+          arith,
+          length-append (ones ++ nexts_later) (map (in_first c x s) (property_literals c.props)),
+          length-append (kept_later ++ held_later) (map (in_second_mapped d m x s) (property_literals d.props)),
+          both-long,
+          length-map (property_literals c.props) (in_first c x s),
+          length-map (property_literals d.props) (in_second_mapped d m x s),
+          as-many c d fitting.shape,
+        )
+
+    same : given c d m x s ≡ wanted c d m x s
+    same = ext_get_or false (given c d m x s) (wanted c d m x s) (sym wanted-long) (λ part less. all part (omega (arith, less, given-long)) x s holds (All-nil (λ lit. in_first c x s lit ≡ true)))
+
+    split : (kept_later ++ held_later ≡ ones ++ nexts_later) × (map (in_second_mapped d m x s) (property_literals d.props) ≡ map (in_first c x s) (property_literals c.props))
+    split = append-parts (kept_later ++ held_later) (ones ++ nexts_later) (map (in_second_mapped d m x s) (property_literals d.props)) (map (in_first c x s) (property_literals c.props)) both-long same
+
+    front : (kept_later ≡ ones) × (held_later ≡ nexts_later)
+    front = append-parts kept_later ones held_later nexts_later kept-long split.0
 
     keeps-at : is_kept m (after_step c.aig x s)
-    keeps-at =
-        copied-ones later (variables_end m.aig) values (in_map_later c m x s) all.1 views.respects.constant views.respects.negation m.props.constraints map_is.props.constraints settled.kept
+    keeps-at = subst (λ (bs : List Bool). All (λ b. b ≡ true) bs) (sym front.0) (All-replicate (λ b. b ≡ true) (length m.props.constraints) true refl)
 
     steps-at : (j : ℕ) → mapped m (after_step c.aig x s) j ≡ after_step d.aig x (mapped m s) j
-    steps-at j =
-        let nexts : List ℕ = nexts_of d.aig.latches in
-        let lists : map (in_map_later c m x s) m.props.outputs ≡ map (in_second_mapped d m x s) nexts =
-        sym (copied-list later (variables_end m.aig) values (in_map_later c m x s) all.1 m.props.outputs map_is.props.outputs)
-        ∙ ap (map values) settled.latches
-        ∙ copied-list after (variables_end d.aig) values (in_second_mapped d m x s) all.2 nexts (nexts-within d.aig second_graph) in
-        ap (λ (bs : List Bool). get_or bs j false) lists ∙ nexts-read d.aig.latches (in_second_mapped d m x s) j
+    steps-at j = ap (λ (bs : List Bool). get_or bs j false) front.1 ∙ nexts-read d.aig.latches (in_second_mapped d m x s) j
 
     reads-at : SameReads c d x s (mapped m s)
-    unfolding mapped_props
-    reads-at =
-        let one = copied-list after (variables_end d.aig) values (in_second_mapped d m x s) all.2 in
-        let two = copied-list before (variables_end c.aig) values (in_first c x s) all.0 in
-        let some = copied-lists after (variables_end d.aig) values (in_second_mapped d m x s) all.2 in
-        let others = copied-lists before (variables_end c.aig) values (in_first c x s) all.0 in
-        record {
-          outputs = sym (one d.props.outputs second.props.outputs) ∙ ap (λ (p : Props). map values p.outputs) settled.props ∙ two c.props.outputs first.props.outputs;
-          bad = sym (one d.props.bad second.props.bad) ∙ ap (λ (p : Props). map values p.bad) settled.props ∙ two c.props.bad first.props.bad;
-          constraints = sym (one d.props.constraints second.props.constraints) ∙ ap (λ (p : Props). map values p.constraints) settled.props ∙ two c.props.constraints first.props.constraints;
-          justice = sym (some d.props.justice second.props.justice) ∙ ap (λ (p : Props). map (map values) p.justice) settled.props ∙ others c.props.justice first.props.justice;
-          fairness = sym (one d.props.fairness second.props.fairness) ∙ ap (λ (p : Props). map values p.fairness) settled.props ∙ two c.props.fairness first.props.fairness;
-        }
+    reads-at = reads-of c d x s (mapped m s) fitting.shape split.1
 
-  -- where the literals that must be one are, each step of the first circuit is one of the second through the map
+  -- where every part is shown, each step of the first circuit is one of the second through the map
   pub keeps-states : KeepsStates c d m
   keeps-states = record {
     keeps = keeps-at;

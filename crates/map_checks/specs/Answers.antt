@@ -3,8 +3,8 @@ use Rattle.std.specs.Prelude.{ℕ, ◌≡◌, List, [], length}
 use Rattle.aig_graph.specs.Circuits.{Netlist}
 use Rattle.aig_graph.specs.Streams.{AreKept, SameShape, SameStreams, chosen}
 use Rattle.aig_graph.specs.Value.{Choice}
-use Rattle.retimed_circuits.specs.MapCircuits.{IsMapCircuit, is_kept, mapped}
-use Rattle.retimed_circuits.specs.States.{Digits, SameReads, State, after_step, opening_state}
+use Rattle.state_maps.specs.MapCircuits.{IsMapCircuit, is_kept, mapped}
+use Rattle.state_maps.specs.States.{Digits, SameReads, State, after_step, opening_state}
 use Rattle.map_checks.specs.declared.answer.Answer.{Answer}
 use Rattle.map_checks.specs.declared.answer.Answer.TheVariants.{NotShown, Retiming}
 use Rattle.map_checks.specs.declared.checking.Opening.{Opening}
@@ -25,7 +25,8 @@ pub record IsMap (m : Netlist) : Type 0 where
   pub justice : m.props.justice ≡ []
   pub fairness : m.props.fairness ≡ []
 
--- an input and a property of d for each of c, an input of the map for each latch of c, and an output for each latch of d
+-- an input and a property of d for each of c, an input of the map for each latch of c, and an
+-- output for each latch of d
 pub record AreFitting (c d m : Netlist) : Type 0 where
   pub shape : SameShape c d
   pub inputs : m.aig.inputs ≡ length c.aig.latches
@@ -37,6 +38,7 @@ pub record MapsFirstStates (c d m : Netlist) (kept : List ℕ) : Type 0 where
   pub holds : (f : Choice) → is_kept m (opening_state c.aig f)
   pub states : (f : Choice) → mapped m (opening_state c.aig f) ≡ opening_state d.aig (chosen kept f)
 
+-- what a look at step 0 found is so; an open obligation claims nothing
 abbrev pub IsOpeningOf : Netlist → Netlist → Netlist → Opening → Type 0
 IsOpeningOf c d m (Kept kept) = MapsFirstStates c d m kept
 IsOpeningOf c d m (LeftOpen obligation) = Unit {0}
@@ -47,7 +49,8 @@ pub record KeepsStates (c d m : Netlist) : Type 0 where
   pub steps : (x : Digits) (s : State) → is_kept m s → mapped m (after_step c.aig x s) ≡ after_step d.aig x (mapped m s)
   pub reads : (x : Digits) (s : State) → is_kept m s → SameReads c d x s (mapped m s)
 
--- the map is one of the states of c to those of d, and so their properties have the same values at each step
+-- the map is one of the states of c to those of d, and so their properties have the same values at
+-- each step
 abbrev pub IsAnswer : Netlist → Netlist → Netlist → Answer → Type 0
 IsAnswer c d m (Retiming kept) = IsMapCircuit c d kept m × SameStreams c d kept
 IsAnswer c d m (NotShown obligation) = Unit {0}

@@ -3,10 +3,12 @@ use Rattle.std.specs.Prelude.{ℕ, ◌+◌, ◌-◌, ◌<◌, ◌≡◌, ◌++�
 use Rattle.std.specs.List.{slice_index_or}
 use Rattle.aig_graph.specs.Graph.{Graph, variable, first_gate, variables_end}
 use Rattle.aig_graph.specs.Value.{signed_as}
-use Rattle.map_checks.specs.Shared.{Shared, IsSharedLiteral, Respects, gates_of}
+use Rattle.aig_graph.specs.Gates.{Gates, Respects, gates_of}
+use Rattle.map_checks.specs.Shared.{IsSharedLiteral}
 use Rattle.map_checks.specs.Equal.{Equal, IsRight}
 
--- by variable of a circuit, from a first one on, a shared literal; those before it are the same in both
+-- by variable of a circuit, from a first one on, a shared literal; those before it are the same in
+-- both
 pub record Copy : Type 0 where
   pub first : ℕ
   pub literals : List ℕ
@@ -15,6 +17,7 @@ pub record Copy : Type 0 where
 abbrev pub copied_end : Copy → ℕ
 copied_end c = c.first + length c.literals
 
+-- one more shared literal, that of the next variable
 abbrev pub with_literal : Copy → ℕ → Copy
 with_literal c lit = record c { literals = c.literals ++ lit ∷ [] }
 
@@ -22,15 +25,17 @@ with_literal c lit = record c { literals = c.literals ++ lit ∷ [] }
 unfoldable pub copy_of : Copy → ℕ → ℕ
 copy_of c lit = if nat_lt (variable lit) c.first then lit else signed_as lit (slice_index_or c.literals (variable lit - c.first) 0)
 
-abbrev pub AreShared : Shared → Copy → Type 0
+-- the literals are those of the gates
+abbrev pub AreShared : Gates → Copy → Type 0
 AreShared k c = (lit : ℕ) → variable lit < copied_end c → IsSharedLiteral k (copy_of c lit)
 
--- the literals of the variables below n have among the shared ones the values that they have in the circuit
+-- the literals of the variables below n have among the shared ones the values that they have in the
+-- circuit
 abbrev pub CopiesValues : Copy → ℕ → (ℕ → Bool) → (ℕ → Bool) → Type 0
 CopiesValues c n values own = (lit : ℕ) → variable lit < n → values (copy_of c lit) ≡ own lit
 
 -- a copy of all gates, where the variables before them had these literals
-pub record IsCopy (k : Shared) (e : Equal) (g : Graph) (leaves c : Copy) : Type 0 where
+pub record IsCopy (k : Gates) (e : Equal) (g : Graph) (leaves c : Copy) : Type 0 where
   pub first : c.first ≡ leaves.first
   pub long : copied_end c ≡ variables_end g
   pub within : AreShared k c

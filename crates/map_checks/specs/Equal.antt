@@ -2,9 +2,10 @@
 use Rattle.std.specs.Prelude.{ℕ, ◌+◌, ◌-◌, ◌*◌, ◌≡◌, nat_lt, Bool, List, slice_get, Option, Some, None, if◌then◌else◌}
 use Rattle.aig_graph.specs.Graph.{variable}
 use Rattle.aig_graph.specs.Value.{signed_as}
-use Rattle.map_checks.specs.Shared.{IsNegated}
+use Rattle.aig_graph.specs.Gates.{IsNegated}
 
--- by variable, from a first one on, a literal that stands for it; those past the end stand for themselves
+-- by variable, from a first one on, a literal that stands for it; those past the end stand for
+-- themselves
 pub record Equal : Type 0 where
   pub first : ℕ
   pub substitutes : List ℕ

@@ -1,7 +1,7 @@
 -- What a literal says of two others.
 use Rattle.std.specs.Prelude.{ℕ, ◌≡◌, Bool, true}
 use Rattle.aig_graph.specs.Graph.{Graph, IsLiteralOf}
-use Rattle.map_checks.specs.Shared.{Respects, gates_of}
+use Rattle.aig_graph.specs.Gates.{Respects, gates_of}
 
 -- two literals that are equal where this one is 1
 pub record IsFact (g : Graph) (lit : ℕ) (sides : ℕ × ℕ) : Type 0 where

@@ -3,16 +3,15 @@ use Rattle.std.specs.Prelude.{ℕ, ◌+◌, ◌*◌, ◌<◌, ◌≤◌, ◌≡�
 use Rattle.std.specs.List.{slice_index_or}
 use Rattle.aig_graph.specs.declared.graph.Latch.{Latch}
 use Rattle.aig_graph.specs.Graph.{Graph, variable, first_latch, variables_end}
-use Rattle.aig_graph.specs.declared.properties.Props.{Props}
 use Rattle.aig_graph.specs.Circuits.{Netlist}
-use Rattle.aig_graph.specs.Mapped.{mapped_props}
 use Rattle.aig_graph.specs.Value.{value_within}
-use Rattle.retimed_circuits.specs.States.{Digits, State, after_step}
-use Rattle.retimed_circuits.specs.MapCircuits.{is_kept, mapped}
-use Rattle.map_checks.specs.Shared.{IsNegated, Respects, Shared, gates_of}
+use Rattle.state_maps.specs.States.{Digits, State, after_step}
+use Rattle.state_maps.specs.MapCircuits.{is_kept, mapped}
+use Rattle.aig_graph.specs.Gates.{Gates, IsNegated, Respects, gates_of}
 use Rattle.map_checks.specs.Equal.{Equal, IsRight}
 use Rattle.map_checks.specs.Copies.{AreShared, Copy, CopiesValues, copied_end, copy_of}
 
+-- the next literals of latches
 abbrev pub nexts_of : List Latch → List ℕ
 nexts_of latches = map (λ latch. latch.next) latches
 
@@ -20,8 +19,9 @@ nexts_of latches = map (λ latch. latch.next) latches
 abbrev pub copy_of_literals : ℕ → Copy → List ℕ → Copy
 copy_of_literals first c lits = record { first = first; literals = map (copy_of c) lits }
 
--- values of the shared literals, where the inputs and latches of c have these, and what stands for a variable has its value
-pub record Views (k : Shared) (e : Equal) (c : Graph) (x : Digits) (s : State) (values : ℕ → Bool) : Type 0 where
+-- values of the shared literals, where the inputs and latches of c have these, and what stands for
+-- a variable has its value
+pub record Views (k : Gates) (e : Equal) (c : Graph) (x : Digits) (s : State) (values : ℕ → Bool) : Type 0 where
   pub respects : Respects k values
   pub right : IsRight e values
   pub inputs : (i : ℕ) → i < c.inputs → values (2 * (1 + i)) ≡ x i
@@ -36,21 +36,25 @@ pub record StandForLatches (e : Equal) (c : Graph) (first : ℕ) (leaves : Copy)
       → values (slice_index_or leaves.literals j 0) ≡ values (2 * (first_latch c + j))
 
 -- a copy of a graph whose literals have the values that `own` gives, for each state of c
-pub record IsFaithfulCopy (k : Shared) (e : Equal) (c g : Graph) (own : Digits → State → ℕ → Bool) (copy : Copy) : Type 0 where
+pub record IsFaithfulCopy (k : Gates) (e : Equal) (c g : Graph) (own : Digits → State → ℕ → Bool) (copy : Copy) : Type 0 where
   pub long : copied_end copy ≡ variables_end g
   pub within : AreShared k copy
   pub follows : (values : ℕ → Bool) (x : Digits) (s : State) → Views k e c x s values → CopiesValues copy (variables_end g) values (own x s)
 
--- the values of a map's literals in a state, of a circuit's literals, of the map's a step later, and of the mapped circuit's
+-- the values of a map's literals in a state, of a circuit's literals, of the map's a step later,
+-- and of the mapped circuit's
 abbrev pub in_map : Netlist → Digits → State → ℕ → Bool
 in_map m x s = value_within m.aig s (λ j. false)
 
+-- the values of literals in a step of the first circuit
 abbrev pub in_first : Netlist → Digits → State → ℕ → Bool
 in_first c x s = value_within c.aig x s
 
+-- the values of the map's literals, a step later
 abbrev pub in_map_later : Netlist → Netlist → Digits → State → ℕ → Bool
 in_map_later c m x s = value_within m.aig (after_step c.aig x s) (λ j. false)
 
+-- the values of literals of the second circuit, in the state that the map gives
 abbrev pub in_second_mapped : Netlist → Netlist → Digits → State → ℕ → Bool
 in_second_mapped d m x s = value_within d.aig x (mapped m s)
 
@@ -60,7 +64,7 @@ Assumes m image e f = (values own : ℕ → Bool) → IsNegated values → Respe
     → All (λ lit. own lit ≡ true) m.props.constraints → IsRight e values → IsRight f values
 
 -- the same, of the map over the latches of c
-abbrev pub Learns : Shared → Graph → Netlist → Equal → Equal → Type 0
+abbrev pub Learns : Gates → Graph → Netlist → Equal → Equal → Type 0
 Learns k c m e f = (values : ℕ → Bool) (x : Digits) (s : State) → Views k e c x s values → is_kept m s → IsRight f values
 
 -- each copy is of all variables
@@ -69,28 +73,12 @@ pub record AreWholeCopies (c d m : Netlist) (before later after : Copy) : Type 0
   pub of_map : copied_end later ≡ variables_end m.aig
   pub of_second : copied_end after ≡ variables_end d.aig
 
--- the copies that are compared: where the constraints hold, each has the values of what it is a copy of
-pub record AreComparedCopies (k : Shared) (e : Equal) (c d m : Netlist) (before later after : Copy) : Type 0 where
+-- the copies that are compared: where the constraints hold, each has the values of what it is a
+-- copy of, and what stands for a variable then has its value
+pub record AreComparedCopies (k : Gates) (e f : Equal) (c d m : Netlist) (before later after : Copy) : Type 0 where
   pub long : AreWholeCopies c d m before later after
+  pub right : (values : ℕ → Bool) (x : Digits) (s : State) → Views k e c.aig x s values → is_kept m s → IsRight f values
   pub follows : (values : ℕ → Bool) (x : Digits) (s : State) → Views k e c.aig x s values → is_kept m s
       → CopiesValues before (variables_end c.aig) values (in_first c x s)
       × CopiesValues later (variables_end m.aig) values (in_map_later c m x s)
       × CopiesValues after (variables_end d.aig) values (in_second_mapped d m x s)
-
--- as many properties of each kind, and justice properties of the same sizes
-pub record AreAsMany (p q : Props) : Type 0 where
-  pub outputs : length q.outputs ≡ length p.outputs
-  pub bad : length q.bad ≡ length p.bad
-  pub constraints : length q.constraints ≡ length p.constraints
-  pub justice : map length q.justice ≡ map length p.justice
-  pub fairness : length q.fairness ≡ length p.fairness
-
--- each property is one literal in both copies
-abbrev pub AreSameProperties : Copy → Props → Copy → Props → Type 0
-AreSameProperties before p after q = mapped_props (copy_of after) q ≡ mapped_props (copy_of before) p
-
--- the literals that must be one are
-pub record AreSettled (c d m : Netlist) (before later after : Copy) : Type 0 where
-  pub kept : All (λ lit. copy_of later lit ≡ 1) m.props.constraints
-  pub latches : map (copy_of later) m.props.outputs ≡ map (copy_of after) (nexts_of d.aig.latches)
-  pub props : AreSameProperties before c.props after d.props

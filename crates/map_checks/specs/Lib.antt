@@ -3,6 +3,7 @@ pub mod Equal
 pub mod Copies
 pub mod Facts
 pub mod Images
+pub mod Parts
 pub mod Starts
 pub mod Openings
 pub mod Answers

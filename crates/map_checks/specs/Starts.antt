@@ -7,10 +7,11 @@ use Rattle.aig_graph.specs.declared.graph.Reset.{Reset}
 use Rattle.aig_graph.specs.declared.graph.Reset.TheVariants.{Zero, One, Free}
 use Rattle.aig_graph.specs.Graph.{Graph, first_latch, free_before, free_latches, is_free, variables_end}
 use Rattle.aig_graph.specs.Value.{Choice, opening_literal, value_within}
-use Rattle.retimed_circuits.specs.States.{opening_state}
-use Rattle.map_checks.specs.Shared.{IsNegated}
+use Rattle.state_maps.specs.States.{opening_state}
+use Rattle.aig_graph.specs.Gates.{IsNegated}
 use Rattle.map_checks.specs.Copies.{Copy, CopiesValues, copied_end}
 
+-- the literals of what the latches hold at step 0
 pub record AreOpeningLiterals (g : Graph) (leaves : Copy) : Type 0 where
   pub first : leaves.first ≡ 1
   pub long : length leaves.literals ≡ length g.latches
@@ -24,6 +25,8 @@ pub record IsOpening (c m : Graph) (image : Copy) (f : Choice) : Type 0 where
   pub latches : (j : ℕ) → j < length c.latches → values (2 * (first_latch c + j)) ≡ opening_state c f j
   pub follows : CopiesValues image (variables_end m) values (value_within m (opening_state c f) (λ j. false))
 
+-- a copy of the map over the latches at step 0, which has for each choice the values of the map in
+-- that state
 pub record IsResetImage (c m : Graph) (image : Copy) : Type 0 where
   pub long : copied_end image ≡ variables_end m
   pub opening : (f : Choice) → IsOpening c m image f
@@ -54,7 +57,8 @@ Takes g Zero lit old new = (lit ≡ 0) × (new ≡ old)
 Takes g One lit old new = (lit ≡ 1) × (new ≡ old)
 Takes g Free lit old new = (place : ℕ) × IsFreeLatch g lit place × (new ≡ old ++ place ∷ [])
 
--- places among the free latches of c, one for each free latch of d before n, by the literals of d's latches at step 0
+-- places among the free latches of c, one for each free latch of d before n, by the literals of d's
+-- latches at step 0
 pub record AreStarts (c d : Graph) (lits : ℕ → ℕ) (n : ℕ) (kept : List ℕ) : Type 0 where
   pub each : length kept ≡ free_before d n
   pub below : (k : ℕ) → k < length kept → slice_index_or kept k 0 < free_latches c

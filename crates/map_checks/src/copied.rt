@@ -1,7 +1,7 @@
 //! The gates of a circuit among shared ones.
 ghost use Rattle.std.specs.Prelude.{◌≡◌, ◌<◌, IfOk, OnOk};
 ghost use Rattle.aig_graph.specs.Graph.{first_gate, variable};
-ghost use Rattle.map_checks.specs.Shared.{Grows};
+ghost use Rattle.aig_graph.specs.Gates.{Grows};
 ghost use Rattle.map_checks.specs.Equal.{StaysRight};
 ghost use Rattle.map_checks.specs.Copies.{AreShared, IsCopy, copied_end, copy_of, with_literal};
 
@@ -11,7 +11,8 @@ use crate::shared::SharedGates;
 use aig_graph::{Aig, Lit, NoMemory};
 use std::marker::Model;
 
-/// A shared literal for each variable of a circuit, from a first one on. The variables before it are the same in both.
+/// A shared literal for each variable of a circuit, from a first one on. The variables before it
+/// are the same in both.
 pub(crate) struct Copied {
     first: u32,
     literals: Vec<Lit>,
@@ -65,8 +66,8 @@ impl Copied {
     }
 }
 
-/// Copies the gates of a graph, whose variables before the gates have these literals. Gates that are there already are taken, and what
-/// stands for a literal is taken for it. Linear.
+/// Copies the gates of a graph, whose variables before the gates have these literals. Gates that
+/// are there already are taken, and what stands for a literal is taken for it. Linear.
 pub(crate) fn copy(
     shared: &mut SharedGates,
     equal: &mut Equalities,

@@ -1,15 +1,17 @@
-//! Literals that are known to be equal: of those that are, one stands for the others, found by a way of literals that leads down. Each
-//! search shortens the ways that it goes, so that all searches together take a little more than a step each.
+//! Literals that are known to be equal: of those that are, one stands for the others, found by a
+//! way of literals that leads down. Each search shortens the ways that it goes, so that all
+//! searches together take a little more than a step each.
 ghost use Rattle.std.specs.Prelude.{ℕ, ◌≡◌, ◌≤◌, Bool, [], OnOk};
 ghost use Rattle.aig_graph.specs.Graph.{variable};
-ghost use Rattle.map_checks.specs.Shared.{IsNegated};
+ghost use Rattle.aig_graph.specs.Gates.{IsNegated};
 ghost use Rattle.map_checks.specs.Equal.{IsRight, StaysRight, standing_for};
 
 use aig_graph::{Lit, NoMemory};
 use std::alloc::Global;
 use std::marker::Model;
 
-/// By variable, from a first one on, a literal that stands for it. A variable past the end stands for itself.
+/// By variable, from a first one on, a literal that stands for it. A variable past the end stands
+/// for itself.
 pub(crate) struct Equalities {
     first: u32,
     substitutes: Vec<Lit>,
@@ -118,7 +120,8 @@ impl Equalities {
         Ok(true)
     }
 
-    /// Takes one of two literals for the other, which have one value. Whether it wasn't taken for it before.
+    /// Takes one of two literals for the other, which have one value. Whether it wasn't taken for
+    /// it before.
     pub(crate) fn assume(&mut self, a: Lit, b: Lit) -> Result<bool, NoMemory>
         ensures { OnOk result ((values : ℕ → Bool) → IsNegated values → values a ≡ values b
             → IsRight self.old values → IsRight self.new values) }

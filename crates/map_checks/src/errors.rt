@@ -14,7 +14,8 @@ pub enum CheckError {
     TooLarge,
     /// The map has a latch, a bad state, a justice property or a fairness constraint.
     NotAMap,
-    /// The circuits differ in their inputs or properties, or the map in its inputs or outputs from their latches.
+    /// The circuits differ in their inputs or properties, or the map in its inputs or outputs from
+    /// their latches.
     ShapesDiffer,
 }
 

@@ -1,4 +1,5 @@
-//! What a constraint of a map says: that two literals are equal, as three gates say it, or else that its literal is 1.
+//! What a constraint of a map says: that two literals are equal, as three gates say it, or else
+//! that its literal is 1.
 ghost use Rattle.std.specs.Prelude.{IfSome};
 ghost use Rattle.aig_graph.specs.Graph.{IsLiteralOf};
 ghost use Rattle.map_checks.specs.Facts.{IsFact};

@@ -54,8 +54,8 @@ impl KeptPlaces {
         self.places
     }
 
-    /// Takes what a latch is at step 0, by its literal: its reset, or a free latch of the first circuit after those that were taken. Whether it
-    /// is that.
+    /// Takes what a latch is at step 0, by its literal: its reset, or a free latch of the first
+    /// circuit after those that were taken. Whether it is that.
     pub(crate) fn take(
         &mut self,
         first: &Aig,

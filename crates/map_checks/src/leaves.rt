@@ -1,9 +1,9 @@
 //! What the inputs and latches of a circuit are among shared gates, before its gates are copied.
-ghost use Rattle.std.specs.Prelude.{◌≡◌, ◌≤◌, ◌<◌, All, IfOk, OnOk};
+ghost use Rattle.std.specs.Prelude.{◌≡◌, ◌≤◌, ◌<◌, ◌++◌, All, IfOk, OnOk, map};
 ghost use Rattle.aig_graph.specs.declared.literal.TheConstants.{MAX_VARIABLES};
 ghost use Rattle.aig_graph.specs.Graph.{variable};
 ghost use Rattle.map_checks.specs.Equal.{StaysRight};
-ghost use Rattle.map_checks.specs.Copies.{copied_end};
+ghost use Rattle.map_checks.specs.Copies.{copied_end, copy_of};
 ghost use Rattle.map_checks.specs.Images.{StandForLatches, nexts_of, copy_of_literals};
 
 use crate::copied::Copied;
@@ -40,6 +40,23 @@ pub(crate) fn nexts(alloc: Global, aig: &Aig) -> Result<Vec<Lit>, NoMemory>
     Ok(lits)
 }
 
+/// Adds the shared literals of these.
+pub(crate) fn push_copies(
+    literals: &mut Vec<Lit>,
+    copied: &Copied,
+    lits: &[Lit],
+) -> Result<(), NoMemory>
+    requires { All (λ lit. variable lit < copied_end copied.now) lits.now }
+    ensures { OnOk result (literals.new.items
+        ≡ literals.old.items ++ map (copy_of copied.now) lits.now) }
+{
+    literals.reserve(lits.len())?;
+    for lit in lits {
+        literals.push(copied.literal(*lit))?;
+    }
+    Ok(())
+}
+
 /// The shared literals of these, from a variable on.
 pub(crate) fn picked(
     alloc: Global,
@@ -50,9 +67,7 @@ pub(crate) fn picked(
     requires { All (λ lit. variable lit < copied_end copied.now) lits.now }
     ensures { IfOk result (λ leaves. leaves ≡ copy_of_literals first copied.now lits.now) }
 {
-    let mut literals = Vec::with_capacity(alloc, lits.len())?;
-    for lit in lits {
-        literals.push(copied.literal(*lit))?;
-    }
+    let mut literals = Vec::new(alloc);
+    push_copies(&mut literals, copied, lits)?;
     Ok(Copied::of(first, literals))
 }

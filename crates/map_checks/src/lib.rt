@@ -1,8 +1,11 @@
-//! Checks, by sharing gates alone, that a map of states shows a circuit to be a retiming of another one.
+//! Checks that a map of states shows a circuit to be a retiming of another one: by sharing gates,
+//! by propagation over them, and by cases of inputs and latches.
 #![tactic(auto)]
 
 mod answer;
+mod cases;
 mod checking;
+mod choosing;
 mod comparing;
 mod copied;
 mod equalities;
@@ -12,10 +15,14 @@ mod kept;
 mod learning;
 mod leaves;
 mod openings;
+mod pairs;
+mod refuting;
+mod settling;
 mod shapes;
 mod shared;
 mod sides;
 mod starting;
+mod trees;
 
 pub use answer::{Answer, Obligation};
 pub use checking::check_map;

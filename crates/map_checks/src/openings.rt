@@ -20,7 +20,8 @@ pub(crate) enum Start {
     Differs(usize),
 }
 
-/// How the latches of the second circuit begin, by the literals of the map over the resets of the first.
+/// How the latches of the second circuit begin, by the literals of the map over the resets of the
+/// first.
 pub(crate) fn start_of(
     alloc: Global,
     first: &Aig,

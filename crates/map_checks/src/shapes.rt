@@ -15,7 +15,8 @@ pub fn is_map(map: &Circuit) -> bool
         && props.fairness.is_empty()
 }
 
-/// Whether the circuits have the same shape, and the map an input for each latch of the first and an output for each of the second.
+/// Whether the circuits have the same shape, and the map an input for each latch of the first and
+/// an output for each of the second.
 pub fn are_fitting(first: &Circuit, second: &Circuit, map: &Circuit) -> bool
     ensures { IsTrue result ↔ AreFitting first.now second.now map.now }
 {

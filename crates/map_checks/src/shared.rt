@@ -1,14 +1,16 @@
-//! Gates of which no two have the same fan-ins. A gate whose fan-ins say nothing new comes down to a literal, and one with the fan-ins
-//! of an earlier gate to that gate's. That one is looked for on the list of the gates that have its larger fan-in, of which there are
-//! few; what would make a list longer than `LONGEST` stands in a hash table. No contract says that it is found: what is proved of a
-//! gate's literal doesn't rest on it.
+//! Gates of which no two have the same fan-ins. A gate whose fan-ins say nothing new comes down to
+//! a literal, and one with the fan-ins of an earlier gate to that gate's. That one is looked for on
+//! the list of the gates that have its larger fan-in, of which there are few; what would make a
+//! list longer than `LONGEST` stands in a hash table. No contract says that it is found: what is
+//! proved of a gate's literal doesn't rest on it.
 ghost use Rattle.std.specs.Prelude.{◌≡◌, ◌+◌, ◌≤◌, ◌<◌, [], IfOk, IfSome, OnOk, Some, length, slice_get};
 ghost use Rattle.aig_graph.specs.declared.literal.TheConstants.{MAX_VARIABLES};
 ghost use Rattle.aig_graph.specs.Graph.{IsGateAt, variable};
-ghost use Rattle.map_checks.specs.Shared.{Grows, IsBoth, IsFolded, IsSharedLiteral, shared_end};
+ghost use Rattle.aig_graph.specs.Gates.{Grows, gates_end};
+ghost use Rattle.map_checks.specs.Shared.{IsBoth, IsFolded, IsSharedLiteral};
 
 use crate::errors::SharingError;
-use aig_graph::{Gate, Lit, MAX_VARIABLES};
+use aig_graph::{Aig, Gate, Lit, MAX_VARIABLES, NoMemory};
 use indexmap::IndexMap;
 use std::alloc::Global;
 use std::marker::Model;
@@ -19,7 +21,8 @@ const LONGEST: u8 = 32;
 /// The list of a variable that no gate has as its larger fan-in.
 const NO_LIST: GateList = GateList { last: 0, length: 0 };
 
-/// A gate, and the link to the one before it in its list: one more than its place, and 0 where the list ends.
+/// A gate, and the link to the one before it in its list: one more than its place, and 0 where the
+/// list ends.
 #[derive(Clone, Copy)]
 pub(crate) struct SharedGate {
     pub(crate) gate: Gate,
@@ -56,9 +59,10 @@ impl Drop for SharedGates {
 }
 
 impl Model for SharedGates {
-    ghost use Rattle.map_checks.specs.Shared.{Shared, AreGates, shared_gates};
+    ghost use Rattle.aig_graph.specs.Gates.{AreGates, Gates};
+    ghost use Rattle.map_checks.specs.Shared.{shared_gates};
 
-    ghost Value = { Shared };
+    ghost Value = { Gates };
 
     ghost view = { λ s. record { first = s.first; gates = shared_gates s.gates.items } };
 
@@ -83,7 +87,7 @@ fn folded(gate: &Gate) -> Option<Lit>
 }
 
 impl SharedGates {
-    ghost use Rattle.map_checks.specs.Shared.{AreGates};
+    ghost use Rattle.aig_graph.specs.Gates.{AreGates, gates_of};
 
     /// No gates yet, after so many variables.
     pub(crate) fn after(alloc: Global, first: u32) -> SharedGates
@@ -153,9 +157,10 @@ impl SharedGates {
         }
     }
 
-    /// Has the gate that is put next found from then on; the link that leads on from it is the answer.
+    /// Has the gate that is put next found from then on; the link that leads on from it is the
+    /// answer.
     fn linked(&mut self, gate: &Gate) -> Result<u32, SharingError>
-        requires { shared_end self.old < MAX_VARIABLES }
+        requires { gates_end self.old < MAX_VARIABLES }
         ensures { OnOk result (self.new ≡ self.old) }
     {
         let place = self.gates.len();
@@ -177,8 +182,8 @@ impl SharedGates {
 
     /// Puts a gate after the others: its place.
     fn add(&mut self, gate: Gate) -> Result<usize, SharingError>
-        requires room { shared_end self.old < MAX_VARIABLES }
-        requires at { IsGateAt (shared_end self.old) gate }
+        requires room { gates_end self.old < MAX_VARIABLES }
+        requires at { IsGateAt (gates_end self.old) gate }
         ensures grows { OnOk result (Grows self.old self.new) }
         ensures is { IfOk result (λ place. slice_get self.new.gates place ≡ Some gate) }
     {
@@ -190,8 +195,8 @@ impl SharedGates {
 
     /// The place of a gate, which is put after the others where it isn't found.
     fn place_of(&mut self, gate: Gate) -> Result<usize, SharingError>
-        requires room { shared_end self.old < MAX_VARIABLES }
-        requires at { IsGateAt (shared_end self.old) gate }
+        requires room { gates_end self.old < MAX_VARIABLES }
+        requires at { IsGateAt (gates_end self.old) gate }
         ensures grows { OnOk result (Grows self.old self.new) }
         ensures is { IfOk result (λ place. slice_get self.new.gates place ≡ Some gate) }
     {
@@ -203,7 +208,7 @@ impl SharedGates {
 
     /// The literal of a gate that comes down to none of the others', unless one has its fan-ins.
     fn numbered(&mut self, gate: Gate) -> Result<Lit, SharingError>
-        requires at { IsGateAt (shared_end self.old) gate }
+        requires at { IsGateAt (gates_end self.old) gate }
         ensures grows { OnOk result (Grows self.old self.new) }
         ensures is { IfOk result (IsBoth self.new gate.rhs0 gate.rhs1) }
     {
@@ -226,5 +231,18 @@ impl SharedGates {
             Some(lit) => Ok(lit),
             None => self.numbered(gate),
         }
+    }
+
+    /// The gates as those of a graph without latches, with an input for each variable before them.
+    /// Linear.
+    pub(crate) fn graph(&self, alloc: Global) -> Result<Aig, NoMemory>
+        requires { 1 ≤ self.now.first }
+        ensures { IfOk result (λ aig. gates_of aig ≡ self.now) }
+    {
+        let mut gates = Vec::with_capacity(alloc, self.gates.len())?;
+        for shared in self.gates.as_slice() {
+            gates.push(shared.gate)?;
+        }
+        Ok(Aig::from_parts(self.first - 1, Vec::new(alloc), gates))
     }
 }

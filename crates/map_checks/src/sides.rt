@@ -1,8 +1,8 @@
-//! The circuits that are compared, among the same gates: a step of the first circuit, the map after it, and a step of the second circuit
-//! from what the map gives before it.
+//! The circuits that are compared, among the same gates: a step of the first circuit, the map after
+//! it, and a step of the second circuit from what the map gives before it.
 ghost use Rattle.std.specs.Prelude.{◌≡◌, [], length, IfOk, OnOk};
 ghost use Rattle.aig_graph.specs.Graph.{first_gate, variables_end};
-ghost use Rattle.map_checks.specs.Shared.{Grows};
+ghost use Rattle.aig_graph.specs.Gates.{Grows};
 ghost use Rattle.map_checks.specs.Equal.{Equal, StaysRight};
 ghost use Rattle.map_checks.specs.Copies.{AreShared, copied_end};
 ghost use Rattle.map_checks.specs.Images.{IsFaithfulCopy, in_first, in_map, in_map_later, in_second_mapped};

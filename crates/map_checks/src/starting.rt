@@ -1,5 +1,5 @@
-//! Step 0: the map over the resets, of which each free latch is any value. Its outputs must be the resets of the second circuit, where a
-//! free latch is one of the first's.
+//! Step 0: the map over the resets, of which each free latch is any value. Its outputs must be the
+//! resets of the second circuit, where a free latch is one of the first's.
 ghost use Rattle.std.specs.Prelude.{◌≡◌, ◌≤◌, [], IfOk, IfSome, length, if◌then◌else◌};
 ghost use Rattle.aig_graph.specs.Graph.{free_before, is_free};
 ghost use Rattle.aig_graph.specs.Tables.{table};

@@ -9,8 +9,8 @@ use Rattle.std.proofs.lemmas.List.Elements.{All-push}
 use Rattle.aig_graph.specs.Circuits.{AreLiteralsOf}
 use Rattle.aig_graph.specs.Graph.{Graph, IsGraph, IsLiteralOf, variable, variables_end}
 use Rattle.aig_graph.specs.Value.{value_within}
-use Rattle.retimed_circuits.specs.States.{State}
-use Rattle.retimed_circuits.proofs.FrameMapLaws.{agrees-is, is-agrees}
+use Rattle.state_maps.specs.States.{State}
+use Rattle.state_maps.proofs.FrameMapLaws.{agrees-is, is-agrees}
 use Rattle.map_circuits.specs.Growing.{Extends, IsEquality}
 use Rattle.map_circuits.specs.Following.{literal_at}
 use Rattle.map_circuits.specs.Constraining.{AddsEquality, AddsSubstitutes, AreEqual, AreOne, IsSubstitute, substitute_function}

@@ -14,8 +14,8 @@ use Rattle.aig_graph.specs.Value.{signed, value_within}
 use Rattle.aig_graph.proofs.FoldingLaws.{gate_at-is}
 use Rattle.aig_graph.proofs.KindLaws.{GatePlace, LatchPlace, gate_place, latch_place}
 use Rattle.aig_graph.proofs.SignLaws.{value_signed, value_signed_as, variable-signed_as}
-use Rattle.retimed_circuits.specs.States.{State}
-use Rattle.retimed_circuits.proofs.WithinLaws.{within_laws, within-gate_at, within-latch_at}
+use Rattle.state_maps.specs.States.{State}
+use Rattle.state_maps.proofs.WithinLaws.{within_laws, within-gate_at, within-latch_at}
 use Rattle.map_circuits.specs.Growing.{Extends, IsConjunction}
 use Rattle.map_circuits.specs.Following.{AreWithin, Follows, IsCovered, entry_of, literal_at, state_of}
 

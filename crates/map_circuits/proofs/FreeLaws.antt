@@ -8,7 +8,7 @@ use Rattle.aig_graph.specs.declared.graph.Latch.{Latch}
 use Rattle.aig_graph.specs.Circuits.{Netlist}
 use Rattle.aig_graph.specs.Graph.{Graph, first_latch, is_free, is_free_latch, latch_at}
 use Rattle.aig_graph.proofs.KindLaws.{latch_at-first_latch}
-use Rattle.retimed_circuits.specs.MapCircuits.{FreeStay, IsFreeInput, free_outputs}
+use Rattle.state_maps.specs.MapCircuits.{FreeStay, IsFreeInput, free_outputs}
 
 put-first : (b : Bool) (x : ℕ) (xs ys zs : List ℕ) → xs ≡ ys ++ zs → (if b then x ∷ xs else xs) ≡ (if b then x ∷ ys else ys) ++ zs
 put-first true x xs ys zs e = ap (λ (ls : List ℕ). x ∷ ls) e

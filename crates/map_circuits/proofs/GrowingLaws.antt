@@ -9,9 +9,9 @@ use Rattle.aig_graph.proofs.FoldingLaws.{gate_at-first_gate, gate_at-is}
 use Rattle.aig_graph.proofs.KindLaws.{is_constant, is_gate, is_input, is_latch, kind_of}
 use Rattle.aig_graph.proofs.SignLaws.{value-gate_of, value_signed}
 use Rattle.aig_graph.proofs.PlacesLaws.{slice_get-append_left, slice_get-append_right}
-use Rattle.retimed_circuits.specs.States.{Digits, State}
-use Rattle.retimed_circuits.specs.RetimedStates.{agrees}
-use Rattle.retimed_circuits.proofs.WithinLaws.{within_laws}
+use Rattle.state_maps.specs.States.{Digits, State}
+use Rattle.state_maps.specs.RetimedStates.{agrees}
+use Rattle.state_maps.proofs.WithinLaws.{within_laws}
 use Rattle.map_circuits.specs.Growing.{Extends, IsConjunction, IsEquality}
 
 -- a graph with no gates more counts as grown

@@ -3,15 +3,15 @@ use Rattle.std.proofs.Common.{ℕ, ◌≡◌, List, sym, subst}
 use Rattle.aig_graph.specs.Circuits.{Netlist}
 use Rattle.aig_graph.specs.Graph.{Graph, free_latches}
 use Rattle.aig_graph.specs.Laws.{all_free, composed}
-use Rattle.retimed_circuits.proofs.MergingLaws.{IsGraph-merged_latches, merged-streams}
-use Rattle.retimed_circuits.specs.States.{IsStateMap, State}
-use Rattle.retimed_circuits.proofs.FrameMapLaws.{restated}
-use Rattle.retimed_circuits.proofs.MapLaws.{maps-compose}
+use Rattle.merged_circuits.proofs.MergingLaws.{IsGraph-merged_latches, merged-streams}
+use Rattle.state_maps.specs.States.{IsStateMap, State}
+use Rattle.state_maps.proofs.FrameMapLaws.{restated}
+use Rattle.state_maps.proofs.MapLaws.{maps-compose}
 use Rattle.map_circuits.specs.Constraining.{AreOne}
 use Rattle.map_circuits.specs.Following.{state_of}
 use Rattle.map_circuits.proofs.SteppingLaws.{state-kept}
-use Rattle.retimed_circuits.specs.MergedStates.{ReadsHold}
-use Rattle.retimed_circuits.proofs.MergedStepLaws.{merging-maps}
+use Rattle.state_maps.specs.MergedStates.{ReadsHold}
+use Rattle.state_maps.proofs.MergedStepLaws.{merging-maps}
 use Rattle.map_circuits.specs.Steps.{MergingStep}
 use Rattle.map_circuits.proofs.ReadsSubstituteLaws.{reads-below, reads-hold}
 use Rattle.aig_graph.proofs.StreamLaws.{funext, composed-every}

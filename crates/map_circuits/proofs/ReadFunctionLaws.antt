@@ -4,8 +4,8 @@ use Rattle.std.proofs.lemmas.List.{ext_get_or, get_or-map, length-map}
 use Rattle.aig_graph.specs.Circuits.{AreLiteralsOf, Netlist}
 use Rattle.aig_graph.specs.Graph.{Graph, IsGraph, IsLiteralOf, first_latch}
 use Rattle.aig_graph.specs.Value.{value_within}
-use Rattle.retimed_circuits.specs.Readings.{IsReading}
-use Rattle.retimed_circuits.specs.States.{IsStateMap, SameReads, State, after_step, opening_state}
+use Rattle.merged_circuits.specs.Readings.{IsReading}
+use Rattle.state_maps.specs.States.{IsStateMap, SameReads, State, after_step, opening_state}
 use Rattle.map_circuits.specs.Constraining.{AddsSubstitutes, AreOne, substitute_function}
 use Rattle.map_circuits.specs.Following.{state_of}
 use Rattle.map_circuits.proofs.ConstrainingLaws.{substitute-within}

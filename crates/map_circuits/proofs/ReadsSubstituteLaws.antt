@@ -8,14 +8,14 @@ use Rattle.aig_graph.specs.Graph.{Graph, IsGraph, first_latch}
 use Rattle.aig_graph.specs.Value.{value_within}
 use Rattle.aig_graph.proofs.KindLaws.{element}
 use Rattle.cleaned_circuits.proofs.LatchLaws.{constant-even}
-use Rattle.retimed_circuits.specs.Partitions.{IsInductive}
-use Rattle.retimed_circuits.specs.Readings.{IsReading, ReadsAs, as_constant, as_first, as_itself, read}
-use Rattle.retimed_circuits.specs.States.{State}
+use Rattle.merged_circuits.specs.Partitions.{IsInductive}
+use Rattle.merged_circuits.specs.Readings.{IsReading, ReadsAs, as_constant, as_first, as_itself, read}
+use Rattle.state_maps.specs.States.{State}
 use Rattle.map_circuits.specs.Constraining.{IsSubstitute, SubstitutesBelow, substitute_function}
 use Rattle.map_circuits.specs.Following.{state_of}
 use Rattle.map_circuits.proofs.SubstituteLaws.{function-value, substitute-value}
-use Rattle.retimed_circuits.specs.MergedStates.{ReadsHold}
-use Rattle.retimed_circuits.proofs.ReadsHoldLaws.{steady}
+use Rattle.state_maps.specs.MergedStates.{ReadsHold}
+use Rattle.state_maps.proofs.ReadsHoldLaws.{steady}
 
 module _ (d : Graph) (held reads functions : List ℕ) (reading : IsReading d held reads) (many : length functions ≡ length d.latches) where
   abbrev first : ℕ

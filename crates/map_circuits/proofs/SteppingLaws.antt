@@ -16,9 +16,9 @@ use Rattle.rebuild.proofs.BorderLaws.{latched-cases}
 use Rattle.aig_graph.specs.Counting.{places}
 use Rattle.aig_graph.proofs.ListLaws.{map-same, slice_get-map_some}
 use Rattle.aig_graph.proofs.PlacesLaws.{Ranks, rank_at}
-use Rattle.retimed_circuits.specs.States.{State}
-use Rattle.retimed_circuits.specs.CleanedStates.{held_by}
-use Rattle.retimed_circuits.specs.MovedStates.{held_value}
+use Rattle.state_maps.specs.States.{State}
+use Rattle.state_maps.specs.CleanedStates.{held_by}
+use Rattle.state_maps.specs.MovedStates.{held_value}
 use Rattle.map_circuits.specs.Growing.{Extends}
 use Rattle.map_circuits.specs.Following.{Follows, IsCovered, entry_of, state_of}
 use Rattle.map_circuits.specs.Stepping.{AreMoved, ArePassed}

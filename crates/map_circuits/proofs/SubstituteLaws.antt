@@ -6,8 +6,8 @@ use Rattle.aig_graph.specs.Graph.{Graph, IsGraph, first_latch, variable}
 use Rattle.aig_graph.specs.Value.{signed, value_within}
 use Rattle.aig_graph.proofs.KindLaws.{element}
 use Rattle.aig_graph.proofs.SignLaws.{value_signed, value_signed_as}
-use Rattle.retimed_circuits.specs.States.{State}
-use Rattle.retimed_circuits.proofs.WithinLaws.{within_laws}
+use Rattle.state_maps.specs.States.{State}
+use Rattle.state_maps.proofs.WithinLaws.{within_laws}
 use Rattle.map_circuits.specs.Constraining.{IsSubstitute, substitute_function}
 use Rattle.map_circuits.specs.Following.{entry_of, literal_at, state_of}
 

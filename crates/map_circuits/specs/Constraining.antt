@@ -4,8 +4,8 @@ use Rattle.std.specs.List.{slice_index_or}
 use Rattle.aig_graph.specs.Circuits.{AreLiteralsOf}
 use Rattle.aig_graph.specs.Graph.{Graph, variable}
 use Rattle.aig_graph.specs.Value.{value_within}
-use Rattle.retimed_circuits.specs.States.{State}
-use Rattle.retimed_circuits.specs.MapCircuits.{image}
+use Rattle.state_maps.specs.States.{State}
+use Rattle.state_maps.specs.MapCircuits.{image}
 use Rattle.map_circuits.specs.Following.{IsCovered, literal_at}
 use Rattle.map_circuits.specs.Growing.{Extends}
 

@@ -4,8 +4,8 @@ use Rattle.std.specs.List.{slice_index_or}
 use Rattle.aig_graph.specs.Closed.{IsLatchOrIn}
 use Rattle.aig_graph.specs.Graph.{Graph, IsLiteralOf, variable, first_latch, variables_end}
 use Rattle.aig_graph.specs.Value.{signed_as, value_within}
-use Rattle.retimed_circuits.specs.States.{State}
-use Rattle.retimed_circuits.specs.MapCircuits.{image}
+use Rattle.state_maps.specs.States.{State}
+use Rattle.state_maps.specs.MapCircuits.{image}
 
 -- the state whose latches hold what these literals of a circuit without latches are
 abbrev pub state_of : Graph → List ℕ → State → State

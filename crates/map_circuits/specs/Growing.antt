@@ -3,8 +3,8 @@ use Rattle.std.specs.Prelude.{ℕ, ◌≡◌, ◌&&◌, List, []}
 use Rattle.aig_graph.specs.declared.graph.Gate.{Gate}
 use Rattle.aig_graph.specs.Graph.{Graph, IsGraph, IsLiteralOf}
 use Rattle.aig_graph.specs.Value.{value_within}
-use Rattle.retimed_circuits.specs.States.{Digits, State}
-use Rattle.retimed_circuits.specs.RetimedStates.{agrees}
+use Rattle.state_maps.specs.States.{Digits, State}
+use Rattle.state_maps.specs.RetimedStates.{agrees}
 
 -- h has the literals of g, with their values, and perhaps more gates
 pub record Extends (g h : Graph) : Type 0 where

@@ -4,7 +4,7 @@ use Rattle.std.specs.List.{slice_index_or}
 use Rattle.aig_graph.specs.Circuits.{AreLiteralsOf}
 use Rattle.aig_graph.specs.Graph.{Graph, IsLiteralOf, variable, variables_end}
 use Rattle.aig_graph.specs.Value.{signed_as, value_within}
-use Rattle.retimed_circuits.specs.States.{Digits, State}
+use Rattle.state_maps.specs.States.{Digits, State}
 
 -- what stands for a literal, by a list that has a literal for each variable
 abbrev pub substitute : List ℕ → ℕ → ℕ

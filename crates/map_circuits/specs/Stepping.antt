@@ -5,9 +5,9 @@ use Rattle.aig_graph.specs.Counting.{places}
 use Rattle.aig_graph.specs.Graph.{Graph, IsLiteralOf, first_gate, first_latch, variables_end}
 use Rattle.aig_graph.specs.Move.{Move}
 use Rattle.rebuild.specs.Moved.{is_latched, moved_graph}
-use Rattle.retimed_circuits.specs.States.{State}
-use Rattle.retimed_circuits.specs.CleanedStates.{trimmed_state}
-use Rattle.retimed_circuits.specs.MovedStates.{moved_state}
+use Rattle.state_maps.specs.States.{State}
+use Rattle.state_maps.specs.CleanedStates.{trimmed_state}
+use Rattle.state_maps.specs.MovedStates.{moved_state}
 use Rattle.map_circuits.specs.Following.{entry_of, state_of}
 
 -- the functions of the latches after a move: a latch that stays has its own

@@ -2,11 +2,11 @@
 use Rattle.std.specs.Prelude.{ℕ, ◌≡◌, List, length, map}
 use Rattle.aig_graph.specs.Circuits.{AreLiteralsOf, IsNetlist, Netlist}
 use Rattle.aig_graph.specs.Graph.{Graph, IsGraph, first_latch, free_latches}
-use Rattle.retimed_circuits.specs.Partitions.{IsMerged}
-use Rattle.retimed_circuits.specs.Readings.{IsReading}
+use Rattle.merged_circuits.specs.Partitions.{IsMerged}
+use Rattle.merged_circuits.specs.Readings.{IsReading}
 use Rattle.map_circuits.specs.Constraining.{AddsSubstitutes, AreOne, substitute_function}
 use Rattle.map_circuits.specs.Following.{state_of}
-use Rattle.retimed_circuits.specs.States.{IsStateMap}
+use Rattle.state_maps.specs.States.{IsStateMap}
 
 -- a reading, whatever latches are held
 abbrev pub IsSomeReading : Graph → List ℕ → Type 0

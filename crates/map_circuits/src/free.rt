@@ -3,7 +3,7 @@
 ghost use Rattle.std.specs.Prelude.{◌≡◌, ◌↔◌, All, IfOk, IsTrue, length};
 ghost use Rattle.std.specs.List.Sorted.{IsStrictlyIncreasing};
 ghost use Rattle.aig_graph.specs.Graph.{is_free};
-ghost use Rattle.retimed_circuits.specs.MapCircuits.{FreeStay, IsFreeInput, free_outputs};
+ghost use Rattle.state_maps.specs.MapCircuits.{FreeStay, IsFreeInput, free_outputs};
 
 use aig_graph::{Aig, Circuit, ClosedSet, Latch, Lit, NoMemory, Reset};
 use std::alloc::Global;

@@ -10,7 +10,7 @@ use Rattle.witness_circuits.specs.LiftedLaws.{LiftsWitnesses}
 use Rattle.witness_circuits.specs.Lifting.{IsLifted}
 use Rattle.witness_circuits.specs.Parts.{IsLiftable}
 use Rattle.map_checks.specs.Answers.{AreFitting, IsMap}
-use Rattle.counted_io.specs.declared.spelling.Spelling.{Spelling}
+use Rattle.file_words.specs.declared.spelling.Spelling.{Spelling}
 use Rattle.counted_io.specs.Input.{Input}
 use Rattle.counted_io.specs.Output.{Output}
 use Rattle.command_line.specs.declared.task.Lifting.{Lifting}

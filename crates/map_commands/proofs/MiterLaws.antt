@@ -4,7 +4,7 @@ use Rattle.std.proofs.lemmas.Result.{IfOk-weaker}
 use Rattle.aig_graph.specs.Circuits.{Netlist}
 use Rattle.map_checks.specs.Answers.{AreFitting, IsMap}
 use Rattle.map_miters.specs.Questions.{IsAskable}
-use Rattle.counted_io.specs.declared.spelling.Spelling.{Spelling}
+use Rattle.file_words.specs.declared.spelling.Spelling.{Spelling}
 use Rattle.counted_io.specs.Input.{Input}
 use Rattle.counted_io.specs.Output.{Output}
 use Rattle.command_line.specs.declared.task.Asking.{Asking}

@@ -1,7 +1,7 @@
 -- Both circuits side by side, of circuits and a map that fit together.
 use Rattle.std.proofs.Common.{ℕ, ◌≡◌, IfOk, List, Result, subst, unwrap_or}
 use Rattle.std.proofs.lemmas.Result.{IfOk-weaker}
-use Rattle.counted_io.specs.declared.spelling.Spelling.{Spelling}
+use Rattle.file_words.specs.declared.spelling.Spelling.{Spelling}
 use Rattle.counted_io.specs.Input.{Input}
 use Rattle.counted_io.specs.Output.{Output}
 use Rattle.counted_io.specs.declared.target.Target.{Target}

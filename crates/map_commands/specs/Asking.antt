@@ -2,7 +2,7 @@
 use Rattle.std.specs.Prelude.{ℕ, ◌≡◌, List, unwrap_or}
 use Rattle.map_checks.specs.Answers.{AreFitting, IsMap}
 use Rattle.map_miters.specs.Miters.{IsMiter}
-use Rattle.counted_io.specs.declared.fault.ReadError.TheVariants.{TooLarge}
+use Rattle.file_words.specs.declared.fault.ReadError.TheVariants.{TooLarge}
 use Rattle.counted_io.specs.Input.{Input}
 use Rattle.counted_io.specs.Output.{Output}
 use Rattle.counted_io.specs.Streams.{source_name, target_name}

@@ -2,7 +2,7 @@
 use Rattle.std.specs.Prelude.{ℕ, List}
 use Rattle.aig_graph.specs.Circuits.{Netlist}
 use Rattle.aig_graph.specs.Streams.{SameStreams}
-use Rattle.retimed_circuits.specs.MapCircuits.{IsMapCircuit}
+use Rattle.state_maps.specs.MapCircuits.{IsMapCircuit}
 use Rattle.map_checks.specs.Answers.{AreFitting, IsMap}
 use Rattle.aig_binary.specs.declared.reading.SpeltCircuit.{SpeltCircuit}
 use Rattle.reports.specs.Differences.{shapes_text}
@@ -37,6 +37,7 @@ verdict_text Retiming = retiming_text
 verdict_text (NotShown obligation) = obligation_text obligation
 verdict_text ShapesDiffer = shapes_text
 
+-- how a run ends by the verdict
 abbrev pub outcome_of_verdict : Verdict → Outcome
 outcome_of_verdict Retiming = ends.Done
 outcome_of_verdict (NotShown obligation) = ends.Unconfirmed

@@ -5,5 +5,3 @@ pub mod Making
 pub mod Lifted
 pub mod Asking
 pub mod Products
-pub mod Moving
-pub mod Printing

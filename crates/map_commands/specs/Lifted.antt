@@ -2,7 +2,7 @@
 use Rattle.std.specs.Prelude.{ℕ, ◌≡◌, Bool, true, false, List, unwrap_or}
 use Rattle.aig_graph.specs.Circuits.{Netlist}
 use Rattle.aig_graph.specs.Graph.{free_latches}
-use Rattle.retimed_circuits.specs.MapCircuits.{IsMapCircuit}
+use Rattle.state_maps.specs.MapCircuits.{IsMapCircuit}
 use Rattle.witness_circuits.specs.declared.sharing.Sharing.{Sharing}
 use Rattle.witness_circuits.specs.Witnesses.{IsSharing, IsWitness}
 use Rattle.witness_circuits.specs.Naming.{IsSharedBy}
@@ -10,7 +10,7 @@ use Rattle.witness_circuits.specs.LiftedLaws.{first_shared}
 use Rattle.witness_circuits.specs.Lifting.{IsLifted}
 use Rattle.map_miters.specs.Lifting.{IsLiftedBack}
 use Rattle.map_checks.specs.Answers.{AreFitting, IsMap}
-use Rattle.counted_io.specs.declared.fault.ReadError.TheVariants.{TooLarge}
+use Rattle.file_words.specs.declared.fault.ReadError.TheVariants.{TooLarge}
 use Rattle.counted_io.specs.Input.{Input}
 use Rattle.counted_io.specs.Output.{Output}
 use Rattle.counted_io.specs.Streams.{source_name, target_name}

@@ -1,6 +1,6 @@
 -- How a command ends that makes a circuit of circuits and a map.
 use Rattle.std.specs.Prelude.{ℕ, ◌≡◌, List}
-use Rattle.counted_io.specs.declared.spelling.Spelling.{Spelling}
+use Rattle.file_words.specs.declared.spelling.Spelling.{Spelling}
 use Rattle.aig_binary.specs.Spellings.{text_in}
 use Rattle.reports.specs.Differences.{shapes_text}
 use Rattle.counted_io.specs.Output.{Output}

@@ -39,9 +39,11 @@ place_of (Invariant place) = place
 place_of (Justice place) = place
 place_of (Fairness place) = place
 
+-- the line that says which obligation is open
 unfoldable pub obligation_text : Obligation → List ℕ
 obligation_text obligation =
     codes "not shown: " ++ (question_of obligation ++ (codes " " ++ (kind_of obligation ++ (codes " " ++ (decimal (place_of obligation) ++ 10 ∷ [])))))
 
+-- the line of a retiming
 abbrev pub retiming_text : List ℕ
 retiming_text = codes "retiming" ++ 10 ∷ []

@@ -4,8 +4,8 @@ use Rattle.map_checks.specs.Answers.{AreFitting, IsMap}
 use Rattle.map_miters.specs.declared.goals.Goal.{Goal}
 use Rattle.map_miters.specs.declared.goals.Goal.TheVariants.{Agree, Mapped as IsMapped}
 use Rattle.map_miters.specs.Products.{IsProduct}
-use Rattle.counted_io.specs.declared.fault.ReadError.TheVariants.{TooLarge}
-use Rattle.counted_io.specs.declared.spelling.Spelling.{Spelling}
+use Rattle.file_words.specs.declared.fault.ReadError.TheVariants.{TooLarge}
+use Rattle.file_words.specs.declared.spelling.Spelling.{Spelling}
 use Rattle.aig_binary.specs.Spellings.{text_in}
 use Rattle.reports.specs.Differences.{shapes_text}
 use Rattle.counted_io.specs.Input.{Input}
@@ -54,6 +54,7 @@ pub record EndsWritingBoth (FileGiven : List ℕ → List ℕ → Type 0) (machi
   pub model : IsTargetGiven FileGiven output old between (text_in spelling machines.model)
   pub witness : IsTargetGiven FileGiven certificate between new (text_in spelling machines.witness)
 
+-- how a run ends: it wrote the model and its witness circuit, or says that the shapes differ
 abbrev pub EndsShowing : (List ℕ → List ℕ → Type 0) → Shown → Spelling → Target → Target → Output → Output → Outcome → Type 0
 EndsShowing FileGiven (shows.Machines machines) spelling output certificate old new ended = EndsWritingBoth FileGiven machines spelling output certificate old new ended
 EndsShowing FileGiven shows.ShapesDiffer spelling output certificate old new ended = EndsWith ends.ShapesDiffer shapes_text old new ended

@@ -11,7 +11,7 @@ use crate::made::Made;
 use aig_graph::Circuit;
 use circuit_files::Failure;
 use command_line::Lifting;
-use counted_io::ReadError;
+use file_words::ReadError;
 use map_checks::are_fitting;
 use map_miters::{back_lift_law, witness_lifted_back};
 use std::alloc::Global;

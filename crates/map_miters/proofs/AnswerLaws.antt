@@ -15,10 +15,10 @@ use Rattle.aig_graph.specs.Value.{Choice, Inputs, latch_value, next_value, openi
 use Rattle.aig_graph.proofs.KindLaws.{element}
 use Rattle.aig_graph.proofs.StreamLaws.{funext}
 use Rattle.aig_graph.proofs.FreeLaws.{free-where}
-use Rattle.retimed_circuits.specs.MapCircuits.{FreeStay, IsFreeInput, IsMapCircuit, free_outputs, is_kept, mapped}
-use Rattle.retimed_circuits.specs.States.{State, after_step, opening_state}
-use Rattle.retimed_circuits.proofs.FreeLaws.{free-fewer, free-within}
-use Rattle.retimed_circuits.proofs.MapLaws.{all-read}
+use Rattle.state_maps.specs.MapCircuits.{FreeStay, IsFreeInput, IsMapCircuit, free_outputs, is_kept, mapped}
+use Rattle.state_maps.specs.States.{State, after_step, opening_state}
+use Rattle.state_maps.proofs.FreeLaws.{free-fewer, free-within}
+use Rattle.state_maps.proofs.MapLaws.{all-read}
 use Rattle.witness_circuits.proofs.OpeningLaws.{held_choice, opened, opening-known, opening-twice}
 use Rattle.witness_circuits.proofs.ViewLaws.{input-value}
 use Rattle.map_miters.specs.Holding.{reset_at, reset_state}

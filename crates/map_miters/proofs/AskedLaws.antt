@@ -4,8 +4,8 @@ use Rattle.aig_graph.specs.Circuits.{IsNetlist, Netlist}
 use Rattle.aig_graph.specs.Graph.{IsGraph}
 use Rattle.aig_graph.specs.Streams.{property_literals}
 use Rattle.aig_graph.proofs.StreamLaws.{funext}
-use Rattle.retimed_circuits.specs.MapCircuits.{is_kept, mapped}
-use Rattle.retimed_circuits.specs.States.{Digits, State, after_step}
+use Rattle.state_maps.specs.MapCircuits.{is_kept, mapped}
+use Rattle.state_maps.specs.States.{Digits, State, after_step}
 use Rattle.witness_circuits.proofs.AgreeLaws.{HaveSame, after_step-alike, alike-itself, literals-alike}
 use Rattle.map_miters.specs.Miters.{IsMiter, state_in}
 use Rattle.map_miters.specs.Questions.{Begins, IsAskable, Keeps, Reads, Steps}

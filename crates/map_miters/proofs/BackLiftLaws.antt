@@ -13,8 +13,8 @@ use Rattle.aig_graph.specs.Streams.{chosen}
 use Rattle.aig_graph.specs.Value.{Choice, next_value, opening, opening_at, value_within}
 use Rattle.aig_graph.proofs.KindLaws.{element}
 use Rattle.aig_graph.proofs.StreamLaws.{funext}
-use Rattle.retimed_circuits.specs.MapCircuits.{IsMapCircuit, image, is_kept, mapped}
-use Rattle.retimed_circuits.specs.States.{Digits, IsAllowed, SameReads, State, after_step, opening_state}
+use Rattle.state_maps.specs.MapCircuits.{IsMapCircuit, image, is_kept, mapped}
+use Rattle.state_maps.specs.States.{Digits, IsAllowed, SameReads, State, after_step, opening_state}
 use Rattle.witness_circuits.specs.declared.sharing.Sharing.{Sharing}
 use Rattle.witness_circuits.specs.Lifting.{GoesAs}
 use Rattle.witness_circuits.specs.Witnesses.{IsGood, bad_states}
@@ -23,7 +23,7 @@ use Rattle.witness_circuits.proofs.CarrierLaws.{IsCarrier, bad-within, kept-alik
 use Rattle.witness_circuits.proofs.FirstLaws.{first-opens, first-steps}
 use Rattle.witness_circuits.proofs.LiftLaws.{allowed-back, good-there}
 use Rattle.witness_circuits.proofs.OpeningLaws.{held_choice, opened, opening-twice}
-use Rattle.retimed_circuits.proofs.FreeLaws.{free-fewer}
+use Rattle.state_maps.proofs.FreeLaws.{free-fewer}
 use Rattle.map_miters.specs.Products.{GivesState, second_state}
 use Rattle.map_miters.specs.Beside.{IsBeside, in_second}
 use Rattle.map_miters.specs.Lifting.{LiftsBack}

@@ -7,8 +7,8 @@ use Rattle.aig_graph.specs.Tables.{table}
 use Rattle.aig_graph.proofs.TableLaws.{length-table, table-at}
 use Rattle.aig_graph.specs.Circuits.{Netlist}
 use Rattle.aig_graph.specs.Graph.{IsGraph, IsLiteralOf}
-use Rattle.retimed_circuits.specs.MapCircuits.{mapped}
-use Rattle.retimed_circuits.specs.States.{Digits, State}
+use Rattle.state_maps.specs.MapCircuits.{mapped}
+use Rattle.state_maps.specs.States.{Digits, State}
 use Rattle.witness_circuits.specs.declared.sharing.Sharing.{Sharing}
 use Rattle.witness_circuits.specs.Joining.{own_at, own_count}
 use Rattle.witness_circuits.specs.Lifting.{GoesAs, IsLiftedOver, in_witness, witness_digits, witness_state}

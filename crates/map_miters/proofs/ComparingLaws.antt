@@ -6,9 +6,9 @@ use Rattle.std.proofs.lemmas.List.Elements.{All-push}
 use Rattle.aig_graph.specs.Circuits.{AreLiteralsOf}
 use Rattle.aig_graph.specs.Graph.{Graph, IsGraph, IsLiteralOf}
 use Rattle.aig_graph.specs.Value.{value_within}
-use Rattle.retimed_circuits.specs.RetimedStates.{agrees}
-use Rattle.retimed_circuits.specs.States.{Digits, State}
-use Rattle.retimed_circuits.proofs.FrameMapLaws.{agrees-is, is-agrees}
+use Rattle.state_maps.specs.RetimedStates.{agrees}
+use Rattle.state_maps.specs.States.{Digits, State}
+use Rattle.state_maps.proofs.FrameMapLaws.{agrees-is, is-agrees}
 use Rattle.map_circuits.specs.Growing.{Extends, IsConjunction, IsEquality}
 use Rattle.map_circuits.proofs.GrowingLaws.{negated-value}
 use Rattle.map_circuits.specs.Instances.{AreAll}

@@ -11,8 +11,8 @@ use Rattle.aig_graph.specs.Graph.{Graph, IsGraph, IsLiteralOf}
 use Rattle.aig_graph.specs.Value.{next_value, value_within}
 use Rattle.aig_graph.proofs.KindLaws.{element}
 use Rattle.aig_graph.proofs.HoldingLaws.{no-names}
-use Rattle.retimed_circuits.specs.States.{Digits, State, after_step}
-use Rattle.retimed_circuits.proofs.WithinLaws.{within_laws}
+use Rattle.state_maps.specs.States.{Digits, State, after_step}
+use Rattle.state_maps.proofs.WithinLaws.{within_laws}
 use Rattle.map_circuits.specs.Growing.{Extends}
 use Rattle.map_circuits.proofs.GrowingLaws.{negated-value}
 use Rattle.witness_circuits.specs.Witnesses.{bad_states}

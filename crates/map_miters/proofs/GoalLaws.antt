@@ -6,8 +6,8 @@ use Rattle.aig_graph.specs.Circuits.{Netlist}
 use Rattle.aig_graph.specs.Graph.{Graph}
 use Rattle.aig_graph.specs.Streams.{SameShape, property_literals}
 use Rattle.aig_graph.specs.Value.{value_within}
-use Rattle.retimed_circuits.specs.MapCircuits.{mapped}
-use Rattle.retimed_circuits.specs.States.{Digits, State}
+use Rattle.state_maps.specs.MapCircuits.{mapped}
+use Rattle.state_maps.specs.States.{Digits, State}
 use Rattle.map_circuits.specs.Growing.{Extends, IsConjunction}
 use Rattle.map_miters.specs.declared.images.Image.{Image}
 use Rattle.map_miters.specs.Comparing.{AreEqualIn, SaysThat}

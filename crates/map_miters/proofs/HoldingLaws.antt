@@ -12,9 +12,9 @@ use Rattle.aig_graph.specs.Graph.{Graph, IsGraph, IsLiteralOf, variable, variabl
 use Rattle.aig_graph.specs.Streams.{property_literals}
 use Rattle.aig_graph.specs.Value.{next_value, opening, value_within, opening_literal}
 use Rattle.aig_graph.proofs.KindLaws.{element}
-use Rattle.retimed_circuits.specs.States.{Digits, State, after_step}
-use Rattle.retimed_circuits.specs.MapCircuits.{mapped}
-use Rattle.retimed_circuits.proofs.WithinLaws.{within_laws}
+use Rattle.state_maps.specs.States.{Digits, State, after_step}
+use Rattle.state_maps.specs.MapCircuits.{mapped}
+use Rattle.state_maps.proofs.WithinLaws.{within_laws}
 use Rattle.map_circuits.specs.Growing.{Extends}
 use Rattle.map_circuits.specs.Instances.{AreAll, substitute}
 use Rattle.witness_circuits.specs.Parts.{IsView}

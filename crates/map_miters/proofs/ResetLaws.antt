@@ -8,9 +8,9 @@ use Rattle.aig_graph.specs.Circuits.{Netlist}
 use Rattle.aig_graph.specs.Graph.{Graph, IsGraph}
 use Rattle.aig_graph.specs.Value.{value_within}
 use Rattle.aig_graph.proofs.KindLaws.{element}
-use Rattle.retimed_circuits.specs.States.{Digits, State}
-use Rattle.retimed_circuits.specs.MapCircuits.{FreeStay, mapped}
-use Rattle.retimed_circuits.proofs.WithinLaws.{within_laws}
+use Rattle.state_maps.specs.States.{Digits, State}
+use Rattle.state_maps.specs.MapCircuits.{FreeStay, mapped}
+use Rattle.state_maps.proofs.WithinLaws.{within_laws}
 use Rattle.map_circuits.specs.Growing.{Extends, IsConjunction}
 use Rattle.map_circuits.proofs.GrowingLaws.{negated-value}
 use Rattle.map_miters.specs.declared.images.Image.{Image}

@@ -6,8 +6,8 @@ use Rattle.aig_graph.specs.Graph.{Graph, IsLiteralOf}
 use Rattle.aig_graph.specs.Streams.{property_literals}
 use Rattle.aig_graph.specs.Value.{value_within}
 use Rattle.aig_graph.proofs.ShapeLaws.{as-many}
-use Rattle.retimed_circuits.specs.States.{Digits, State, after_step}
-use Rattle.retimed_circuits.specs.MapCircuits.{is_kept, mapped}
+use Rattle.state_maps.specs.States.{Digits, State, after_step}
+use Rattle.state_maps.specs.MapCircuits.{is_kept, mapped}
 use Rattle.map_miters.specs.declared.questions.Compared.{Compared}
 use Rattle.map_miters.specs.declared.questions.Sides.{Sides}
 use Rattle.map_circuits.specs.Growing.{Extends}

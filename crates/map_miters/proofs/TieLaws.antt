@@ -9,11 +9,11 @@ use Rattle.aig_graph.specs.declared.graph.Latch.{Latch}
 use Rattle.aig_graph.specs.Circuits.{Netlist}
 use Rattle.aig_graph.specs.Graph.{Graph, IsGraph, IsLiteralOf, first_latch, is_free, is_free_latch, variable}
 use Rattle.aig_graph.specs.Value.{value_within}
-use Rattle.retimed_circuits.specs.MapCircuits.{IsFreeInput, free_outputs, mapped}
-use Rattle.retimed_circuits.specs.States.{Digits, State}
-use Rattle.retimed_circuits.proofs.FrameMapLaws.{agrees-is, is-agrees}
-use Rattle.retimed_circuits.proofs.FreeLaws.{free-within}
-use Rattle.retimed_circuits.proofs.WithinLaws.{within_laws}
+use Rattle.state_maps.specs.MapCircuits.{IsFreeInput, free_outputs, mapped}
+use Rattle.state_maps.specs.States.{Digits, State}
+use Rattle.state_maps.proofs.FrameMapLaws.{agrees-is, is-agrees}
+use Rattle.state_maps.proofs.FreeLaws.{free-within}
+use Rattle.state_maps.proofs.WithinLaws.{within_laws}
 use Rattle.map_circuits.specs.Growing.{Extends, IsEquality}
 use Rattle.map_circuits.proofs.GrowingLaws.{negated-value}
 use Rattle.map_circuits.specs.Instances.{AreAll}

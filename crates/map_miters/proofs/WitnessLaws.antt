@@ -15,8 +15,8 @@ use Rattle.aig_graph.specs.Graph.{IsGraph, free_before, free_latches, is_free, i
 use Rattle.aig_graph.specs.Streams.{property_literals}
 use Rattle.aig_graph.specs.Value.{Choice, next_value, opening, opening_at, value_within}
 use Rattle.aig_graph.proofs.KindLaws.{element}
-use Rattle.retimed_circuits.specs.MapCircuits.{image, is_kept, mapped}
-use Rattle.retimed_circuits.specs.States.{Digits, IsAllowed, State, after_step, opening_state}
+use Rattle.state_maps.specs.MapCircuits.{image, is_kept, mapped}
+use Rattle.state_maps.specs.States.{Digits, IsAllowed, State, after_step, opening_state}
 use Rattle.witness_circuits.specs.Witnesses.{AreJoint, GoesOn, HasResets, IsGood, IsSharing, IsWitness, bad_states}
 use Rattle.witness_circuits.proofs.OpeningLaws.{opening-known, opening-twice}
 use Rattle.witness_circuits.specs.LiftedLaws.{first_places, first_shared}

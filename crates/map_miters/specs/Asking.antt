@@ -3,8 +3,8 @@ use Rattle.std.specs.Prelude.{ℕ, ◌+◌, ◌≡◌, true, length}
 use Rattle.aig_graph.specs.Circuits.{AreLiteralsOf, Netlist}
 use Rattle.aig_graph.specs.Graph.{Graph, IsLiteralOf}
 use Rattle.aig_graph.specs.Value.{value_within}
-use Rattle.retimed_circuits.specs.MapCircuits.{mapped}
-use Rattle.retimed_circuits.specs.States.{Digits, State, after_step}
+use Rattle.state_maps.specs.MapCircuits.{mapped}
+use Rattle.state_maps.specs.States.{Digits, State, after_step}
 use Rattle.map_miters.specs.declared.leaves.Leaves.{Leaves}
 use Rattle.map_miters.specs.declared.questions.Compared.{Compared}
 use Rattle.map_miters.specs.declared.questions.Sides.{Sides}
@@ -16,6 +16,7 @@ use Rattle.map_miters.specs.Questions.{Begins}
 abbrev pub asked_digits : Held
 asked_digits = λ z u. z
 
+-- what the latches of the circuit hold: the inputs after its own
 abbrev pub asked_state : Graph → Held
 asked_state c = λ z u. λ j. z (c.inputs + j)
 
@@ -26,6 +27,7 @@ pub record AreLeaves (h c : Graph) (leaves : Leaves) : Type 0 where
   pub long : length leaves.latches.items ≡ length c.latches
   pub latches : HoldAs h leaves.latches.items (asked_state c)
 
+-- the literal of the first question
 abbrev pub IsResetFailure : Graph → Netlist → Netlist → Netlist → ℕ → Type 0
 IsResetFailure h c d m lit = FailsBut h lit (λ z u. Begins c d m (asked_state c.aig z u))
 

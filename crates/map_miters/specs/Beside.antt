@@ -6,7 +6,7 @@ use Rattle.aig_graph.specs.Building.{without_gates}
 use Rattle.aig_graph.specs.Circuits.{Netlist, no_symbols, outputs_alone}
 use Rattle.aig_graph.specs.Graph.{Graph}
 use Rattle.aig_graph.specs.Value.{value_within}
-use Rattle.retimed_circuits.specs.States.{Digits, IsAllowed, State}
+use Rattle.state_maps.specs.States.{Digits, IsAllowed, State}
 use Rattle.witness_circuits.specs.declared.sharing.Sharing.{Sharing}
 use Rattle.witness_circuits.specs.Lifting.{GoesAs, in_circuit}
 use Rattle.witness_circuits.specs.Naming.{place_below}

@@ -4,7 +4,7 @@ use Rattle.aig_graph.specs.declared.properties.Props.{Props}
 use Rattle.aig_graph.specs.Circuits.{ArePropsOf, Netlist, no_symbols}
 use Rattle.aig_graph.specs.Graph.{Graph}
 use Rattle.aig_graph.specs.Value.{value_within}
-use Rattle.retimed_circuits.specs.States.{Digits, State}
+use Rattle.state_maps.specs.States.{Digits, State}
 use Rattle.witness_circuits.specs.Witnesses.{bad_states}
 use Rattle.map_miters.specs.declared.products.Built.{Built}
 use Rattle.map_miters.specs.declared.products.Wanted.{Wanted}
@@ -22,6 +22,7 @@ pub record IsFilled (h : Graph) (wanted : Wanted) (c d m : Netlist) (p : Props) 
   pub beside : GoesBeside c.aig d.aig wanted.tied h
   pub props : AreProductProps h wanted c d m p
 
+-- the circuit of this graph and these properties, without names
 abbrev pub netlist_of : Built → Netlist
 netlist_of b = record { aig = b.gates; props = b.props; symbols = no_symbols }
 

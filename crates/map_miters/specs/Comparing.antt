@@ -4,8 +4,8 @@ use Rattle.std.specs.List.{slice_index_or}
 use Rattle.aig_graph.specs.Circuits.{AreLiteralsOf}
 use Rattle.aig_graph.specs.Graph.{Graph, IsLiteralOf}
 use Rattle.aig_graph.specs.Value.{value_within}
-use Rattle.retimed_circuits.specs.RetimedStates.{agrees}
-use Rattle.retimed_circuits.specs.States.{Digits, State}
+use Rattle.state_maps.specs.RetimedStates.{agrees}
+use Rattle.state_maps.specs.States.{Digits, State}
 
 -- the literal is 1 exactly in the steps in which this holds
 pub record SaysThat (h : Graph) (lit : ℕ) (holds : Digits → State → Type 0) : Type 0 where

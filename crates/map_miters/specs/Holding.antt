@@ -6,8 +6,8 @@ use Rattle.aig_graph.specs.Circuits.{AreLiteralsOf, Netlist}
 use Rattle.aig_graph.specs.Graph.{Graph, IsLiteralOf}
 use Rattle.aig_graph.specs.Streams.{property_literals}
 use Rattle.aig_graph.specs.Value.{opening, opening_literal, value_within}
-use Rattle.retimed_circuits.specs.States.{Digits, State, after_step}
-use Rattle.retimed_circuits.specs.MapCircuits.{is_kept, mapped}
+use Rattle.state_maps.specs.States.{Digits, State, after_step}
+use Rattle.state_maps.specs.MapCircuits.{is_kept, mapped}
 use Rattle.map_miters.specs.declared.images.Image.{Image}
 use Rattle.map_miters.specs.declared.steps.Step.{Step}
 
@@ -25,6 +25,7 @@ abbrev pub reset_at : Bool → Option Latch → Bool
 reset_at b None = false
 reset_at b (Some latch) = opening latch.reset b
 
+-- what the latches of g hold at step 0; a free one holds what it holds in s
 abbrev pub reset_state : Graph → State → State
 reset_state g s = λ j. reset_at (s j) (slice_get g.latches j)
 

@@ -3,8 +3,8 @@ use Rattle.std.specs.Prelude.{ℕ, ◌-◌, ◌<◌, ◌≡◌, false, List, map
 use Rattle.aig_graph.specs.Circuits.{IsNetlist, Netlist}
 use Rattle.aig_graph.specs.Graph.{Graph, IsGraph, free_before, variable}
 use Rattle.aig_graph.specs.Streams.{SameStreams}
-use Rattle.retimed_circuits.specs.MapCircuits.{FreeStay, IsMapCircuit, free_outputs}
-use Rattle.retimed_circuits.specs.States.{Digits, State}
+use Rattle.state_maps.specs.MapCircuits.{FreeStay, IsMapCircuit, free_outputs}
+use Rattle.state_maps.specs.States.{Digits, State}
 use Rattle.witness_circuits.specs.Witnesses.{IsSharing, IsWitness}
 use Rattle.witness_circuits.specs.LiftedLaws.{first_shared}
 use Rattle.map_miters.specs.Questions.{Begins, IsAskable, Keeps, Reads, Steps}

@@ -2,7 +2,7 @@
 use Rattle.std.specs.Prelude.{ℕ, ◌≡◌, List}
 use Rattle.aig_graph.specs.Circuits.{Netlist, IsNetlist}
 use Rattle.aig_graph.specs.Graph.{IsGraph, free_latches}
-use Rattle.retimed_circuits.specs.MapCircuits.{IsMapCircuit}
+use Rattle.state_maps.specs.MapCircuits.{IsMapCircuit}
 use Rattle.witness_circuits.specs.declared.sharing.Sharing.{Sharing}
 use Rattle.witness_circuits.specs.Lifting.{IsLiftedOver}
 use Rattle.witness_circuits.specs.LiftedLaws.{first_shared}

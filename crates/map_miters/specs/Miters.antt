@@ -6,7 +6,7 @@ use Rattle.aig_graph.specs.declared.properties.Symbols.{Symbols}
 use Rattle.aig_graph.specs.Circuits.{Netlist, outputs_alone}
 use Rattle.aig_graph.specs.Graph.{Graph}
 use Rattle.aig_graph.specs.Value.{value_within}
-use Rattle.retimed_circuits.specs.States.{Digits, State}
+use Rattle.state_maps.specs.States.{Digits, State}
 use Rattle.map_miters.specs.declared.questions.Failures.{Failures}
 use Rattle.map_miters.specs.declared.assembling.Asked.{Asked}
 use Rattle.map_miters.specs.Asking.{asked_state}
@@ -20,12 +20,15 @@ state_in c z = λ j. z (c.inputs + j)
 abbrev pub output_in : Netlist → ℕ → Digits → Bool
 output_in r k z = value_within r.aig z (λ j. false) (slice_index_or r.props.outputs k 0)
 
+-- the output at place k, with this name
 abbrev pub question_name : ℕ → List ℕ → Symbol
 question_name k name = record { position = k; name = name }
 
+-- the four names, in that order
 abbrev pub question_names : List Symbol
 question_names = question_name 0 (codes "reset") ∷ question_name 1 (codes "keep") ∷ question_name 2 (codes "next") ∷ question_name 3 (codes "read") ∷ []
 
+-- the four outputs, in that order
 abbrev pub failure_list : Failures → List ℕ
 failure_list f = f.reset ∷ f.keep ∷ f.next ∷ f.read ∷ []
 
@@ -41,6 +44,7 @@ pub record AsksIn (g : Graph) (c d m : Netlist) (outputs : List ℕ) : Type 0 wh
   pub are : outputs ≡ failure_list failures
   pub fail : AreFailures g c d m (asked_state c.aig) failures
 
+-- a graph of the inputs of c and one input for each of its latches, with these outputs
 abbrev pub IsAsked : Netlist → Netlist → Netlist → Asked → Type 0
 IsAsked c d m asked = AsksIn asked.gates c d m asked.outputs.items
 

@@ -6,8 +6,8 @@ use Rattle.aig_graph.specs.Circuits.{Netlist, no_symbols}
 use Rattle.aig_graph.specs.Graph.{Graph, free_latches, is_free_latch}
 use Rattle.aig_graph.specs.Streams.{property_literals}
 use Rattle.aig_graph.specs.Value.{value_within}
-use Rattle.retimed_circuits.specs.MapCircuits.{FreeStay, is_kept, mapped}
-use Rattle.retimed_circuits.specs.States.{Digits, IsAllowed, State, after_step}
+use Rattle.state_maps.specs.MapCircuits.{FreeStay, is_kept, mapped}
+use Rattle.state_maps.specs.States.{Digits, IsAllowed, State, after_step}
 use Rattle.witness_circuits.specs.Witnesses.{IsGood}
 use Rattle.map_miters.specs.declared.goals.Goal.{Goal}
 use Rattle.map_miters.specs.declared.goals.Goal.TheVariants.{Agree, Mapped}
@@ -21,6 +21,8 @@ abbrev pub start_resets : Bool → List Reset
 start_resets true = Zero ∷ []
 start_resets false = []
 
+-- the resets of the latches of both circuits, and of a latch that tells the first step if free
+-- latches are tied
 abbrev pub product_resets : Graph → Graph → Bool → List Reset
 product_resets c d tied = map (λ latch. latch.reset) c.latches ++ map (λ latch. latch.reset) d.latches ++ start_resets tied
 
@@ -33,6 +35,7 @@ pub record AreTied (c d m : Netlist) : Type 0 where
 abbrev pub IsTied : Netlist → Netlist → ℕ → State → Type 0
 IsTied c m j u = second_state c.aig u j ≡ mapped m u j
 
+-- each free latch of d holds what the map gives
 abbrev pub FreeAgree : Netlist → Netlist → Netlist → State → Type 0
 FreeAgree c d m u = (j : ℕ) → is_free_latch (slice_get d.aig.latches j) ≡ true → IsTied c m j u
 
@@ -60,6 +63,8 @@ GivesState m s t = is_kept m s × ((j : ℕ) → j < length m.props.outputs → 
 abbrev pub HoldsMapped : Netlist → Netlist → Netlist → State → Type 0
 HoldsMapped c d m u = is_kept m u × ((j : ℕ) → j < length d.aig.latches → mapped m u j ≡ second_state c.aig u j)
 
+-- by the goal: all properties of both circuits have the same values, or the map's constraints are 1
+-- and the latches of d hold what it gives
 abbrev pub good_of : Goal → Netlist → Netlist → Netlist → Digits → State → Type 0
 good_of Agree c d m z u = AgreeIn c d z u
 good_of Mapped c d m z u = HoldsMapped c d m u

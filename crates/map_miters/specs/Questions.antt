@@ -5,8 +5,8 @@ use Rattle.aig_graph.specs.Circuits.{Netlist}
 use Rattle.aig_graph.specs.Graph.{Graph}
 use Rattle.aig_graph.specs.Streams.{SameShape, property_literals}
 use Rattle.aig_graph.specs.Value.{opening, value_within}
-use Rattle.retimed_circuits.specs.States.{Digits, State, after_step}
-use Rattle.retimed_circuits.specs.MapCircuits.{FreeStay, is_kept, mapped}
+use Rattle.state_maps.specs.States.{Digits, State, after_step}
+use Rattle.state_maps.specs.MapCircuits.{FreeStay, is_kept, mapped}
 use Rattle.map_miters.specs.Comparing.{FailsBut}
 use Rattle.map_miters.specs.Holding.{Held, reset_state}
 use Rattle.map_miters.specs.declared.questions.Compared.{Compared}

@@ -23,9 +23,11 @@ pub record AreListed (c d : Graph) (leaves : Leaves) : Type 0 where
 abbrev pub beside_digits : Held
 beside_digits = λ z u. z
 
+-- what the latches of the first circuit hold: the state as it is
 abbrev pub beside_first : Held
 beside_first = λ z u. u
 
+-- what the latches of the second circuit hold: the state from the latches of the first on
 abbrev pub beside_second : Graph → Held
 beside_second c = λ z u. second_state c u
 
@@ -43,5 +45,6 @@ abbrev pub start_nexts : Bool → List ℕ
 start_nexts true = 1 ∷ []
 start_nexts false = []
 
+-- the next literals of these latches
 abbrev pub product_nexts : Sides → Bool → List ℕ
 product_nexts sides tied = sides.first.nexts.items ++ sides.second.nexts.items ++ start_nexts tied

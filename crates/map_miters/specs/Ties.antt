@@ -3,7 +3,7 @@ use Rattle.std.specs.Prelude.{ℕ, ◌<◌, ◌≡◌, ◌↔◌, Bool, true, Li
 use Rattle.aig_graph.specs.Circuits.{AreLiteralsOf, Netlist}
 use Rattle.aig_graph.specs.Graph.{Graph, is_free_latch}
 use Rattle.aig_graph.specs.Value.{value_within}
-use Rattle.retimed_circuits.specs.States.{Digits, State}
+use Rattle.state_maps.specs.States.{Digits, State}
 use Rattle.map_miters.specs.Products.{IsTied, StartsAlike, product_resets}
 
 -- h has the inputs of c, and a latch for each of both and for what tells the first step

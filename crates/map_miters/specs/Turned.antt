@@ -4,8 +4,8 @@ use Rattle.aig_graph.specs.Tables.{table}
 use Rattle.aig_graph.specs.declared.properties.Props.{Props}
 use Rattle.aig_graph.specs.Circuits.{Netlist}
 use Rattle.aig_graph.specs.Graph.{Graph, IsGraph}
-use Rattle.retimed_circuits.specs.MapCircuits.{is_kept, mapped}
-use Rattle.retimed_circuits.specs.States.{State}
+use Rattle.state_maps.specs.MapCircuits.{is_kept, mapped}
+use Rattle.state_maps.specs.States.{State}
 use Rattle.map_miters.specs.Comparing.{SaysThat}
 use Rattle.map_miters.specs.Products.{GivesState, second_state}
 

@@ -5,7 +5,7 @@ ghost use Rattle.std.specs.List.{slice_index_or};
 ghost use Rattle.aig_graph.specs.Graph.{IsGraph, is_free};
 ghost use Rattle.map_circuits.specs.Growing.{Extends};
 ghost use Rattle.map_miters.specs.Comparing.{SaysThat};
-ghost use Rattle.retimed_circuits.specs.MapCircuits.{IsFreeInput};
+ghost use Rattle.state_maps.specs.MapCircuits.{IsFreeInput};
 ghost use Rattle.map_miters.specs.Questions.{IsAskable};
 ghost use Rattle.map_miters.specs.Products.{AreTied, IsTied, StartsAlike};
 ghost use Rattle.map_miters.specs.Ties.{AreConstraints, AreTies, HasLatches};

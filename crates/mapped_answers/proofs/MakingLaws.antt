@@ -15,13 +15,13 @@ use Rattle.frames.specs.Retiming.{IsRetimedHeld}
 use Rattle.frames.specs.Stages.{Notifies, Notification, Writing, looks_of, stages_of}
 use Rattle.frames.proofs.StageLaws.{notifies-then}
 use Rattle.std.specs.Option.{unwrap_or}
-use Rattle.counted_io.specs.declared.spelling.Spelling.{Spelling}
+use Rattle.file_words.specs.declared.spelling.Spelling.{Spelling}
 use Rattle.aig_binary.specs.Spellings.{text_in}
 use Rattle.aig_binary.proofs.SpellingLaws.{the_spelling_law}
 use Rattle.retimed_circuits.specs.declared.report.Retimed.{Retimed}
 use Rattle.retimed_circuits.specs.Retiming.{IsRetimedWith}
-use Rattle.retimed_circuits.proofs.LimitLaws.{stays-within}
-use Rattle.retimed_circuits.specs.MapCircuits.{FreeStay, IsMapCircuit}
+use Rattle.frames.proofs.LimitLaws.{stays-within}
+use Rattle.state_maps.specs.MapCircuits.{FreeStay, IsMapCircuit}
 use Rattle.mapped_answers.specs.declared.making.Made.{Made}
 use Rattle.mapped_answers.specs.declared.mapped.Mapped.{Mapped}
 use Rattle.mapped_answers.specs.declared.errors.AnswerError.{AnswerError}

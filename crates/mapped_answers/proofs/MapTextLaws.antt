@@ -18,7 +18,7 @@ use Rattle.counted_io.specs.Output.{Output, Writes, WritesAll, WritesPart}
 use Rattle.counted_io.specs.declared.buffered.Buffered.{Buffered}
 use Rattle.counted_io.proofs.OutputLaws.{all-then, part-more, part-then}
 use Rattle.counted_io.proofs.BufferedLaws.{enumerate_from-append, puts-no_more, puts-numbered_next}
-use Rattle.counted_io.specs.Text.{all_symbols, gate_row, header_row, numbered_rows, without_last_zeros}
+use Rattle.file_words.specs.Text.{all_symbols, gate_row, header_row, numbered_rows, without_last_zeros}
 use Rattle.aig_binary.specs.Text.{gate_deltas, text_binary}
 use Rattle.retiming_maps.specs.Plain.{IsPlainMap}
 use Rattle.aag_text.proofs.HeaderLaws.{not_zero}

@@ -3,7 +3,7 @@ use Rattle.std.specs.Prelude.{ℕ, suc, ◌<◌, ◌≡◌, ◌^◌, ◌++◌, L
 use Rattle.aig_graph.specs.Circuits.{Netlist}
 use Rattle.aig_graph.specs.Graph.{first_latch}
 use Rattle.counted_io.specs.Line.{line}
-use Rattle.counted_io.specs.Text.{header_row, numbered_rows, property_rows}
+use Rattle.file_words.specs.Text.{header_row, numbered_rows, property_rows}
 use Rattle.aig_binary.specs.Text.{next_row}
 use Rattle.binary_file.specs.Deltas.{bytes_within}
 
@@ -11,7 +11,8 @@ use Rattle.binary_file.specs.Deltas.{bytes_within}
 unfoldable pub before_gates : Netlist → List ℕ
 before_gates c = codes "aig " ++ line (header_row c) ++ numbered_rows next_row (first_latch c.aig) c.aig.latches ++ property_rows c.props
 
--- the bytes are those of a number of 32 bits, of which so many at most follow the first, and then these
+-- the bytes begin with those of n, a number of 32 bits, of which at most `more` follow the first,
+-- and then come those of the tail
 pub record BeginsWith (more n : ℕ) (tail bytes : List ℕ) : Type 0 where
   pub small : n < 128 ^ (suc more)
   pub word : n < 2 ^ 32

@@ -1,12 +1,13 @@
--- What becomes of a circuit that was read where a map is wanted: the answer, and the map from it to the one that is written.
+-- What becomes of a circuit that was read where a map is wanted: the answer, and the map from it to
+-- the one that is written.
 use Rattle.std.specs.Prelude.{◌≡◌, ◌⊎◌, unwrap_or}
 use Rattle.counted_io.specs.Output.{Output, WritesAll, WritesPart}
-use Rattle.counted_io.specs.declared.spelling.Spelling.{Spelling}
+use Rattle.file_words.specs.declared.spelling.Spelling.{Spelling}
 use Rattle.aig_graph.specs.Circuits.{IsNetlist, Netlist}
 use Rattle.aig_graph.specs.Graph.{IsGraph}
 use Rattle.aig_binary.specs.declared.reading.SpeltCircuit.{SpeltCircuit}
 use Rattle.aig_binary.specs.Spellings.{text_in}
-use Rattle.retimed_circuits.specs.MapCircuits.{FreeStay, IsMapCircuit}
+use Rattle.state_maps.specs.MapCircuits.{FreeStay, IsMapCircuit}
 use Rattle.frames.specs.Answering.{IsStop, IsWritten}
 use Rattle.frames.specs.Named.{AreLatchesBy, IsFirstMissingBy, IsFirstNoLatchBy, NoneMissingBy}
 use Rattle.frames.specs.Retiming.{IsRetimedHeld}
@@ -18,7 +19,8 @@ use Rattle.mapped_answers.specs.declared.mapped.Mapped.{Mapped}
 use Rattle.mapped_answers.specs.declared.errors.AnswerError.{AnswerError}
 use Rattle.mapped_answers.specs.declared.errors.AnswerError.TheVariants.{Bytes, MapTooLarge}
 
--- the circuit retimed by the options, where its held latches stand then, and its map, in which free latches stay
+-- the circuit retimed by the options, where its held latches stand then, and its map, in which free
+-- latches stay
 pub record IsMade (options : Options) (c : Netlist) (m : Made) : Type 0 where
   pub latches : AreLatchesBy options c
   pub names : NoneMissingBy options c
@@ -26,7 +28,7 @@ pub record IsMade (options : Options) (c : Netlist) (m : Made) : Type 0 where
   pub map : IsMapCircuit c m.retimed.circuit m.retimed.kept_free m.map
   pub free : FreeStay c m.retimed.circuit m.map
 
--- the same, whether the latches can be held or not
+-- the circuit retimed by the options, with its map, whether or not the latches can be held
 pub record IsRetimedMapped (options : Options) (c : Netlist) (m : Made) : Type 0 where
   pub held : IsRetimedHeld options c m.retimed m.keep
   pub map : IsMapCircuit c m.retimed.circuit m.retimed.kept_free m.map
@@ -62,7 +64,8 @@ IsMadeCutOff made spelling old new (Bytes (Read e)) = ⊥
 IsMadeCutOff made spelling old new (Bytes (Retime e)) = ⊥
 IsMadeCutOff made spelling old new (Bytes (Write e)) = WritesPart old new (text_in spelling made.retimed.circuit)
 
--- the answer was written, the held latches stand where it is said, and the map is that of its circuit, in its spelling; free latches stay in it
+-- the answer was written, the held latches stand where it is said, and the map is that of its
+-- circuit, in its spelling; free latches stay in it
 pub record IsMappedOf (options : Options) (spelt : SpeltCircuit) (old new : Output) (m : Mapped) : Type 0 where
   pub written : IsWritten options spelt old new m.retimed
   pub held : IsRetimedHeld options spelt.circuit m.retimed m.keep

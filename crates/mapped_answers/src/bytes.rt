@@ -1,5 +1,7 @@
-//! From a circuit that was read to a writer's bytes. The map is made before anything is written, so that memory that is refused for it, or its size,
-//! leaves what is written as it was.
+//! Retiming with a map of states, from a circuit that was read to the bytes of a writer.
+//!
+//! The map is made before anything is written. So if memory is refused for it, or it is too large,
+//! the writer's bytes stay as they were.
 ghost use Rattle.std.specs.Prelude.{[], ◌∷◌, ◌++◌, IfErr, IfOk};
 ghost use Rattle.aig_graph.specs.Circuits.{IsNetlist};
 ghost use Rattle.aig_graph.specs.Graph.{IsGraph};
@@ -19,7 +21,7 @@ use pulse::{Crew, PhaseGate};
 use std::alloc::Global;
 use std::thread::Threads;
 
-/// Writes a circuit in this spelling.
+/// Writes a circuit in `spelling`.
 fn write_in<W: CountedWrite>(
     circuit: &Circuit,
     spelling: Spelling,
@@ -34,7 +36,7 @@ fn write_in<W: CountedWrite>(
     write(circuit, spelling, writer)
 }
 
-/// Writes the circuit of a retiming in this spelling, which is that of the map too.
+/// Writes the circuit of a retiming in `spelling`, which becomes that of the map too.
 fn write_made<W: CountedWrite>(
     made: Made,
     spelling: Spelling,
@@ -64,13 +66,16 @@ fn write_made<W: CountedWrite>(
     }
 }
 
-/// Retimes a circuit that was read and writes it as `frames::retime_spelt` does, and returns its map too, which is made before the
-/// circuit is written. The circuit that was read is kept until the map is there.
+/// Retimes a circuit that was read and writes it as `frames::retime_spelt` does, and returns its
+/// map too.
+///
+/// The map is made before the circuit is written. The circuit that was read is kept until the map
+/// is there.
 ///
 /// # Errors
 ///
-/// `Bytes` with what `frames::retime_spelt` would say, and where memory for the map is refused; `MapTooLarge` where the map would
-/// have too many variables: nothing is written then.
+/// `Bytes` with the error of `frames::retime_spelt`, or if memory for the map is refused.
+/// `MapTooLarge` if the map would have too many variables: nothing is written then.
 pub fn retime_spelt_mapped<W: CountedWrite, G: PhaseGate, V: FrameWatcher>(
     rt: &(impl Threads + Sync),
     alloc: Global,

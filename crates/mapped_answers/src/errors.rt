@@ -1,4 +1,4 @@
-//! Why there is no answer with a map.
+//! The errors of an answer with a map.
 use frames::BytesError;
 use thiserror::Error;
 

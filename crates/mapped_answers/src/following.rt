@@ -1,4 +1,4 @@
-//! A map of states as what follows a run of frames.
+//! A map of states that follows a run of frames.
 ghost use Rattle.retiming_maps.specs.Mapping.{IsMapTo};
 
 use aig_graph::{Circuit, ClosedSet, Keep};

@@ -1,4 +1,5 @@
-//! From a circuit that was read to a writer's bytes, as `frames` does it, with the map of states beside the answer, and the map written.
+//! Retiming with a map of states beside the answer, from a circuit that was read to a writer's
+//! bytes. The circuit is retimed as `frames` does it, and the map is written too.
 #![tactic(auto)]
 
 mod bytes;

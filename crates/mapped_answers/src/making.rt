@@ -20,7 +20,7 @@ use retiming_maps::{MapError, StateMap, identity, state_map};
 use std::alloc::Global;
 use std::thread::Threads;
 
-/// A retiming, where its held latches stand, and its map.
+/// A retiming with the held latches of its circuit, and its map.
 #[derive(Drop)]
 pub struct Made {
     pub retimed: Retimed,
@@ -28,7 +28,7 @@ pub struct Made {
     pub map: StateMap,
 }
 
-/// What a run came to, and its map as a circuit.
+/// Makes the map of `circuit` to the circuit at the run's end, and puts it beside that circuit.
 fn with_map(
     alloc: Global,
     circuit: &Circuit,
@@ -57,7 +57,7 @@ fn with_map(
     }
 }
 
-/// The circuit retimed, where these latches are held, which are those that the options hold, with its map.
+/// Retimes the circuit and makes its map. `keep` has the latches that the options hold.
 fn made_kept<G: PhaseGate, V: FrameWatcher>(
     rt: &(impl Threads + Sync),
     alloc: Global,
@@ -80,7 +80,7 @@ fn made_kept<G: PhaseGate, V: FrameWatcher>(
     with_map(alloc, circuit, end, options)
 }
 
-/// The same, with the errors of a run that makes a map.
+/// Runs [`made_kept`], with the errors of an answer.
 fn made_mapped<G: PhaseGate, V: FrameWatcher>(
     rt: &(impl Threads + Sync),
     alloc: Global,
@@ -104,14 +104,15 @@ fn made_mapped<G: PhaseGate, V: FrameWatcher>(
     }
 }
 
-/// The error that one of holding latches is.
+/// Returns the error of an answer for one of holding latches.
 fn unheld(error: RetimeError) -> AnswerError
     ensures { result ≡ Bytes (Retime error) }
 {
     AnswerError::Bytes(BytesError::Retime(error))
 }
 
-/// The circuit retimed, with its map, after its latches that always agree are merged where the options ask for it.
+/// Retimes the circuit and makes its map. Latches that always agree are merged first if the options
+/// ask for it.
 fn made_of<G: PhaseGate, V: FrameWatcher>(
     rt: &(impl Threads + Sync),
     alloc: Global,
@@ -132,7 +133,8 @@ fn made_of<G: PhaseGate, V: FrameWatcher>(
     }
 }
 
-/// The same of a circuit that isn't needed any more.
+/// Retimes the circuit, makes its map, and drops the circuit. Latches that always agree are merged
+/// first if the options ask for it.
 pub fn made_over<G: PhaseGate, V: FrameWatcher>(
     rt: &(impl Threads + Sync),
     alloc: Global,

@@ -1,5 +1,7 @@
-//! A map written. Its gates stand as the bytes of the binary form, so there they are written as they are, without a copy; in the ASCII form they are read one
-//! by one, so that no memory is taken there either.
+//! The text of a map.
+//!
+//! The gates of a map stand as the bytes of the binary form, so that form gets them as they are,
+//! without a copy. For the ASCII form they are read one by one. So neither form takes memory.
 ghost use Rattle.std.specs.Prelude.{ℕ, ◌≡◌, ◌+◌, ◌≤◌, ◌<◌, ◌++◌, List, length};
 ghost use Rattle.aig_graph.specs.declared.graph.Gate.{Gate};
 ghost use Rattle.aig_graph.specs.declared.literal.TheConstants.{MAX_VARIABLES};
@@ -9,7 +11,7 @@ ghost use Rattle.aig_binary.specs.Text.{gate_deltas, text_binary};
 ghost use Rattle.counted_io.specs.Buffered.{Puts};
 ghost use Rattle.counted_io.specs.Line.{line, numbered_lines};
 ghost use Rattle.counted_io.specs.Output.{Writes};
-ghost use Rattle.counted_io.specs.Text.{all_symbols, gate_row, header_row, input_rows, numbered_rows, text};
+ghost use Rattle.file_words.specs.Text.{all_symbols, gate_row, header_row, input_rows, numbered_rows, text};
 ghost use Rattle.mapped_answers.specs.MapText.{BeginsWith, before_gates};
 
 use aag_text::{put_properties, put_symbols};
@@ -18,7 +20,8 @@ use counted_io::{Buffered, CountedWrite, WriteError, write_all};
 use map_circuits::MapGates;
 use retiming_maps::StateMap;
 
-/// Puts the numbers of the header, with a newline. The count of constraints stands there where it isn't 0.
+/// Puts the numbers of the header, with a newline. The count of constraints is there only if it
+/// isn't 0.
 fn put_counts<W: CountedWrite>(out: &mut Buffered<'_, W>, map: &StateMap)
     ensures { Puts W.output out.old out.new (line (header_row map.now)) }
 {
@@ -34,7 +37,7 @@ fn put_counts<W: CountedWrite>(out: &mut Buffered<'_, W>, map: &StateMap)
     }
 }
 
-/// Puts a line for each input. It ends at a write that failed.
+/// Puts a line for each input. Stops if a write failed.
 fn put_inputs<W: CountedWrite>(out: &mut Buffered<'_, W>, inputs: u32)
     ensures { Puts W.output out.old out.new (input_rows inputs) }
 {
@@ -46,7 +49,7 @@ fn put_inputs<W: CountedWrite>(out: &mut Buffered<'_, W>, inputs: u32)
     }
 }
 
-/// The number whose delta the bytes begin with, and the bytes after it.
+/// Reads the number whose delta the bytes begin with. Returns it and the bytes after it.
 fn read_delta(bytes: &[u8]) -> (u32, &[u8])
     requires { (more n : ℕ) × (tail : List ℕ) × BeginsWith more n tail bytes.now }
     ensures { (more n : ℕ) (tail : List ℕ) → BeginsWith more n tail bytes.now
@@ -64,7 +67,8 @@ fn read_delta(bytes: &[u8]) -> (u32, &[u8])
     }
 }
 
-/// Puts the line of the gate of a variable whose deltas the bytes begin with, and returns the bytes after them.
+/// Puts the line of the gate with variable `var`, whose deltas the bytes begin with. Returns the
+/// bytes after them.
 fn put_gate<'a, W: CountedWrite>(out: &mut Buffered<'_, W>, var: u32, bytes: &'a [u8]) -> &'a [u8]
     requires small { var < MAX_VARIABLES }
     requires begins { (gate : Gate) × (tail : List ℕ) × IsGateAt var gate
@@ -84,7 +88,7 @@ fn put_gate<'a, W: CountedWrite>(out: &mut Buffered<'_, W>, var: u32, bytes: &'a
     rest
 }
 
-/// Puts a line for each gate. It ends at a write that failed.
+/// Puts a line for each gate. Stops if a write failed.
 fn put_gates<W: CountedWrite>(out: &mut Buffered<'_, W>, gates: &MapGates)
     ensures { Puts W.output out.old out.new
         (numbered_rows gate_row (first_gate gates.now) gates.now.gates) }
@@ -173,12 +177,15 @@ fn write_binary<W: CountedWrite>(map: &StateMap, writer: &mut W) -> Result<(), W
     }
 }
 
-/// Writes the map's text in the spelling. Takes no memory. Calls the writer about once for each 8 KiB of text, but for the gates of the
-/// binary form, which it gives to it together.
+/// Writes the text of a map in `spelling`. Takes no memory.
+///
+/// Calls the writer about once for each 8 KiB of text. The gates of the binary form are given to it
+/// together.
 ///
 /// # Errors
 ///
-/// `Device` where a write failed: a beginning of the text was written then, and the writer isn't called again.
+/// `Device` if a write fails: a beginning of the text is written then, and the writer isn't called
+/// again.
 pub fn write_state_map<W: CountedWrite>(
     map: &StateMap,
     spelling: Spelling,

@@ -18,13 +18,13 @@ pub struct SpeltMap {
 pub struct Mapped {
     /// The retiming, whose circuit was written.
     pub retimed: Retimed,
-    /// Where the held latches stand in that circuit.
+    /// The held latches of that circuit.
     pub keep: Keep,
-    /// The map of the states of the circuit that was read to those of the one that was written.
+    /// The map from the states of the circuit that was read to those of the one that was written.
     pub map: SpeltMap,
 }
 
-/// The error that one of making a map is.
+/// Returns the error of an answer for one of making a map.
 pub(crate) fn map_error(error: MapError) -> AnswerError
     ensures { IsMapError result }
 {

@@ -22,6 +22,7 @@ abbrev pub is_border : Netlist → List ℕ → Option (List ℕ) → ℕ → Bo
 is_border c held None v = false
 is_border c held (Some s) v = in_border (move_of c held s) v
 
+-- whether a variable is a held latch, no passable gate, a gate of the set, and in its border
 unfoldable pub look_of : Netlist → List ℕ → Option (List ℕ) → ℕ → Look
 look_of c held set v = record {
   held = is_held c.aig held v;
@@ -45,6 +46,7 @@ pub record IsViewOf (c : Netlist) (held : List ℕ) (set : Option (List ℕ)) (s
   pub draws : (v : ℕ) → drawn_in view v ≡ shown v
   pub middle : view.centre ≡ centre_marks c centre
 
+-- every variable is shown
 abbrev pub everything : ℕ → Bool
 everything v = true
 
@@ -53,6 +55,7 @@ everything v = true
 unfoldable pub look_alone : Graph → List ℕ → PassSet → ℕ → Look
 look_alone g held pass v = record { held = is_held g held v; fixed = not (mark_at pass.first pass.marks.items v); inside = false; border = false }
 
+-- how a variable looks: held or not, passable or not, in the set or not, in its border or not
 unfoldable pub look_with : Graph → List ℕ → PassSet → List ℕ → List Bool → ℕ → Look
 look_with g held pass s read v = record {
   held = is_held g held v;

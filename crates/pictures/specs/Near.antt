@@ -15,6 +15,7 @@ use Rattle.pictures.specs.Places.{is_at, is_justice_read, is_single_read, place_
 unfoldable pub is_property_name : Symbols → List ℕ → Bool
 is_property_name s name = has_name s.outputs name || (has_name s.bad name || (has_name s.constraints name || (has_name s.justice name || has_name s.fairness name)))
 
+-- an input, a latch or a property has the name
 unfoldable pub is_name_of : Symbols → List ℕ → Bool
 is_name_of s name = has_name s.inputs name || (has_name s.latches name || is_property_name s name)
 

@@ -50,5 +50,6 @@ gate_line look v =
     node_name (Variable v) ++ (codes " [shape=circle" ++ (only_if look.fixed (codes ",color=gray,fontcolor=gray")
     ++ (only_if look.inside (codes ",style=filled,fillcolor=lightblue") ++ (only_if look.border (codes ",penwidth=3") ++ codes "];\n"))))
 
+-- the node of a property: a note
 unfoldable pub property_line : Node → List ℕ
 property_line node = node_name node ++ codes " [shape=note];\n"

@@ -54,6 +54,7 @@ module _ (look : ℕ → Look) (drawn : ℕ → Bool) where
   unfoldable pub gate_lines : ℕ → Gate → List ℕ
   gate_lines v gate = only_if (drawn v) (gate_line (look v) v ++ edges drawn (Variable v) (gate.rhs0 ∷ gate.rhs1 ∷ []))
 
+  -- for each input, latch and gate that is drawn its node and all edges to it
   unfoldable pub graph_lines : Graph → List ℕ
   graph_lines g =
       flat_map input_lines (range_with_len 1 g.inputs)
@@ -74,6 +75,7 @@ module _ (look : ℕ → Look) (drawn : ℕ → Bool) where
   abbrev pub single_lines : ℕ → List ℕ → List ℕ
   single_lines letter lits = numbered_lines (single_property letter) 0 lits
 
+  -- for each property that is drawn its node and all edges to it
   unfoldable pub all_properties : Props → List ℕ
   all_properties p =
       single_lines (byte "o") p.outputs ++ (single_lines (byte "b") p.bad ++ (single_lines (byte "c") p.constraints
@@ -96,12 +98,14 @@ module _ (look : ℕ → Look) (drawn : ℕ → Bool) where
   unfoldable pub justice_name : List (List ℕ) → Symbol → List ℕ
   justice_name justice symbol = only_if (is_drawn_at justice symbol.position) (name_line (Property (byte "j") symbol.position) symbol.name)
 
+  -- the names of the properties, kind after kind
   unfoldable pub property_names : Props → Symbols → List ℕ
   property_names p s =
       flat_map (single_name (byte "o") p.outputs) s.outputs ++ (flat_map (single_name (byte "b") p.bad) s.bad
       ++ (flat_map (single_name (byte "c") p.constraints) s.constraints ++ (flat_map (justice_name p.justice) s.justice
       ++ flat_map (single_name (byte "f") p.fairness) s.fairness)))
 
+  -- the names of all that is drawn
   unfoldable pub all_names : Netlist → List ℕ
   all_names c =
       flat_map (variable_name 1) c.symbols.inputs ++ (flat_map (variable_name (first_latch c.aig)) c.symbols.latches

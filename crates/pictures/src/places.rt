@@ -5,7 +5,7 @@ ghost use Rattle.pictures.specs.Places.{gate_place, input_place, is_gate, kind_p
 
 use crate::node::Node;
 use aig_graph::{Aig, Circuit, Lit, Props};
-use counted_io::number;
+use file_words::number;
 
 /// Whether the literal is that of a gate, not negated.
 fn is_gate(aig: &Aig, lit: u64) -> bool

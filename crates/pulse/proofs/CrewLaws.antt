@@ -2,24 +2,24 @@
 use Rattle.std.proofs.Common.{◌≡◌, ℕ, ◌+◌, ◌-◌, ◌<◌, ◌≤◌, true, false, List, length, slice_index, get_or, refl, arith, sym, ap, ◌∙◌, subst, inl, inr}
 use Rattle.frame_net.specs.Flow.{pulse}
 use Rattle.frame_net.specs.FlowNet.{FlowNet, node_count, IsFlowNet}
-use Rattle.flow_part.specs.declared.parts.FlowPart.{FlowPart}
-use Rattle.flow_part.specs.declared.parts.PushPart.{PushPart}
-use Rattle.flow_part.specs.Parts.{AreFlowParts, ArePushParts, Agree, IsSound, cells_of, pairs, rows_walked, values_of}
-use Rattle.flow_part.specs.Reading.{WholesRead, active_below}
-use Rattle.flow_part.specs.Delivering.{PartsDelivered, PartsSafe}
-use Rattle.flow_part.specs.Listing.{HasTurning, ListActive, ListsActive, active_by}
-use Rattle.flow_part.specs.Visiting.{WholeDelivered, WholesDelivered}
-use Rattle.flow_part.proofs.JoinedPartLaws.{AtPart, at_part}
-use Rattle.flow_part.specs.Labels.{AreLabelled, KeepLabels, KeepsLabels}
-use Rattle.flow_part.specs.Runs.{AreRead, ArePulsed}
-use Rattle.flow_part.specs.Start.{PushesNumbered}
-use Rattle.flow_part.proofs.AgreeingStateLaws.{agree_pulse, agree_then, sound_same}
-use Rattle.flow_part.proofs.HoldLaws.{hold_same}
-use Rattle.flow_part.proofs.LabelLaws.{labelled_parts}
-use Rattle.flow_part.proofs.NumberLaws.{numbered_read}
-use Rattle.flow_part.proofs.PulseLaws.{ready, ready_safe, Pulsed, pulsed}
-use Rattle.flow_part.proofs.WholeDeliveryLaws.{cut_after_give}
-use Rattle.flow_part.proofs.WholeReadLaws.{wholes_read, wholes_walked}
+use Rattle.pulse_parts.specs.declared.parts.FlowPart.{FlowPart}
+use Rattle.pulse_parts.specs.declared.parts.PushPart.{PushPart}
+use Rattle.pulse_parts.specs.Parts.{AreFlowParts, ArePushParts, Agree, IsSound, cells_of, pairs, rows_walked, values_of}
+use Rattle.pulse_parts.specs.Reading.{WholesRead, active_below}
+use Rattle.pulse_parts.specs.Delivering.{PartsDelivered, PartsSafe}
+use Rattle.pulse_parts.specs.Listing.{HasTurning, ListActive, ListsActive, active_by}
+use Rattle.pulse_parts.specs.Visiting.{WholeDelivered, WholesDelivered}
+use Rattle.pulse_parts.proofs.JoinedPartLaws.{AtPart, at_part}
+use Rattle.pulse_parts.specs.Labels.{AreLabelled, KeepLabels, KeepsLabels}
+use Rattle.pulse_parts.specs.Runs.{AreRead, ArePulsed}
+use Rattle.pulse_parts.specs.Start.{PushesNumbered}
+use Rattle.pulse_parts.proofs.AgreeingStateLaws.{agree_pulse, agree_then, sound_same}
+use Rattle.pulse_parts.proofs.HoldLaws.{hold_same}
+use Rattle.pulse_parts.proofs.LabelLaws.{labelled_parts}
+use Rattle.pulse_parts.proofs.NumberLaws.{numbered_read}
+use Rattle.pulse_parts.proofs.PulseLaws.{ready, ready_safe, Pulsed, pulsed}
+use Rattle.pulse_parts.proofs.WholeDeliveryLaws.{cut_after_give}
+use Rattle.pulse_parts.proofs.WholeReadLaws.{wholes_read, wholes_walked}
 
 -- every node read, over the elements of a vector
 pub all_read : (net : FlowNet) (labels : List ℕ) (qs : List FlowPart) (ps was rs now : List PushPart) → IsFlowNet net → was ≡ ps → now ≡ rs

@@ -1,15 +1,15 @@
 -- Reads and deliveries of a range of nodes, over the fields of a flow and of pushes.
 use Rattle.std.proofs.Common.{◌≡◌, ℕ, ◌<◌, ◌≤◌, Bool, arith, false, List, length, slice_index_or, refl, sym, ap, ◌∙◌, subst}
 use Rattle.frame_net.specs.FlowNet.{FlowNet, node_count, IsFlowNet}
-use Rattle.flow_part.specs.declared.parts.FlowPart.{FlowPart}
-use Rattle.flow_part.specs.declared.parts.PushPart.{PushPart}
-use Rattle.flow_part.specs.Parts.{Cells, AreFlowParts, ArePushParts, cells_of, values_of}
-use Rattle.flow_part.specs.Reading.{PartsRead, PartsReadOn}
-use Rattle.flow_part.specs.Delivering.{PartsDelivered, PartsSafe}
-use Rattle.flow_part.specs.Marks.{and_range, NoneMarked, DeliveredSoFar, IsPartlyDelivered}
-use Rattle.flow_part.proofs.WholeDeliveryLaws.{cut_after_give, whole_kept}
-use Rattle.flow_part.proofs.WholeReadLaws.{cut_after_read, parts_read, range_walked, whole_read, whole_unread}
-use Rattle.flow_part.proofs.MarkLaws.{give_more, give_safe}
+use Rattle.pulse_parts.specs.declared.parts.FlowPart.{FlowPart}
+use Rattle.pulse_parts.specs.declared.parts.PushPart.{PushPart}
+use Rattle.pulse_parts.specs.Parts.{Cells, AreFlowParts, ArePushParts, cells_of, values_of}
+use Rattle.pulse_parts.specs.Reading.{PartsRead, PartsReadOn}
+use Rattle.pulse_parts.specs.Delivering.{PartsDelivered, PartsSafe}
+use Rattle.pulse_parts.specs.Marks.{and_range, NoneMarked, DeliveredSoFar, IsPartlyDelivered}
+use Rattle.pulse_parts.proofs.WholeDeliveryLaws.{cut_after_give, whole_kept}
+use Rattle.pulse_parts.proofs.WholeReadLaws.{cut_after_read, parts_read, range_walked, whole_read, whole_unread}
+use Rattle.pulse_parts.proofs.MarkLaws.{give_more, give_safe}
 use Rattle.pulse.specs.Values.{flow_state, push_state}
 use Rattle.pulse.specs.Conditions.{IsFlowOf, ArePushesOf, is_marked}
 use Rattle.pulse.specs.Phases.{RangeRead, RangeDelivered}

@@ -2,10 +2,10 @@
 use Rattle.std.proofs.Common.{◌≡◌, ℕ, Bool, false, true, List, length, sym, ap, ◌∙◌, subst}
 use Rattle.std.proofs.lemmas.Bool.{false≢true}
 use Rattle.frame_net.specs.FlowNet.{FlowNet, node_count, IsFlowNet}
-use Rattle.flow_part.specs.declared.parts.FlowPart.{FlowPart}
-use Rattle.flow_part.specs.declared.parts.PushPart.{PushPart}
-use Rattle.flow_part.specs.Parts.{AreFlowParts, ArePushParts, LabelsFit}
-use Rattle.flow_part.proofs.SizeLaws.{sizes, push_size}
+use Rattle.pulse_parts.specs.declared.parts.FlowPart.{FlowPart}
+use Rattle.pulse_parts.specs.declared.parts.PushPart.{PushPart}
+use Rattle.pulse_parts.specs.Parts.{AreFlowParts, ArePushParts, LabelsFit}
+use Rattle.pulse_parts.proofs.SizeLaws.{sizes, push_size}
 use Rattle.pulse.specs.Values.{FlowState, PushState, flow_state, push_state}
 use Rattle.pulse.specs.Conditions.{IsFlowOf, ArePushesOf}
 use Rattle.pulse.proofs.RangeLaws.{flow_parts, flow_ranges, push_parts, push_ranges}

@@ -2,7 +2,7 @@
 use Rattle.std.proofs.Common.{◌≡◌, ℕ, ◌+◌, ◌<◌, ◌≤◌, nat_le, Bool, true, false, List, length, get_or, slice_set, arith, sym, ap, ◌∙◌, inl, inr, ◌≢◌, get_or-set_other, get_or-set_same}
 use Rattle.std.proofs.Math.Bool.{and-false, or-false, or-true}
 use Rattle.std.proofs.lemmas.Bool.{cases_lt, cases_eq, lt-ltb, le-leb, le-ltb, lt-leb}
-use Rattle.flow_part.specs.Marks.{and_range}
+use Rattle.pulse_parts.specs.Marks.{and_range}
 
 -- a node of the range is marked
 pub range_in : (marks : ℕ → Bool) (first end v : ℕ) → first ≤ v → v < end → and_range marks first end v ≡ true

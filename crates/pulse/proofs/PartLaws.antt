@@ -2,10 +2,10 @@
 use Rattle.std.proofs.Common.{◌≡◌, ℕ, Bool, false, List, length, sym, ap, ◌∙◌, subst}
 use Rattle.frame_net.specs.Flow.{pulse}
 use Rattle.frame_net.specs.FlowNet.{FlowNet, node_count, IsFlowNet}
-use Rattle.flow_part.specs.declared.parts.FlowPart.{FlowPart}
-use Rattle.flow_part.specs.Listing.{ListActive}
-use Rattle.flow_part.specs.Parts.{Agree, AreFlowParts, cells_of, pairs}
-use Rattle.flow_part.proofs.AgreeingStateLaws.{agree_then, sound_same}
+use Rattle.pulse_parts.specs.declared.parts.FlowPart.{FlowPart}
+use Rattle.pulse_parts.specs.Listing.{ListActive}
+use Rattle.pulse_parts.specs.Parts.{Agree, AreFlowParts, cells_of, pairs}
+use Rattle.pulse_parts.proofs.AgreeingStateLaws.{agree_then, sound_same}
 use Rattle.pulse.specs.Values.{FlowState, flow_state}
 use Rattle.pulse.specs.Conditions.{IsBetween, IsFlowOf, state_of}
 use Rattle.pulse.specs.Phases.{AfterPulse}

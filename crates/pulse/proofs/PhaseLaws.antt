@@ -1,13 +1,13 @@
 -- Phases over the fields of a flow and of pushes.
 use Rattle.std.proofs.Common.{◌≡◌, ℕ, ◌-◌, ◌^◌, min, Bool, true, false, List, length, arith, refl, sym, ap, ◌∙◌, subst}
 use Rattle.frame_net.specs.FlowNet.{FlowNet, node_count, IsFlowNet}
-use Rattle.flow_part.specs.declared.parts.FlowPart.{FlowPart}
-use Rattle.flow_part.specs.declared.parts.PushPart.{PushPart}
-use Rattle.flow_part.specs.Listing.{ListActive}
-use Rattle.flow_part.specs.Parts.{LabelsFit, cells_of, rows_walked}
-use Rattle.flow_part.specs.Reading.{active_below}
-use Rattle.flow_part.proofs.WalkLaws.{active_few}
-use Rattle.flow_part.specs.Runs.{AreRead, ArePulsed}
+use Rattle.pulse_parts.specs.declared.parts.FlowPart.{FlowPart}
+use Rattle.pulse_parts.specs.declared.parts.PushPart.{PushPart}
+use Rattle.pulse_parts.specs.Listing.{ListActive}
+use Rattle.pulse_parts.specs.Parts.{LabelsFit, cells_of, rows_walked}
+use Rattle.pulse_parts.specs.Reading.{active_below}
+use Rattle.pulse_parts.proofs.WalkLaws.{active_few}
+use Rattle.pulse_parts.specs.Runs.{AreRead, ArePulsed}
 use Rattle.pulse.specs.Values.{FlowState, PushState, flow_state, push_state}
 use Rattle.pulse.specs.Conditions.{IsFlowOf, ArePushesOf, IsBetween, active_count}
 use Rattle.pulse.specs.Phases.{AfterPulse, AfterDelivery, AfterRefusal, IsReadPhase}

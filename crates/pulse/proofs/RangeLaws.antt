@@ -1,10 +1,10 @@
 -- Ranges of parts, with and without what the parts hold.
 use Rattle.std.proofs.Common.{◌≡◌, ℕ, ◌+◌, List, [], ◌∷◌, length, map, arith}
 use Rattle.frame_net.specs.FlowNet.{FlowNet}
-use Rattle.flow_part.specs.declared.parts.FlowPart.{FlowPart}
-use Rattle.flow_part.specs.declared.parts.PushPart.{PushPart}
-use Rattle.flow_part.specs.Parts.{AreFlowParts, ArePushParts}
-use Rattle.flow_part.specs.Start.{AreShares}
+use Rattle.pulse_parts.specs.declared.parts.FlowPart.{FlowPart}
+use Rattle.pulse_parts.specs.declared.parts.PushPart.{PushPart}
+use Rattle.pulse_parts.specs.Parts.{AreFlowParts, ArePushParts}
+use Rattle.pulse_parts.specs.Start.{AreShares}
 use Rattle.pulse.specs.Values.{AreFlowRanges, ArePushRanges, AreRangesOf, flow_range, push_range}
 
 -- the ranges of parts say all that makes them parts of a network's flow, or of its pushes

@@ -5,18 +5,18 @@ use Rattle.frame_net.specs.Flow.{State}
 use Rattle.frame_net.specs.Laws.{IsDistance}
 use Rattle.frame_net.proofs.ExactLabelLaws.{exact-rises}
 use Rattle.frame_net.specs.FlowNet.{FlowNet, node_count, IsFlowNet}
-use Rattle.flow_part.specs.declared.parts.FlowPart.{FlowPart}
-use Rattle.flow_part.specs.Listing.{ListActive}
-use Rattle.flow_part.specs.Parts.{Agree, AreFlowParts, IsSound, cells_of, pairs}
-use Rattle.flow_part.specs.Labels.{AreLabelled, HoldLabels}
-use Rattle.flow_part.specs.Runs.{any_active}
-use Rattle.flow_part.proofs.AgreeingStateLaws.{agree_self, sound_same}
-use Rattle.flow_part.proofs.HoldingLaws.{held_cut, held_lists, held_state}
-use Rattle.flow_part.proofs.LabelLaws.{labelled_parts}
-use Rattle.flow_part.specs.Distances.{exact}
-use Rattle.flow_part.specs.ExactRuns.{after_pulse}
-use Rattle.flow_part.proofs.DistanceLaws.{exact_is}
-use Rattle.flow_part.proofs.RunLaws.{exact_sound, after-due, after-not}
+use Rattle.pulse_parts.specs.declared.parts.FlowPart.{FlowPart}
+use Rattle.pulse_parts.specs.Listing.{ListActive}
+use Rattle.pulse_parts.specs.Parts.{Agree, AreFlowParts, IsSound, cells_of, pairs}
+use Rattle.pulse_parts.specs.Labels.{AreLabelled, HoldLabels}
+use Rattle.pulse_parts.specs.Runs.{any_active}
+use Rattle.pulse_parts.proofs.AgreeingStateLaws.{agree_self, sound_same}
+use Rattle.pulse_parts.proofs.HoldingLaws.{held_cut, held_lists, held_state}
+use Rattle.pulse_parts.proofs.LabelLaws.{labelled_parts}
+use Rattle.pulse_parts.specs.Distances.{exact}
+use Rattle.pulse_parts.specs.ExactRuns.{after_pulse}
+use Rattle.pulse_parts.proofs.DistanceLaws.{exact_is}
+use Rattle.pulse_parts.proofs.RunLaws.{exact_sound, after-due, after-not}
 use Rattle.pulse.specs.Values.{FlowState, flow_state}
 use Rattle.pulse.specs.Conditions.{IsBetween, IsFlowOf, state_of}
 use Rattle.pulse.proofs.FlowLaws.{parts_of, flow_unspent, flow_with}

@@ -3,14 +3,14 @@ use Rattle.std.proofs.Common.{◌≡◌, ℕ, ◌<◌, ◌≤◌, ◌⊎◌, tru
 use Rattle.std.proofs.lemmas.Bool.{false≢true}
 use Rattle.frame_net.specs.Flow.{pulse}
 use Rattle.frame_net.specs.FlowNet.{FlowNet, node_count, IsFlowNet}
-use Rattle.flow_part.specs.Parts.{Agree, IsSound}
-use Rattle.flow_part.specs.Delivering.{HoldPushes}
-use Rattle.flow_part.specs.Marks.{DeliveredSoFar}
-use Rattle.flow_part.specs.Runs.{any_active}
-use Rattle.flow_part.proofs.ActiveLaws.{work, work_same, work_falls}
-use Rattle.flow_part.proofs.MarkLaws.{read_whole}
-use Rattle.flow_part.specs.Distances.{exact}
-use Rattle.flow_part.proofs.RunLaws.{Paid, paid_exact, exact_falls}
+use Rattle.pulse_parts.specs.Parts.{Agree, IsSound}
+use Rattle.pulse_parts.specs.Delivering.{HoldPushes}
+use Rattle.pulse_parts.specs.Marks.{DeliveredSoFar}
+use Rattle.pulse_parts.specs.Runs.{any_active}
+use Rattle.pulse_parts.proofs.ActiveLaws.{work, work_same, work_falls}
+use Rattle.pulse_parts.proofs.MarkLaws.{read_whole}
+use Rattle.pulse_parts.specs.Distances.{exact}
+use Rattle.pulse_parts.proofs.RunLaws.{Paid, paid_exact, exact_falls}
 use Rattle.pulse.specs.Values.{FlowState, PushState}
 use Rattle.pulse.specs.Conditions.{IsBetween, is_marked, state_of}
 use Rattle.pulse.specs.Phases.{RangeRead, AfterPulse}

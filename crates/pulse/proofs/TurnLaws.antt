@@ -3,16 +3,16 @@ use Rattle.std.proofs.Common.{◌≡◌, ℕ, ◌<◌, Bool, false, List, length
 use Rattle.frame_net.specs.Flow.{State, pulse, IsValid}
 use Rattle.frame_net.proofs.PulseLaws.{next_valid}
 use Rattle.frame_net.specs.FlowNet.{FlowNet, node_count, cap_at, IsFlowNet, IsStartable}
-use Rattle.flow_part.specs.declared.parts.FlowPart.{FlowPart}
-use Rattle.flow_part.specs.Parts.{AreFlowParts, Agree, IsSound, LabelsFit, cells_of, pairs}
-use Rattle.flow_part.specs.Labels.{AreLabelled}
-use Rattle.flow_part.specs.Runs.{ArePulsed}
-use Rattle.flow_part.specs.Start.{PartsHold, LabelsStart, start_res, start_excess}
-use Rattle.flow_part.proofs.AgreeingStateLaws.{sound_same, sound_pulse}
-use Rattle.flow_part.proofs.LabelLaws.{labelled_parts}
-use Rattle.flow_part.proofs.MarkLaws.{give_whole}
-use Rattle.flow_part.proofs.SizeLaws.{sizes}
-use Rattle.flow_part.proofs.StartStateLaws.{held_cut, start_agrees, start_is_sound, labels_fit}
+use Rattle.pulse_parts.specs.declared.parts.FlowPart.{FlowPart}
+use Rattle.pulse_parts.specs.Parts.{AreFlowParts, Agree, IsSound, LabelsFit, cells_of, pairs}
+use Rattle.pulse_parts.specs.Labels.{AreLabelled}
+use Rattle.pulse_parts.specs.Runs.{ArePulsed}
+use Rattle.pulse_parts.specs.Start.{PartsHold, LabelsStart, start_res, start_excess}
+use Rattle.pulse_parts.proofs.AgreeingStateLaws.{sound_same, sound_pulse}
+use Rattle.pulse_parts.proofs.LabelLaws.{labelled_parts}
+use Rattle.pulse_parts.proofs.MarkLaws.{give_whole}
+use Rattle.pulse_parts.proofs.SizeLaws.{sizes}
+use Rattle.pulse_parts.proofs.StartStateLaws.{held_cut, start_agrees, start_is_sound, labels_fit}
 use Rattle.pulse.specs.Values.{FlowState, flow_state}
 use Rattle.pulse.specs.Conditions.{IsFlowOf, IsBetween, IsStart, IsTurnable, is_marked}
 use Rattle.pulse.specs.Phases.{AfterPulse, Turns}

@@ -3,11 +3,12 @@ use Rattle.std.specs.Prelude.{◌≡◌, ℕ, ◌<◌, false, cond, length, slic
 use Rattle.frame_net.specs.Flow.{State, IsPreflow, IsValid, is_active, sum_below}
 use Rattle.frame_net.specs.Laws.{started}
 use Rattle.frame_net.specs.FlowNet.{FlowNet, node_count, cap_at, IsFlowNet}
-use Rattle.flow_part.specs.Parts.{Cells, LabelsFit, IsSound, Agree, pair, pairs}
-use Rattle.flow_part.specs.Marks.{AllMarked}
-use Rattle.flow_part.specs.ExactRuns.{IsRun}
+use Rattle.pulse_parts.specs.Parts.{Cells, LabelsFit, IsSound, Agree, pair, pairs}
+use Rattle.pulse_parts.specs.Marks.{AllMarked}
+use Rattle.pulse_parts.specs.ExactRuns.{IsRun}
 use Rattle.pulse.specs.Values.{FlowState, PushState, RunEnd, AreFlowRanges, ArePushRanges}
 
+-- there is a residual for each arc, and an excess and a next label for each node
 pub record CellsFit (net : FlowNet) (c : Cells) : Type 0 where
   pub residuals : length c.residuals ≡ length net.heads
   pub excess : length c.excess ≡ node_count net
@@ -35,6 +36,7 @@ state_of net f = pairs net f.cells f.labels
 abbrev pub is_marked : FlowState → ℕ → Bool
 is_marked f v = slice_index_or f.delivered v false
 
+-- no node was delivered since the last turn
 abbrev pub NoneDelivered : FlowNet → FlowState → Type 0
 NoneDelivered net f = (v : ℕ) → v < node_count net → is_marked f v ≡ false
 

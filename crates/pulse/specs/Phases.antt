@@ -2,10 +2,10 @@
 use Rattle.std.specs.Prelude.{◌≡◌, ℕ, ◌+◌, ◌-◌, ◌<◌, ◌≤◌, ◌⊎◌, ◌^◌, min, false, true, List}
 use Rattle.frame_net.specs.Flow.{pulse}
 use Rattle.frame_net.specs.FlowNet.{FlowNet, node_count, start, row_len, IsFlowNet}
-use Rattle.flow_part.specs.Parts.{Cells, IsSound, Agree, pairs}
-use Rattle.flow_part.specs.Reading.{active_from, cells_push}
-use Rattle.flow_part.specs.Delivering.{own, HoldPushes, NodeKept}
-use Rattle.flow_part.specs.Marks.{and_range, AllMarked, DeliveredSoFar}
+use Rattle.pulse_parts.specs.Parts.{Cells, IsSound, Agree, pairs}
+use Rattle.pulse_parts.specs.Reading.{active_from, cells_push}
+use Rattle.pulse_parts.specs.Delivering.{own, HoldPushes, NodeKept}
+use Rattle.pulse_parts.specs.Marks.{and_range, AllMarked, DeliveredSoFar}
 use Rattle.pulse.specs.Values.{FlowState, PushState}
 use Rattle.pulse.specs.Conditions.{IsFlowOf, ArePushesOf, IsBetween, is_marked, state_of}
 

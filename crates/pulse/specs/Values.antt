@@ -1,13 +1,13 @@
 -- What contracts see of a flow, of pushes and of a run's end: values by arc and by node, and how the nodes are parted.
 use Rattle.std.specs.Prelude.{◌≡◌, ℕ, ◌+◌, ◌-◌, ◌<◌, ◌≤◌, ◌⊎◌, ◌^◌, min, Bool, true, false, List, [], ◌∷◌, length, slice_index, map}
 use Rattle.frame_net.specs.FlowNet.{FlowNet, node_count, start, row_len}
-use Rattle.flow_part.specs.declared.parts.FlowPart.{FlowPart}
-use Rattle.flow_part.specs.declared.parts.PushPart.{PushPart}
-use Rattle.flow_part.specs.Listing.{AreWithin, IsListed, ListActive}
-use Rattle.flow_part.specs.Parts.{Cells, IsParted, cells_of, rows_walked, values_of}
-use Rattle.flow_part.specs.Start.{FlowNumbered, border_of}
+use Rattle.pulse_parts.specs.declared.parts.FlowPart.{FlowPart}
+use Rattle.pulse_parts.specs.declared.parts.PushPart.{PushPart}
+use Rattle.pulse_parts.specs.Listing.{AreWithin, IsListed, ListActive}
+use Rattle.pulse_parts.specs.Parts.{Cells, IsParted, cells_of, rows_walked, values_of}
+use Rattle.pulse_parts.specs.Start.{FlowNumbered, border_of}
 
--- the nodes from first up to end, their arcs, which are so many from base on, and the numbers of their excesses and new labels
+-- the nodes from first up to end, their arcs from base on with the number of these, and the numbers of their excesses and new labels
 pub record FlowRange : Type 0 where
   pub first : ℕ
   pub end : ℕ
@@ -25,12 +25,14 @@ pub record PushRange : Type 0 where
   pub pushing : List ℕ
   pub complete : Bool
 
+-- the range of nodes that a part has, and the sizes of its tables
 abbrev pub flow_range : FlowPart → FlowRange
 flow_range q = record { first = q.first; end = q.end; base = q.base; arcs = length q.residuals.items; excesses = length q.excess.items; labels = length q.next.items }
 
 abbrev pub push_range : PushPart → PushRange
 push_range p = record { first = p.first; end = p.end; base = p.base; values = p.values.items; pushing = p.pushing.nodes.items; complete = p.pushing.complete }
 
+-- a range of the network's nodes, with tables for its nodes and its arcs
 pub record FlowRangeFits (net : FlowNet) (r : FlowRange) : Type 0 where
   pub ordered : r.first ≤ r.end
   pub within : r.end ≤ node_count net
@@ -39,6 +41,8 @@ pub record FlowRangeFits (net : FlowNet) (r : FlowRange) : Type 0 where
   pub nodes : r.excesses + r.first ≡ r.end
   pub same : r.labels ≡ r.excesses
 
+-- a range of the network's nodes, with the pushes over its arcs; if its list is complete, other
+-- nodes push nothing
 pub record PushRangeFits (net : FlowNet) (r : PushRange) : Type 0 where
   pub ordered : r.first ≤ r.end
   pub within : r.end ≤ node_count net
@@ -51,6 +55,8 @@ pub record PushRangeFits (net : FlowNet) (r : PushRange) : Type 0 where
 abbrev pub AreFlowRanges : FlowNet → ℕ → List FlowRange → Type 0
 AreFlowRanges net v rs = IsParted (FlowRangeFits net) (λ r. r.first) (λ r. r.end) (node_count net) v rs
 
+-- the ranges of the pushes' parts stand end to end from a node on to the last one, and have room
+-- for their nodes and arcs
 abbrev pub ArePushRanges : FlowNet → ℕ → List PushRange → Type 0
 ArePushRanges net v rs = IsParted (PushRangeFits net) (λ r. r.first) (λ r. r.end) (node_count net) v rs
 
@@ -59,9 +65,12 @@ abbrev pub AreRangesOf : {R : Type 0} → (R → ℕ) → (R → ℕ) → ℕ �
 AreRangesOf first end nodes workers k [] = k ≡ workers
 AreRangesOf first end nodes workers k (r ∷ rs) = (first r ≡ border_of nodes workers k) × ((end r ≡ border_of nodes workers (k + 1)) × AreRangesOf first end nodes workers (k + 1) rs)
 
+-- there is a range of the flow for each worker, in their order, from its border up to the next
+-- worker's
 abbrev pub AreFlowRangesOf : ℕ → ℕ → List FlowRange → Type 0
 AreFlowRangesOf nodes workers rs = AreRangesOf (λ r. r.first) (λ r. r.end) nodes workers 0 rs
 
+-- there is a range of the pushes for each worker, in their order
 abbrev pub ArePushRangesOf : ℕ → ℕ → List PushRange → Type 0
 ArePushRangesOf nodes workers rs = AreRangesOf (λ r. r.first) (λ r. r.end) nodes workers 0 rs
 

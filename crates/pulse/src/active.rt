@@ -1,15 +1,16 @@
-//! Whether a node is active, and how many are.
+//! Active nodes of a flow: if there is one, and their number.
 ghost use Rattle.std.specs.Prelude.{◌≡◌, ◌<◌, false};
 ghost use Rattle.frame_net.specs.Flow.{is_active};
 ghost use Rattle.frame_net.specs.FlowNet.{node_count};
-ghost use Rattle.flow_part.specs.Runs.{any_active};
+ghost use Rattle.pulse_parts.specs.Runs.{any_active};
 ghost use Rattle.pulse.specs.Conditions.{IsFlowOf, active_count, state_of};
 
 use crate::flow::Flow;
-use flow_part::any_active_node;
 use frame_net::Net;
+use pulse_parts::any_active_node;
 
-/// Whether some node is active. After a delivery phase the nodes that it listed are visited, and no others.
+/// Returns true if some node is active. After a delivery phase only the nodes that it listed are
+/// visited.
 pub(crate) fn is_active(net: &Net, flow: &Flow) -> bool
     requires flow { IsFlowOf net.now flow.now }
     requires unspent { flow.now.spent ≡ false }
@@ -24,7 +25,7 @@ pub(crate) fn is_active(net: &Net, flow: &Flow) -> bool
     )
 }
 
-/// Whether node `v` is active.
+/// Returns true if node `v` is active.
 fn is_node_active(net: &Net, flow: &Flow, v: u32) -> bool
     requires flow { IsFlowOf net.now flow.now }
     requires unspent { flow.now.spent ≡ false }
@@ -32,10 +33,10 @@ fn is_node_active(net: &Net, flow: &Flow, v: u32) -> bool
     ensures { result ≡ is_active (node_count net.now) (state_of net.now flow.now) v }
 {
     let nodes = net.nodes();
-    flow_part::is_active(v, flow.excess(v), flow.label(v), nodes)
+    pulse_parts::is_active(v, flow.excess(v), flow.label(v), nodes)
 }
 
-/// How many nodes are active. All nodes are visited.
+/// Returns the number of active nodes. All nodes are visited.
 pub(crate) fn active_nodes(net: &Net, flow: &Flow) -> usize
     requires flow { IsFlowOf net.now flow.now }
     requires unspent { flow.now.spent ≡ false }

@@ -2,8 +2,8 @@ ghost use Rattle.std.specs.Prelude.{◌≡◌, ◌<◌, ◌≤◌};
 
 use crate::gate::PhaseGate;
 
-/// The workers of a phase: from 1 to 64. Worker i of n has the nodes from `i * N / n` up to `(i + 1) * N / n`, where N is the number
-/// of nodes; its range may be empty. A crew of one starts no thread.
+/// The workers of a phase: from 1 to 64. Worker i of n has the nodes from `i * N / n` up to
+/// `(i + 1) * N / n` of N nodes; its range may be empty. A crew of one starts no thread.
 #[derive(Drop)]
 pub struct Crew<G: PhaseGate> {
     workers: u32,
@@ -22,7 +22,7 @@ impl<G: PhaseGate> Crew<G> {
         Crew { workers, gate }
     }
 
-    /// The number of workers.
+    /// Returns the number of workers.
     pub fn workers(&self) -> u32
         ensures value { result ≡ self.now.workers }
         ensures some { 0 < result }
@@ -31,7 +31,7 @@ impl<G: PhaseGate> Crew<G> {
         self.workers
     }
 
-    /// The gate of the workers.
+    /// Returns the gate of the workers.
     pub fn gate(&self) -> &G
         ensures { result.now ≡ self.now.gate }
     {

@@ -13,7 +13,7 @@ pub enum PulseError {
 }
 
 impl PulseError {
-    /// The number of the fault.
+    /// Returns the number of the fault.
     pub fn code(self) -> u8
         ensures { result ≡ 1 }
     {

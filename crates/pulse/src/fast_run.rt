@@ -1,10 +1,11 @@
-//! Pulses from the start until no node is active, with exact labels whenever they are worth their walk: the global relabeling of
-//! Cherkassky and Goldberg (1997). A walk goes over all arcs; it is made at the start, and again once the rows walked since hold more
+//! Pulses from the start until no node is active, with the global relabeling of Cherkassky and
+//! Goldberg (1997): labels become exact as soon as that is worth its walk. A walk goes over all
+//! arcs. One is made at the start, and one each time the rows walked since the last one hold more
 //! than a quarter of the arcs.
 ghost use Rattle.std.specs.Prelude.{◌≡◌, ◌*◌, ◌<◌, ◌≤◌, ◌⊎◌, IfOk, OnOk, false, length};
 ghost use Rattle.frame_net.specs.FlowNet.{node_count};
-ghost use Rattle.flow_part.specs.Parts.{Agree};
-ghost use Rattle.flow_part.specs.Distances.{exact};
+ghost use Rattle.pulse_parts.specs.Parts.{Agree};
+ghost use Rattle.pulse_parts.specs.Distances.{exact};
 ghost use Rattle.pulse.specs.Conditions.{ArePushesOf, IsBetween, IsMaxPreflow, NoneActive, active_count, state_of};
 ghost use Rattle.pulse.specs.Phases.{AfterPulse};
 ghost use Rattle.pulse.specs.Sharing.{first_share};
@@ -24,15 +25,20 @@ use frame_net::Net;
 use std::alloc::Global;
 use std::thread::Threads;
 
-/// Pulses from the start of the flow until no node is active, with global relabeling: each label becomes the residual distance to the
-/// sink, or the number of nodes where there is none, at the start and again whenever the rows walked since the last time hold more than
-/// a quarter of the network's arcs. It ends with a maximum preflow for every crew, after at most `2 * N * N` pulses for N nodes.
+/// Runs pulses from the start of the flow until no node is active, with global relabeling. Each
+/// label becomes the residual distance to the sink, or the number of nodes if there is none. This
+/// is done at the start, and each time the rows walked since then hold more than a quarter of the
+/// network's arcs. The run ends with a maximum preflow for every crew, after at most `2 * N * N`
+/// pulses for N nodes.
 ///
-/// Each pulse is the one that `run_to_end` makes, but the labels are exact at other times, so flow, labels and the number of pulses
-/// may differ from that run's. A pulse goes to the crew where many nodes are active for its size: at least 4096, or a quarter of all, at
-/// its start where it is the first, else in the pulse before. The calling thread makes all others, as worker 0: most pulses have ten
-/// active nodes, and to hand them out would cost more than they do.
-/// Memory is asked for at the start, wherever the number of the flow's parts changes, and for each phase that is handed out.
+/// Each pulse is as in `run_to_end`, but labels are exact at other times, so flow, labels and the
+/// number of pulses may differ from that run's. A pulse goes to the crew if many nodes are active
+/// for the network's size: at least 4096, or a quarter of all. They are counted at the start of the
+/// first pulse, and for each later one in the pulse before. The calling thread makes all others, as
+/// worker 0: most pulses have ten active nodes, and to hand them out would cost more than they do.
+///
+/// Memory is asked for at the start, each time the number of the flow's parts changes, and for each
+/// phase that is handed out.
 pub fn run_with_global_relabeling<G: PhaseGate>(
     rt: &(impl Threads + Sync),
     alloc: Global,
@@ -43,7 +49,8 @@ pub fn run_with_global_relabeling<G: PhaseGate>(
     ensures bounded { IfOk result (λ m. m.pulses ≤ 2 * (node_count net.now * node_count net.now)) }
 {
     net.known();
-    // At the start no nodes are active but those that the source has an arc to, and of these the ones from which the sink is reached.
+    // At the start the only active nodes are heads of the source's arcs from which the sink is
+    // reached.
     let first = Share::among(1).next(net, net.start(1), false, crew.workers());
     let Ok(mut flow) = Flow::start_for(alloc, net, first.parts) else {
         return Err(PulseError::NoMemory);
@@ -57,7 +64,8 @@ pub fn run_with_global_relabeling<G: PhaseGate>(
     Ok(MaxPreflow { flow, pulses })
 }
 
-/// Parts the flow for the next pulse, so that both its phases find the lists of the last one in their parts.
+/// Parts the flow for the next pulse, so that both its phases find the lists of the last one in
+/// their parts.
 fn part_ahead(alloc: Global, net: &Net, flow: &mut Flow, parts: u32) -> Result<(), PulseError>
     requires some { 0 < parts }
     requires flow { IsBetween net.now flow.old }
@@ -71,7 +79,7 @@ fn part_ahead(alloc: Global, net: &Net, flow: &mut Flow, parts: u32) -> Result<(
     Ok(())
 }
 
-/// A pulse, shared out so.
+/// Makes a pulse that is shared out as `share` says.
 fn pulse_by<R: Threads + Sync, G: PhaseGate>(
     rt: &R,
     alloc: Global,
@@ -93,12 +101,13 @@ fn pulse_by<R: Threads + Sync, G: PhaseGate>(
     deliver_by(rt, alloc, net, flow, pushes, share, gate)
 }
 
-/// Whether the rows walked since the labels were exact hold more than a quarter of the arcs.
+/// Returns true if `walked`, the number of arcs in the rows walked since the labels were exact, is
+/// more than a quarter of the arcs.
 fn is_due(net: &Net, walked: usize) -> bool {
     walked > net.arcs() / 4
 }
 
-/// Makes the labels exact where they are due, and then begins anew to count the arcs that are walked.
+/// Makes the labels exact if they are due, and then counts the arcs that are walked from 0 again.
 fn relabel_after_walks(net: &Net, flow: &mut Flow, queue: &mut [u32], walked: &mut usize)
     requires flow { IsBetween net.now flow.old }
     requires queue { length queue.old ≡ node_count net.now }
@@ -113,7 +122,7 @@ fn relabel_after_walks(net: &Net, flow: &mut Flow, queue: &mut [u32], walked: &m
     }
 }
 
-/// How the first pulse is shared out, once the labels are exact.
+/// Returns the share of the first pulse, once the labels are exact.
 fn first_share(net: &Net, flow: &Flow, begun: Share, crew: u32) -> Share
     requires flow { IsBetween net.now flow.now }
     requires begun { 0 < begun.parts }
@@ -128,7 +137,7 @@ fn first_share(net: &Net, flow: &Flow, begun: Share, crew: u32) -> Share
     begun.next(net, active_nodes(net, flow), false, crew)
 }
 
-/// Pulses until no node is active, from a flow that was parted so; returns their number.
+/// Runs pulses until no node is active, from a flow in the parts of `begun`. Returns their number.
 fn run<R: Threads + Sync, G: PhaseGate>(
     rt: &R,
     alloc: Global,

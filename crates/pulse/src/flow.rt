@@ -1,7 +1,8 @@
 //! The flow of a network, with its labels.
 //!
 //!     between two pulses ──deliver_phase──► between two pulses
-//!     between two pulses ──deliver_range──► delivered in part ──deliver_range, up to all nodes──► ──turn──► between two pulses
+//!     between two pulses ──deliver_range──► delivered in part
+//!     delivered in part ──deliver_range, up to all nodes──► ──turn──► between two pulses
 //!     any ──deliver_phase, refused──► spent, and stays so
 ghost use Rattle.std.specs.Prelude.{◌≡◌, ◌<◌, IfOk, length, pos, slice_index, ◌-ℤ◌};
 ghost use Rattle.frame_net.specs.FlowNet.{node_count};
@@ -11,16 +12,18 @@ ghost use Rattle.pulse.specs.Values.{AreFlowRangesOf};
 
 use crate::marks::{no_marks, unmark};
 use aig_graph::NoMemory;
-use flow_part::{FlowPart, excess_at, residual_at, start_labels, start_parts, turn};
 use frame_net::{Capacities, Net};
+use pulse_parts::{FlowPart, excess_at, residual_at, start_labels, start_parts, turn};
 use std::alloc::Global;
 use std::marker::Model;
 
-/// The flow of a network: the residuals of its arcs in parts, one for each worker of the last delivery phase, and the excess of its
-/// nodes; and the labels, which are lent to all workers. The capacities are the network's own table, which the flow shares.
+/// The flow of a network: the residuals of its arcs and the excess of its nodes, in parts, one for
+/// each worker of the last delivery phase; and the labels, which are lent to all workers. The
+/// capacities are the network's own table, which the flow shares.
 ///
-/// A delivery phase that is refused memory leaves the flow spent: its parts are gone, and each later phase is refused. Where `listed`
-/// is false the parts' lists of active nodes aren't those of this flow.
+/// A delivery phase that is refused memory leaves the flow spent: its parts are gone, and each
+/// later phase is refused. If `listed` is false, the parts' lists of active nodes aren't those of
+/// this flow.
 pub struct Flow {
     pub(crate) labels: Vec<u32>,
     pub(crate) delivered: Vec<bool>,
@@ -57,14 +60,15 @@ impl Model for Flow {
 }
 
 impl Flow {
-    /// The flow at the start: 1 over each arc out of the source, 0 over all others; label N at the source, 0 elsewhere.
+    /// Returns the flow at the start: each arc out of the source is full, the flow over all others
+    /// is 0. The source has label N, all other nodes 0.
     pub fn start(alloc: Global, net: &Net) -> Result<Flow, NoMemory>
         ensures { IfOk result (λ f. IsStart net.now f) }
     {
         Flow::start_for(alloc, net, 1)
     }
 
-    /// The flow at the start, in parts for so many workers.
+    /// Returns the flow at the start, in parts for `workers` workers.
     pub(crate) fn start_for(alloc: Global, net: &Net, workers: u32) -> Result<Flow, NoMemory>
         requires { 0 < workers }
         ensures start { IfOk result (λ f. IsStart net.now f) }
@@ -96,7 +100,7 @@ impl Flow {
         })
     }
 
-    /// The label of node `v`, as of the last turn.
+    /// Returns the label of node `v`, as of the last turn.
     pub fn label(&self, v: u32) -> u32
         requires { v < length self.now.labels }
         ensures { result ≡ slice_index self.now.labels v }
@@ -104,7 +108,7 @@ impl Flow {
         self.labels[v as usize]
     }
 
-    /// The excess of node `v`, which isn't the source.
+    /// Returns the excess of node `v`, which isn't the source.
     pub fn excess(&self, v: u32) -> u32
         requires { v < length self.now.cells.excess }
         ensures { result ≡ slice_index self.now.cells.excess v }
@@ -112,7 +116,7 @@ impl Flow {
         excess_at(self.parts.as_slice(), v as usize)
     }
 
-    /// The flow over an arc: its capacity less its residual.
+    /// Returns the flow over an arc: its capacity less its residual.
     pub fn flow(&self, arc: u32) -> i64
         requires arc { arc < length self.now.cells.residuals }
         requires cap { arc < length self.now.caps }
@@ -123,7 +127,7 @@ impl Flow {
         i64::from(self.caps.at(arc)) - i64::from(residual)
     }
 
-    /// Whether node `v` was delivered since the last turn.
+    /// Returns true if node `v` was delivered since the last turn.
     pub fn is_delivered(&self, v: u32) -> bool
         requires { v < length self.now.delivered }
         ensures { result ≡ is_marked self.now v }
@@ -131,14 +135,14 @@ impl Flow {
         self.delivered[v as usize]
     }
 
-    /// Whether a delivery phase was refused.
+    /// Returns true if a delivery phase was refused.
     pub fn is_spent(&self) -> bool
         ensures { result ≡ self.now.spent }
     {
         self.spent
     }
 
-    /// Ends a pulse once every node was delivered: the new labels become the labels.
+    /// Ends a pulse once every node was delivered: replaces the labels by the new ones.
     pub fn turn(&mut self)
         requires { IsTurnable self.old }
         ensures { Turns self.old self.new }

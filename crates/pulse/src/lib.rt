@@ -1,10 +1,12 @@
-//! A maximum flow by synchronous pulses of the push-relabel method (Goldberg and Tarjan, 1988), by one worker or by many.
+//! A maximum flow by synchronous pulses of the push-relabel method (Goldberg and Tarjan, 1988), by
+//! one worker or by many.
 //!
-//! A pulse has two phases. In the read phase each node writes its row of pushes by the flow and the labels of the pulse's start;
-//! in the delivery phase each node writes its row of flow, its excess and its new label from all pushes; then the new labels
-//! become the labels. Each worker has a range of nodes and owns their rows, so the state after a phase depends on no order of
-//! events and on no number of workers. A run ends where no node is active: its preflow can't be improved, and the nodes that
-//! can't reach the sink are the greatest of the least cuts.
+//! A pulse has two phases. In the read phase each node writes its row of pushes by the flow and the
+//! labels of the pulse's start. In the delivery phase each node writes its row of flow, its excess
+//! and its new label from all pushes; then the new labels become the labels. Each worker has a
+//! range of nodes and owns their rows. So the state after a phase depends on no order of events and
+//! on no number of workers. A run ends if no node is active. Then its preflow can't be improved,
+//! and the nodes that can't reach the sink are the greatest of the least cuts.
 //!
 //! Contracts speak of the state on pairs of nodes (`frame_net`).
 #![tactic(auto)]

@@ -1,10 +1,10 @@
-//! Which nodes were delivered since the last turn.
+//! Marks of the nodes that were delivered since the last turn.
 ghost use Rattle.std.specs.Prelude.{◌≡◌, ℕ, ◌<◌, ◌≤◌, IfOk, false, length, slice_index_or};
-ghost use Rattle.flow_part.specs.Marks.{and_range};
+ghost use Rattle.pulse_parts.specs.Marks.{and_range};
 
 use std::alloc::{AllocError, Global};
 
-/// A mark for each node, none of them set.
+/// Returns a mark for each node, none of them set.
 pub(crate) fn no_marks(alloc: Global, nodes: u32) -> Result<Vec<bool>, AllocError>
     ensures len { IfOk result (λ v. length v.items ≡ nodes) }
     ensures none { IfOk result (λ v. (u : ℕ) → u < length v.items

@@ -1,12 +1,12 @@
-//! What a run ends with.
+//! The result of a run.
 ghost use Rattle.std.specs.Prelude.{◌≡◌, ◌<◌, length, pos, slice_index, ◌-ℤ◌};
 
 use crate::flow::Flow;
-use flow_part::residual_at;
+use pulse_parts::residual_at;
 use std::marker::Model;
 
-/// The preflow at the end of a run: no node is active, so that as much reaches the sink as can. Excess that can't reach the sink
-/// stays at its nodes, whose labels are the number of nodes.
+/// The preflow at the end of a run: no node is active, so no more can reach the sink. Excess that
+/// can't reach it stays at its nodes, whose labels are the number of nodes.
 #[derive(Drop)]
 pub struct MaxPreflow {
     pub(crate) flow: Flow,
@@ -22,14 +22,14 @@ impl Model for MaxPreflow {
 }
 
 impl MaxPreflow {
-    /// The number of pulses of the run.
+    /// Returns the number of pulses of the run.
     pub fn pulses(&self) -> u64
         ensures { result ≡ self.now.pulses }
     {
         self.pulses
     }
 
-    /// The flow over an arc.
+    /// Returns the flow over an arc.
     pub fn flow(&self, arc: u32) -> i64
         requires arc { arc < length self.now.flow.cells.residuals }
         requires cap { arc < length self.now.flow.caps }
@@ -39,7 +39,7 @@ impl MaxPreflow {
         self.flow.flow(arc)
     }
 
-    /// The residual of an arc: its capacity less its flow.
+    /// Returns the residual of an arc: its capacity less its flow.
     pub fn residual(&self, arc: u32) -> u32
         requires { arc < length self.now.flow.cells.residuals }
         ensures { result ≡ slice_index self.now.flow.cells.residuals arc }
@@ -47,7 +47,7 @@ impl MaxPreflow {
         residual_at(self.flow.parts.as_slice(), arc as usize)
     }
 
-    /// The label of a node.
+    /// Returns the label of a node.
     pub fn label(&self, v: u32) -> u32
         requires { v < length self.now.flow.labels }
         ensures { result ≡ slice_index self.now.flow.labels v }

@@ -14,11 +14,12 @@ use frame_net::Net;
 use std::alloc::Global;
 use std::thread::Threads;
 
-/// The read phase of a pulse: each node writes its row of pushes. The rows of the active nodes are walked, and no others
-/// (`Pushes::walked`).
+/// Runs the read phase of a pulse: each node writes its row of pushes. Only the rows of active
+/// nodes are walked (`Pushes::walked`).
 ///
-/// Pushes in parts for another number of workers are parted anew at first. A phase over a spent flow or spent pushes is refused. After
-/// a refusal, for either reason, the pushes are spent, and the flow is as it was.
+/// If the pushes are in parts for another number of workers, they are first parted anew. A phase
+/// over a spent flow or spent pushes is refused. After a refusal, for either reason, the pushes are
+/// spent, and the flow is as it was.
 pub fn read_phase<G: PhaseGate>(
     rt: &(impl Threads + Sync),
     alloc: Global,
@@ -40,11 +41,13 @@ pub fn read_phase<G: PhaseGate>(
     read_by(rt, alloc, net, flow, pushes, share, crew.gate())
 }
 
-/// The delivery phase of a pulse: each node writes its row of flow, its excess and its new label, and then the new labels become the
-/// labels. Where the last delivery phase's lists still hold, the nodes are visited that are active, push, or are pushed to, and no others.
+/// Runs the delivery phase of a pulse: each node writes its row of flow, its excess and its new
+/// label; then these become the labels. If the last delivery phase's lists still hold, only nodes
+/// that are active, push, or are pushed to are visited.
 ///
-/// A flow in parts for another number of workers is parted anew at first. A phase over a spent flow or spent pushes is refused. After
-/// a refusal, for either reason, the flow is spent, with the labels and the capacities that it had.
+/// If the flow is in parts for another number of workers, it is first parted anew. A phase over a
+/// spent flow or spent pushes is refused. After a refusal, for either reason, the flow is spent,
+/// with the labels and the capacities that it had.
 pub fn deliver_phase<G: PhaseGate>(
     rt: &(impl Threads + Sync),
     alloc: Global,
@@ -65,7 +68,7 @@ pub fn deliver_phase<G: PhaseGate>(
     deliver_by(rt, alloc, net, flow, pushes, share, crew.gate())
 }
 
-/// The read phase, shared out so.
+/// Runs the read phase, shared out as `share` says.
 pub(crate) fn read_by<R: Threads + Sync, G: PhaseGate>(
     rt: &R,
     alloc: Global,
@@ -107,7 +110,7 @@ pub(crate) fn read_by<R: Threads + Sync, G: PhaseGate>(
     }
 }
 
-/// The delivery phase, shared out so.
+/// Runs the delivery phase, shared out as `share` says.
 pub(crate) fn deliver_by<R: Threads + Sync, G: PhaseGate>(
     rt: &R,
     alloc: Global,

@@ -1,23 +1,25 @@
 //! The pushes of a pulse.
 //!
-//!     new, or of an earlier pulse ──read_phase, or read_range of all nodes──► of the pulse that the flow is at
+//!     new, or of an earlier pulse ──read_phase, or read_range of all nodes──► of the flow's pulse
 //!     any ──read_phase, refused──► spent, and stays so
 ghost use Rattle.std.specs.Prelude.{◌≡◌, ◌<◌, IfOk, false, length, slice_index};
 ghost use Rattle.frame_net.specs.FlowNet.{node_count};
-ghost use Rattle.flow_part.specs.Listing.{AreWithin};
-ghost use Rattle.flow_part.specs.Parts.{ArePushParts};
+ghost use Rattle.pulse_parts.specs.Listing.{AreWithin};
+ghost use Rattle.pulse_parts.specs.Parts.{ArePushParts};
 ghost use Rattle.pulse.specs.Conditions.{ArePushesOf};
 ghost use Rattle.pulse.specs.Values.{ArePushRangesOf};
 
 use aig_graph::NoMemory;
-use flow_part::{PushPart, push_over, push_parts, walked_over};
 use frame_net::Net;
+use pulse_parts::{PushPart, push_over, push_parts, walked_over};
 use std::alloc::Global;
 use std::marker::Model;
 
-/// What each node pushes over its arcs in a pulse, in parts, one for each worker of the last read phase.
+/// The pushes of each node over its arcs in a pulse, in parts, one for each worker of the last read
+/// phase.
 ///
-/// A read phase that is refused memory leaves the pushes spent: their parts are gone, and each later phase is refused.
+/// A read phase that is refused memory leaves the pushes spent: their parts are gone, and each
+/// later phase is refused.
 #[derive(Drop)]
 pub struct Pushes {
     pub(crate) parts: Vec<PushPart>,
@@ -26,7 +28,7 @@ pub struct Pushes {
 
 impl Model for Pushes {
     ghost use Rattle.std.specs.Prelude.{◌≡◌, false};
-    ghost use Rattle.flow_part.specs.Start.{PushesNumbered};
+    ghost use Rattle.pulse_parts.specs.Start.{PushesNumbered};
     ghost use Rattle.pulse.specs.Values.{PushState, push_state};
 
     ghost Value = { PushState };
@@ -37,7 +39,7 @@ impl Model for Pushes {
 }
 
 impl Pushes {
-    /// Room for the pushes over all arcs of a network.
+    /// Returns room for the pushes over all arcs of a network.
     pub fn new(alloc: Global, net: &Net) -> Result<Pushes, NoMemory>
         ensures fits { IfOk result (λ p. ArePushesOf net.now p) }
         ensures unspent { IfOk result (λ p. p.spent ≡ false) }
@@ -45,7 +47,7 @@ impl Pushes {
         Pushes::new_for(alloc, net, 1)
     }
 
-    /// Room for the pushes, in parts for so many workers.
+    /// Returns room for the pushes, in parts for `workers` workers.
     pub(crate) fn new_for(alloc: Global, net: &Net, workers: u32) -> Result<Pushes, NoMemory>
         requires { 0 < workers }
         ensures fits { IfOk result (λ p. ArePushesOf net.now p) }
@@ -60,7 +62,7 @@ impl Pushes {
         })
     }
 
-    /// The push over an arc.
+    /// Returns the push over an arc.
     pub fn push(&self, arc: u32) -> u32
         requires { arc < length self.now.values }
         ensures { result ≡ slice_index self.now.values arc }
@@ -68,15 +70,17 @@ impl Pushes {
         push_over(self.parts.as_slice(), arc as usize)
     }
 
-    /// How many rows were walked for pushes since the last read phase began; `u32::MAX` stands for all greater numbers. After a read
-    /// phase it is the number of nodes that were active at its start.
+    /// Returns the number of rows that were walked for pushes since the last read phase began;
+    /// `u32::MAX` stands for all greater numbers. After a read phase it is the number of nodes that
+    /// were active at its start.
     pub fn walked(&self) -> u32
         ensures { result ≡ self.now.walked }
     {
         walked_over(self.parts.as_slice())
     }
 
-    /// How many arcs the rows of the nodes hold that pushed in the last read phase; all arcs where a part doesn't list its nodes.
+    /// Returns the number of arcs in the rows of the nodes that pushed in the last read phase; all
+    /// arcs if a part doesn't list its nodes.
     pub(crate) fn arcs_walked(&self, net: &Net) -> usize
         requires fits { ArePushesOf net.now self.now }
         requires usable { self.now.spent ≡ false }
@@ -84,7 +88,7 @@ impl Pushes {
         arcs_over(net, self.parts.as_slice())
     }
 
-    /// Whether a read phase was refused.
+    /// Returns true if a read phase was refused.
     pub fn is_spent(&self) -> bool
         ensures { result ≡ self.now.spent }
     {
@@ -92,7 +96,8 @@ impl Pushes {
     }
 }
 
-/// How many arcs the rows of the nodes hold that the parts list.
+/// Returns the number of arcs in the rows of the nodes that the parts list; all arcs if a list
+/// isn't complete.
 fn arcs_over(net: &Net, parts: &[PushPart]) -> usize
     requires { ArePushParts net.now 0 parts.now }
 {
@@ -108,7 +113,7 @@ fn arcs_over(net: &Net, parts: &[PushPart]) -> usize
     arcs
 }
 
-/// How many arcs the rows of the listed nodes hold.
+/// Returns the number of arcs in the rows of the listed nodes.
 fn arcs_of(net: &Net, list: &[u32]) -> usize
     requires { AreWithin 0 (node_count net.now) list.now }
 {

@@ -1,17 +1,17 @@
 //! The events of a range of nodes, on the calling thread. They take no memory.
 ghost use Rattle.std.specs.Prelude.{◌≡◌, ℕ, ◌<◌, ◌≤◌, false};
 ghost use Rattle.frame_net.specs.FlowNet.{node_count};
-ghost use Rattle.flow_part.specs.Marks.{IsPartlyDelivered, NoneMarked};
+ghost use Rattle.pulse_parts.specs.Marks.{IsPartlyDelivered, NoneMarked};
 ghost use Rattle.pulse.specs.Conditions.{ArePushesOf, IsFlowOf, NoneDelivered, is_marked};
 ghost use Rattle.pulse.specs.Phases.{RangeDelivered, RangeRead};
 
 use crate::flow::Flow;
 use crate::marks::mark;
 use crate::pushes::Pushes;
-use flow_part::{deliver_each, read_each};
 use frame_net::Net;
+use pulse_parts::{deliver_each, read_each};
 
-/// Read of the nodes from `first` up to `end`: each writes its row of pushes.
+/// Reads the nodes from `first` up to `end`: each writes its row of pushes.
 pub fn read_range(net: &Net, flow: &Flow, pushes: &mut Pushes, first: u32, end: u32)
     requires flow { IsFlowOf net.now flow.now }
     requires pushes { ArePushesOf net.now pushes.old }
@@ -33,8 +33,9 @@ pub fn read_range(net: &Net, flow: &Flow, pushes: &mut Pushes, first: u32, end: 
     );
 }
 
-/// Deliver of the nodes from `first` up to `end`, none of which was delivered since the last turn: each writes its row of flow, its
-/// excess and its new label, from the pushes of every node and the labels of the pulse's start.
+/// Delivers the nodes from `first` up to `end`, none of which was delivered since the last turn.
+/// Each writes its row of flow, its excess and its new label, from the pushes of every node and the
+/// labels of the pulse's start.
 pub fn deliver_range(net: &Net, flow: &mut Flow, pushes: &Pushes, first: u32, end: u32)
     requires flow { IsFlowOf net.now flow.old }
     requires pushes { ArePushesOf net.now pushes.now }

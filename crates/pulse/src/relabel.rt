@@ -1,26 +1,26 @@
 //! Exact labels between two pulses: global relabeling.
 ghost use Rattle.std.specs.Prelude.{◌≡◌, IfOk, length};
 ghost use Rattle.frame_net.specs.FlowNet.{node_count};
-ghost use Rattle.flow_part.specs.Parts.{Agree};
-ghost use Rattle.flow_part.specs.Distances.{exact};
-ghost use Rattle.flow_part.specs.ExactRuns.{after_pulse};
+ghost use Rattle.pulse_parts.specs.Parts.{Agree};
+ghost use Rattle.pulse_parts.specs.Distances.{exact};
+ghost use Rattle.pulse_parts.specs.ExactRuns.{after_pulse};
 ghost use Rattle.pulse.specs.Conditions.{IsBetween, state_of};
 
 use crate::active::is_active;
 use crate::flow::Flow;
-use flow_part::{exact_labels, hold_labels};
 use frame_net::Net;
+use pulse_parts::{exact_labels, hold_labels};
 use std::alloc::{AllocError, Global};
 
-/// Room for all nodes, for the walks that find exact labels.
+/// Returns room for all nodes, for the walks that find exact labels.
 pub(crate) fn queue_for(alloc: Global, net: &Net) -> Result<Vec<u32>, AllocError>
     ensures { IfOk result (λ queue. length queue.items ≡ node_count net.now) }
 {
     vec![in alloc; 0u32; net.nodes() as usize]
 }
 
-/// Each label becomes the residual distance to the sink, or the number of nodes where there is none. No label falls, so no node becomes
-/// active, and the parts' lists hold on.
+/// Makes each label the residual distance to the sink, or the number of nodes if there is none. No
+/// label falls, so no node becomes active, and the parts' lists still hold.
 pub(crate) fn relabel(net: &Net, flow: &mut Flow, queue: &mut [u32])
     requires flow { IsBetween net.now flow.old }
     requires queue { length queue.old ≡ node_count net.now }
@@ -40,7 +40,8 @@ pub(crate) fn relabel(net: &Net, flow: &mut Flow, queue: &mut [u32])
     hold_labels(labels, parts);
 }
 
-/// What follows pulse number `count` of a run: after every N-th pulse for N nodes that leaves a node active the labels become exact.
+/// Makes the labels exact after pulse number `count` of a run, if they are due: after every N-th
+/// pulse for N nodes that leaves a node active.
 pub(crate) fn relabel_when_due(net: &Net, flow: &mut Flow, queue: &mut [u32], count: u64)
     requires flow { IsBetween net.now flow.old }
     requires queue { length queue.old ≡ node_count net.now }

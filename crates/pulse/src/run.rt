@@ -1,7 +1,7 @@
 //! Pulses from the start until no node is active.
 ghost use Rattle.std.specs.Prelude.{◌≡◌, IfOk, false, length};
 ghost use Rattle.frame_net.specs.FlowNet.{node_count};
-ghost use Rattle.flow_part.specs.ExactRuns.{IsRun};
+ghost use Rattle.pulse_parts.specs.ExactRuns.{IsRun};
 ghost use Rattle.pulse.specs.Conditions.{ArePushesOf, IsBetween, IsMaxPreflow, IsRunEnd, state_of};
 
 use crate::active::is_active;
@@ -17,10 +17,12 @@ use frame_net::Net;
 use std::alloc::Global;
 use std::thread::Threads;
 
-/// Pulses from the start of the flow until no node is active. After every N-th pulse for N nodes that leaves a node active each label
-/// becomes the residual distance to the sink, or N where there is none. The answer depends on no number of workers.
+/// Runs pulses from the start of the flow until no node is active. After every N-th pulse for N
+/// nodes that leaves a node active, each label becomes the residual distance to the sink, or N if
+/// there is none. The result depends on no number of workers.
 ///
-/// It takes at most `2 * N * N` pulses. Memory is asked for at the start, and for each phase of a crew of two or more.
+/// It takes at most `2 * N * N` pulses. Memory is asked for at the start, and for each phase of a
+/// crew of two or more.
 pub fn run_to_end<G: PhaseGate>(
     rt: &(impl Threads + Sync),
     alloc: Global,
@@ -46,7 +48,7 @@ pub fn run_to_end<G: PhaseGate>(
     Ok(MaxPreflow { flow, pulses })
 }
 
-/// Pulses until no node is active; returns their number.
+/// Runs pulses until no node is active. Returns their number.
 fn run<R: Threads + Sync, G: PhaseGate>(
     rt: &R,
     alloc: Global,

@@ -1,23 +1,24 @@
-//! How a pulse is shared out among workers.
+//! The share of each worker in a pulse.
 ghost use Rattle.std.specs.Prelude.{◌≡◌, ◌<◌, ⊤};
 ghost use Rattle.frame_net.specs.FlowNet.{node_count};
 
 use frame_net::Net;
 use std::alloc::AllocError;
 
-/// So many active nodes are many in a network of any size.
+/// The number of active nodes that are many in a network of any size.
 const MANY_ACTIVE: usize = 4096;
 
-/// In how many parts a pulse is made, and whether they are handed to the crew, a part each: else the calling thread makes all of them, as
-/// worker 0.
+/// The number of parts of a pulse. If `handed`, each goes to a worker of the crew; if not, the
+/// calling thread makes all of them, as worker 0.
 #[derive(Clone, Copy)]
 pub(crate) struct Share {
     pub(crate) parts: u32,
     pub(crate) handed: bool,
 }
 
-/// How a phase is made: how it is shared out, the gate that each worker passes and leaves, and under which number; and whether the lists of
-/// the flow's parts are of this flow, so that the phase visits the nodes that they name.
+/// The way a phase is made: its share, the gate that each worker passes and leaves, and its number.
+/// If `listed`, the lists of the flow's parts are of this flow, so the phase visits the nodes that
+/// they name.
 pub(crate) struct Phase<'a, G> {
     pub(crate) share: Share,
     pub(crate) gate: &'a G,
@@ -26,7 +27,7 @@ pub(crate) struct Phase<'a, G> {
 }
 
 impl<'a, G> Clone for Phase<'a, G> {
-    // written out: a derived one would clone field by field
+    // Written out: a derived one would clone field by field.
     ghost is_clone = { λ phase copy. copy ≡ phase };
 
     ghost is_infallible = { λ _. ⊤ };
@@ -41,7 +42,7 @@ impl<'a, G> Copy for Phase<'a, G> {}
 impl Share {
     ghost use Rattle.pulse.specs.Sharing.{next_share, share_among};
 
-    /// A part for each of so many workers.
+    /// Returns the share with a part for each of `workers` workers.
     pub(crate) fn among(workers: u32) -> Share
         ensures { result ≡ share_among workers }
     {
@@ -51,11 +52,12 @@ impl Share {
         }
     }
 
-    /// The share of the next pulse, where so many nodes are active, or were in the pulse before. A pulse goes to the crew where at least
-    /// 4096 nodes are active, or a quarter of all.
+    /// Returns the share of the next pulse, if `active` nodes are active, or were in the pulse
+    /// before. A pulse goes to the crew if at least 4096 nodes are active, or a quarter of all.
     ///
-    /// Else the calling thread goes on over the parts that there are, since to join them costs a copy of all residuals. They are joined
-    /// when exact labels are due, which visit all arcs, and find them faster in one part.
+    /// If fewer are, the calling thread goes on over the parts that there are, since to join them
+    /// costs a copy of all residuals. They are joined if exact labels are `due`, whose walk visits
+    /// all arcs, and is faster in one part.
     pub(crate) fn next(self, net: &Net, active: usize, due: bool, crew: u32) -> Share
         requires some { 0 < crew }
         requires parts { 0 < self.parts }

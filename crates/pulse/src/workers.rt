@@ -1,28 +1,30 @@
-//! A phase over the parts of all workers: by `map_vec` where they are handed out, else on the calling thread.
+//! A phase over the parts of all workers: by `map_vec` if they are handed out, else on the calling
+//! thread.
 //!
-//! Each worker gets its part by value and returns it, in worker order; all else is lent to all workers. A refusal drops the parts.
+//! Each worker gets its part by value and returns it, in worker order; all else is lent to all
+//! workers. A refusal drops the parts.
 ghost use Rattle.std.specs.Prelude.{◌≡◌, ℕ, ◌<◌, ◌≤◌, ◌⊎◌, IfOk, OnErr, OnOk, List, length, true};
 ghost use Rattle.frame_net.specs.FlowNet.{node_count};
-ghost use Rattle.flow_part.specs.Parts.{AreFlowParts, ArePushParts, Agree, FlowPartFits, IsSound, LabelsFit, PushPartFits, cells_of, pairs, rows_walked, values_of};
-ghost use Rattle.flow_part.specs.Reading.{WholeRead, WholesRead, active_below};
-ghost use Rattle.flow_part.specs.Delivering.{PartSafe, PartsSafe};
-ghost use Rattle.flow_part.specs.Listing.{ListActive, ListsActive};
-ghost use Rattle.flow_part.specs.Visiting.{WholeDelivered, WholesDelivered};
-ghost use Rattle.flow_part.specs.Runs.{ArePulsed, AreRead};
-ghost use Rattle.flow_part.specs.Start.{AreFlowShares, ArePushShares, FlowNumbered, PushesNumbered};
+ghost use Rattle.pulse_parts.specs.Parts.{AreFlowParts, ArePushParts, Agree, FlowPartFits, IsSound, LabelsFit, PushPartFits, cells_of, pairs, rows_walked, values_of};
+ghost use Rattle.pulse_parts.specs.Reading.{WholeRead, WholesRead, active_below};
+ghost use Rattle.pulse_parts.specs.Delivering.{PartSafe, PartsSafe};
+ghost use Rattle.pulse_parts.specs.Listing.{ListActive, ListsActive};
+ghost use Rattle.pulse_parts.specs.Visiting.{WholeDelivered, WholesDelivered};
+ghost use Rattle.pulse_parts.specs.Runs.{ArePulsed, AreRead};
+ghost use Rattle.pulse_parts.specs.Start.{AreFlowShares, ArePushShares, FlowNumbered, PushesNumbered};
 
 use crate::gate::PhaseGate;
 use crate::sharing::Phase;
-use flow_part::{
+use frame_net::Net;
+use pulse_parts::{
     FlowPart, PushPart, deliver_every, deliver_whole, parted_anew, push_parts, read_every,
     read_whole, turn,
 };
-use frame_net::Net;
 use std::alloc::{AllocError, Global};
 use std::thread::Threads;
 use std::{mem, thread};
 
-/// Parts the pushes for so many workers, unless they are.
+/// Parts the pushes for `workers` workers, unless they have that number of parts.
 fn part_pushes(
     alloc: Global,
     net: &Net,
@@ -41,7 +43,8 @@ fn part_pushes(
     Ok(())
 }
 
-/// Parts the flow for so many workers, unless it is. Where its parts list the active nodes, the new ones do.
+/// Parts the flow for `workers` workers, unless it has that number of parts. If its parts list the
+/// active nodes, the new ones do.
 pub(crate) fn part_flow(
     alloc: Global,
     net: &Net,
@@ -68,7 +71,7 @@ pub(crate) fn part_flow(
     Ok(())
 }
 
-/// Read of each part by a worker of its own.
+/// Reads each part by a worker of its own.
 fn read_by_crew<R: Threads + Sync, G: PhaseGate>(
     rt: &R,
     net: &Net,
@@ -104,7 +107,7 @@ fn read_by_crew<R: Threads + Sync, G: PhaseGate>(
     thread::map_vec(rt, parts, &work)
 }
 
-/// Deliver of each part by a worker of its own.
+/// Delivers each part by a worker of its own.
 fn deliver_by_crew<R: Threads + Sync, G: PhaseGate>(
     rt: &R,
     net: &Net,
@@ -143,7 +146,7 @@ fn deliver_by_crew<R: Threads + Sync, G: PhaseGate>(
     thread::map_vec(rt, parts, &work)
 }
 
-/// Read of every node, shared out so. After a refusal the parts may be gone.
+/// Reads every node, shared out as the phase says. After a refusal the parts may be gone.
 pub(crate) fn read_all<R: Threads + Sync, G: PhaseGate>(
     rt: &R,
     alloc: Global,
@@ -183,7 +186,8 @@ pub(crate) fn read_all<R: Threads + Sync, G: PhaseGate>(
     Ok(())
 }
 
-/// Deliver of every node, by a worker for each part where they are handed out. After a refusal the parts may be gone.
+/// Delivers every node, by a worker for each part if they are handed out. After a refusal the parts
+/// may be gone.
 fn deliver_parts<R: Threads + Sync, G: PhaseGate>(
     rt: &R,
     alloc: Global,
@@ -218,8 +222,9 @@ fn deliver_parts<R: Threads + Sync, G: PhaseGate>(
     Ok(())
 }
 
-/// Deliver of every node, shared out so, and the turn of the labels. Afterwards the parts' lists are of the flow and its labels. After a
-/// refusal the parts may be gone.
+/// Delivers every node, shared out as the phase says, and replaces the labels by the new ones.
+/// Afterwards the parts' lists are of the flow and its labels. After a refusal the parts may be
+/// gone.
 pub(crate) fn deliver_all<R: Threads + Sync, G: PhaseGate>(
     rt: &R,
     alloc: Global,

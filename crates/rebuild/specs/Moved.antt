@@ -65,6 +65,8 @@ abbrev pub latch_from : Move → ℕ → Option Latch → Latch
 latch_from m v None = record { next = 2 * copy_variable m v; reset = reset_to (start_value m.circuit.aig v) }
 latch_from m v (Some latch) = record { next = moved_literal m latch.next; reset = latch.reset }
 
+-- the latch of a variable: the one that stays, with its reset, or a new one at the copy's output,
+-- whose reset is the gate's value at step 0
 abbrev pub latch_for : Move → ℕ → Latch
 latch_for m v = latch_from m v (latch_at m.circuit.aig v)
 
@@ -111,6 +113,8 @@ moved_name m name = record name { position = moved_position m name.position }
 unfoldable pub moved_symbols : Move → Symbols
 moved_symbols m = record m.circuit.symbols { latches = map (moved_name m) (filter (stays m) m.circuit.symbols.latches) }
 
+-- the moved circuit: staying latches in order, then one for each border gate; gates outside the
+-- set, then the copies; properties mapped; the symbols of moved latches dropped
 abbrev pub moved_of : Move → Netlist
 moved_of m = record { aig = moved_graph m; props = moved_props m; symbols = moved_symbols m }
 

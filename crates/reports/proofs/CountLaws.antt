@@ -4,7 +4,7 @@ use Rattle.aig_graph.specs.declared.properties.Props.{Props}
 use Rattle.aig_graph.specs.Graph.{Graph, free_latches, known_latches}
 use Rattle.aig_graph.specs.Circuits.{Netlist}
 use Rattle.frame_net.specs.Passable.{passable_gates}
-use Rattle.retimed_circuits.specs.Levels.{levels}
+use Rattle.path_levels.specs.Levels.{levels}
 use Rattle.reports.specs.CircuitCounts.{counts, statistics}
 use Rattle.reports.specs.declared.statistics.Counts.{Counts}
 use Rattle.reports.specs.declared.statistics.Statistics.{Statistics}

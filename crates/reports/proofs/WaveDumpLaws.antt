@@ -6,7 +6,7 @@ use Rattle.counted_io.specs.Buffered.{Puts}
 use Rattle.counted_io.specs.Line.{numbered_lines}
 use Rattle.counted_io.specs.declared.buffered.Buffered.{Buffered}
 use Rattle.counted_io.proofs.BufferedLaws.{puts-nothing, puts-numbered_next, puts-range_next}
-use Rattle.reports.specs.WaveDumps.{longest_of}
+use Rattle.reports.specs.waves.Dumps.{longest_of}
 
 module _ {W : Type 0} {output : W → Output} where
   -- a text that was put where its condition holds is what stands there under the condition

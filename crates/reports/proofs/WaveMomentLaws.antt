@@ -20,9 +20,9 @@ use Rattle.lane_sim.specs.Steps.{AreAt, AreFor}
 use Rattle.lane_sim.specs.declared.steps.State.{State}
 use Rattle.lane_sim.specs.declared.steps.Values.{Values}
 use Rattle.aig_graph.specs.Graph.{Graph}
-use Rattle.reports.specs.declared.wave_moment.Moment.{Moment}
-use Rattle.reports.specs.declared.wave_room.WaveRoom.{WaveRoom}
-use Rattle.reports.specs.WaveMoments.{HasStates, shown_of, trace_of}
+use Rattle.reports.specs.declared.waves.moment.Moment.{Moment}
+use Rattle.reports.specs.declared.waves.room.WaveRoom.{WaveRoom}
+use Rattle.reports.specs.waves.Moments.{HasStates, shown_of, trace_of}
 
 -- the sequence of a number, in its lane of its block
 pub in_part : (sequences : List InputSequence) (s : ℕ) → in_lane (block_of sequences (s / 256)) (s % 256) ≡ in_lane sequences s

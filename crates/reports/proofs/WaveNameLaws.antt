@@ -5,7 +5,7 @@ use Rattle.std.proofs.lemmas.Bool.{le-ltb, lt-ltb}
 use Rattle.std.proofs.lemmas.List.{get_or_default, length-set}
 use Rattle.aig_graph.proofs.TableLaws.{table-more, table-none}
 use Rattle.aig_graph.specs.declared.properties.Symbol.{Symbol}
-use Rattle.reports.specs.WaveNames.{apart, apart_where, is_again, legal_name, literal_word, property_words, with_legal_name, with_symbols, words_before}
+use Rattle.reports.specs.waves.Names.{apart, apart_where, is_again, legal_name, literal_word, property_words, with_legal_name, with_symbols, words_before}
 
 -- ---- names in their places
 

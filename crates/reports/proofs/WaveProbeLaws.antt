@@ -7,7 +7,7 @@ use Rattle.aig_graph.specs.Circuits.{AreLiteralsOf, IsNetlist, Netlist}
 use Rattle.aig_graph.specs.Streams.{property_literals}
 use Rattle.aig_graph.proofs.PropsLaws.{properties-within}
 use Rattle.aig_graph.proofs.HoldingLaws.{no-names}
-use Rattle.reports.specs.WaveProbes.{leaf_literals, literal, probed, shown_literals}
+use Rattle.reports.specs.waves.Probes.{leaf_literals, literal, probed, shown_literals}
 
 half : (n : ℕ) → 2 * n / 2 ≡ n
 half n = omega arith

@@ -18,6 +18,7 @@ block_line number block = codes "block " ++ (decimal number ++ (codes ": yes, co
 abbrev pub objection_line : ℕ → BlockObjection → List ℕ
 objection_line number objection = codes "block " ++ (decimal number ++ (codes ": no, " ++ (block_objection_name objection ++ 10 ∷ [])))
 
+-- the line that says how an audit ended
 abbrev pub end_text : ℕ → End → List ℕ
 end_text number NoBlocks = []
 end_text number Certified = codes "end certified\n"

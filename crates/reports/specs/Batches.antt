@@ -1,8 +1,8 @@
 -- What is printed of the files of a batch.
 use Rattle.std.specs.Prelude.{ℕ, List, [], ◌∷◌, ◌++◌, Option, Some, None, decimal, codes}
 use Rattle.counted_io.specs.Line.{numbered_lines}
-use Rattle.counted_io.specs.declared.fault.ReadError.{ReadError}
-use Rattle.counted_io.specs.Codes.{name_of, offset_of}
+use Rattle.file_words.specs.declared.fault.ReadError.{ReadError}
+use Rattle.file_words.specs.Codes.{name_of, offset_of}
 use Rattle.reports.specs.Retimings.{change}
 use Rattle.reports.specs.declared.batch.JobReport.{JobReport}
 use Rattle.reports.specs.declared.batch.JobReport.TheVariants.{Done, Refused, NoMemory, NoSuchLatch, NoSuchName}

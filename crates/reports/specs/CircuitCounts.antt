@@ -3,7 +3,7 @@ use Rattle.std.specs.Prelude.{ℕ, [], length}
 use Rattle.aig_graph.specs.Graph.{free_latches, known_latches}
 use Rattle.aig_graph.specs.Circuits.{Netlist}
 use Rattle.frame_net.specs.Passable.{passable_gates}
-use Rattle.retimed_circuits.specs.Levels.{levels}
+use Rattle.path_levels.specs.Levels.{levels}
 use Rattle.reports.specs.declared.statistics.Counts.{Counts}
 use Rattle.reports.specs.declared.statistics.Statistics.{Statistics}
 

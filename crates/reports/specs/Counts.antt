@@ -2,17 +2,19 @@
 use Rattle.std.specs.Prelude.{ℕ, List, [], ◌∷◌, ◌++◌, decimal, codes, Option, Some, None}
 use Rattle.reports.specs.declared.statistics.Counts.{Counts}
 use Rattle.reports.specs.declared.statistics.Statistics.{Statistics}
-use Rattle.retimed_circuits.specs.declared.counts.MergeCounts.{MergeCounts}
+use Rattle.merged_circuits.specs.declared.counts.MergeCounts.{MergeCounts}
 
 -- a word, a space, a number
 unfoldable pub count_line : List ℕ → ℕ → List ℕ
 count_line word count = word ++ (32 ∷ (decimal count ++ 10 ∷ []))
 
+-- the lines of inputs, latches, free latches and gates
 unfoldable pub graph_counts : Counts → List ℕ
 graph_counts c =
     count_line (codes "inputs") c.inputs ++ (count_line (codes "latches") c.latches
     ++ (count_line (codes "free") c.free ++ count_line (codes "gates") c.gates))
 
+-- the lines of the properties, kind after kind
 unfoldable pub property_counts : Counts → List ℕ
 property_counts c =
     count_line (codes "outputs") c.outputs ++ (count_line (codes "bad") c.bad ++ (count_line (codes "constraints") c.constraints

@@ -7,7 +7,7 @@ use Rattle.aig_graph.specs.Circuits.{Netlist}
 use Rattle.aig_graph.specs.Closed.{is_held, may_move}
 use Rattle.aig_graph.specs.Border.{is_read_outside}
 use Rattle.frame_net.specs.Passable.{is_passable, passable_gates}
-use Rattle.retimed_circuits.specs.Bounded.{bounded}
+use Rattle.path_levels.specs.Bounded.{bounded}
 use Rattle.reports.specs.declared.held_back.HeldBack.{HeldBack}
 
 -- whether the variable is a held latch with a known reset

@@ -10,7 +10,4 @@ pub mod Batches
 pub mod Agreements
 pub mod Audits
 pub mod Remaining
-pub mod WaveProbes
-pub mod WaveNames
-pub mod WaveDumps
-pub mod WaveMoments
+pub mod waves

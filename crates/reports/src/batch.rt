@@ -7,7 +7,8 @@ ghost use Rattle.reports.specs.Batches.{job_line, offset_text, refusal_text, rep
 ghost use Rattle.reports.specs.Batches as texts;
 
 use crate::retiming::put_change;
-use counted_io::{Buffered, CountedWrite, ReadError, WriteError};
+use counted_io::{Buffered, CountedWrite, WriteError};
+use file_words::ReadError;
 
 /// What became of a file of a batch.
 #[derive(Clone, Copy)]

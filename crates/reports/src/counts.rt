@@ -6,7 +6,7 @@ ghost use Rattle.reports.specs.Counts.{count_line, counts_text, graph_counts, me
 
 use crate::{Counts, Statistics};
 use counted_io::{Buffered, CountedWrite, WriteError};
-use retimed_circuits::MergeCounts;
+use merged_circuits::MergeCounts;
 
 /// Puts a word, a space, a number and the newline.
 fn put_count<W: CountedWrite>(out: &mut Buffered<'_, W>, word: &[u8], count: u64)

@@ -5,12 +5,12 @@ ghost use Rattle.aig_graph.specs.Tables.{table};
 ghost use Rattle.aig_graph.specs.Graph.{first_latch, first_gate, latches_and_gates};
 ghost use Rattle.aig_graph.specs.Border.{is_read_outside};
 ghost use Rattle.frame_net.specs.Passable.{IsPassSet, is_passable};
-ghost use Rattle.retimed_circuits.specs.Bounded.{bounded};
+ghost use Rattle.path_levels.specs.Bounded.{bounded};
 ghost use Rattle.reports.specs.HeldBack.{held_back, held_back_within, is_known_held, is_marked_latch};
 
 use aig_graph::{Aig, Circuit, Keep, NoMemory, mark_at, mark_read};
 use frame_net::{PassSet, passable};
-use retimed_circuits::bounded;
+use path_levels::bounded;
 use std::alloc::Global;
 
 /// Why latches of a circuit can't move. A known latch that is in none of these counts is read by passable gates alone.

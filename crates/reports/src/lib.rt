@@ -1,12 +1,5 @@
-//! What the program prints on standard output: the frames of a retiming, the files of a batch, the audit of certificates and whether a
-//! file has the circuit that they end in, counts, traces and differences.
+//! What the program prints on standard output for people: frames, batches, audits, counts, traces, differences and waves.
 //! Each text goes through a buffer, line by line, and takes no memory.
-//!
-//! What a circuit has is counted once: how many there are of each kind, how deep it is, and what holds its latches where they are. Lines and
-//! objects of JSON are made from these counts.
-//!
-//! Waves are the values of a circuit's inputs, latches and properties, step by step, as a value change dump (IEEE 1364), which viewers of
-//! waves read. The circuit is simulated while the text goes through a buffer, so that no step is kept.
 #![tactic(auto)]
 
 mod agreement;
@@ -21,13 +14,7 @@ mod retiming;
 mod simulating;
 mod statistics;
 mod trace;
-mod wave_dump;
-mod wave_moment;
-mod wave_naming;
-mod wave_probes;
-mod wave_room;
-mod wave_times;
-mod wave_values;
+mod waves;
 
 pub use agreement::{Agreement, compare};
 pub use audit::print_audit;
@@ -41,7 +28,4 @@ pub use retiming::print_retiming;
 pub use simulating::{Room, print_simulated};
 pub use statistics::{Counts, Statistics};
 pub use trace::print_trace;
-pub use wave_dump::write_waves;
-pub use wave_naming::wave_names;
-pub use wave_probes::probed;
-pub use wave_room::WaveRoom;
+pub use waves::{WaveRoom, probed, wave_names, write_waves};

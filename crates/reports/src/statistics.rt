@@ -5,7 +5,7 @@ ghost use Rattle.reports.specs.CircuitCounts.{counts, statistics};
 
 use aig_graph::{Circuit, Keep, NoMemory};
 use frame_net::passable;
-use retimed_circuits::levels;
+use path_levels::levels;
 use std::alloc::Global;
 
 /// How many there are of each kind in a circuit.

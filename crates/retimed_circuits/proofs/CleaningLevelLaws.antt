@@ -5,7 +5,7 @@ use Rattle.cleaned_circuits.specs.Merged.{merged_of}
 use Rattle.cleaned_circuits.specs.Trimmed.{trimmed_of}
 use Rattle.cleaned_circuits.specs.Cleaned.{IsPass, Cleans, unchanged, after_pass}
 use Rattle.cleaned_circuits.proofs.PassLaws.{IsCircuit, IsCircuit-merged, IsCircuit-pass}
-use Rattle.retimed_circuits.specs.Levels.{levels}
+use Rattle.path_levels.specs.Levels.{levels}
 use Rattle.retimed_circuits.proofs.ReplacedLevelLaws.{merged-levels}
 use Rattle.retimed_circuits.proofs.TrimmedLevelLaws.{trimmed-levels}
 

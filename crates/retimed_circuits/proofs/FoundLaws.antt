@@ -8,8 +8,8 @@ use Rattle.aig_graph.specs.declared.choice.Choice.{Choice}
 use Rattle.aig_graph.specs.declared.choice.Choice.TheVariants.{Greatest, Smallest}
 use Rattle.aig_graph.proofs.ChosenLaws.{chosen-least, chosen-one}
 use Rattle.aig_graph.proofs.SetLaws.{rising_same}
-use Rattle.retimed_circuits.specs.Arrivals.{IsChosenWithin, IsLeastWithin}
-use Rattle.retimed_circuits.specs.Levels.{levels}
+use Rattle.path_levels.specs.Arrivals.{IsChosenWithin, IsLeastWithin}
+use Rattle.path_levels.specs.Levels.{levels}
 use Rattle.retimed_circuits.specs.Frames.{IsFound, IsFoundWithin, IsHelpingSet, IsTooLong, NoneHelps, NoneSmaller, count_over, found_whole, found_within, moved_over}
 
 -- a chosen set of those that arrive within a bound is a least one of them

@@ -4,7 +4,7 @@ use Rattle.std.proofs.lemmas.Bool.{cases_lt}
 use Rattle.aig_graph.specs.declared.graph.Gate.{Gate}
 use Rattle.aig_graph.specs.Graph.{variable}
 use Rattle.aig_graph.specs.Building.{gate_of}
-use Rattle.retimed_circuits.specs.Levels.{one_above}
+use Rattle.path_levels.specs.Levels.{one_above}
 
 -- one above the higher fan-in
 abbrev pub gate_level : (ℕ → ℕ) → Gate → ℕ

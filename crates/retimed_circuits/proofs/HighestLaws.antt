@@ -10,7 +10,7 @@ use Rattle.aig_graph.specs.Graph.{variable}
 use Rattle.aig_graph.specs.Circuits.{Netlist}
 use Rattle.aig_graph.specs.Streams.{property_literals}
 use Rattle.aig_graph.proofs.GraphLaws.{all_from_slice_get}
-use Rattle.retimed_circuits.specs.Levels.{level, highest, levels}
+use Rattle.path_levels.specs.Levels.{level, highest, levels}
 
 module _ (at : ℕ → ℕ) where
   -- the highest is above what it starts from

@@ -8,8 +8,8 @@ use Rattle.aig_graph.specs.Folding.{fold_gates, fold_to_depth}
 use Rattle.aig_graph.specs.Mapped.{mapped_props}
 use Rattle.aig_graph.specs.Move.{move_of}
 use Rattle.aig_graph.specs.Value.{latch_value, value}
-use Rattle.retimed_circuits.specs.Arrivals.{arrival}
-use Rattle.retimed_circuits.specs.Levels.{level, levels}
+use Rattle.path_levels.specs.Arrivals.{arrival}
+use Rattle.path_levels.specs.Levels.{level, levels}
 use Rattle.rebuild.specs.Moved.{advanced, copies_start, copy_variable, gates_start, is_latched, is_outside, moved_graph, moved_of, moved_symbols, new_variable}
 use Rattle.rebuild.specs.Starting.{start_value}
 

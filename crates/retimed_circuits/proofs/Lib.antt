@@ -1,28 +1,3 @@
-pub mod WithinLaws
-pub mod MoveStepLaws
-pub mod MapLaws
-pub mod PassStepLaws
-pub mod FrameMapLaws
-pub mod ReadsHoldLaws
-pub mod MergedStepLaws
-pub mod MergedRunMapLaws
-pub mod FreeLaws
-pub mod EntryLaws
-pub mod LevelLaws
-pub mod ArrivalLaws
-pub mod BarringLaws
-pub mod BarredBorderLaws
-pub mod UnbarredLaws
-pub mod BoundedLaws
-pub mod MarkedLaws
-mod PathLevelExamples
-pub mod ReadingLaws
-pub mod ValueLaws
-pub mod MergingLaws
-pub mod FinerLaws
-pub mod ClassRunLaws
-pub mod CoarserLaws
-pub mod Examples
 pub mod FoundLaws
 pub mod CertifiedLaws
 pub mod ReportLaws
@@ -30,7 +5,6 @@ pub mod RunLaws
 pub mod StayLaws
 pub mod HeldLaws
 pub mod CircuitLaws
-pub mod LimitLaws
 pub mod MergedRunLaws
 pub mod HighestLaws
 pub mod GateLevelLaws

@@ -4,10 +4,10 @@ use Rattle.aig_graph.specs.Circuits.{Netlist}
 use Rattle.aig_graph.specs.Keep.{Holding, held_of}
 use Rattle.aig_graph.specs.Laws.{composed}
 use Rattle.aig_graph.specs.declared.choice.Choice.{Choice}
-use Rattle.retimed_circuits.specs.declared.counts.MergeCounts.{MergeCounts}
-use Rattle.retimed_circuits.specs.Counts.{AreCounts}
-use Rattle.retimed_circuits.specs.Partitions.{IsMerged}
-use Rattle.retimed_circuits.proofs.FinerLaws.{counts-one, merged-one}
+use Rattle.merged_circuits.specs.declared.counts.MergeCounts.{MergeCounts}
+use Rattle.merged_circuits.specs.Counts.{AreCounts}
+use Rattle.merged_circuits.specs.Partitions.{IsMerged}
+use Rattle.merged_circuits.proofs.FinerLaws.{counts-one, merged-one}
 use Rattle.retimed_circuits.specs.declared.report.Retimed.{Retimed}
 use Rattle.retimed_circuits.specs.Certified.{IsSameRetiming}
 use Rattle.retimed_circuits.specs.Merging.{MergesIn}

@@ -18,10 +18,10 @@ use Rattle.aig_graph.proofs.FoldingLaws.{fold_gates-leaf, gate_at-before, gate_a
 use Rattle.aig_graph.proofs.KindLaws.{LatchPlace, GatePlace, gate_place, is_constant, is_gate, is_input, is_latch, kind_of, latch_at-first_latch, latch_place}
 use Rattle.aig_graph.proofs.SearchLaws.{has_iff_contains}
 use Rattle.aig_graph.proofs.SignLaws.{variable-signed_as, variable-signed_as_twice}
-use Rattle.retimed_circuits.specs.Arrivals.{ArriveWithin, IsClosedWithin, arrival, level_of_next, next_level}
-use Rattle.retimed_circuits.specs.Levels.{ground_level, level, levels, one_above}
-use Rattle.retimed_circuits.proofs.ArrivalLaws.{arrival-gate}
-use Rattle.retimed_circuits.proofs.LevelLaws.{level-gate}
+use Rattle.path_levels.specs.Arrivals.{ArriveWithin, IsClosedWithin, arrival, level_of_next, next_level}
+use Rattle.path_levels.specs.Levels.{ground_level, level, levels, one_above}
+use Rattle.path_levels.proofs.ArrivalLaws.{arrival-gate}
+use Rattle.path_levels.proofs.LevelLaws.{level-gate}
 use Rattle.rebuild.proofs.BorderLaws.{closed-passable, latched-cases, latched-latch, latched-member, member-gate, new_variable-latched, new_variable-leaf, new_variable-outside, outside_where, read-first, read-next, read-second}
 use Rattle.rebuild.proofs.MovedLaws.{copies_start-is, copy_in, copy_variable-is, gate_in, gates_start-is, latch_source, moved-first_gate}
 use Rattle.rebuild.proofs.ReadLaws.{IsReadable, all-readable, moved-literals}

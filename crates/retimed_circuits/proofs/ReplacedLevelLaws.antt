@@ -13,10 +13,10 @@ use Rattle.cleaned_circuits.specs.Merged.{replaced, replaced_graph, replaced_cir
 use Rattle.cleaned_circuits.proofs.LatchLaws.{leaf_substitute-below}
 use Rattle.cleaned_circuits.proofs.SubstituteLaws.{AreLeaves, start-length, start-entry, substitutes-after}
 use Rattle.cleaned_circuits.proofs.MergedLaws.{from_latch}
-use Rattle.retimed_circuits.specs.Readings.{leaves, substitutes_by}
-use Rattle.retimed_circuits.specs.Partitions.{IsMerged}
-use Rattle.retimed_circuits.proofs.ReadingLaws.{are-leaves}
-use Rattle.retimed_circuits.specs.Levels.{level, levels}
+use Rattle.merged_circuits.specs.Readings.{leaves, substitutes_by}
+use Rattle.merged_circuits.specs.Partitions.{IsMerged}
+use Rattle.merged_circuits.proofs.ReadingLaws.{are-leaves}
+use Rattle.path_levels.specs.Levels.{level, levels}
 use Rattle.retimed_circuits.proofs.HighestLaws.{IsReadWithin, read-within_levels, levels-most}
 use Rattle.retimed_circuits.proofs.SubstituteLevelLaws.{after-level}
 

@@ -6,8 +6,8 @@ use Rattle.aig_graph.specs.Keep.{held_of}
 use Rattle.aig_graph.specs.Move.{move_of}
 use Rattle.aig_graph.specs.declared.choice.Choice.{Choice}
 use Rattle.cleaned_circuits.proofs.PassLaws.{IsCircuit, IsCircuit-cleans}
-use Rattle.retimed_circuits.proofs.MergingLaws.{IsGraph-merged_latches, IsNetlist-merged_latches}
-use Rattle.retimed_circuits.specs.Levels.{levels}
+use Rattle.merged_circuits.proofs.MergingLaws.{IsGraph-merged_latches, IsNetlist-merged_latches}
+use Rattle.path_levels.specs.Levels.{levels}
 use Rattle.retimed_circuits.specs.declared.report.FrameReport.{FrameReport}
 use Rattle.retimed_circuits.specs.declared.report.Retimed.{Retimed}
 use Rattle.retimed_circuits.specs.Frames.{AfterFrames, CleansTo, IsFoundWithin, IsFrame, cleaned, count_over, found_whole, found_within, frame, held_over, moved_over}

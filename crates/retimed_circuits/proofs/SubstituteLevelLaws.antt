@@ -12,9 +12,9 @@ use Rattle.aig_graph.proofs.FoldingLaws.{gate_at-before, gate_at-first_gate}
 use Rattle.cleaned_circuits.specs.Merged.{Merging, replaced, replaced_gate, replaced_graph, same_fan_ins, known_substitute, with_substitute, merge_gate, merge_gates, merging_from, substitutes_after}
 use Rattle.cleaned_circuits.proofs.SubstituteLaws.{lookup_push, same_fan_ins-is, gate_substitutes, with_false, with_true, with_equal, with_opposite, with_earlier, replaced-variable, length-merge_gate, GateOf, AreLeaves, length-substitutes_after, gates-of, after-within}
 use Rattle.cleaned_circuits.proofs.MergedLaws.{IsGraph-replaced, replaced-first_gate, replaced-gate}
-use Rattle.retimed_circuits.specs.Levels.{level}
-use Rattle.retimed_circuits.proofs.LevelLaws.{level-no_gate, level-gate}
-use Rattle.retimed_circuits.proofs.CoarserLaws.{substitutes-stay}
+use Rattle.path_levels.specs.Levels.{level}
+use Rattle.path_levels.proofs.LevelLaws.{level-no_gate, level-gate}
+use Rattle.merged_circuits.proofs.CoarserLaws.{substitutes-stay}
 use Rattle.retimed_circuits.proofs.GateLevelLaws.{gate_level, gate_level-gate_of}
 
 -- by the levels of variables before and after, where the constant has level 0

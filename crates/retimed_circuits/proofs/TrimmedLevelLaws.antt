@@ -14,8 +14,8 @@ use Rattle.aig_graph.proofs.PropsLaws.{mapped-literals, literals_within}
 use Rattle.cleaned_circuits.specs.Reached.{stays, HoldsReads}
 use Rattle.cleaned_circuits.specs.Trimmed.{new_variable, renumbered, renumbered_gate, trimmed_graph, trimmed_of}
 use Rattle.cleaned_circuits.proofs.TrimmedLaws.{stays-past, new-rises, new-less, trimmed-first_gate, gate_in, latch_from, renumbered-variable, next-reached, fan_ins-reached, IsGraph-trimmed}
-use Rattle.retimed_circuits.specs.Levels.{level, levels}
-use Rattle.retimed_circuits.proofs.LevelLaws.{level-no_gate, level-gate}
+use Rattle.path_levels.specs.Levels.{level, levels}
+use Rattle.path_levels.proofs.LevelLaws.{level-no_gate, level-gate}
 use Rattle.retimed_circuits.proofs.GateLevelLaws.{gate_level-gate_of}
 use Rattle.retimed_circuits.proofs.HighestLaws.{IsReadWithin, read-within_levels, levels-most}
 

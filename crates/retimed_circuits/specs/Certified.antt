@@ -5,7 +5,7 @@ use Rattle.certificates.specs.declared.certificate.Certificate.{Certificate}
 use Rattle.certificates.specs.declared.verdict.Verdict.TheVariants.{Yes}
 use Rattle.certificates.specs.Verdicts.{IsVerdict}
 use Rattle.aig_graph.specs.declared.choice.Choice.{Choice}
-use Rattle.retimed_circuits.specs.Bounded.{bounded}
+use Rattle.path_levels.specs.Bounded.{bounded}
 use Rattle.retimed_circuits.specs.declared.report.FrameReport.{FrameReport}
 use Rattle.retimed_circuits.specs.declared.report.Retimed.{Retimed}
 use Rattle.retimed_circuits.specs.Frames.{AfterFrames, IsFound, count_over}

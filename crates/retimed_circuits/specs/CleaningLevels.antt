@@ -3,8 +3,8 @@ use Rattle.std.specs.Prelude.{ℕ, ◌≤◌, List}
 use Rattle.aig_graph.specs.Graph.{IsGraph}
 use Rattle.aig_graph.specs.Circuits.{Netlist, IsNetlist}
 use Rattle.cleaned_circuits.specs.Cleaned.{Cleans}
-use Rattle.retimed_circuits.specs.Partitions.{IsMerged}
-use Rattle.retimed_circuits.specs.Levels.{levels}
+use Rattle.merged_circuits.specs.Partitions.{IsMerged}
+use Rattle.path_levels.specs.Levels.{levels}
 
 -- cleaning makes no path longer
 abbrev pub CleaningKeepsLevels : Type 0

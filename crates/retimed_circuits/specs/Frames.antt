@@ -9,8 +9,8 @@ use Rattle.aig_graph.specs.Border.{border_size}
 use Rattle.aig_graph.specs.Laws.{composed}
 use Rattle.aig_graph.specs.declared.choice.Choice.{Choice}
 use Rattle.aig_graph.specs.Chosen.{IsChosen}
-use Rattle.retimed_circuits.specs.Levels.{levels}
-use Rattle.retimed_circuits.specs.Arrivals.{IsChosenWithin, IsClosedWithin}
+use Rattle.path_levels.specs.Levels.{levels}
+use Rattle.path_levels.specs.Arrivals.{IsChosenWithin, IsClosedWithin}
 use Rattle.rebuild.specs.Moved.{moved_held, moved_of}
 use Rattle.cleaned_circuits.specs.Cleaned.{Cleans}
 use Rattle.cleaned_circuits.specs.Held.{HeldAfter}

@@ -3,9 +3,8 @@ use Rattle.std.specs.Prelude.{ℕ, Bool, List, Option, length}
 use Rattle.aig_graph.specs.Graph.{IsGraph}
 use Rattle.aig_graph.specs.Circuits.{Netlist, IsNetlist}
 use Rattle.aig_graph.specs.Keep.{AreLatches, Holding}
-use Rattle.ascii_file.specs.Laws.{IsWithinLimits}
 use Rattle.aig_graph.specs.declared.choice.Choice.{Choice}
-use Rattle.retimed_circuits.specs.Partitions.{IsMerged}
+use Rattle.merged_circuits.specs.Partitions.{IsMerged}
 use Rattle.retimed_circuits.specs.declared.report.FrameReport.{FrameReport}
 use Rattle.retimed_circuits.specs.declared.report.Retimed.{Retimed}
 use Rattle.retimed_circuits.specs.Names.{StayHeld}
@@ -36,7 +35,3 @@ MovingKeepsHeld held c = (s : List ℕ) → IsNetlist c → AreLatches (length c
 abbrev pub FramesKeepHeld : Option ℕ → Choice → List ℕ → Netlist → Type 0
 FramesKeepHeld bound choice held c = (n : ℕ) (d : Netlist) (kept now : List ℕ) (reports : List FrameReport) → IsGraph c.aig → IsNetlist c
     → AreLatches (length c.aig.latches) held → AfterFrames bound choice held c n d kept now reports → StayHeld held c now d
-
--- what a circuit within the limits of a header is retimed to is within them
-abbrev pub StaysWithin : Bool → Option ℕ → Choice → Netlist → Holding → ℕ → Bool → Type 0
-StaysWithin merge bound choice c holding max_frames certify = (r : Retimed) → IsRetimedWith merge bound choice c holding max_frames certify r → IsWithinLimits c → IsWithinLimits r.circuit

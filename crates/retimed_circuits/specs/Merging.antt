@@ -1,9 +1,9 @@
 -- What frames start from where latches that always agree are merged before the first one.
 use Rattle.std.specs.Prelude.{ℕ, List}
 use Rattle.aig_graph.specs.Circuits.{Netlist}
-use Rattle.retimed_circuits.specs.declared.counts.MergeCounts.{MergeCounts}
-use Rattle.retimed_circuits.specs.Counts.{AreCounts}
-use Rattle.retimed_circuits.specs.Partitions.{IsMerged}
+use Rattle.merged_circuits.specs.declared.counts.MergeCounts.{MergeCounts}
+use Rattle.merged_circuits.specs.Counts.{AreCounts}
+use Rattle.merged_circuits.specs.Partitions.{IsMerged}
 use Rattle.retimed_circuits.specs.Frames.{CleansTo}
 
 -- d is c cleaned, and then merged, where the held latches take no part; they stand at now, as merging leaves them where they are. kept has the

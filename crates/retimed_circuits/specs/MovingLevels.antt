@@ -4,8 +4,8 @@ use Rattle.aig_graph.specs.Graph.{IsGraph}
 use Rattle.aig_graph.specs.Circuits.{Netlist, IsNetlist}
 use Rattle.aig_graph.specs.Move.{move_of}
 use Rattle.rebuild.specs.Moved.{moved_of}
-use Rattle.retimed_circuits.specs.Levels.{levels}
-use Rattle.retimed_circuits.specs.Arrivals.{IsClosedWithin}
+use Rattle.path_levels.specs.Levels.{levels}
+use Rattle.path_levels.specs.Arrivals.{IsClosedWithin}
 
 -- latches that move over gates which arrive within the bound leave no path longer than the bound, but for those that the circuit has
 abbrev pub MovingKeepsLevels : Type 0

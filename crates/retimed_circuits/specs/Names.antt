@@ -33,6 +33,7 @@ pub record PlacedLatch : Type 0 where
 unfoldable pub names_at : List Symbol → ℕ → List (List ℕ)
 names_at symbols j = map (λ s. s.name) (filter (λ s. s.position == j) symbols)
 
+-- the latch at a position: its names there, and its reset
 abbrev pub latch_placed : Netlist → ℕ → PlacedLatch
 latch_placed c j = record { names = names_at c.symbols.latches j; reset = reset_of (slice_get c.aig.latches j) }
 

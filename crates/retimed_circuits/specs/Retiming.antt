@@ -5,7 +5,7 @@ use Rattle.aig_graph.specs.Keep.{Holding, held_of}
 use Rattle.aig_graph.specs.Laws.{composed}
 use Rattle.aig_graph.specs.Streams.{SameStreams}
 use Rattle.aig_graph.specs.declared.choice.Choice.{Choice}
-use Rattle.retimed_circuits.specs.declared.counts.MergeCounts.{MergeCounts}
+use Rattle.merged_circuits.specs.declared.counts.MergeCounts.{MergeCounts}
 use Rattle.retimed_circuits.specs.declared.report.Retimed.{Retimed}
 use Rattle.retimed_circuits.specs.Names.{held_latches, latches_at}
 use Rattle.retimed_circuits.specs.Certified.{AreCertified}

@@ -4,7 +4,7 @@ use Rattle.aig_graph.specs.Circuits.{Netlist, IsNetlist}
 use Rattle.aig_graph.specs.Graph.{IsGraph}
 use Rattle.aig_graph.specs.Keep.{Holding}
 use Rattle.aig_graph.specs.declared.choice.Choice.{Choice}
-use Rattle.retimed_circuits.specs.Levels.{levels}
+use Rattle.path_levels.specs.Levels.{levels}
 use Rattle.retimed_circuits.specs.Retiming.{IsRetimedWith}
 use Rattle.retimed_circuits.specs.declared.report.Retimed.{Retimed}
 

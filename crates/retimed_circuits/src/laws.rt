@@ -2,14 +2,7 @@ ghost use Rattle.std.specs.Prelude.{ℕ, Bool, List, Option};
 ghost use Rattle.aig_graph.specs.Circuits.{Netlist};
 ghost use Rattle.aig_graph.specs.Keep.{Holding};
 ghost use Rattle.aig_graph.specs.declared.choice.Choice.{Choice};
-ghost use Rattle.retimed_circuits.specs.Laws.{
-  CleaningKeepsHeld,
-  FramesKeepHeld,
-  IsDetermined,
-  MergingKeepsHeld,
-  MovingKeepsHeld,
-  StaysWithin,
-};
+ghost use Rattle.retimed_circuits.specs.Laws.{CleaningKeepsHeld, FramesKeepHeld, IsDetermined, MergingKeepsHeld, MovingKeepsHeld};
 
 /// What a circuit is retimed to, with its reports, rests on the circuit, on whether latches are merged, the bound on path length, the choice of
 /// least sets, the latches that are asked to be held and the limit of frames alone, whether certificates are wanted or not. Of certificates their
@@ -27,12 +20,4 @@ pub fn held_laws()
     ensures moving { (held : List ℕ) (c : Netlist) → MovingKeepsHeld held c }
     ensures frames { (bound : Option ℕ) (choice : Choice) (held : List ℕ) (c : Netlist)
         → FramesKeepHeld bound choice held c }
-{}
-
-/// A circuit that is retimed keeps the number of its properties and gets no new name: so it stays within the limits of a
-/// header.
-pub fn retimed_limits_law()
-    ensures { (merge : Bool) (bound : Option ℕ) (choice : Choice) (c : Netlist) (holding : Holding)
-        (max_frames : ℕ) (certify : Bool)
-        → StaysWithin merge bound choice c holding max_frames certify }
 {}

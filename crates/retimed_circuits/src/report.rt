@@ -1,6 +1,6 @@
-use crate::MergeCounts;
 use aig_graph::{Circuit, Sequence};
 use certificates::Certificate;
+use merged_circuits::MergeCounts;
 
 /// A frame: a move of latches forward over a set of gates.
 #[derive(Clone, Copy, Debug, PartialEq, Eq)]

@@ -2,7 +2,7 @@
 use Rattle.std.proofs.Common.{ℕ, List, length, arith, refl, sym, subst}
 use Rattle.aig_graph.specs.Circuits.{AreNamesBelow, IsNetlist, Netlist}
 use Rattle.aig_graph.proofs.HoldingLaws.{no-names}
-use Rattle.retimed_circuits.specs.MapCircuits.{FreeStay, IsMapCircuit}
+use Rattle.state_maps.specs.MapCircuits.{FreeStay, IsMapCircuit}
 use Rattle.retiming_maps.specs.declared.parts.MapParts.{MapParts}
 use Rattle.retiming_maps.specs.Mapping.{IsMapTo, map_of, map_symbols}
 use Rattle.retiming_maps.specs.Plain.{IsPlainMap}

@@ -21,8 +21,8 @@ use Rattle.cleaned_circuits.specs.Trimmed.{kept_free, trimmed_graph, trimmed_of}
 use Rattle.cleaned_circuits.proofs.KeptFreeLaws.{free-rank, kept_free-at}
 use Rattle.cleaned_circuits.proofs.MergedLaws.{length-replaced_latches, replaced-free_before, replaced-latch}
 use Rattle.cleaned_circuits.proofs.TrimmedLaws.{LatchFrom, latch_from}
-use Rattle.retimed_circuits.specs.Readings.{IsReading, ReadsAs, as_constant, as_first, as_itself, own_literal, read, substitutes_by}
-use Rattle.retimed_circuits.proofs.ValueLaws.{may-known}
+use Rattle.merged_circuits.specs.Readings.{IsReading, ReadsAs, as_constant, as_first, as_itself, own_literal, read, substitutes_by}
+use Rattle.merged_circuits.proofs.ValueLaws.{may-known}
 use Rattle.rebuild.specs.Moved.{is_latched, latch_for, moved_graph, moved_of}
 use Rattle.rebuild.specs.Moved.{latch_from as latch_by}
 use Rattle.rebuild.specs.Starting.{start_value}
@@ -33,9 +33,9 @@ use Rattle.aig_graph.specs.Counting.{count_below, places}
 use Rattle.aig_graph.specs.Tables.{table}
 use Rattle.aig_graph.proofs.PlacesLaws.{Ranks, at_rank}
 use Rattle.aig_graph.proofs.TableLaws.{table-at}
-use Rattle.retimed_circuits.specs.MapCircuits.{FreeStay, IsFreeInput}
-use Rattle.retimed_circuits.proofs.FreeLaws.{all-free, free-fewer, free-order, free-within, rising-free}
-use Rattle.retimed_circuits.proofs.PassStepLaws.{new-rank}
+use Rattle.state_maps.specs.MapCircuits.{FreeStay, IsFreeInput}
+use Rattle.state_maps.proofs.FreeLaws.{all-free, free-fewer, free-order, free-within, rising-free}
+use Rattle.state_maps.proofs.PassStepLaws.{new-rank}
 use Rattle.map_circuits.specs.Constraining.{substitute_function}
 use Rattle.map_circuits.specs.Following.{entry_of, literal_at}
 use Rattle.map_circuits.specs.Stepping.{AreMoved, ArePassed}

@@ -13,15 +13,15 @@ use Rattle.cleaned_circuits.proofs.MergedLaws.{length-replaced_latches}
 use Rattle.cleaned_circuits.proofs.PassLaws.{IsCircuit, IsCircuit-cleans, cleans-streams}
 use Rattle.latch_merging.specs.declared.start.MergedStart.{MergedStart}
 use Rattle.latch_merging.proofs.StartLaws.{in_range-by, merges-by, stay-by, streams-by}
-use Rattle.retimed_circuits.specs.Partitions.{IsCoarsest, IsMerged}
-use Rattle.retimed_circuits.specs.Readings.{substitutes_by}
-use Rattle.retimed_circuits.proofs.FinerLaws.{coarsest-one}
-use Rattle.retimed_circuits.proofs.MergingLaws.{merged-streams}
+use Rattle.merged_circuits.specs.Partitions.{IsCoarsest, IsMerged}
+use Rattle.merged_circuits.specs.Readings.{substitutes_by}
+use Rattle.merged_circuits.proofs.FinerLaws.{coarsest-one}
+use Rattle.merged_circuits.proofs.MergingLaws.{merged-streams}
 use Rattle.map_circuits.specs.Constraining.{AddsSubstitutes, AreOne, substitute_function}
 use Rattle.map_circuits.specs.Following.{state_of}
 use Rattle.map_circuits.specs.Steps.{read_functions}
 use Rattle.map_circuits.proofs.ReadFunctionLaws.{merged-step, read-within}
-use Rattle.retimed_circuits.specs.States.{IsStateMap}
+use Rattle.state_maps.specs.States.{IsStateMap}
 use Rattle.retimed_circuits.specs.Frames.{CleansTo}
 use Rattle.retimed_circuits.specs.Names.{StayHeld}
 use Rattle.retimed_circuits.proofs.HeldLaws.{cleaning-keeps}

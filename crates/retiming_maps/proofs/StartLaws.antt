@@ -21,9 +21,9 @@ use Rattle.cleaned_circuits.proofs.PassLaws.{IsCircuit}
 use Rattle.aig_graph.specs.Tables.{table}
 use Rattle.aig_graph.proofs.ListLaws.{map-same}
 use Rattle.aig_graph.proofs.TableLaws.{length-table, table-at}
-use Rattle.retimed_circuits.specs.States.{Digits, IsStateMap, SameReads, State, after_step, opening_state}
-use Rattle.retimed_circuits.proofs.MapLaws.{opening-same}
-use Rattle.retimed_circuits.proofs.WithinLaws.{within_laws}
+use Rattle.state_maps.specs.States.{Digits, IsStateMap, SameReads, State, after_step, opening_state}
+use Rattle.state_maps.proofs.MapLaws.{opening-same}
+use Rattle.state_maps.proofs.WithinLaws.{within_laws}
 use Rattle.map_circuits.specs.Constraining.{AreOne}
 use Rattle.map_circuits.specs.Following.{state_of}
 use Rattle.retiming_maps.specs.Mapping.{IsMapBy}

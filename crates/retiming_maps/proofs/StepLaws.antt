@@ -14,12 +14,12 @@ use Rattle.cleaned_circuits.proofs.MergedLaws.{IsGraph-merged}
 use Rattle.cleaned_circuits.proofs.PassLaws.{IsCircuit, IsCircuit-pass, pass-streams}
 use Rattle.rebuild.specs.Moved.{moved_graph, moved_of}
 use Rattle.rebuild.proofs.MovedLaws.{IsGraph-moved}
-use Rattle.retimed_circuits.specs.States.{IsStateMap, State}
-use Rattle.retimed_circuits.specs.CleanedStates.{SubstitutesHold, held_by, trimmed_state}
-use Rattle.retimed_circuits.specs.MovedStates.{moved_state}
-use Rattle.retimed_circuits.proofs.FrameMapLaws.{restated}
-use Rattle.retimed_circuits.proofs.MapLaws.{maps-compose, moving-maps}
-use Rattle.retimed_circuits.proofs.PassStepLaws.{cleaning-maps, small-many}
+use Rattle.state_maps.specs.States.{IsStateMap, State}
+use Rattle.state_maps.specs.CleanedStates.{SubstitutesHold, held_by, trimmed_state}
+use Rattle.state_maps.specs.MovedStates.{moved_state}
+use Rattle.state_maps.proofs.FrameMapLaws.{restated}
+use Rattle.state_maps.proofs.MapLaws.{maps-compose, moving-maps}
+use Rattle.state_maps.proofs.PassStepLaws.{cleaning-maps, small-many}
 use Rattle.map_circuits.specs.Constraining.{AddsSubstitutes, AreOne}
 use Rattle.map_circuits.specs.Following.{state_of}
 use Rattle.map_circuits.specs.Growing.{Extends}

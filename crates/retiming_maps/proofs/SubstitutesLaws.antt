@@ -10,9 +10,9 @@ use Rattle.cleaned_circuits.specs.Latches.{latch_substitute}
 use Rattle.cleaned_circuits.proofs.LatchLaws.{constant-even, stands_for, by_constant, by_itself, by_earlier}
 use Rattle.aig_graph.specs.Tables.{table}
 use Rattle.aig_graph.proofs.TableLaws.{length-table, table-at}
-use Rattle.retimed_circuits.specs.States.{State}
-use Rattle.retimed_circuits.specs.CleanedStates.{SubstitutesHold}
-use Rattle.retimed_circuits.proofs.FrameMapLaws.{substitute-steady}
+use Rattle.state_maps.specs.States.{State}
+use Rattle.state_maps.specs.CleanedStates.{SubstitutesHold}
+use Rattle.state_maps.proofs.FrameMapLaws.{substitute-steady}
 use Rattle.map_circuits.specs.Constraining.{IsSubstitute, SubstitutesBelow, substitute_function}
 use Rattle.map_circuits.specs.Following.{state_of}
 use Rattle.map_circuits.proofs.SubstituteLaws.{function-value, substitute-value}

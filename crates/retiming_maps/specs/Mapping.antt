@@ -12,8 +12,8 @@ use Rattle.cleaned_circuits.specs.Cleaned.{Cleans, IsPass}
 use Rattle.cleaned_circuits.specs.Held.{HeldAfter}
 use Rattle.map_circuits.specs.Constraining.{AreOne}
 use Rattle.map_circuits.specs.Following.{state_of}
-use Rattle.retimed_circuits.specs.MapCircuits.{IsFreeInput}
-use Rattle.retimed_circuits.specs.States.{IsStateMap}
+use Rattle.state_maps.specs.MapCircuits.{IsFreeInput}
+use Rattle.state_maps.specs.States.{IsStateMap}
 use Rattle.retiming_maps.specs.declared.parts.MapParts.{MapParts}
 
 -- the literal is that of the input for a free latch of c, before which there are so many free ones

@@ -5,8 +5,8 @@ use Rattle.aig_graph.specs.Streams.{SameStreams}
 use Rattle.clean.specs.declared.cleaning.Cleaned.{Cleaned}
 use Rattle.latch_merging.specs.declared.start.MergedStart.{MergedStart}
 use Rattle.latch_merging.specs.declared.merging.MergedCircuit.{MergedCircuit}
-use Rattle.retimed_circuits.specs.Counts.{AreCounts}
-use Rattle.retimed_circuits.specs.Partitions.{IsMerged}
+use Rattle.merged_circuits.specs.Counts.{AreCounts}
+use Rattle.merged_circuits.specs.Partitions.{IsMerged}
 use Rattle.retimed_circuits.specs.Merging.{MergesIn}
 use Rattle.retimed_circuits.specs.Names.{StayHeld}
 use Rattle.retiming_maps.specs.declared.parts.MapParts.{MapParts}

@@ -1,6 +1,6 @@
 //! A map that has come to the end of a retiming, as a circuit.
 ghost use Rattle.std.specs.Prelude.{ℕ, ◌≡◌, IfOk, List};
-ghost use Rattle.retimed_circuits.specs.MapCircuits.{FreeStay, IsMapCircuit};
+ghost use Rattle.state_maps.specs.MapCircuits.{FreeStay, IsMapCircuit};
 ghost use Rattle.retiming_maps.specs.Mapping.{IsMapTo, map_of, map_symbols};
 ghost use Rattle.retiming_maps.specs.Plain.{IsPlainMap};
 

@@ -1,7 +1,7 @@
 //! A map that follows a merging of latches: that each latch is what it reads as is a constraint, and the function of that is its function then.
 //! The cleaning before it comes first, so these constraints are of the functions that the cleaned circuit's latches have.
 ghost use Rattle.std.specs.Prelude.{◌<◌, All, OnOk, IfOk, length};
-ghost use Rattle.retimed_circuits.specs.Partitions.{IsCoarsest};
+ghost use Rattle.merged_circuits.specs.Partitions.{IsCoarsest};
 ghost use Rattle.retiming_maps.specs.Mapping.{IsSomeMapTo};
 ghost use Rattle.retiming_maps.specs.Merging.{IsMergedAfter, IsMergedAlong, IsStartAlong, LeadsMerged};
 

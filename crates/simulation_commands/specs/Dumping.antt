@@ -3,10 +3,10 @@ use Rattle.std.specs.Prelude.{ℕ, ◌≡◌, ◌⊎◌, Bool, true, false, List
 use Rattle.aig_graph.specs.Circuits.{Netlist}
 use Rattle.lane_sim.specs.Traces.{trace}
 use Rattle.simulation_commands.specs.Room.{is_too_long}
-use Rattle.reports.specs.WaveDumps.{waves_text}
-use Rattle.reports.specs.WaveMoments.{IsWaveRoomFor}
-use Rattle.reports.specs.WaveNames.{wave_names}
-use Rattle.reports.specs.WaveProbes.{probed}
+use Rattle.reports.specs.waves.Dumps.{waves_text}
+use Rattle.reports.specs.waves.Moments.{IsWaveRoomFor}
+use Rattle.reports.specs.waves.Names.{wave_names}
+use Rattle.reports.specs.waves.Probes.{probed}
 use Rattle.command_line.specs.declared.task.Simulation.{Simulation}
 use Rattle.command_line.specs.declared.task.Stimuli.{Stimuli}
 use Rattle.command_line.specs.declared.task.Stimuli.TheVariants.{Read, Random}

@@ -18,6 +18,7 @@ word seed k = (mix_u64 (state_after seed k)).0
 abbrev pub digit : ℕ → ℕ → Bool
 digit seed i = bit_at (word seed (i / 64)) (i % 64) == 1
 
+-- the first n bits of the words of a seed, the lowest of each first
 abbrev pub digits : ℕ → ℕ → List Bool
 digits seed n = map (digit seed) (range_with_len 0 n)
 

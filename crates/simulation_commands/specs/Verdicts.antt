@@ -98,6 +98,7 @@ pub record IsCaseOf (task : Carrying) (before after : Input) (given : Case) : Ty
   pub circuit : given.circuit ≡ first.circuit
   pub retimed : given.retimed ≡ second.circuit
 
+-- what is printed of a verdict
 abbrev pub verdict_text : Verdict → List ℕ
 verdict_text (Confirmed confirmed) = whole_text confirmed.witness confirmed.reached
 verdict_text (Objected objection) = objection_text objection

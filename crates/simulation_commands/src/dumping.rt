@@ -1,9 +1,9 @@
 //! The waves of what is simulated: their names, room for their values, and how a dump of them is written.
 ghost use Rattle.std.specs.Prelude.{◌≡◌, true, false, IfErr, IfOk, MatchResult, OnOk};
 ghost use Rattle.counted_io.specs.Output.{Writes};
-ghost use Rattle.reports.specs.WaveMoments.{IsWaveRoomFor};
-ghost use Rattle.reports.specs.WaveNames as named;
-ghost use Rattle.reports.specs.WaveProbes as probes;
+ghost use Rattle.reports.specs.waves.Moments.{IsWaveRoomFor};
+ghost use Rattle.reports.specs.waves.Names as named;
+ghost use Rattle.reports.specs.waves.Probes as probes;
 ghost use Rattle.counted_io.specs.Streams.{is_stdout, target_name};
 ghost use Rattle.circuit_files.specs.Outcomes.{IsAbout, outcome_of};
 ghost use Rattle.circuit_files.specs.WrittenFiles.{IsFileGiven, IsTargetGiven};

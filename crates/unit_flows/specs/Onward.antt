@@ -26,7 +26,7 @@ pub record HoldsHeads (before after : ℕ → Bool) (w : ℕ) (gate : Gate) (flo
 abbrev pub waits : Netlist → List ℕ → List GateFlow → List ℕ → ℕ → Bool
 waits c held flows went p = not (is_observed c.aig c.props held (first_latch c.aig + p)) && comes_after c.aig flows p && (slice_index went p == 0)
 
--- more units come to before a gate than go on from there, where so many come from gates that read it
+-- more units come to before a gate than go on from there, if `came` of these come from gates that read it
 abbrev pub IsFuller : GateFlow → ℕ → Type 0
 IsFuller flow came = unit flow.through + flow.first_down + flow.second_down < unit flow.first_up + unit flow.second_up + came
 

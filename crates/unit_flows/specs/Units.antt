@@ -1,4 +1,6 @@
 -- What a flow of units does at the gates of a circuit.
+-- It says gate by gate whether a unit comes from after each fan-in, whether one goes through, and
+-- how many go on to before each fan-in. One unit comes after each known latch.
 use Rattle.std.specs.Prelude.{◌≡◌, ℕ, ◌+◌, ◌-◌, ◌*◌, ◌<◌, ◌≤◌, ◌==◌, nat_lt, Bool, false, ◌&&◌, List, length, slice_index, if◌then◌else◌}
 use Rattle.std.specs.List.{slice_index_or}
 use Rattle.frame_net.specs.Flow.{sum_below}
@@ -47,7 +49,7 @@ comes_after g flows p = if nat_lt p (length g.latches) then is_known (latch_at g
 abbrev pub IsBalancedAfter : Graph → List GateFlow → List ℕ → ℕ → Type 0
 IsBalancedAfter g flows went p = slice_index went p ≤ unit (comes_after g flows p)
 
--- no more units go on from before a gate than come there, where so many come from gates that read it
+-- no more units go on from before a gate than come there, if `came` of these come from gates that read it
 abbrev pub IsBalancedBefore : GateFlow → ℕ → Type 0
 IsBalancedBefore flow came = unit flow.through + flow.first_down + flow.second_down ≤ unit flow.first_up + unit flow.second_up + came
 

@@ -1,4 +1,4 @@
-//! What comes to nodes and goes on from them.
+//! The units that come to nodes and that go on from them.
 ghost use Rattle.std.specs.Prelude.{◌≡◌, ◌<◌, IsTrue, length};
 ghost use Rattle.aig_graph.specs.Graph.{latches_and_gates};
 ghost use Rattle.unit_flows.specs.Units.{comes_after, IsBalancedBefore};
@@ -8,7 +8,8 @@ use crate::gate_flow::GateFlow;
 use crate::tallies::unit;
 use aig_graph::Aig;
 
-/// Whether a unit comes after the variable at a place: a known latch, or a gate that one goes through.
+/// Returns true if a unit comes after the variable at `place`: a known latch, or a gate that one
+/// goes through.
 pub(crate) fn comes_after(aig: &Aig, flows: &[GateFlow], place: usize) -> bool
     requires place { place < latches_and_gates aig.now }
     requires flows { length flows.now ≡ length aig.now.gates }
@@ -22,7 +23,8 @@ pub(crate) fn comes_after(aig: &Aig, flows: &[GateFlow], place: usize) -> bool
     }
 }
 
-/// Whether no more units go on from before a gate than come there, where so many come from gates that read it.
+/// Returns true if no more units go on from before a gate than come there, if `came` come from
+/// gates that read it.
 pub(crate) fn gives_no_more(flow: &GateFlow, came: u32) -> bool
     ensures { IsTrue result → IsBalancedBefore flow.now came }
 {
@@ -33,7 +35,8 @@ pub(crate) fn gives_no_more(flow: &GateFlow, came: u32) -> bool
     goes <= comes
 }
 
-/// Whether more units come to before a gate than go on from there, where so many come from gates that read it.
+/// Returns true if more units come to before a gate than go on from there, if `came` come from
+/// gates that read it.
 pub(crate) fn is_fuller(flow: &GateFlow, came: u32) -> bool
     ensures { IsTrue result → IsFuller flow.now came }
 {

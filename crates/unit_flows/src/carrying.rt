@@ -1,11 +1,12 @@
-//! The flows of gates, as the gates go from circuit to circuit: the next frame's flow starts along them.
+//! The flows of gates, carried from circuit to circuit with the gates: the next frame's flow starts
+//! along them.
 ghost use Rattle.std.specs.Prelude.{◌≡◌, ◌+◌, ◌-◌, ◌≤◌, length, vec_capacity, vec_len};
 
 use crate::gate_flow::GateFlow;
 use aig_graph::{Aig, ClosedSet, NoMemory};
 use std::alloc::Global;
 
-/// The place of a gate's flow, the number of flows where it has none.
+/// Returns the place of a gate's flow, or the number of flows if it has none.
 fn place_of(first: u32, var: u32, flows: usize) -> usize
     ensures { result ≤ flows }
 {
@@ -13,7 +14,7 @@ fn place_of(first: u32, var: u32, flows: usize) -> usize
     if place < flows { place } else { flows }
 }
 
-/// Appends the flows from one place up to another.
+/// Appends the flows from `from` up to `to`.
 fn push_run(into: &mut Vec<GateFlow>, flows: &[GateFlow], from: usize, to: usize)
     requires order { from ≤ to }
     requires within { to ≤ length flows.now }
@@ -46,7 +47,7 @@ fn push_outside(into: &mut Vec<GateFlow>, first: u32, set: &ClosedSet, flows: &[
     }
 }
 
-/// Appends the flows of the gates of the set. Whether there is memory.
+/// Appends the flows of the gates of the set. Returns false if memory is refused.
 fn push_members(into: &mut Vec<GateFlow>, first: u32, set: &ClosedSet, flows: &[GateFlow]) -> bool {
     let mut is_room = true;
     let vars = set.vars();
@@ -59,11 +60,12 @@ fn push_members(into: &mut Vec<GateFlow>, first: u32, set: &ClosedSet, flows: &[
     is_room
 }
 
-/// The flows in the order in which a move over the set leaves their gates: those outside it, and then those in it.
+/// Returns the flows in the order in which a move over the set leaves their gates: those outside of
+/// it, and then those in it.
 ///
 /// # Errors
 ///
-/// `NoMemory` where the table is refused.
+/// `NoMemory` if the table is refused.
 pub fn after_move(
     alloc: Global,
     aig: &Aig,
@@ -83,7 +85,7 @@ pub fn after_move(
     }
 }
 
-/// The flow at a place, nothing where there is none.
+/// Returns the flow at `place`, nothing if there is none.
 fn flow_at(flows: &[GateFlow], place: u32) -> GateFlow {
     let place = place as usize;
     if place < flows.len() {
@@ -93,7 +95,7 @@ fn flow_at(flows: &[GateFlow], place: u32) -> GateFlow {
     }
 }
 
-/// Appends the flows at these places.
+/// Appends the flows at `places`.
 fn push_places(into: &mut Vec<GateFlow>, places: &[u32], flows: &[GateFlow])
     requires none { vec_len into.old ≡ 0 }
     requires room { length places.now ≤ vec_capacity into.old }
@@ -103,11 +105,11 @@ fn push_places(into: &mut Vec<GateFlow>, places: &[u32], flows: &[GateFlow])
     }
 }
 
-/// The flows of the gates that a cleaning keeps, by their places before it.
+/// Returns the flows of the gates that a cleaning keeps. `kept_gates` has their places before it.
 ///
 /// # Errors
 ///
-/// `NoMemory` where the table is refused.
+/// `NoMemory` if the table is refused.
 pub fn after_cleaning(
     alloc: Global,
     kept_gates: &[u32],

@@ -1,4 +1,5 @@
-//! What makes marks a cut: no gate off the marks reads a marked one, and what marked gates read is marked after.
+//! The conditions under which marks are a cut: no gate without a mark reads a marked one, and what
+//! marked gates read is marked after.
 ghost use Rattle.std.specs.Prelude.{◌≡◌, ◌+◌, ◌<◌, ◌≤◌, ◌||◌, IsTrue, length, nat_lt, not};
 ghost use Rattle.aig_graph.specs.Marking.{mark_at};
 ghost use Rattle.aig_graph.specs.Graph.{IsGateAt};
@@ -7,7 +8,7 @@ ghost use Rattle.unit_flows.specs.Shown.{IsCutAt};
 use crate::marks::covered_mark;
 use aig_graph::Gate;
 
-/// Whether a variable that the table covers is no gate, or a gate that isn't marked before.
+/// Returns true if a variable that the table covers is no gate, or a gate that isn't marked before.
 fn is_unmarked(before: &[bool], first: u32, first_gate: u32, var: u32) -> bool
     requires from { first ≤ var }
     requires below { var < first + length before.now }
@@ -16,7 +17,7 @@ fn is_unmarked(before: &[bool], first: u32, first_gate: u32, var: u32) -> bool
     var < first_gate || !covered_mark(before, first, var)
 }
 
-/// Whether the marks have the form of a cut at a gate that reads no input.
+/// Returns true if the marks have the form of a cut at a gate. A gate that reads an input has none.
 pub(crate) fn is_cut_at(
     before: &[bool],
     after: &[bool],

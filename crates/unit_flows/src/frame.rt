@@ -11,7 +11,7 @@ use aig_graph::{Circuit, Keep, NoMemory};
 use frame_net::{PassSet, leaving_marks, passable};
 use std::alloc::Global;
 
-/// The marks from a place on.
+/// Returns the marks from `place` on.
 fn marks_from(marks: &[bool], place: usize) -> &[bool]
     requires { place ≤ length marks.now }
     ensures { result.now ≡ drop place marks.now }
@@ -19,7 +19,8 @@ fn marks_from(marks: &[bool], place: usize) -> &[bool]
     &marks[place..]
 }
 
-/// A circuit and its held latches, with its passable gates and the marks of what is held or read from outside them, from the first latch on.
+/// A circuit and its held latches, with its passable gates, and with marks from the first latch on:
+/// `leaving` has what is held or read from outside of these gates.
 #[derive(Drop)]
 pub struct Frame<'a> {
     pub circuit: &'a Circuit,
@@ -33,11 +34,11 @@ pub struct Frame<'a> {
 }
 
 impl<'a> Frame<'a> {
-    /// The passable gates and the marks of a circuit.
+    /// Returns a circuit's frame, with its passable gates and its marks.
     ///
     /// # Errors
     ///
-    /// `NoMemory` where a table is refused.
+    /// `NoMemory` if a table is refused.
     pub fn new(alloc: Global, circuit: &'a Circuit, keep: &'a Keep) -> Result<Frame<'a>, NoMemory>
         ensures circuit { IfOk result (λ frame. frame.circuit.now ≡ circuit.now) }
         ensures held { IfOk result (λ frame. frame.keep.now ≡ keep.now) }
@@ -56,7 +57,7 @@ impl<'a> Frame<'a> {
         })
     }
 
-    /// By number of gate, whether it is passable.
+    /// Returns by gate number if each gate is passable.
     pub(crate) fn passing_gates(&self) -> &[bool]
         ensures len { length result.now ≡ length self.now.circuit.now.aig.gates }
         ensures each { (k : ℕ) → k < length self.now.circuit.now.aig.gates

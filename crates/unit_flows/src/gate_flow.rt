@@ -1,7 +1,8 @@
-//! What a flow of units does at a gate.
+//! The flow of units at a gate.
 
-/// What a flow did at a gate: whether a unit came from the output of a fan-in, for each of the two; whether one went through; and how
-/// many went on to before a fan-in that is a gate. The first fan-in is the one of the smaller variable.
+/// The units of a flow at a gate: if one came from the output of a fan-in (`up`), for each of the
+/// two; if one went through; and the number that went on to before a fan-in that is a gate
+/// (`down`). The first fan-in is the one of the smaller variable.
 #[derive(Clone, Copy, PartialEq, Eq)]
 pub struct GateFlow {
     pub first_up: bool,
@@ -12,7 +13,7 @@ pub struct GateFlow {
 }
 
 impl GateFlow {
-    /// Nothing.
+    /// Returns the flow in which no unit comes or goes.
     pub fn none() -> GateFlow {
         GateFlow {
             first_up: false,
@@ -23,14 +24,15 @@ impl GateFlow {
         }
     }
 
-    /// Whether nothing came to the gate and nothing went on from it.
+    /// Returns true if nothing came to the gate and nothing went on from it.
     pub fn is_none(&self) -> bool {
         !(self.first_up | self.second_up | self.through)
             & (self.first_down == 0)
             & (self.second_down == 0)
     }
 
-    /// Whether a unit came from the output of the second or the first fan-in.
+    /// Returns true if a unit came from the output of the second fan-in, if `second`, else of the
+    /// first.
     pub fn up(&self, second: bool) -> bool {
         if second {
             self.second_up
@@ -39,7 +41,8 @@ impl GateFlow {
         }
     }
 
-    /// The units that went on to before the second or the first fan-in.
+    /// Returns the units that went on to before the second fan-in, if `second`, else to before the
+    /// first.
     pub fn down(&self, second: bool) -> u32 {
         if second {
             self.second_down
@@ -48,7 +51,7 @@ impl GateFlow {
         }
     }
 
-    /// Notes that a unit came from the output of the second or the first fan-in.
+    /// Notes that a unit came from the output of the second fan-in, if `second`, else of the first.
     pub fn note_up(&mut self, second: bool) {
         if second {
             self.second_up = true;
@@ -57,7 +60,7 @@ impl GateFlow {
         }
     }
 
-    /// Notes that none came from the output of the second or the first fan-in.
+    /// Notes that none came from the output of the second fan-in, if `second`, else of the first.
     pub fn clear_up(&mut self, second: bool) {
         if second {
             self.second_up = false;
@@ -66,7 +69,8 @@ impl GateFlow {
         }
     }
 
-    /// Notes how many units went on to before the second or the first fan-in.
+    /// Notes that `units` units went on to before the second fan-in, if `second`, else to before
+    /// the first.
     pub fn note_down(&mut self, second: bool, units: u32) {
         if second {
             self.second_down = units;

@@ -1,4 +1,4 @@
-//! Judges a flow: whether it shows the greatest least set, and which that is.
+//! Judges a flow: if it shows the greatest least set, that set is found.
 ghost use Rattle.std.specs.Prelude.{◌≡◌, IfOk, IfSome, IsTrue, length, replicate};
 ghost use Rattle.aig_graph.specs.Counting.{places};
 ghost use Rattle.aig_graph.specs.Marking.{mark_at};
@@ -16,7 +16,8 @@ use crate::unit_flow::SpareTables;
 use aig_graph::{ClosedSet, NoMemory};
 use std::alloc::Global;
 
-/// Whether no node of a flow gives more than it gets, and the marks are a full cut for it: by tables of zeros, which get its tallies.
+/// Returns true if no node of a flow gives more than it gets, and the marks are a full cut for it.
+/// `went` and `came` are tables of zeros, which get the flow's tallies.
 fn has_full_cut(
     frame: &Frame,
     flows: &[GateFlow],
@@ -42,7 +43,7 @@ fn has_full_cut(
         && gates_hold(frame, flows, came, before, after)
 }
 
-/// The same, by spare tables.
+/// Calls [`has_full_cut`] with tables of zeros that are among the spare ones.
 fn is_shown(
     frame: &Frame,
     flows: &[GateFlow],
@@ -67,7 +68,7 @@ fn is_shown(
     Ok(has_full_cut(frame, flows, marks, went, came))
 }
 
-/// The passable gates that aren't marked before, rising.
+/// Returns the passable gates that aren't marked before, rising.
 pub(crate) fn off_marks(alloc: Global, frame: &Frame, before: &[bool]) -> Result<Vec<u32>, NoMemory>
     requires { length before.now ≡ latches_and_gates frame.now.circuit.now.aig }
     ensures { IfOk result (λ vars. vars.items ≡ places (is_off frame.now.circuit.now frame.now.keep.now
@@ -90,12 +91,13 @@ pub(crate) fn off_marks(alloc: Global, frame: &Frame, before: &[bool]) -> Result
     Ok(vars)
 }
 
-/// The greatest least set, where a flow shows it by its marks: no node of the flow gives more than it gets, and the marks are a full cut.
-/// Nothing of the flow is trusted. The spare tables serve.
+/// Returns the greatest least set, if a flow shows it by its marks. A flow does so if no node gives
+/// more than it gets, and the marks are a full cut. Nothing of the flow is trusted. The spare
+/// tables are used.
 ///
 /// # Errors
 ///
-/// `NoMemory` where a table is refused.
+/// `NoMemory` if a table is refused.
 pub fn shown_by_marks(
     alloc: Global,
     frame: &Frame,
@@ -113,7 +115,7 @@ pub fn shown_by_marks(
     ensures { IfOk result (λ shown. IfSome shown (λ set. IsGreatestLeast
         frame.now.circuit.now frame.now.keep.now set)) }
 {
-    // That its gates come in order is what the graph's readers ensure.
+    // The graph's readers ensure that its gates come in order.
     frame.circuit.aig().known();
     let Ok(is_shown) = is_shown(frame, flows, marks, spare) else {
         return Err(NoMemory);
@@ -127,12 +129,12 @@ pub fn shown_by_marks(
     Ok(ClosedSet::new(vars))
 }
 
-/// The greatest least set, where a flow shows it. A few passes over the gates, and sweeps until nothing is newly marked; 9 bytes a latch and
-/// gate.
+/// Returns the greatest least set, if a flow shows it. It makes a few passes over the gates, and
+/// sweeps until nothing is newly marked, with 9 bytes a latch and gate.
 ///
 /// # Errors
 ///
-/// `NoMemory` where a table is refused.
+/// `NoMemory` if a table is refused.
 pub(crate) fn shown_set(
     alloc: Global,
     frame: &Frame,

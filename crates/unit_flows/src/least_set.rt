@@ -1,4 +1,5 @@
-//! The chosen least set of a circuit, the greatest or the smallest, by a flow of units, where the judge says that it shows one.
+//! The chosen least set of a circuit, the greatest or the smallest, by a flow of units, if the
+//! judge says that the flow shows it.
 ghost use Rattle.std.specs.Prelude.{IfOk, IfSome};
 ghost use Rattle.aig_graph.specs.Chosen.{IsChosen};
 
@@ -10,11 +11,11 @@ use crate::unit_flow::SpareTables;
 use aig_graph::{Choice, ClosedSet, NoMemory};
 use std::alloc::Global;
 
-/// The chosen least set, where a flow shows it. The spare tables serve.
+/// Returns the chosen least set, if a flow shows it. The spare tables are used.
 ///
 /// # Errors
 ///
-/// `NoMemory` where a table is refused.
+/// `NoMemory` if a table is refused.
 pub fn shown_chosen(
     alloc: Global,
     frame: &Frame,

@@ -1,7 +1,10 @@
-//! Judges flows of units over the gates of a circuit, without a network. One unit comes after each known latch, and one at most goes through
-//! a gate. Where no node gives more than it gets, no closed set has a smaller border than there are units that come to the sink; so a cut
-//! that as many units cross as it has room for is least, and where all that is marked reaches the sink over residual arcs, each least set
-//! lies off the marks (Hurst, Mishchenko and Brayton, 2007).
+//! Judges flows of units over the gates of a circuit, without a network.
+//!
+//! One unit comes after each known latch, and at most one goes through a gate. If no node gives
+//! more than it gets, no closed set has a smaller border than the number of units that come to the
+//! sink. So a cut is least if the units that cross it fill its room. If moreover all that is marked
+//! reaches the sink over residual arcs, each least set lies off the marks (Hurst, Mishchenko and
+//! Brayton, 2007).
 #![tactic(auto)]
 
 ghost use Rattle.unit_flows.specs.Laws.{BorderLaw, ShownLaw, ShownSmallestLaw};
@@ -35,12 +38,14 @@ pub fn border_law()
     ensures { BorderLaw }
 {}
 
-/// The passable gates off the marks of a full cut, all of whose marks reach the sink, are the greatest least set.
+/// The passable gates off the marks of a full cut are the greatest least set, if all of its marks
+/// reach the sink.
 pub fn shown_law()
     ensures { ShownLaw }
 {}
 
-/// The passable gates off the marks of a full cut, all of which are reached from where units are left, are the smallest least set.
+/// The passable gates off the marks of a full cut are the smallest least set, if all of them are
+/// reached from where units are left.
 pub fn shown_smallest_law()
     ensures { ShownSmallestLaw }
 {}

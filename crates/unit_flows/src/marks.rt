@@ -1,6 +1,7 @@
-//! Marks of the nodes from which more units could come to the sink, by variable from the first latch on. Each is set by a residual arc to a
-//! marked node, so all that is marked reaches the sink. That nothing else does isn't claimed here: the judge sees for itself that the marks
-//! are a full cut.
+//! Marks of the nodes from which more units could come to the sink, by variable from the first
+//! latch on. Each is set by a residual arc to a marked node, so all that is marked reaches the
+//! sink. It isn't claimed here that nothing else does: the judge sees for itself that the marks are
+//! a full cut.
 ghost use Rattle.std.specs.Prelude.{◌≡◌, ◌&&◌, ◌==◌, ◌+◌, ◌<◌, ◌≤◌, ℕ, Bool, IsTrue, true, length};
 ghost use Rattle.aig_graph.specs.Marking.{mark_at, Marks};
 ghost use Rattle.aig_graph.specs.Graph.{IsGateAt, variable};
@@ -9,7 +10,7 @@ ghost use Rattle.unit_flows.specs.Marks.{HoldsTails, AreWithin};
 use crate::gate_flow::GateFlow;
 use aig_graph::Gate;
 
-/// The mark of a variable that the table covers.
+/// Returns the mark of a variable that the table covers.
 pub(crate) fn covered_mark(marks: &[bool], first: u32, var: u32) -> bool
     requires from { first ≤ var }
     requires below { var < first + length marks.now }
@@ -18,7 +19,7 @@ pub(crate) fn covered_mark(marks: &[bool], first: u32, var: u32) -> bool
     marks[(var - first) as usize]
 }
 
-/// Marks a variable that the table covers, where it is wished.
+/// Marks a variable that the table covers, if `wished`.
 fn mark_covered(marks: &mut [bool], first: u32, var: u32, wished: bool)
     requires from { first ≤ var }
     requires below { var < first + length marks.old }
@@ -29,7 +30,8 @@ fn mark_covered(marks: &mut [bool], first: u32, var: u32, wished: bool)
     }
 }
 
-/// Whether the node before a gate is marked, or a residual arc leads from it to a marked node.
+/// Returns true if the node before a gate is marked, or a residual arc leads from it to a marked
+/// node.
 fn is_reached(
     before: &[bool],
     after: &[bool],
@@ -54,7 +56,8 @@ fn is_reached(
         || (flow.second_up && covered_mark(after, first, larger))
 }
 
-/// Marks the node before a gate, which is reached, and those from which residual arcs lead there.
+/// Marks the node before a gate, which is reached, and the nodes from which residual arcs lead
+/// there.
 fn mark_gate(
     before: &mut [bool],
     after: &mut [bool],
@@ -83,7 +86,8 @@ fn mark_gate(
     mark_covered(before, first, larger, flow.second_down > 0);
 }
 
-/// Marks what reaches marked nodes by an arc at a gate that reads no input. Whether the node before the gate does.
+/// Marks the nodes at a gate that reach marked nodes by an arc, unless the gate reads an input.
+/// Returns true if the node before the gate is marked then.
 pub(crate) fn see(
     before: &mut [bool],
     after: &mut [bool],

@@ -1,6 +1,7 @@
-//! Judges whether a flow shows the smallest least set: that of the gates that are reached from where units are left. Where no closed set has a
-//! smaller border than units arrive, all units that are left stand on the near side of each least set, and no residual arc leads from there to
-//! the far side.
+//! Judges if a flow shows the smallest least set, which has the gates that are reached from where
+//! units are left. Suppose that no closed set has a smaller border than units arrive. Then all
+//! units that are left stand on the near side of each least set, and no residual arc leads from
+//! there to the far side.
 ghost use Rattle.std.specs.Prelude.{◌≡◌, ◌<◌, ℕ, IfOk, IfSome, IsTrue, false, length, not, replicate};
 ghost use Rattle.std.specs.List.{slice_index_or};
 ghost use Rattle.aig_graph.specs.Marking.{mark_at};
@@ -32,7 +33,8 @@ fn flip(marks: &mut [bool])
     }
 }
 
-/// The nodes that aren't reached from where units are left, where so many units go on and come.
+/// Marks the nodes that aren't reached from where units are left, by the tallies `went` and `came`
+/// of the flow.
 fn far_marks(
     alloc: Global,
     frame: &Frame,
@@ -58,7 +60,8 @@ fn far_marks(
     Ok(marks)
 }
 
-/// Whether no node of a flow gives more than it gets, and the marks are a full cut for it, where so many units go on and come.
+/// Returns true if no node of a flow with the tallies `went` and `came` gives more than it gets,
+/// and the marks are a full cut for it.
 fn is_full_cut(
     frame: &Frame,
     flows: &[GateFlow],
@@ -81,7 +84,7 @@ fn is_full_cut(
     places_hold(frame, flows, went, before, after) && gates_hold(frame, flows, came, before, after)
 }
 
-/// The smallest least set, by the tallies of a flow, where it shows that.
+/// Returns the smallest least set by the tallies of a flow, if the flow shows it.
 fn shown_by_tallies(
     alloc: Global,
     frame: &Frame,
@@ -109,7 +112,8 @@ fn shown_by_tallies(
     Ok(ClosedSet::new(vars))
 }
 
-/// The same by tables of zeros, which get the tallies.
+/// Returns the smallest least set if a flow shows it. `went` and `came` are tables of zeros, which
+/// get the flow's tallies.
 fn shown_by_zeros(
     alloc: Global,
     frame: &Frame,
@@ -130,12 +134,13 @@ fn shown_by_zeros(
     }
 }
 
-/// The smallest least set, where a flow shows it: no node of the flow gives more than it gets, and what isn't reached from where units are left
-/// is a full cut. Nothing of the flow is trusted. It takes what `shown_set` does.
+/// Returns the smallest least set, if a flow shows it. A flow does so if no node gives more than it
+/// gets, and the nodes that aren't reached from units that are left are a full cut. Nothing of the
+/// flow is trusted. It takes the time and memory of `shown_set`.
 ///
 /// # Errors
 ///
-/// `NoMemory` where a table is refused.
+/// `NoMemory` if a table is refused.
 pub(crate) fn shown_smallest_set(
     alloc: Global,
     frame: &Frame,

@@ -1,5 +1,6 @@
-//! Marks of the nodes to which units that are left could go, by variable from the first latch on. Each is set by a residual arc from a marked
-//! node, so all that is marked is reached from where a unit is left.
+//! Marks of the nodes to which units that are left could go, by variable from the first latch on.
+//! Each is set by a residual arc from a marked node, so all that is marked is reached from a node
+//! at which a unit is left.
 ghost use Rattle.std.specs.Prelude.{◌≡◌, ◌&&◌, ◌==◌, ℕ, Bool, IsTrue, true, length};
 ghost use Rattle.aig_graph.specs.Marking.{Marks};
 ghost use Rattle.unit_flows.specs.Marks.{AreWithin};
@@ -8,7 +9,7 @@ ghost use Rattle.unit_flows.specs.Onward.{HoldsHeads};
 use crate::gate_flow::GateFlow;
 use aig_graph::{Gate, mark_at, mark_variable};
 
-/// Marks a variable where it is wished.
+/// Marks a variable, if `wished`.
 pub(crate) fn mark_if(marks: &mut [bool], first: u32, var: u32, wished: bool)
     ensures { Marks first marks.old marks.new (λ v. wished && (var == v)) }
 {
@@ -17,7 +18,8 @@ pub(crate) fn mark_if(marks: &mut [bool], first: u32, var: u32, wished: bool)
     }
 }
 
-/// Whether the node before a gate is marked, or a residual arc leads there from a marked node.
+/// Returns true if the node before a gate is marked, or a residual arc leads there from a marked
+/// node.
 fn is_entered(
     before: &[bool],
     after: &[bool],
@@ -38,7 +40,8 @@ fn is_entered(
         || (flow.second_down > 0 && mark_at(before, first, larger))
 }
 
-/// Marks the node before a gate, which is reached, and those to which residual arcs lead from there.
+/// Marks the node before a gate, which is reached, and the nodes to which residual arcs lead from
+/// there.
 fn mark_heads(
     before: &mut [bool],
     after: &mut [bool],
@@ -63,7 +66,8 @@ fn mark_heads(
     mark_if(after, first, larger, flow.second_up);
 }
 
-/// Marks what is reached from marked nodes by an arc at a gate. Whether the node before the gate is.
+/// Marks the nodes at a gate that are reached from marked ones by an arc. Returns true if the node
+/// before the gate is marked then.
 pub(crate) fn go_on(
     before: &mut [bool],
     after: &mut [bool],

@@ -1,4 +1,5 @@
-//! Marks where units are left, and then sweeps over the passable gates, up and down, until nothing is newly marked.
+//! Marks the nodes at which units are left, and then sweeps over the passable gates, up and down,
+//! until nothing is newly marked.
 ghost use Rattle.std.specs.Prelude.{◌≡◌, ◌≤◌, ◌+◌, ◌<◌, ℕ, Bool, List, IfOk, IsTrue, true, length, slice_index, vec_capacity, vec_len};
 ghost use Rattle.aig_graph.specs.Graph.{first_latch, first_gate, latches_and_gates};
 ghost use Rattle.aig_graph.specs.declared.literal.TheConstants.{MAX_VARIABLES};
@@ -14,7 +15,7 @@ use crate::sweeps::{MOST_SWEEPS, NodeMarks};
 use aig_graph::NoMemory;
 use std::alloc::Global;
 
-/// Whether a unit is left after the variable at a place, and can't leave there.
+/// Returns true if a unit is left after the variable at `place`, and can't leave there.
 fn waits(frame: &Frame, flows: &[GateFlow], went: &[u8], place: usize) -> bool
     requires flows { length flows.now ≡ length frame.now.circuit.now.aig.gates }
     requires went { length went.now ≡ latches_and_gates frame.now.circuit.now.aig }
@@ -26,7 +27,7 @@ fn waits(frame: &Frame, flows: &[GateFlow], went: &[u8], place: usize) -> bool
     !frame.leaving[place] & comes & is_left
 }
 
-/// Marks the node after the variable at a place, where a unit is left there.
+/// Marks the node after the variable at `place`, if a unit is left there.
 fn mark_after(after: &mut [bool], frame: &Frame, flows: &[GateFlow], went: &[u8], place: usize)
     requires flows { length flows.now ≡ length frame.now.circuit.now.aig.gates }
     requires went { length went.now ≡ latches_and_gates frame.now.circuit.now.aig }
@@ -43,7 +44,7 @@ fn mark_after(after: &mut [bool], frame: &Frame, flows: &[GateFlow], went: &[u8]
     mark_if(after, first, first + place as u32, is_left);
 }
 
-/// Marks the node before the k-th gate, where units are left there.
+/// Marks the node before the k-th gate, if units are left there.
 fn mark_before(before: &mut [bool], frame: &Frame, flows: &[GateFlow], came: &[u32], k: usize)
     requires flows { length flows.now ≡ length frame.now.circuit.now.aig.gates }
     requires came { length came.now ≡ latches_and_gates frame.now.circuit.now.aig }
@@ -94,7 +95,8 @@ fn mark_left(
     }
 }
 
-/// Goes on from the gates with these numbers, one after another. How many of them stay open: these then come first.
+/// Goes on from the gates with the numbers in `still_open`, one after another. Returns how many of
+/// them stay open: these then come first.
 fn sweep(
     before: &mut [bool],
     after: &mut [bool],
@@ -127,7 +129,8 @@ fn sweep(
     kept
 }
 
-/// Sweeps over the open gates, from the first to the last and back, until none of them is newly reached.
+/// Sweeps over the open gates, from the first to the last and back, until none of them is newly
+/// reached.
 fn settle(
     before: &mut [bool],
     after: &mut [bool],
@@ -165,7 +168,7 @@ fn push_numbers(still_open: &mut Vec<u32>, passes: &[bool])
     }
 }
 
-/// The numbers of the passable gates, rising.
+/// Returns the numbers of the passable gates, rising.
 fn open_gates(alloc: Global, frame: &Frame) -> Result<Vec<u32>, NoMemory> {
     let passes = frame.passing_gates();
     let Ok(mut still_open) = Vec::with_capacity(alloc, passes.len()) else {
@@ -175,11 +178,11 @@ fn open_gates(alloc: Global, frame: &Frame) -> Result<Vec<u32>, NoMemory> {
     Ok(still_open)
 }
 
-/// Marks what is reached from where units are left, by the tallies of a flow.
+/// Marks all that is reached from where units are left, by the tallies of a flow.
 ///
 /// # Errors
 ///
-/// `NoMemory` where a table is refused.
+/// `NoMemory` if a table is refused.
 pub(crate) fn mark_onward(
     alloc: Global,
     frame: &Frame,
@@ -219,7 +222,7 @@ pub(crate) fn mark_onward(
     Ok(NodeMarks { before, after })
 }
 
-/// Marks where units are left, and all that is reached from there.
+/// Marks the nodes at which units are left, and all that is reached from there.
 fn mark_from_left(
     before: &mut [bool],
     after: &mut [bool],

@@ -1,6 +1,7 @@
-//! The judge's two passes: over the gates, that no more goes on from before them than comes there and that the marks are a cut; and over the
-//! places of all variables, the latches' and then the gates', that no more goes on from after them than comes there, that what leaves is marked,
-//! and that as many units arrive as variables cross.
+//! The judge's two passes. One is over the gates: no more units go on from before a gate than come
+//! there, and the marks are a cut. The other is over the places of all variables, the latches' and
+//! then the gates'. There, no more units go on from after a place than come to it, what leaves is
+//! marked, and no more variables cross than units arrive.
 ghost use Rattle.std.specs.Prelude.{◌≡◌, ◌+◌, ◌<◌, ◌≤◌, ◌==◌, ◌&&◌, ◌||◌, nat_le, not, ℕ, IsTrue, length};
 ghost use Rattle.aig_graph.specs.Marking.{mark_at};
 ghost use Rattle.aig_graph.specs.Graph.{first_latch, latches_and_gates, is_free};
@@ -14,8 +15,8 @@ use crate::gate_flow::GateFlow;
 use crate::tallies::unit;
 use aig_graph::{Latch, Reset};
 
-/// Whether no gate gives more than it gets, and the marks are a cut at each passable gate. Not inlined, so that the loop has the registers for
-/// itself.
+/// Returns true if no gate gives more than it gets, and the marks are a cut at each passable gate.
+/// It isn't inlined, so that the loop has the registers for itself.
 #[inline(never)]
 pub(crate) fn gates_hold(
     frame: &Frame,
@@ -51,14 +52,15 @@ pub(crate) fn gates_hold(
     true
 }
 
-/// Whether the latch's reset is known.
+/// Returns true if the latch's reset is known.
 fn is_known(latch: &Latch) -> bool
     ensures { result ≡ not (is_free latch.now) }
 {
     latch.reset != Reset::Free
 }
 
-/// What was seen of some places: whether all of them hold, how many units arrive there, and how many variables cross.
+/// The findings at some places: if all of them hold, the number of units that arrive there, and the
+/// number of variables that cross.
 #[derive(Clone, Copy)]
 struct Seen {
     holds: bool,
@@ -66,8 +68,9 @@ struct Seen {
     crossed: u32,
 }
 
-/// What was seen with one more place: whether a unit comes there, how many go on, whether it leaves, is marked and crosses. It holds where no more go
-/// on than come, and it is marked if it leaves; a unit that is left there arrives if it leaves.
+/// Returns the findings with one more place, to which a unit `comes` and from which `went` units go
+/// on. The place holds if no more go on than come, and it is `reached` if it `leaves`. A unit that
+/// is left there arrives if the place leaves.
 fn seen_with(seen: Seen, comes: bool, went: u8, leaves: bool, reached: bool, crosses: bool) -> Seen
     requires arrived { seen.arrived < 4294967295 }
     requires crossed { seen.crossed < 4294967295 }
@@ -84,7 +87,7 @@ fn seen_with(seen: Seen, comes: bool, went: u8, leaves: bool, reached: bool, cro
     }
 }
 
-/// Whether all places hold, and no more variables cross than units arrive.
+/// Returns true if all places hold, and no more variables cross than units arrive.
 pub(crate) fn places_hold(
     frame: &Frame,
     flows: &[GateFlow],

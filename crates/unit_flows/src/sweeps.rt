@@ -1,5 +1,6 @@
-//! Sweeps over the passable gates, down and up, until none is newly marked: a mark shows below its gate in a sweep down, and above it in a sweep
-//! up. A gate is open until the node before it is marked, and each sweep looks at the open gates alone.
+//! Sweeps over the passable gates, down and up, until none is newly marked. A mark shows below its
+//! gate in a sweep down, and above it in a sweep up. A gate is open until the node before it is
+//! marked, and each sweep looks at open gates only.
 ghost use Rattle.std.specs.Prelude.{◌≡◌, ◌≤◌, ℕ, List, IfOk, length, vec_capacity, vec_len};
 ghost use Rattle.aig_graph.specs.Graph.{latches_and_gates};
 ghost use Rattle.unit_flows.specs.Marks.{ReachSink};
@@ -11,7 +12,7 @@ use crate::unit_flow::{SpareTables, filled, taken};
 use aig_graph::NoMemory;
 use std::alloc::Global;
 
-/// More sweeps than these are never made: the judge says no to marks that aren't a full cut.
+/// The most sweeps: the judge says no to marks that aren't a full cut.
 pub(crate) const MOST_SWEEPS: u32 = 131_072;
 
 /// Marks by variable, from the first latch on, of the nodes before and after each.
@@ -21,8 +22,9 @@ pub struct NodeMarks {
     pub after: Vec<bool>,
 }
 
-/// Sees all passable gates, from the last to the first, and appends the numbers of those that stay open to a table with room for all gates, in that
-/// order. Whether something is marked: else nothing is to be seen any more. Not inlined, so that the loop has the registers for itself.
+/// Sees all passable gates, from the last to the first, and appends the numbers of those that stay
+/// open to `still_open`, in that order. Returns false if nothing is marked: then nothing is left to
+/// be seen. It isn't inlined, so that the loop has the registers for itself.
 #[inline(never)]
 fn first_sweep(
     before: &mut [bool],
@@ -60,8 +62,9 @@ fn first_sweep(
     is_marked
 }
 
-/// Sees the gates with these numbers, one after another. How many of them stay open: these then come first. Not inlined, so that the loop has
-/// the registers for itself.
+/// Sees the gates with the numbers in `still_open`, one after another. Returns how many of them
+/// stay open: these then come first. It isn't inlined, so that the loop has the registers for
+/// itself.
 #[inline(never)]
 fn sweep(
     before: &mut [bool],
@@ -96,7 +99,8 @@ fn sweep(
     kept
 }
 
-/// Sweeps over the open gates, which fall, from the first to the last and back, until none of them is newly marked.
+/// Sweeps over the open gates, whose numbers fall at first, from the first to the last and back,
+/// until none of them is newly marked.
 fn settle(
     before: &mut [bool],
     after: &mut [bool],
@@ -122,8 +126,9 @@ fn settle(
     }
 }
 
-/// Sweeps over the passable gates, from the last to the first and back, until none is newly marked. The table gets the numbers of those that are open:
-/// it has room for those of all gates.
+/// Sweeps over the passable gates, from the last to the first and back, until none is newly marked.
+/// `still_open` is empty at first, has room for the numbers of all gates, and gets those of the
+/// open ones.
 fn sweep_all(
     before: &mut [bool],
     after: &mut [bool],
@@ -146,7 +151,7 @@ fn sweep_all(
     }
 }
 
-/// A copy of the marks of what leaves, in the memory of other marks.
+/// Returns a copy of the marks of what leaves, in the memory of other marks.
 fn leaving_in(memory: Vec<bool>, frame: &Frame) -> Result<Vec<bool>, NoMemory>
     ensures { IfOk result (λ marks. marks.items ≡ frame.now.leaving.items) }
 {
@@ -158,11 +163,12 @@ fn leaving_in(memory: Vec<bool>, frame: &Frame) -> Result<Vec<bool>, NoMemory>
     Ok(marks)
 }
 
-/// Marks what reaches the sink over residual arcs, as far as sweeps find it: all that does but where these are very many. The spare tables serve.
+/// Marks the nodes that reach the sink over residual arcs. All are marked, unless [`MOST_SWEEPS`]
+/// sweeps don't find them. The spare tables are used.
 ///
 /// # Errors
 ///
-/// `NoMemory` where a table is refused.
+/// `NoMemory` if a table is refused.
 pub fn mark(
     alloc: Global,
     frame: &Frame,

@@ -1,5 +1,6 @@
-//! Adds up the units of all gates by variable: how many go on from after each to gates, and how many come to before each from gates that
-//! read it. Nothing of a flow is trusted: units from or to what has no entry are refused.
+//! Adds up the units of all gates by variable. Some go on from after it to gates, others come to
+//! before it from gates that read it. Nothing of a flow is trusted: units from or to a variable
+//! without an entry are refused.
 ghost use Rattle.std.specs.Prelude.{◌≡◌, ◌+◌, ◌*◌, ◌≤◌, ℕ, IsTrue, length, replicate};
 ghost use Rattle.aig_graph.specs.Graph.{first_latch, latches_and_gates};
 ghost use Rattle.unit_flows.specs.Units.{unit, weigh, ups, downs, AreTallies};
@@ -7,7 +8,7 @@ ghost use Rattle.unit_flows.specs.Units.{unit, weigh, ups, downs, AreTallies};
 use crate::gate_flow::GateFlow;
 use aig_graph::{Aig, Gate};
 
-/// One where it holds, else none.
+/// Returns 1 if `holds`, else 0.
 #[tactic(auto, unfolding(crate::specs::Units::unit))]
 pub(crate) fn unit(holds: bool) -> u32
     ensures value { result ≡ unit holds }
@@ -16,7 +17,7 @@ pub(crate) fn unit(holds: bool) -> u32
     if holds { 1 } else { 0 }
 }
 
-/// The same as a byte.
+/// Returns 1 if `holds`, else 0, as a byte.
 #[tactic(auto, unfolding(crate::specs::Units::unit))]
 fn few(holds: bool) -> u8
     ensures { result ≡ unit holds }
@@ -24,7 +25,8 @@ fn few(holds: bool) -> u8
     if holds { 1 } else { 0 }
 }
 
-/// Adds units to the entry of a variable. No where some are to be added and there is no entry, or no room in it.
+/// Adds units to the entry of a variable. Returns false if there are some to be added and there is
+/// no entry, or no room in it.
 fn add_units(table: &mut [u32], first: u32, var: u32, units: u32) -> bool
     ensures len { length table.new ≡ length table.old }
     ensures sum { IsTrue result → (weight : ℕ → ℕ) → weigh first table.new weight
@@ -44,7 +46,8 @@ fn add_units(table: &mut [u32], first: u32, var: u32, units: u32) -> bool
     true
 }
 
-/// The same in a table of bytes: more than one unit never goes on from after a variable.
+/// Adds units to the entry of a variable as [`add_units`] does, in a table of bytes: more than one
+/// unit never goes on from after a variable.
 fn add_few(table: &mut [u8], first: u32, var: u32, units: u8) -> bool
     ensures len { length table.new ≡ length table.old }
     ensures sum { IsTrue result → (weight : ℕ → ℕ) → weigh first table.new weight
@@ -64,7 +67,8 @@ fn add_few(table: &mut [u8], first: u32, var: u32, units: u8) -> bool
     true
 }
 
-/// Adds the units that come to before a gate from after its fan-ins.
+/// Adds the units that come to before a gate from after its fan-ins. Returns false if they have no
+/// entry or no room.
 fn add_ups(went: &mut [u8], first: u32, gate: &Gate, flow: &GateFlow) -> bool
     ensures len { length went.new ≡ length went.old }
     ensures sum { IsTrue result → (weight : ℕ → ℕ) → weigh first went.new weight
@@ -74,7 +78,8 @@ fn add_ups(went: &mut [u8], first: u32, gate: &Gate, flow: &GateFlow) -> bool
         && add_few(went, first, gate.rhs0.var(), few(flow.second_up))
 }
 
-/// Adds the units that go on from before a gate to before its fan-ins.
+/// Adds the units that go on from before a gate to before its fan-ins. Returns false if they have
+/// no entry or no room.
 fn add_downs(came: &mut [u32], first: u32, gate: &Gate, flow: &GateFlow) -> bool
     ensures len { length came.new ≡ length came.old }
     ensures sum { IsTrue result → (weight : ℕ → ℕ) → weigh first came.new weight
@@ -84,7 +89,8 @@ fn add_downs(came: &mut [u32], first: u32, gate: &Gate, flow: &GateFlow) -> bool
         && add_units(came, first, gate.rhs0.var(), flow.second_down)
 }
 
-/// The tallies of all gates, in tables of zeros. No where units go from or to what has no entry. Not inlined, for its loop's registers.
+/// Adds up the units of all gates in tables of zeros. Returns false if units go from or to a
+/// variable without an entry, or an entry has no room. It isn't inlined, for its loop's registers.
 #[inline(never)]
 pub(crate) fn tally(went: &mut [u8], came: &mut [u32], aig: &Aig, flows: &[GateFlow]) -> bool
     requires flows { length flows.now ≡ length aig.now.gates }

@@ -1,5 +1,6 @@
-//! What one look at a frame leaves to the next: what the flow did at the gates, and tables that serve again. A large frame's tables go back to the
-//! system as they are dropped; asked for anew, they would be cleared by it, page by page.
+//! The values that one look at a frame leaves to the next: the flow at the gates, and tables to be
+//! used again. A large frame's tables go back to the system as they are dropped; asked for anew,
+//! they would be cleared by it, page by page.
 ghost use Rattle.std.specs.Prelude.{◌≡◌, ◌≤◌, IfOk, OnOk, replicate, vec_capacity, vec_len};
 
 use crate::gate_flow::GateFlow;
@@ -20,14 +21,14 @@ pub struct SpareTables {
 /// A flow of units at the gates of a circuit, or nothing, and tables for the next look at a frame.
 #[derive(Drop)]
 pub struct UnitFlow {
-    /// What it does at each gate: hints.
+    /// The flow at each gate: hints.
     pub gates: Vec<GateFlow>,
-    /// The tables.
+    /// The tables that are used again.
     pub spare: SpareTables,
 }
 
 impl UnitFlow {
-    /// Nothing, and no tables.
+    /// Returns no flow and no tables.
     pub fn none(alloc: Global) -> UnitFlow {
         UnitFlow {
             gates: Vec::new(alloc),
@@ -37,7 +38,7 @@ impl UnitFlow {
 }
 
 impl SpareTables {
-    /// No tables.
+    /// Returns no tables.
     pub fn none(alloc: Global) -> SpareTables {
         SpareTables {
             before: Vec::new(alloc),
@@ -47,7 +48,8 @@ impl SpareTables {
         }
     }
 
-    /// Puts so many zeros each in the tables for units that go on from after variables, and for those that come to before them.
+    /// Puts `entries` zeros each in the tables of units that go on from after variables, and of
+    /// those that come to before them.
     pub(crate) fn clear_tallies(&mut self, entries: usize) -> Result<(), NoMemory>
         ensures went { OnOk result (self.new.went.items ≡ replicate entries 0) }
         ensures came { OnOk result (self.new.numbers.items ≡ replicate entries 0) }
@@ -58,7 +60,7 @@ impl SpareTables {
         fill(&mut self.numbers, 0u32, entries)
     }
 
-    /// Empties the table for numbers, which then has room for so many.
+    /// Empties the table of numbers, which then has room for `room` of them.
     pub(crate) fn clear_numbers(&mut self, room: usize) -> Result<(), NoMemory>
         ensures none { vec_len self.new.numbers ≡ 0 }
         ensures room { OnOk result (room ≤ vec_capacity self.new.numbers) }
@@ -70,7 +72,7 @@ impl SpareTables {
         }
     }
 
-    /// A table for numbers of gates, or of units.
+    /// Takes out a table for numbers of gates, or of units.
     pub fn take_numbers(&mut self, alloc: Global) -> Vec<u32> {
         taken(&mut self.numbers, alloc)
     }
@@ -93,7 +95,7 @@ pub(crate) fn taken<T>(table: &mut Vec<T>, alloc: Global) -> Vec<T> {
     mem::replace(table, Vec::new(alloc))
 }
 
-/// Fills a table anew, with so many entries that are the same.
+/// Fills a table anew, with `entries` copies of `entry`.
 fn fill<T: Copy + Drop>(table: &mut Vec<T>, entry: T, entries: usize) -> Result<(), NoMemory>
     ensures { OnOk result (table.new.items ≡ replicate entries entry) }
 {
@@ -104,11 +106,11 @@ fn fill<T: Copy + Drop>(table: &mut Vec<T>, entry: T, entries: usize) -> Result<
     }
 }
 
-/// A table of so many entries that are the same, in the memory of another.
+/// Returns a table of `entries` copies of `entry`, in the memory of another table.
 ///
 /// # Errors
 ///
-/// `NoMemory` where it has too little, and more is refused.
+/// `NoMemory` if it has too little, and more is refused.
 pub fn filled<T: Copy + Drop>(memory: Vec<T>, entry: T, entries: usize) -> Result<Vec<T>, NoMemory>
     ensures { IfOk result (λ t. t.items ≡ replicate entries entry) }
 {

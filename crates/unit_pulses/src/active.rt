@@ -1,4 +1,4 @@
-//! Which nodes have units that could still come to the sink.
+//! The nodes with units that could still come to the sink.
 
 use crate::nodes::Nodes;
 use crate::spots::{FAR, Labels, Spot, labels_at, spot_at};

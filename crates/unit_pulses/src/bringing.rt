@@ -13,13 +13,14 @@ use std::thread::Threads;
 use unit_flows::GateFlow;
 use unit_starts::Region;
 
-/// After so many rounds what is left is left to the network.
+/// The most rounds of new labels and pulses. What is left then is left to the network.
 const MOST_ROUNDS: u32 = 1024;
 
-/// Pulses look at so many arcs a place before labels are made anew, which take about as long, and units that can't come to the sink are left.
+/// The arcs for each place that pulses look at before labels are made anew, which takes about as
+/// long. Units that can't come to the sink are left.
 const WORK_A_PLACE: usize = 1;
 
-/// The pulses of a flow: how they are shared out, their parts where the calling thread makes them and where the crew does, and how many were made.
+/// The pulses of a flow, with the parts of those that the calling thread and the crew make.
 #[derive(Drop)]
 struct Pulses<'a, G> {
     sharing: Sharing<'a, G>,
@@ -29,7 +30,7 @@ struct Pulses<'a, G> {
 }
 
 impl<'a, G: PhaseGate> Pulses<'a, G> {
-    /// The pulses of a flow over so many places, of which none is made.
+    /// Returns the pulses of a flow over `places` places, of which none is made.
     fn none(memory: &mut Memory, sharing: Sharing<'a, G>, places: usize) -> Pulses<'a, G> {
         let alone = Parts::among(memory, 1, places);
         let crew = Parts::among(memory, sharing.workers, places);
@@ -42,7 +43,7 @@ impl<'a, G: PhaseGate> Pulses<'a, G> {
     }
 }
 
-/// Makes the next pulse, by the crew or by the calling thread. How many arcs it looked at.
+/// Makes the next pulse, by the crew or by this thread. Returns the number of arcs looked at.
 fn next_pulse<R: Threads + Sync, G: PhaseGate>(
     rt: &R,
     memory: &mut Memory,
@@ -63,7 +64,8 @@ fn next_pulse<R: Threads + Sync, G: PhaseGate>(
     }
 }
 
-/// Pulses until no node is active, memory was refused, or labels are to be made anew. Whether it wasn't for labels.
+/// Runs pulses. Returns false if it stopped because labels are due, true if no node is active or
+/// memory was refused.
 fn pulses_of_round<R: Threads + Sync, G: PhaseGate>(
     rt: &R,
     memory: &mut Memory,
@@ -84,8 +86,8 @@ fn pulses_of_round<R: Threads + Sync, G: PhaseGate>(
     false
 }
 
-/// New labels, and pulses from active nodes, if there are any, as long as labels are good. Whether no unit that is left can come to the sink, or
-/// memory was refused.
+/// Makes labels anew, and runs pulses from active nodes as long as the labels are good. Returns
+/// true if no unit that is left can come to the sink, or memory was refused.
 fn round<R: Threads + Sync, G: PhaseGate>(
     rt: &R,
     memory: &mut Memory,
@@ -105,7 +107,7 @@ fn round<R: Threads + Sync, G: PhaseGate>(
     ended
 }
 
-/// Brings units by rounds of pulses, whose parts are made first, until none that is left can come to the sink, or memory was refused.
+/// Runs rounds until no unit that is left can come to the sink, or memory was refused.
 fn bring_in<R: Threads + Sync, G: PhaseGate>(
     rt: &R,
     memory: &mut Memory,
@@ -121,7 +123,6 @@ fn bring_in<R: Threads + Sync, G: PhaseGate>(
     drop(pulses);
 }
 
-/// Returns the flow that pulses make of one.
 fn brought<R: Threads + Sync, G: PhaseGate>(
     rt: &R,
     memory: &mut Memory,
@@ -139,8 +140,8 @@ fn brought<R: Threads + Sync, G: PhaseGate>(
     search.into_flows()
 }
 
-/// Brings the units that a flow leaves to the sink, as far as they can come there: 16 bytes a latch
-/// and gate, and 4 for each place of a gate in the list of a fan-in.
+/// Brings the units that a flow leaves to the sink, as far as they can come there. It takes 16
+/// bytes a latch and gate, and 4 for each gate in the list of a place that it reads.
 ///
 /// # Errors
 ///

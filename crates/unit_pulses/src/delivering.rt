@@ -1,4 +1,4 @@
-//! What the pushes of a pulse change at the places that a worker owns.
+//! The changes that the pushes of a pulse make at the places that a worker owns.
 
 use crate::nodes::Nodes;
 use crate::parts::{Delivery, Kept, Part, Push, Range};
@@ -8,7 +8,7 @@ use aig_graph::Memory;
 use std::mem;
 use unit_flows::GateFlow;
 
-/// The units of a worker's own pushes leave the tails. Its places are these from the first on.
+/// Takes the units of a worker's own pushes from their tails. `spots` begins at the place `first`.
 fn leave_all(spots: &mut [Spot], first: u32, pushes: &[Push]) {
     for k in 0..pushes.len() {
         let Push {
@@ -28,7 +28,7 @@ fn leave_all(spots: &mut [Spot], first: u32, pushes: &[Push]) {
     }
 }
 
-/// A push is noted in the flow of its gate, if that is one of these from the first on.
+/// Notes a push in the flow of its gate, if `flows`, from the place `first_gate` on, has it.
 fn note(flows: &mut [GateFlow], first_gate: u32, push: &Push) {
     let at = push.gate().wrapping_sub(first_gate) as usize;
     if at < flows.len() {
@@ -36,7 +36,8 @@ fn note(flows: &mut [GateFlow], first_gate: u32, push: &Push) {
     }
 }
 
-/// The units of a push come to its head, if that is one of these places from the first on.
+/// Adds the units of a push to its head, if `spots` has that place, and lists the head in `next` as
+/// it gets its first unit. `spots` begins at the place `first`.
 fn come(spots: &mut [Spot], first: u32, push: &Push, next: &mut Nodes) {
     let at = push.head.wrapping_sub(first) as usize;
     if at < spots.len() {
@@ -53,7 +54,7 @@ fn come(spots: &mut [Spot], first: u32, push: &Push, next: &mut Nodes) {
     }
 }
 
-/// Lists the labels of a worker's own nodes before gates that kept units. Its places are these from the first on.
+/// Lists the new labels of nodes before gates that kept units. `spots` begins at `first`.
 fn find_labels(
     spots: &[Spot],
     first: u32,
@@ -76,7 +77,7 @@ fn find_labels(
     }
 }
 
-/// The places of a worker and its gates, from the first of each on.
+/// A worker's places, from `first` on, and its gates, from the place `first_gate` on.
 #[derive(Drop)]
 pub(crate) struct Ground<'a> {
     first: u32,
@@ -85,13 +86,13 @@ pub(crate) struct Ground<'a> {
     flows: &'a mut [GateFlow],
 }
 
-/// How many of so many latches and gates come before a place and are gates, where there are so many latches.
+/// Returns the number of gates before a place, if the first `latches` places are those of latches.
 fn gates_before(place: u32, latches: u32) -> u32 {
     place.max(latches).wrapping_sub(latches)
 }
 
 impl<'a> Ground<'a> {
-    /// All places and gates, where there are so many latches.
+    /// Returns all places and gates, if the first `latches` places are those of latches.
     pub fn all(latches: u32, spots: &'a mut [Spot], flows: &'a mut [GateFlow]) -> Ground<'a> {
         Ground {
             first: 0,
@@ -101,7 +102,7 @@ impl<'a> Ground<'a> {
         }
     }
 
-    /// Those of a range, with which these begin, where there are so many latches; and the others.
+    /// Cuts off the places of `range`, with which these begin. Returns them and the others.
     fn cut(self, range: Range, latches: u32) -> (Ground<'a>, Ground<'a>) {
         let Ground { spots, flows, .. } = self;
         let Range { first, end } = range;
@@ -125,7 +126,7 @@ impl<'a> Ground<'a> {
         (own, others)
     }
 
-    /// All units of these pushes come, and what the flow does then is noted.
+    /// Adds the units of all `pushes` to their heads, and notes the pushes in the flow.
     fn come_all(&mut self, pushes: &[Push], next: &mut Nodes) {
         let (first, first_gate) = (self.first, self.first_gate);
         for k in 0..pushes.len() {
@@ -134,7 +135,7 @@ impl<'a> Ground<'a> {
         }
     }
 
-    /// Delivers what was read by all workers, of which the part with this number is its own.
+    /// Delivers what all workers read. `parts[worker]` is this worker's own part.
     pub fn deliver(
         &mut self,
         worker: u32,
@@ -157,7 +158,7 @@ impl<'a> Ground<'a> {
     }
 }
 
-/// What a worker owns in a delivery phase.
+/// The ground and the delivery that a worker owns in a delivery phase.
 #[derive(Drop)]
 pub(crate) struct Owned<'a> {
     pub worker: u32,
@@ -166,7 +167,6 @@ pub(crate) struct Owned<'a> {
 }
 
 impl<'a> Owned<'a> {
-    /// Delivers what was read by all workers.
     pub fn deliver(self, labels: &[Labels], parts: &[Part]) -> Delivery {
         let Owned {
             worker,
@@ -179,7 +179,7 @@ impl<'a> Owned<'a> {
     }
 }
 
-/// What each worker owns of all, by the ranges of their parts. Other deliveries are left for theirs.
+/// Returns what each worker owns of `all`, by the ranges of `parts`. Takes its delivery out.
 pub(crate) fn owned_by_ranges<'a>(
     memory: &mut Memory,
     latches: u32,

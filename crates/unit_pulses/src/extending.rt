@@ -1,12 +1,13 @@
-//! More of a start along the last flow. That flow ended where units left its frame; where a gate of this frame reads on from there, units wait.
-//! In one pass up the gates each that nothing goes through takes a unit that waits after a fan-in, the larger fan-in first.
+//! Extends a start along the last flow. That flow ended at places from which units left its frame;
+//! if a gate of this frame reads on from there, units wait. In one pass up the gates, each gate
+//! that nothing goes through takes a unit that waits after a fan-in, the larger fan-in first.
 
 use aig_graph::{Gate, NoMemory};
 use std::alloc::Global;
 use unit_flows::GateFlow;
 use unit_starts::{Region, narrow};
 
-/// Whether a unit came to a place.
+/// Returns true if a unit came to `place`.
 fn came(region: &Region, flows: &[GateFlow], place: usize) -> bool {
     let number = region.gate_number(place);
     if number < flows.len() {
@@ -16,14 +17,14 @@ fn came(region: &Region, flows: &[GateFlow], place: usize) -> bool {
     }
 }
 
-/// Notes by place whether a unit came there, and doesn't leave.
+/// Marks in `waits` each place to which a unit came that doesn't leave there.
 fn note_waiting(region: &Region, flows: &[GateFlow], waits: &mut [bool]) {
     for place in 0..waits.len() {
         waits[place] = came(region, flows, place) & !region.leaves(place);
     }
 }
 
-/// No unit waits at a place any more. Whether one did.
+/// Takes the unit that waits at `place`. Returns true if there was one.
 fn takes(waits: &mut [bool], place: u32) -> bool {
     let place = place as usize;
     if place >= waits.len() {
@@ -34,7 +35,7 @@ fn takes(waits: &mut [bool], place: u32) -> bool {
     waited
 }
 
-/// Nothing waits from where units went on to gates.
+/// Clears the marks of places from which units went on to gates.
 fn clear_gone(region: &Region, flows: &[GateFlow], waits: &mut [bool]) {
     let gates = region.gates;
     for k in 0..gates.len() {
@@ -49,7 +50,7 @@ fn clear_gone(region: &Region, flows: &[GateFlow], waits: &mut [bool]) {
     }
 }
 
-/// How many units an extension moved, and how many of these came to the sink.
+/// The number of units that an extension moved, and the number of those that came to the sink.
 #[derive(Clone, Copy)]
 pub(crate) struct Extension {
     pub taken: usize,
@@ -62,7 +63,7 @@ impl Extension {
         brought: 0,
     };
 
-    /// Counts a unit that a gate took.
+    /// Counts a unit that a gate took. `leaves` is true if it came to the sink.
     fn count(&mut self, leaves: bool) {
         self.taken = self.taken.saturating_add(1);
         if leaves {
@@ -94,11 +95,11 @@ fn take(
     extension.count(leaves);
 }
 
-/// Lets units that wait go on to gates that nothing goes through: a byte a latch and gate.
+/// Lets units that wait go on to gates that nothing goes through. It takes a byte a latch and gate.
 ///
 /// # Errors
 ///
-/// `NoMemory` where the table is refused.
+/// `NoMemory` if the table is refused.
 pub(crate) fn extend(
     alloc: Global,
     region: &Region,

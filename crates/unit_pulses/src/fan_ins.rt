@@ -1,4 +1,4 @@
-//! Where a gate's fan-ins are.
+//! The places of a gate's fan-ins.
 
 use aig_graph::Gate;
 
@@ -10,13 +10,13 @@ pub(crate) struct FanIns {
 }
 
 impl FanIns {
-    /// What stands where there is no gate.
+    /// Stands for the fan-ins of no gate.
     pub const NONE: FanIns = FanIns {
         smaller: u32::MAX,
         larger: u32::MAX,
     };
 
-    /// Those of a gate, where places begin at this variable.
+    /// Returns the fan-ins of a gate, if places begin at the variable `first`.
     pub fn of(gate: &Gate, first: u32) -> FanIns {
         FanIns {
             smaller: gate.rhs1.var().wrapping_sub(first),
@@ -24,12 +24,12 @@ impl FanIns {
         }
     }
 
-    /// The place of the second or the first fan-in.
+    /// Returns the place of the second fan-in if `second`, else of the first.
     pub fn at(&self, second: bool) -> u32 {
         if second { self.larger } else { self.smaller }
     }
 
-    /// Whether the gate reads a place by its second fan-in.
+    /// Returns true if the gate, which reads `place`, does so by its second fan-in alone.
     pub fn is_second(&self, place: u32) -> bool {
         self.smaller != place
     }

@@ -1,6 +1,8 @@
-//! Labels of all nodes from which units could come to the sink, by sweeps over the gates, down and up. Each label is the length of a way there
-//! over residual arcs. In the first two sweeps all gates are seen, so that nearly all of the ways are shortest ones; those that follow see the
-//! gates alone whose nodes have no label yet. Sweeps go through memory in order, where a walk back from the sink jumps.
+//! Labels of all nodes from which units could come to the sink, by sweeps over the gates, down and
+//! up. Each label is the length of a way there over residual arcs. The first two sweeps see all
+//! gates, so nearly all of these ways are shortest ones. Those that follow see only gates whose
+//! nodes have no label yet. Sweeps go through memory in order, while a walk back from the sink
+//! jumps.
 
 use crate::fan_ins::FanIns;
 use crate::search::Search;
@@ -9,17 +11,17 @@ use aig_graph::Gate;
 use unit_flows::GateFlow;
 use unit_starts::{Region, narrow};
 
-/// More sweeps than these are never made. Nodes without a label are left to the network.
+/// The most rounds of two sweeps. Nodes that have no label then are left to the network.
 const MOST_ROUNDS: u32 = 65_536;
 
-/// A way to the sink from a node. Whether it is the first.
+/// Lowers a node's label to `label`, if that is less. Returns true if the node had none.
 fn lower(known: &mut u32, label: u32) -> bool {
     let is_first = *known == FAR;
     *known = (*known).min(label);
     is_first
 }
 
-/// The label before a gate, by those of the nodes to which an arc leads from there.
+/// Returns the label before a gate, by those of the nodes to which an arc leads from there.
 fn found_before(own: Labels, smaller: Labels, larger: Labels, flow: &GateFlow) -> u32 {
     let mut least = smaller.before.min(larger.before);
     if !flow.through {
@@ -34,8 +36,9 @@ fn found_before(own: Labels, smaller: Labels, larger: Labels, flow: &GateFlow) -
     own.before.min(least.saturating_add(1))
 }
 
-/// Labels the node before a gate, if units could come to the sink from there, and those from which an arc leads there. Then whether one had no
-/// label. The fan-ins of a passable gate are latches and gates, so all three places are there.
+/// Labels the node before a gate, and those from which an arc leads there. Returns none if units
+/// couldn't come to the sink from there, else true if one of these nodes had no label. The fan-ins
+/// of a passable gate are latches and gates, so all three places are in the table.
 fn see(labels: &mut [Labels], place: u32, fan_ins: &FanIns, flow: &GateFlow) -> Option<bool> {
     let own = place as usize;
     let (smaller, larger) = (fan_ins.smaller as usize, fan_ins.larger as usize);
@@ -62,8 +65,8 @@ fn see(labels: &mut [Labels], place: u32, fan_ins: &FanIns, flow: &GateFlow) -> 
     Some(is_new)
 }
 
-/// Sees the gate at a place, if the sweep does: one that sees all from before which units could come to the sink, or those of them alone that have
-/// no label. Whether a node is newly labelled.
+/// Sees the gate at a place if its node is open: it has no label yet. If `sees_all`, each gate is
+/// seen from which units could come to the sink. Returns true if a node is newly labelled.
 #[inline(always)]
 fn look(
     labels: &mut [Labels],
@@ -91,8 +94,8 @@ fn look(
     }
 }
 
-/// The nodes from which an arc leads to the sink have the first label, no other has one, and all are open from which units could come to the
-/// sink: not those that were left open.
+/// Begins a labelling: nodes with an arc to the sink get label 1, no other node has one. All nodes
+/// are open from which units could come to the sink; those that the last labelling left open can't.
 fn begin(labels: &mut [Labels], spots: &mut [Spot]) {
     for k in 0..spots.len() {
         let spot = spots[k];
@@ -108,7 +111,7 @@ fn begin(labels: &mut [Labels], spots: &mut [Spot]) {
     }
 }
 
-/// Sees the gates from the last to the first. Whether a node is newly labelled.
+/// Sees the gates from the last to the first. Returns true if a node is newly labelled.
 fn sweep_down(
     labels: &mut [Labels],
     spots: &mut [Spot],
@@ -128,7 +131,7 @@ fn sweep_down(
     is_new
 }
 
-/// Sees the gates from the first to the last. Whether a node is newly labelled.
+/// Sees the gates from the first to the last. Returns true if a node is newly labelled.
 fn sweep_up(
     labels: &mut [Labels],
     spots: &mut [Spot],
@@ -149,8 +152,8 @@ fn sweep_up(
 }
 
 impl<'a> Search<'a> {
-    /// Labels each node from which units could come to the sink with the length of a way there, nearly always of a shortest one; all others
-    /// lose their labels.
+    /// Labels each node from which units could come to the sink with the length of a way there,
+    /// nearly always of a shortest one. All other nodes lose their labels.
     pub fn label(&mut self) {
         let (region, flows) = (&self.region, self.flows.as_slice());
         let labels = self.labels.as_mut_slice();

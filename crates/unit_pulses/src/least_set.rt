@@ -1,5 +1,5 @@
-//! The chosen least set of a circuit by a flow of units, where a start shows it, or pulses from that start do; and such a flow over some components of a
-//! frame's network, which nothing judges.
+//! The chosen least set of a circuit by a flow of units, of a start or of pulses from it; and such
+//! a flow over some components of a frame's network, which nothing judges.
 ghost use Rattle.std.specs.Prelude.{IfOk, IfSome};
 ghost use Rattle.aig_graph.specs.Chosen.{IsChosen};
 
@@ -14,10 +14,10 @@ use std::thread::Threads;
 use unit_flows::{Frame, GateFlow, SpareTables, UnitFlow, shown_chosen};
 use unit_starts::{Region, Started, start_along, start_in};
 
-/// Fewer units cost less by pulses than a judge that may say no.
+/// The least number of units that is worth a judge, which may say no: fewer cost less by pulses.
 const MANY_BROUGHT: usize = 64;
 
-/// Finds the set by more of a start along the last flow, if that brings many units.
+/// Finds the set by an extension of a start along the last flow, if that brings many units.
 fn shown_by_more(
     alloc: Global,
     frame: &Frame,
@@ -37,8 +37,8 @@ fn shown_by_more(
     shown_chosen(alloc, frame, choice, left.flows(), spare)
 }
 
-/// Finds the set by pulses of a crew from what a flow leaves, and keeps the flow that they make.
-/// The spare tables are given back before: pulses need many.
+/// Finds the set by pulses of a crew from `left`, what a flow leaves, and keeps the flow that they
+/// make. The spare tables are dropped before, since pulses need much memory.
 fn shown_by_pulses<R: Threads + Sync, G: PhaseGate>(
     rt: &R,
     alloc: Global,
@@ -60,7 +60,7 @@ fn shown_by_pulses<R: Threads + Sync, G: PhaseGate>(
     shown_chosen(alloc, frame, choice, gates.as_slice(), spare)
 }
 
-/// Finds the set by what goes on from a start along the last flow: by more of it, or by pulses.
+/// Finds the set from `left`, a start along the last flow: by an extension of it, or by pulses.
 fn shown_further<R: Threads + Sync, G: PhaseGate>(
     rt: &R,
     alloc: Global,
@@ -107,17 +107,20 @@ fn shown_from_sources<R: Threads + Sync, G: PhaseGate>(
     shown_by_pulses(rt, alloc, frame, choice, sharing, left, flow)
 }
 
-/// The chosen least set of a frame, where a flow of units shows it: that of a start along `flow`, what the last flow did at the circuit's gates, or
-/// along nothing where there is none; or the flow that pulses make of it. Then `flow` is what it does there. They are hints: the set is the same
-/// whatever they say, or there is none.
+/// Returns the chosen least set of a frame if a flow of units shows it. That flow is a start along
+/// `flow`, or what pulses make of such a start. `flow` is what the last flow did at the circuit's
+/// gates, or nothing; afterwards it is the flow that was found. Flows are hints: they decide if
+/// there is a set, and never which.
 ///
-/// A pulse in which 4096 nodes or more are active goes to the crew: each worker reads and delivers at its own range of places. The calling thread
-/// makes all others, as worker 0. Of a circuit of at most 16 latches and gates the first flow begins at the sources, for a crew of two or more, and
-/// two workers make its first pulse: a start would leave few units to share, and more threads would cost more than such a run.
+/// A pulse in which 4096 nodes or more are active goes to the crew: each worker reads and delivers
+/// at its own range of places. The calling thread makes all others, as worker 0. A circuit of at
+/// most 16 latches and gates is an exception, for a crew of two or more. Its first flow begins at
+/// the sources, and two workers make its first pulse. A start would leave few units to share, and
+/// more threads would cost more than such a run.
 ///
 /// # Errors
 ///
-/// `NoMemory` where a table is refused; then `flow` may be that of before, of a start, or none.
+/// `NoMemory` if a table is refused. Then `flow` is the flow of before, that of a start, or none.
 pub fn chosen_least_brought<R: Threads + Sync, G: PhaseGate>(
     rt: &R,
     alloc: Global,
@@ -152,12 +155,12 @@ pub fn chosen_least_brought<R: Threads + Sync, G: PhaseGate>(
     }
 }
 
-/// A flow over a region of which none is known, a hint as above: that of a start, or what a crew's pulses make of it, so that no more units can come
-/// to the sink. Nothing is judged.
+/// Returns a flow over a region of which none is known, and judges nothing. It is that of a start,
+/// or what a crew's pulses make of it. Then no more units can come to the sink.
 ///
 /// # Errors
 ///
-/// `NoMemory` where a table or a thread's memory is refused.
+/// `NoMemory` if a table or a thread's memory is refused.
 pub fn first_flow<R: Threads + Sync, G: PhaseGate>(
     rt: &R,
     alloc: Global,

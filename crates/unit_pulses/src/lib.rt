@@ -1,9 +1,12 @@
-//! Brings the units that a start leaves to the sink, by push-relabel in synchronous pulses over the gates of a circuit, without a network: arcs
-//! are computed from fan-ins and from lists of readers, which are made only where units are left.
+//! Brings the units that a start leaves to the sink, by push-relabel in synchronous pulses over the
+//! gates of a circuit. No network is made: arcs are computed from fan-ins and from lists of
+//! readers, which are made only if units are left.
 //!
-//! Workers of a crew share a pulse of many active nodes. Each owns a range of places, so what a pulse leaves is the same for every number of workers.
+//! Workers of a crew share a pulse of many active nodes. Each owns a range of places, so a pulse's
+//! result is equal for every number of workers.
 //!
-//! What is made here are hints. No clause speaks of a flow's values; the judge of `unit_flows` says whether one shows the chosen least set.
+//! The flows that are made here are hints. No clause speaks of a flow's values; the judge of
+//! `unit_flows` says if one shows the chosen least set.
 #![tactic(auto)]
 
 mod active;

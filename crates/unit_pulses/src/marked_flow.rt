@@ -12,25 +12,22 @@ use unit_starts::Region;
 #[derive(Drop)]
 pub(crate) struct MarkedFlow {
     flows: Vec<GateFlow>,
-    /// If they were looked for, the marks of each node from which units of this flow can come to
-    /// the sink.
+    /// The marks of nodes from which its units can come to the sink, if they were looked for.
     marks: Option<NodeMarks>,
 }
 
 impl MarkedFlow {
-    /// A flow with its marks, if there are any.
     pub fn new(flows: Vec<GateFlow>, marks: Option<NodeMarks>) -> MarkedFlow {
         MarkedFlow { flows, marks }
     }
 
-    /// What it does at the gates.
     pub fn flows(&self) -> &[GateFlow] {
         self.flows.as_slice()
     }
 
-    /// Lets units that wait go on, as [`extend`] does. Returns how many come to the sink. A unit
-    /// that moves leaves a way back, of which the marks don't know: then the spare tables get their
-    /// memory.
+    /// Lets units that wait go on, as [`extend`] does. Returns the number of units that come to the
+    /// sink. A unit that moves leaves a way back, which isn't in the marks: then the marks are
+    /// dropped, and the spare tables get their memory.
     pub fn extend(
         &mut self,
         alloc: Global,
@@ -49,13 +46,12 @@ impl MarkedFlow {
         Ok(brought)
     }
 
-    /// Takes flow and marks apart, for whoever changes the flow.
+    /// Takes flow and marks apart, for a caller that changes the flow.
     pub fn into_parts(self) -> (Vec<GateFlow>, Option<NodeMarks>) {
         let MarkedFlow { flows, marks } = self;
         (flows, marks)
     }
 
-    /// Takes the flow out.
     pub fn into_flows(self) -> Vec<GateFlow> {
         let MarkedFlow { flows, marks } = self;
         drop(marks);

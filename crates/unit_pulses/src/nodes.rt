@@ -1,5 +1,5 @@
-//! Nodes of a network that isn't made: one before each gate, and one after each latch and gate. Both are named by a place, the variable
-//! less that of the first latch.
+//! Nodes of a network that isn't made: one before each gate, and one after each latch and gate.
+//! Both are named by a place, the variable less that of the first latch.
 
 use aig_graph::Memory;
 use std::mem;
@@ -9,7 +9,7 @@ use std::mem;
 pub(crate) struct Nodes {
     pub before: Vec<u32>,
     pub after: Vec<u32>,
-    /// Whether memory was refused for one, so that some are missing.
+    /// True if memory was refused for a node, so that some are missing.
     pub refused: bool,
 }
 
@@ -22,7 +22,6 @@ impl Nodes {
         }
     }
 
-    /// How many they are.
     pub fn count(&self) -> usize {
         self.before.len().saturating_add(self.after.len())
     }
@@ -55,7 +54,7 @@ impl Nodes {
         self.refused = before.is_err() | after.is_err();
     }
 
-    /// Appends other nodes, or changes place with them where there are none yet.
+    /// Appends other nodes, or changes place with them if there are none yet.
     pub fn join(&mut self, nodes: &mut Nodes) {
         let refused = self.refused | nodes.refused;
         if self.is_empty() {

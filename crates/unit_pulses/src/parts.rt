@@ -1,13 +1,14 @@
 //! The parts of a pulse: a worker has a range of places, and owns what stands there.
 //!
-//! In the read phase it lists what its active nodes push, and writes nothing else. In the delivery phase it goes through the lists of all workers, and
-//! writes what they change at its places. So what a pulse leaves depends on no order of nodes, and on no number of workers.
+//! In the read phase it lists what its active nodes push, and writes nothing else. In the delivery
+//! phase it goes through the lists of all workers, and writes what they change at its places. So
+//! the result of a pulse depends on no order of nodes, and on no number of workers.
 
 use crate::nodes::Nodes;
 use aig_graph::Memory;
 use unit_flows::GateFlow;
 
-/// An arc that units go over, between a gate's nodes, or between one of them and a node of its second or first fan-in.
+/// An arc between a gate's nodes, or between one of them and a node of a fan-in.
 #[derive(Clone, Copy)]
 pub(crate) enum Arc {
     /// From before the gate to after it.
@@ -27,17 +28,17 @@ pub(crate) enum Arc {
 }
 
 impl Arc {
-    /// Whether it leads from after a place.
+    /// Returns true if the arc leads from after a place.
     pub fn is_from_after(self) -> bool {
         matches!(self, Arc::Back | Arc::Up | Arc::Out)
     }
 
-    /// Whether it leads to after a place.
+    /// Returns true if the arc leads to after a place.
     pub fn is_to_after(self) -> bool {
         matches!(self, Arc::Through | Arc::Home)
     }
 
-    /// Whether it leads from a node of a fan-in to before a gate.
+    /// Returns true if the arc leads from a node of a fan-in to before a gate.
     fn is_from_fan_in(self) -> bool {
         matches!(self, Arc::Up | Arc::Lift)
     }
@@ -50,7 +51,7 @@ const SINK: u32 = u32::MAX;
 #[derive(Clone, Copy)]
 pub(crate) struct Push {
     pub arc: Arc,
-    /// Whether the arc is one of the second fan-in.
+    /// True if the arc is one of the second fan-in.
     pub second: bool,
     pub tail: u32,
     pub head: u32,
@@ -58,7 +59,7 @@ pub(crate) struct Push {
 }
 
 impl Push {
-    /// The unit after a place leaves to the sink.
+    /// Returns the push of the unit after `place` to the sink.
     pub fn out(place: u32) -> Push {
         Push {
             arc: Arc::Out,
@@ -69,7 +70,7 @@ impl Push {
         }
     }
 
-    /// The place of the gate whose flow it changes.
+    /// Returns the place of the gate whose flow the push changes.
     pub fn gate(&self) -> u32 {
         if self.arc.is_from_fan_in() {
             self.head
@@ -78,7 +79,7 @@ impl Push {
         }
     }
 
-    /// What the flow does at that gate once it is made.
+    /// Changes the flow of that gate as the push does.
     pub fn note(&self, flow: &mut GateFlow) {
         let (second, units) = (self.second, self.units);
         match self.arc {
@@ -93,7 +94,7 @@ impl Push {
     }
 }
 
-/// A node that keeps units in a pulse, and the label that it gets where none come to it.
+/// A node that keeps units in a pulse, and the label that it gets if none come to it.
 #[derive(Clone, Copy)]
 pub(crate) struct Kept {
     pub place: u32,
@@ -108,7 +109,7 @@ pub struct Range {
     pub end: u32,
 }
 
-/// Where the range of a worker begins, one of so many that share so many places: those of the workers before it end there.
+/// Returns the first place of worker `worker`'s range if `workers` workers share `places` places.
 fn border(worker: u32, workers: u32, places: usize) -> u32 {
     let places = places.min(u32::MAX as usize) as u32;
     let border = u64::from(worker) * u64::from(places) / u64::from(workers.max(1));
@@ -116,7 +117,7 @@ fn border(worker: u32, workers: u32, places: usize) -> u32 {
 }
 
 impl Range {
-    /// The range of a worker, one of so many that share so many places.
+    /// Returns the range of worker `worker` if `workers` workers share `places` places.
     pub(crate) fn of(worker: u32, workers: u32, places: usize) -> Range {
         Range {
             first: border(worker, workers, places),
@@ -124,13 +125,12 @@ impl Range {
         }
     }
 
-    /// Whether a place is one of them.
     pub(crate) fn has(&self, place: u32) -> bool {
         (self.first <= place) & (place < self.end)
     }
 }
 
-/// A worker's part of a read phase: what its active nodes push, which of them keep units, and how many arcs it looked at.
+/// A worker's part of a read phase, in which `work` arcs were looked at.
 #[derive(Drop)]
 pub(crate) struct Part {
     pub worker: u32,
@@ -139,12 +139,12 @@ pub(crate) struct Part {
     pub kept_before: Vec<Kept>,
     pub kept_after: Vec<Kept>,
     pub work: usize,
-    /// Whether memory was refused for a list, so that something is missing.
+    /// True if memory was refused for a list, so that something is missing.
     pub refused: bool,
 }
 
 impl Part {
-    /// The part of a worker, one of so many, before it has read.
+    /// Returns the part of worker `worker` among `workers` workers, before it has read.
     pub fn of(memory: &Memory, worker: u32, workers: u32, places: usize) -> Part {
         Part {
             worker,
@@ -157,7 +157,6 @@ impl Part {
         }
     }
 
-    /// Nothing is read.
     pub fn clear(&mut self) {
         self.pushes.clear();
         self.kept_before.clear();
@@ -165,7 +164,7 @@ impl Part {
         self.work = 0;
     }
 
-    /// So many more arcs were looked at.
+    /// Counts `arcs` more arcs that were looked at.
     pub fn count(&mut self, arcs: usize) {
         self.work = self.work.wrapping_add(arcs);
     }
@@ -176,7 +175,8 @@ impl Part {
         self.refused = self.refused | refused;
     }
 
-    /// Lists a push of as many of these units as the arc takes, which are those of this push, unless it is of none. How many stay.
+    /// Lists a push of `units` over the arc of `most`, or of `most.units` if those are fewer,
+    /// unless it is of none. Returns the number of units that stay.
     pub fn list_most(&mut self, most: Push, units: u32) -> u32 {
         let sent = units.min(most.units);
         if sent > 0 {
@@ -201,7 +201,8 @@ impl Part {
     }
 }
 
-/// A worker's part of a delivery phase: the nodes of its places to which units came, and the labels of those before gates that kept some.
+/// A worker's part of a delivery phase: the nodes of its places to which units came, and the labels
+/// of its nodes before gates that kept some.
 #[derive(Drop)]
 pub(crate) struct Delivery {
     pub next: Nodes,
@@ -216,7 +217,6 @@ impl Delivery {
         }
     }
 
-    /// Nothing is delivered.
     pub fn clear(&mut self) {
         self.next.clear();
         self.labels.clear();

@@ -1,7 +1,9 @@
-//! A synchronous pulse: each active node pushes by the labels of before, what was pushed is delivered, and nodes that kept units get new labels.
+//! A synchronous pulse: each active node pushes by the labels of before, the pushes are delivered,
+//! and nodes that kept units get new labels.
 //!
-//! Each worker has a range of places. It is given its part and what it owns by value and returns them, in worker order; all else is lent to all
-//! workers. A pulse of few active nodes is made by the calling thread, as worker 0, over all places.
+//! Each worker has a range of places. It is given its part and what it owns by value and returns
+//! them, in worker order; all else is lent to all workers. The calling thread makes a pulse of few
+//! active nodes, as worker 0, over all places.
 
 use crate::delivering::{Ground, Owned, owned_by_ranges};
 use crate::nodes::Nodes;
@@ -21,14 +23,14 @@ pub(crate) struct Passage<'a, G> {
     pub pulse: u64,
 }
 
-/// Reads for all parts, one after another.
+/// Reads for all parts in this thread, one part after another.
 fn read_all(search: &Search, actives: &Nodes, parts: &mut [Part]) {
     for k in 0..parts.len() {
         search.read(actives, &mut parts[k]);
     }
 }
 
-/// Read of each worker's places by that worker.
+/// Reads for all parts, each by its worker.
 fn read_by_crew<R: Threads + Sync, G: PhaseGate>(
     rt: &R,
     memory: &mut Memory,
@@ -52,7 +54,7 @@ fn read_by_crew<R: Threads + Sync, G: PhaseGate>(
     }
 }
 
-/// All places and gates of a search, and its labels.
+/// Returns all places and gates of a search, and its labels.
 fn ground_of<'a>(search: &'a mut Search) -> (Ground<'a>, &'a [Labels]) {
     let all = Ground::all(
         search.latches,
@@ -62,7 +64,7 @@ fn ground_of<'a>(search: &'a mut Search) -> (Ground<'a>, &'a [Labels]) {
     (all, search.labels.as_slice())
 }
 
-/// Delivers at all places, which are those of the first worker.
+/// Delivers at all places, as worker 0.
 fn deliver_all(search: &mut Search, parts: &[Part], deliveries: &mut [Delivery]) {
     let (mut all, labels) = ground_of(search);
     if !deliveries.is_empty() {
@@ -70,7 +72,7 @@ fn deliver_all(search: &mut Search, parts: &[Part], deliveries: &mut [Delivery])
     }
 }
 
-/// Delivery at each worker's places by that worker.
+/// Delivers at all places, at each by the worker that owns it.
 fn deliver_by_crew<R: Threads + Sync, G: PhaseGate>(
     rt: &R,
     memory: &mut Memory,
@@ -98,7 +100,7 @@ fn deliver_by_crew<R: Threads + Sync, G: PhaseGate>(
     }
 }
 
-/// The nodes after places that kept their unit get their new labels; those from which it can still come to the sink are active in the next pulse.
+/// Gives nodes after places that kept their unit new labels; those below [`FAR`] are active next.
 fn turn_after(labels: &mut [Labels], kept: &[Kept], next: &mut Nodes) {
     for k in 0..kept.len() {
         let Kept { place, label, .. } = kept[k];
@@ -112,7 +114,7 @@ fn turn_after(labels: &mut [Labels], kept: &[Kept], next: &mut Nodes) {
     }
 }
 
-/// The same of nodes before gates, by the labels that were found as units came there.
+/// Gives nodes before gates that kept units new labels; those below [`FAR`] are active next.
 fn turn_before(labels: &mut [Labels], kept: &[Kept], found: &[u32], next: &mut Nodes) {
     for k in 0..kept.len() {
         if k < found.len() {
@@ -128,7 +130,7 @@ fn turn_before(labels: &mut [Labels], kept: &[Kept], found: &[u32], next: &mut N
     }
 }
 
-/// The nodes of a part that kept units get their new labels, and are active in the next pulse after those of before.
+/// Gives a part's nodes new labels, and appends those that are active next to `actives`.
 fn turn(labels: &mut [Labels], part: &Part, delivery: &mut Delivery, actives: &mut Nodes) {
     let Delivery {
         next,
@@ -140,7 +142,7 @@ fn turn(labels: &mut [Labels], part: &Part, delivery: &mut Delivery, actives: &m
     actives.join(next);
 }
 
-/// Ends a pulse of these parts; then other nodes are active. How many arcs it looked at.
+/// Ends a pulse, and replaces the active nodes. Returns the number of arcs looked at.
 fn end(search: &mut Search, actives: &mut Nodes, shared: &mut Parts) -> usize {
     let labels = search.labels.as_mut_slice();
     let parts = shared.parts.as_slice();
@@ -156,7 +158,7 @@ fn end(search: &mut Search, actives: &mut Nodes, shared: &mut Parts) -> usize {
     work
 }
 
-/// Makes a pulse by the calling thread; then other nodes are active. How many arcs it looked at.
+/// Makes a pulse by the calling thread, and ends it. Returns the number of arcs looked at.
 pub(crate) fn pulse_alone<G: PhaseGate>(
     search: &mut Search,
     actives: &mut Nodes,
@@ -178,7 +180,7 @@ pub(crate) fn pulse_alone<G: PhaseGate>(
     end(search, actives, shared)
 }
 
-/// Makes a pulse by a worker for each part; then other nodes are active. How many arcs it looked at.
+/// Makes a pulse by a worker for each part, and ends it. Returns the number of arcs looked at.
 pub(crate) fn pulse_by_crew<R: Threads + Sync, G: PhaseGate>(
     rt: &R,
     memory: &mut Memory,

@@ -1,22 +1,23 @@
-//! What a node pushes in a pulse: to nodes whose label is one less, in the order of rows by rising heads.
+//! Pushes of a node in a pulse: to nodes whose label is one less, in order of rising heads.
 //!
-//! It reads the flow that the last pulse left. No arc is pushed from both ends, and labels don't change before the pulse ends, so what other
-//! nodes push meanwhile makes no difference.
+//! A node reads the flow that the last pulse left. No arc is pushed from both ends, and labels
+//! don't change before the pulse ends, so what other nodes push meanwhile makes no difference.
 
 use crate::nodes::Nodes;
 use crate::parts::{Arc, Kept, Part, Push};
 use crate::search::{Before, Search};
 use crate::spots::{label_after, label_before, labels_at, spot_at};
 
-/// What becomes of a unit after a place: it goes on to before a gate, or it stays, and the node gets a new label.
+/// The way of a unit after a place: on to before a gate, or none, and a new label of the node.
 enum Way {
     To(u32),
     Stays(u32),
 }
 
 impl<'a> Search<'a> {
-    /// The way of the unit after a place: back to before its own gate, or up to before the first reader there with this label. No other node
-    /// changes what it may do in a pulse, so the label that it else gets is known at once.
+    /// Returns the way of the unit after `place`: to the first node with the label `below`, of that
+    /// before its own gate and those before its readers. No other node changes this node's arcs in
+    /// a pulse, so the label of a node that keeps its unit is known at once.
     fn way(&self, place: u32, below: u32, part: &mut Part) -> Way {
         let labels = self.labels.as_slice();
         let mut least = label_before(labels, place);
@@ -35,7 +36,7 @@ impl<'a> Search<'a> {
         Way::Stays(least.saturating_add(1))
     }
 
-    /// The push of the unit after a place to before a gate: its own, or one that reads it.
+    /// Returns the push of the unit after `place` to before the gate at `to`: its own, or a reader.
     fn push_to(&self, place: u32, to: u32) -> Push {
         Push {
             arc: if place == to { Arc::Back } else { Arc::Up },
@@ -63,7 +64,8 @@ impl<'a> Search<'a> {
         }
     }
 
-    /// As many of these units as there is room for go on to before a fan-in, and one goes home to after it, if it came from there. How many stay.
+    /// Pushes units to before a fan-in, as many as there is room for. Then pushes one home to after
+    /// that fan-in, if one came from there. Returns the number of units that stay.
     fn push_to_fan_in(&self, node: &Before, second: bool, units: u32, part: &mut Part) -> u32 {
         if units == 0 {
             return 0;
@@ -92,7 +94,7 @@ impl<'a> Search<'a> {
         left
     }
 
-    /// One of these units goes through the gate, if none does. How many stay.
+    /// Pushes a unit through the gate, if none goes there. Returns the number of units that stay.
     fn push_through(&self, node: &Before, units: u32, part: &mut Part) -> u32 {
         let label = label_after(self.labels.as_slice(), node.place);
         if node.flow.through | (label != node.below) {
@@ -108,7 +110,7 @@ impl<'a> Search<'a> {
         part.list_most(through, units)
     }
 
-    /// These units go back to before readers, as many as came down from each. How many stay.
+    /// Pushes units back to the readers that they came from. Returns the number of units that stay.
     fn push_up(&self, node: &Before, units: u32, part: &mut Part) -> u32 {
         let labels = self.labels.as_slice();
         let readers = self.readers.at(node.place);
@@ -134,7 +136,7 @@ impl<'a> Search<'a> {
         left
     }
 
-    /// These units go where an arc leads from before a gate. How many stay.
+    /// Pushes units over all arcs from before a gate. Returns the number of units that stay.
     fn push_all(&self, node: &Before, units: u32, part: &mut Part) -> u32 {
         let mut left = self.push_to_fan_in(node, false, units, part);
         left = self.push_to_fan_in(node, true, left, part);
@@ -159,7 +161,7 @@ impl<'a> Search<'a> {
         }
     }
 
-    /// Reads what the nodes before or after these places do that are a worker's own.
+    /// Reads what a worker's own nodes before `places`, or after them, do.
     fn read_all(&self, places: &[u32], are_before: bool, part: &mut Part) {
         let range = part.range;
         for k in 0..places.len() {
@@ -175,7 +177,7 @@ impl<'a> Search<'a> {
         }
     }
 
-    /// Reads what those of these nodes do that are a worker's own.
+    /// Reads what those of the active nodes do that are a worker's own.
     pub fn read(&self, actives: &Nodes, part: &mut Part) {
         part.clear();
         self.read_all(actives.after.as_slice(), false, part);

@@ -1,18 +1,20 @@
-//! New labels of nodes before gates that keep units: one more than the least label that an arc leads to after the pulse.
+//! New labels of nodes before gates that keep units: one more than the least label to which an arc
+//! leads after the pulse.
 //!
-//! Such a node has filled each arc to a label that is one less than its own. What else comes to it makes arcs back to labels that are one more.
+//! Such a node has filled each arc to a label that is one less than its own. Units that come to it
+//! make arcs back to labels that are one more.
 
 use crate::parts::Part;
 use crate::search::{Before, Search};
 use crate::spots::{FAR, label_after, label_before, labels_at};
 
-/// A label where an arc leads there that isn't filled in this pulse, or none.
+/// Returns `label` if an arc leads there that isn't filled: one to `below` is filled. Else [`FAR`].
 fn near(label: u32, below: u32, leads: bool) -> u32 {
     if leads & (label != below) { label } else { FAR }
 }
 
 impl<'a> Search<'a> {
-    /// The least label of the fan-ins' nodes and of that after a gate to which an arc leads from before it.
+    /// Returns the least label to which an arc leads from before a gate, readers aside.
     fn least_near(&self, node: &Before) -> u32 {
         let label = label_after(self.labels.as_slice(), node.place);
         near(label, node.below, !node.flow.through)
@@ -20,7 +22,7 @@ impl<'a> Search<'a> {
             .min(self.least_of_fan_in(node, true))
     }
 
-    /// The same of the nodes of one fan-in.
+    /// Returns the least label to which an arc leads from before a gate at one fan-in.
     fn least_of_fan_in(&self, node: &Before, second: bool) -> u32 {
         let labels = labels_at(self.labels.as_slice(), node.fan_ins.at(second));
         let has_room = node.flow.down(second) < self.most;
@@ -28,7 +30,7 @@ impl<'a> Search<'a> {
         near(labels.before, node.below, has_room).min(near(labels.after, node.below, came))
     }
 
-    /// The new label of the node before a gate, where nothing comes to it in this pulse.
+    /// Returns the new label of the node before a gate, if nothing comes to it in this pulse.
     pub fn raised_before(&self, node: &Before, part: &mut Part) -> u32 {
         let labels = self.labels.as_slice();
         part.count(4);
@@ -45,7 +47,8 @@ impl<'a> Search<'a> {
     }
 }
 
-/// The new label of a node before a gate whose label was this, once units have come to it.
+/// Returns the new label of a node before a gate, once units have come to it. `label` is that of
+/// before, `raised` the one without these units.
 pub(crate) fn raised_with_arrivals(label: u32, raised: u32) -> u32 {
     raised.min(label.saturating_add(2))
 }

@@ -1,4 +1,4 @@
-//! The tables of a flow of units by place: what the flow does at each gate, what stands at each place, and which gates read it.
+//! The tables of a flow by place: the flow at gates, the units at places, and their readers.
 
 use crate::fan_ins::FanIns;
 use crate::nodes::Nodes;
@@ -8,7 +8,7 @@ use aig_graph::{Gate, Memory};
 use unit_flows::GateFlow;
 use unit_starts::{Region, narrow};
 
-/// The node before a gate, as a pulse finds it: what the flow does at the gate, and the label that the node pushes to.
+/// The node before a gate in a pulse, with the label to which it pushes (`below`).
 #[derive(Clone, Copy)]
 pub(crate) struct Before {
     pub place: u32,
@@ -17,12 +17,12 @@ pub(crate) struct Before {
     pub below: u32,
 }
 
-/// A flow of units over the gates of a region, and what its pulses need to know.
+/// A flow of units over the gates of a region, with the tables of its pulses.
 pub(crate) struct Search<'a> {
     pub region: Region<'a>,
-    /// How many latches there are, the place of the first gate.
+    /// The number of latches, which is the place of the first gate.
     pub latches: u32,
-    /// As many units as an arc without a bound carries at most.
+    /// The most units that an arc without a bound carries.
     pub most: u32,
     pub readers: Readers,
     pub labels: Vec<Labels>,
@@ -46,7 +46,8 @@ impl<'a> Drop for Search<'a> {
 }
 
 impl<'a> Search<'a> {
-    /// The tables of a flow. Where there are marks, they are by place whether units could come to the sink from before it.
+    /// Returns the tables of a flow. `marks` are empty, or say by place if units could come to the
+    /// sink from before it.
     pub fn new(
         memory: &mut Memory,
         region: &Region<'a>,
@@ -67,14 +68,13 @@ impl<'a> Search<'a> {
         }
     }
 
-    /// Makes lists of readers for active nodes, where there are some and no lists yet.
+    /// Makes lists of readers, if nodes are active and there are no lists yet.
     pub fn list_readers(&mut self, memory: &mut Memory, actives: &Nodes) {
         if self.readers.are_none() & !actives.is_empty() {
             self.readers = Readers::of(memory, &self.region);
         }
     }
 
-    /// The flow alone.
     pub fn into_flows(self) -> Vec<GateFlow> {
         let Search {
             region: _region,
@@ -88,17 +88,15 @@ impl<'a> Search<'a> {
         flows
     }
 
-    /// The number of a place among the gates, if there is one.
+    /// Returns the number of the gate at `place`, past all gates if there is none.
     fn number(&self, place: u32) -> usize {
         place.wrapping_sub(self.latches) as usize
     }
 
-    /// Whether a gate is at a place.
     pub fn is_gate(&self, place: u32) -> bool {
         self.number(place) < self.region.gates.len()
     }
 
-    /// The fan-ins of the gate at a place.
     pub fn fan_ins(&self, place: u32) -> FanIns {
         let number = self.number(place);
         let gates = self.region.gates;
@@ -109,12 +107,11 @@ impl<'a> Search<'a> {
         }
     }
 
-    /// What the flow does at the gate at a place.
     pub fn flow(&self, place: u32) -> GateFlow {
         flow_at(self.flows.as_slice(), self.number(place))
     }
 
-    /// The node before a gate at a place, as a pulse finds it.
+    /// Returns the node before the gate at `place`.
     pub fn before(&self, place: u32) -> Before {
         Before {
             place,
@@ -124,14 +121,15 @@ impl<'a> Search<'a> {
         }
     }
 
-    /// Whether a reader reads a place by its second fan-in, and how many units came from before it down to before that place.
+    /// Returns true if `reader` reads `place` by its second fan-in, and the number of units that
+    /// went from before the reader down to before that place.
     pub fn came_from(&self, reader: u32, place: u32) -> (bool, u32) {
         let second = self.fan_ins(reader).is_second(place);
         (second, self.flow(reader).down(second))
     }
 }
 
-/// What a flow does at the gate with a number.
+/// Returns the flow at gate `number`, nothing past the end.
 fn flow_at(flows: &[GateFlow], number: usize) -> GateFlow {
     if number < flows.len() {
         flows[number]
@@ -140,8 +138,10 @@ fn flow_at(flows: &[GateFlow], number: usize) -> GateFlow {
     }
 }
 
-/// What stands at each place where no gate has done anything: a unit has come after each known latch, and it waits where no arc leads to the
-/// sink. From before it units could come there, unless its mark says that they can't.
+/// Sets what stands at each place before any gate has done anything. A unit has come after each
+/// known latch, and waits there if no arc leads to the sink. So does one after each passable gate;
+/// [`note_all`] takes it away if nothing goes through. From before a place units could come to the
+/// sink, unless its mark says that they can't.
 fn set_spots(spots: &mut [Spot], region: &Region, marks: &[bool]) {
     for place in 0..spots.len() {
         let holds = region.is_passable(place) | region.is_known_latch(place);
@@ -156,7 +156,7 @@ fn set_spots(spots: &mut [Spot], region: &Region, marks: &[bool]) {
     }
 }
 
-/// Units come to the node before a place.
+/// Adds units to the node before `place`.
 fn add_before(spots: &mut [Spot], place: u32, units: u32) {
     let place = place as usize;
     if place < spots.len() {
@@ -164,7 +164,8 @@ fn add_before(spots: &mut [Spot], place: u32, units: u32) {
     }
 }
 
-/// Notes what came to before a gate from after a fan-in, and what it sent on to before that.
+/// Notes the unit that came to before a gate from after a fan-in (`came`), and the number of units
+/// that went on to before that fan-in (`went`).
 fn note_fan_in(spots: &mut [Spot], place: u32, fan_in: u32, came: bool, went: u32) {
     if came {
         add_before(spots, place, 1);
@@ -178,7 +179,7 @@ fn note_fan_in(spots: &mut [Spot], place: u32, fan_in: u32, came: bool, went: u3
     }
 }
 
-/// Notes what goes on from before a gate, once all is noted that came there.
+/// Notes the units that go on from before a gate. All that came there have to be noted before.
 fn note_going(spots: &mut [Spot], place: u32, flow: &GateFlow) {
     let goes = u32::from(flow.through)
         .saturating_add(flow.first_down)
@@ -190,7 +191,7 @@ fn note_going(spots: &mut [Spot], place: u32, flow: &GateFlow) {
     }
 }
 
-/// Notes what a flow does at the gate at a place.
+/// Notes the flow at the gate at `place`.
 #[inline(always)]
 fn note(spots: &mut [Spot], place: u32, gate: &Gate, first: u32, flow: &GateFlow) {
     if flow.is_none() {
@@ -206,7 +207,7 @@ fn note(spots: &mut [Spot], place: u32, gate: &Gate, first: u32, flow: &GateFlow
     note_going(spots, place, flow);
 }
 
-/// Notes what a flow does at all gates, from the last to the first: so all gates that read one are noted before it.
+/// Notes the flow at all gates, from the last to the first: so readers are noted before a gate.
 fn note_all(spots: &mut [Spot], region: &Region, flows: &[GateFlow]) {
     let (gates, first) = (region.gates, region.first);
     let mut place = narrow(region.places());

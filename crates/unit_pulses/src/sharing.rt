@@ -1,6 +1,8 @@
-//! Which pulses go to the crew: those in which so many nodes are active that a fork costs less than it gains, and the first of a flow that begins at
-//! the sources of a tiny circuit, so that the smallest ones are worked on by two workers at once, too. What that costs is the start of two threads,
-//! a tenth of such a run; by all of a crew it would be more than half, and on a circuit of some hundred places as much for nothing.
+//! Which pulses go to the crew: those with enough active nodes that a fork costs less than it
+//! gains, and one more. That is the first pulse of a flow from the sources of a tiny circuit, so
+//! that two workers share even the smallest circuits. It costs the start of two threads, a tenth of
+//! such a run. The start of a whole crew would cost more than half of it, and as much for nothing
+//! on a circuit of some hundred places.
 
 use crate::nodes::Nodes;
 use crate::parts::{Delivery, Part, Range};
@@ -8,27 +10,27 @@ use aig_graph::{Memory, NoMemory};
 use pulse::{Crew, PhaseGate};
 use std::alloc::Global;
 
-/// So many active nodes make a pulse worth its two forks.
+/// The least number of active nodes that makes a pulse worth its two forks.
 const MANY_ACTIVE: usize = 4096;
 
-/// A circuit of at most so many latches and gates is tiny.
+/// The most latches and gates of a tiny circuit.
 const FEW_PLACES: usize = 16;
 
-/// So many workers of a crew share the first pulse of a tiny circuit.
+/// The number of workers of a crew that share the first pulse of a tiny circuit.
 const FEW_WORKERS: u32 = 2;
 
-/// How the pulses of a flow are shared out among the workers of a crew, each of which passes its gate.
+/// How the workers of a crew, each of which passes its gate, share the pulses of a flow.
 #[derive(Drop)]
 pub(crate) struct Sharing<'a, G> {
     pub gate: &'a G,
-    /// How many of them share a pulse.
+    /// The number of workers that share a pulse.
     pub workers: u32,
-    /// Whether the flow begins at the sources, and they share the first pulse, however few nodes are active.
+    /// True if the flow begins at the sources: workers then share its first pulse, of any size.
     pub from_sources: bool,
 }
 
 impl<'a, G: PhaseGate> Sharing<'a, G> {
-    /// How a crew shares the flow of a circuit of so many latches and gates, where it is the first of a run or not.
+    /// Returns how a crew shares a flow over `places` places, which may be the first of a run.
     pub fn of(crew: &'a Crew<G>, places: usize, is_first: bool) -> Sharing<'a, G> {
         let started = Sharing::of_started(crew);
         if !is_first || started.workers < FEW_WORKERS || places > FEW_PLACES {
@@ -41,7 +43,7 @@ impl<'a, G: PhaseGate> Sharing<'a, G> {
         }
     }
 
-    /// How a crew shares a flow that begins with a start.
+    /// Returns how a crew shares a flow that begins with a start.
     pub fn of_started(crew: &'a Crew<G>) -> Sharing<'a, G> {
         Sharing {
             gate: crew.gate(),
@@ -50,14 +52,14 @@ impl<'a, G: PhaseGate> Sharing<'a, G> {
         }
     }
 
-    /// Whether the pulse with this number goes to the crew.
+    /// Returns true if pulse `number` goes to the crew.
     pub fn is_handed(&self, number: u64, actives: &Nodes) -> bool {
         let is_first = self.from_sources && number == 0;
         self.workers > 1 && (is_first || actives.count() >= MANY_ACTIVE)
     }
 }
 
-/// The parts of a pulse, and what is delivered of each.
+/// The parts of a pulse, and the delivery of each.
 #[derive(Drop)]
 pub(crate) struct Parts {
     pub parts: Vec<Part>,
@@ -65,7 +67,7 @@ pub(crate) struct Parts {
 }
 
 impl Parts {
-    /// A part for each of so many workers that share so many places.
+    /// Returns a part for each of `workers` workers that share `places` places.
     pub fn among(memory: &mut Memory, workers: u32, places: usize) -> Parts {
         let mut parts = memory.nothing();
         let mut deliveries = memory.nothing();
@@ -79,8 +81,7 @@ impl Parts {
     }
 }
 
-/// Returns the range of places that each worker owns in a pulse that `workers` workers share, in
-/// worker order.
+/// Returns the range of places of each of `workers` workers that share a pulse, in worker order.
 ///
 /// # Errors
 ///

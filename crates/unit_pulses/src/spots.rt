@@ -1,9 +1,9 @@
-//! What stands at each place, and how far the sink is from there. What is past the end of a table isn't there.
+//! The units at each place, and how far the sink is. Nothing stands past the end of a table.
 
 /// The label of a node from which no unit can come to the sink.
 pub(crate) const FAR: u32 = u32::MAX;
 
-/// How many arcs a way to the sink has from the node before a place, and from that after it.
+/// The number of arcs of a way to the sink, from the node before a place and that after it.
 #[derive(Clone, Copy)]
 pub(crate) struct Labels {
     pub before: u32,
@@ -17,17 +17,17 @@ impl Labels {
     };
 }
 
-/// How many units stand before a place, and whether one waits after it.
+/// The number of units before a place, and if a unit waits after it.
 #[derive(Clone, Copy)]
 pub(crate) struct Spot {
     pub excess: u32,
-    /// Whether it is a known latch or a passable gate, and units could come to the sink from before it as far as is known. Where they can't, they
-    /// can't either after more pushes.
+    /// True if it is a known latch or a passable gate, and units could come to the sink from before
+    /// it, as far as is known. If they can't, they can't either after more pushes.
     pub reaches: bool,
-    /// Whether it is one, and an arc leads from after it to the sink.
+    /// True if it is a known latch or a passable gate, and an arc leads from after it to the sink.
     pub is_observed: bool,
     pub waits: bool,
-    /// Whether the node before it had no label as it was last seen.
+    /// True if the node before it had no label as it was last seen.
     pub is_open: bool,
 }
 
@@ -41,7 +41,6 @@ impl Spot {
     };
 }
 
-/// What stands at a place.
 pub(crate) fn spot_at(spots: &[Spot], place: u32) -> Spot {
     let place = place as usize;
     if place < spots.len() {
@@ -51,7 +50,6 @@ pub(crate) fn spot_at(spots: &[Spot], place: u32) -> Spot {
     }
 }
 
-/// The labels at a place.
 pub(crate) fn labels_at(labels: &[Labels], place: u32) -> Labels {
     let place = place as usize;
     if place < labels.len() {
@@ -61,12 +59,10 @@ pub(crate) fn labels_at(labels: &[Labels], place: u32) -> Labels {
     }
 }
 
-/// The label of the node before a place.
 pub(crate) fn label_before(labels: &[Labels], place: u32) -> u32 {
     labels_at(labels, place).before
 }
 
-/// The label of the node after a place.
 pub(crate) fn label_after(labels: &[Labels], place: u32) -> u32 {
     labels_at(labels, place).after
 }

@@ -1,5 +1,6 @@
-//! A flow of units along what an earlier one did at each gate, as far as that leads: from each known latch one is sent to the gate that took it
-//! from there, through that gate or on to before a fan-in, as then, until it leaves or nothing more is known.
+//! A flow of units along an earlier one, as far as that leads. From each known latch a unit is sent
+//! to the gate that took it from there in the earlier flow. It goes through that gate or on to
+//! before a fan-in, as then, until it leaves or nothing more is known.
 
 use crate::left_units::LeftUnits;
 use crate::region::{Region, narrow};
@@ -11,7 +12,7 @@ use unit_flows::{GateFlow, UnitFlow, filled};
 /// Stands for no gate.
 const NOBODY: u32 = u32::MAX;
 
-/// Notes that a gate takes the unit after a place, where no gate before it does.
+/// Notes that `gate` takes the unit after `place`, if no gate before it does.
 fn note_taker(takers: &mut [u32], place: u32, gate: u32) {
     let place = place as usize;
     if place < takers.len() && takers[place] == NOBODY {
@@ -19,7 +20,8 @@ fn note_taker(takers: &mut [u32], place: u32, gate: u32) {
     }
 }
 
-/// Notes where all gates took units. Not inlined, so that the loop has the registers for itself.
+/// Notes which gates took units, by the places that they took them from. It isn't inlined, so that
+/// the loop has the registers for itself.
 #[inline(never)]
 fn note_takers(takers: &mut [u32], region: &Region, known: &[GateFlow]) {
     let gates = region.gates;
@@ -35,7 +37,8 @@ fn note_takers(takers: &mut [u32], region: &Region, known: &[GateFlow]) {
     }
 }
 
-/// By place, from the first latch on, the number of the gate that took the unit after it, in the memory of a table.
+/// Returns the number of the gate that took the unit after each place, from the first latch on, in
+/// the memory of a table.
 fn takers_in(memory: Vec<u32>, region: &Region, known: &[GateFlow]) -> Result<Vec<u32>, NoMemory> {
     let Ok(mut takers) = filled(memory, NOBODY, region.places()) else {
         return Err(NoMemory);
@@ -44,7 +47,7 @@ fn takers_in(memory: Vec<u32>, region: &Region, known: &[GateFlow]) -> Result<Ve
     Ok(takers)
 }
 
-/// What was known of a gate, nothing past the end.
+/// Returns the known flow at `gate`, nothing past the end.
 fn known_at(known: &[GateFlow], gate: usize) -> GateFlow {
     if gate < known.len() {
         known[gate]
@@ -53,8 +56,8 @@ fn known_at(known: &[GateFlow], gate: usize) -> GateFlow {
     }
 }
 
-/// A unit goes on from before a gate to before a fan-in, where fewer do than it is known of. The number of that gate, past all gates where it
-/// doesn't.
+/// Sends a unit on from before a gate to before a fan-in, if fewer go there than is known. Returns
+/// the number of the fan-in's gate, past all gates if no unit goes.
 fn goes_down(region: &Region, literals: &Gate, known: &GateFlow, flow: &mut GateFlow) -> usize {
     let second = flow.first_down >= known.first_down;
     let fan_in = if second { literals.rhs0 } else { literals.rhs1 };
@@ -68,8 +71,8 @@ fn goes_down(region: &Region, literals: &Gate, known: &GateFlow, flow: &mut Gate
     }
 }
 
-/// From before a gate a unit goes through it, or through one that it goes down to. The number of the last gate that it comes to, and whether it
-/// goes through.
+/// Sends a unit from before a gate through it, or through one to which it goes down. Returns the
+/// number of the last gate that it comes to, and true if it goes through that gate.
 fn goes_through(
     region: &Region,
     known: &[GateFlow],
@@ -96,7 +99,7 @@ fn goes_through(
     (gate, false)
 }
 
-/// The number of the gate that takes the unit after a place.
+/// Returns the number of the gate that takes the unit after `place`.
 fn taker_of(takers: &[u32], place: usize) -> usize {
     let taker = if place < takers.len() {
         takers[place]
@@ -106,7 +109,8 @@ fn taker_of(takers: &[u32], place: usize) -> usize {
     taker as usize
 }
 
-/// A gate, if there is one with this number, takes the unit after a place. Then whether it goes through at once.
+/// Lets gate `taker` take the unit after `place`. Returns none if there is no such gate, else true
+/// if the unit goes through at once.
 fn comes_to(
     region: &Region,
     known: &[GateFlow],
@@ -126,7 +130,7 @@ fn comes_to(
     Some(goes)
 }
 
-/// Sends the unit after a latch as far as it is known to go, and notes where it is left.
+/// Sends the unit after a latch as far as its way is known, and notes where it is left.
 fn send(
     region: &Region,
     known: &[GateFlow],
@@ -156,7 +160,8 @@ fn send(
     }
 }
 
-/// Sends the units after all known latches as far as they are known to go. Where they are left.
+/// Sends the units after all known latches as far as their ways are known. Returns the places at
+/// which they are left.
 #[inline(never)]
 fn send_all(
     alloc: Global,
@@ -165,7 +170,7 @@ fn send_all(
     takers: &[u32],
     flows: &mut [GateFlow],
 ) -> LeftUnits {
-    // a copy of its own, so that the loop has the tables' places and lengths at hand
+    // A copy of its own, so that the loop has the tables' places and lengths at hand.
     let region = *region;
     let mut left = LeftUnits::none(alloc);
     for place in 0..region.latches.len() {
@@ -176,7 +181,8 @@ fn send_all(
     left
 }
 
-/// Sends the units by what is known, for which a spare table serves. Where they are left.
+/// Sends the units along the known flow, with a spare table. Returns the places at which they are
+/// left.
 fn send_along(
     alloc: Global,
     region: &Region,
@@ -193,12 +199,12 @@ fn send_along(
     left.complete()
 }
 
-/// A flow along what is known of an earlier one at each gate, in its place: 4 bytes a latch and gate, for which a spare table serves, and what the
-/// units' ways cost. Where it leaves units.
+/// Replaces the known flow by one along it. This takes 4 bytes a latch and gate, in a spare table,
+/// and the time of the units' ways. Returns the places at which units are left.
 ///
 /// # Errors
 ///
-/// `NoMemory` where a table is refused.
+/// `NoMemory` if a table is refused.
 pub(crate) fn put_along(
     alloc: Global,
     region: &Region,

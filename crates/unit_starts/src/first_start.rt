@@ -1,11 +1,12 @@
-//! A circuit's first flow, where nothing is known of any gate: two starts are tried over the gates, and the one that brings more units to the
-//! sink is taken.
+//! A circuit's first flow, if nothing is known of any gate. Two starts are tried over the gates,
+//! and the one that brings more units to the sink is taken.
 //!
-//! The first goes up the gates: each takes a unit that waits after a fan-in, the larger fan-in first, since what is read late has fewer
-//! readers to come. The second goes from the sink down: each gate that is asked for a unit asks a fan-in that nobody has asked, the smaller
-//! first; then units go up along what was asked, and gates that got none take what still waits.
+//! The first goes up the gates: each takes a unit that waits after a fan-in. It tries the larger
+//! fan-in first, since what is read late has fewer readers to come. The second goes from the sink
+//! down: each gate that is asked for a unit asks a fan-in that nobody has asked, the smaller first.
+//! Then units go up along what was asked, and gates that got none take what still waits.
 //!
-//! Of most circuits one of them brings all units, or all but a few.
+//! For most circuits one of them brings all units, or all but a few.
 
 use crate::left_units::LeftUnits;
 use crate::region::Region;
@@ -14,7 +15,7 @@ use aig_graph::NoMemory;
 use std::alloc::Global;
 use unit_flows::GateFlow;
 
-/// The places of a gate's own variable and of its two fan-ins, from the first latch on, the smaller fan-in first.
+/// The places of a gate's own variable and of its two fan-ins, from the first latch on.
 #[derive(Clone, Copy)]
 struct GatePlaces {
     own: usize,
@@ -23,14 +24,14 @@ struct GatePlaces {
 }
 
 impl GatePlaces {
-    /// What stands where there is no gate.
+    /// Stands for the places of no gate.
     const NONE: GatePlaces = GatePlaces {
         own: usize::MAX,
         smaller: usize::MAX,
         larger: usize::MAX,
     };
 
-    /// Those of the gate with this number.
+    /// Returns the places of gate `gate`.
     fn of(region: &Region, gate: usize) -> GatePlaces {
         let gates = region.gates;
         if gate >= gates.len() {
@@ -44,7 +45,7 @@ impl GatePlaces {
     }
 }
 
-/// Whether a unit waited after a gate's fan-in, which the gate takes then.
+/// Lets the gate take the unit that waits after `fan_in`. Returns true if there was one.
 fn takes(start: &mut Start, gate: usize, places: &GatePlaces, fan_in: FanIn) -> bool {
     let place = match fan_in {
         FanIn::Smaller => places.smaller,
@@ -53,7 +54,8 @@ fn takes(start: &mut Start, gate: usize, places: &GatePlaces, fan_in: FanIn) -> 
     start.takes_from(gate, places.own, fan_in, place)
 }
 
-/// A passable gate that has taken nothing takes a unit that waits after one of its fan-ins: this one before the other.
+/// Lets a passable gate that has taken nothing take a unit that waits after a fan-in: after
+/// `first`, else after `second`.
 #[inline(always)]
 fn take_waiting(region: &Region, start: &mut Start, gate: usize, first: FanIn, second: FanIn) {
     let places = GatePlaces::of(region, gate);
@@ -65,7 +67,8 @@ fn take_waiting(region: &Region, start: &mut Start, gate: usize, first: FanIn, s
     }
 }
 
-/// In one pass up the gates each passable one that has taken nothing takes a unit that waits after a fan-in: this one before the other.
+/// Lets each passable gate that has taken nothing take a unit that waits after a fan-in, in one
+/// pass up the gates: after `first`, else after `second`.
 #[inline(always)]
 fn take_all_waiting(region: &Region, start: &mut Start, first: FanIn, second: FanIn) {
     for gate in 0..region.gates.len() {
@@ -73,7 +76,8 @@ fn take_all_waiting(region: &Region, start: &mut Start, first: FanIn, second: Fa
     }
 }
 
-/// A passable gate whose unit is asked for asks a fan-in that nobody has asked, the smaller first.
+/// Lets a passable gate whose unit is asked for ask a fan-in that nobody has asked, the smaller
+/// first.
 fn ask(region: &Region, start: &mut Start, gate: usize) {
     let places = GatePlaces::of(region, gate);
     if !region.is_passable(places.own) || !start.is_asked(places.own) {
@@ -86,7 +90,7 @@ fn ask(region: &Region, start: &mut Start, gate: usize) {
     }
 }
 
-/// A gate that asked a fan-in takes the unit that waits there, or else nothing.
+/// Lets a gate that asked a fan-in take the unit that waits there, if one does, else nothing.
 fn take_asked(region: &Region, start: &mut Start, gate: usize) {
     if let Some(fan_in) = start.taken(gate) {
         start.note(gate, None);
@@ -94,7 +98,7 @@ fn take_asked(region: &Region, start: &mut Start, gate: usize) {
     }
 }
 
-/// All gates ask, from the last to the first, and then take what they asked for.
+/// Lets all gates ask, from the last to the first, and then take what they asked for.
 fn ask_and_take(region: &Region, start: &mut Start) {
     let gates = region.gates.len();
     for gate in (0..gates).rev() {
@@ -105,7 +109,7 @@ fn ask_and_take(region: &Region, start: &mut Start) {
     }
 }
 
-/// What a gate does that takes its unit there, if any: it goes through.
+/// Returns the flow at a gate that takes its unit from `taken`, if anywhere, and lets it through.
 fn flow_of(taken: Option<FanIn>) -> GateFlow {
     let mut flow = GateFlow::none();
     match taken {
@@ -117,7 +121,7 @@ fn flow_of(taken: Option<FanIn>) -> GateFlow {
     flow
 }
 
-/// Puts the flow that takes these units in place of another.
+/// Replaces a flow by the one that takes these units.
 fn put(flows: &mut Vec<GateFlow>, takes: &[Option<FanIn>]) -> Result<(), NoMemory> {
     flows.clear();
     let mut refused = flows.reserve(takes.len()).is_err();
@@ -127,14 +131,16 @@ fn put(flows: &mut Vec<GateFlow>, takes: &[Option<FanIn>]) -> Result<(), NoMemor
     if refused { Err(NoMemory) } else { Ok(()) }
 }
 
-/// How many units a start brings to the sink, and where it leaves the others.
+/// The number of units that a start brings to the sink, and the places at which it leaves the
+/// others.
 #[derive(Drop)]
 pub(crate) struct FirstStart {
     pub arrived: usize,
     pub left: LeftUnits,
 }
 
-/// Puts the flow of a start in place of another. What it brings, and what it leaves.
+/// Replaces a flow by that of a start. Returns the number of units that it brings, and where it
+/// leaves the others.
 fn put_first(
     alloc: Global,
     flows: &mut Vec<GateFlow>,
@@ -152,7 +158,8 @@ fn put_first(
     }
 }
 
-/// Puts the flow of a start in place of another, where it brings more units to the sink than so many. Whether it does.
+/// Replaces a flow by that of a start, if the start brings more than `arrived` units to the sink.
+/// Returns true if it does.
 fn put_better(flows: &mut Vec<GateFlow>, start: &Start, arrived: usize) -> Result<bool, NoMemory> {
     if start.arrived <= arrived {
         return Ok(false);
@@ -163,11 +170,11 @@ fn put_better(flows: &mut Vec<GateFlow>, start: &Start, arrived: usize) -> Resul
     }
 }
 
-/// Puts the flow of the start up the gates in place of another.
+/// Replaces a flow by that of the start up the gates.
 ///
 /// # Errors
 ///
-/// `NoMemory` where a table is refused.
+/// `NoMemory` if a table is refused.
 pub(crate) fn put_start_up(
     alloc: Global,
     region: &Region,
@@ -182,11 +189,12 @@ pub(crate) fn put_start_up(
     first
 }
 
-/// Puts the flow of the start from the sink down in place of another, where it brings more units to the sink than so many. Whether it does.
+/// Replaces a flow by that of the start from the sink down, if it brings more than `arrived` units
+/// to the sink. Returns true if it does.
 ///
 /// # Errors
 ///
-/// `NoMemory` where a table is refused.
+/// `NoMemory` if a table is refused.
 pub(crate) fn put_start_down(
     alloc: Global,
     region: &Region,

@@ -1,4 +1,5 @@
-//! The chosen least set of a frame by the flow of a start, where the judge says that it shows one.
+//! The chosen least set of a frame by the flow of a start, if the judge says that the flow shows
+//! it.
 ghost use Rattle.std.specs.Prelude.{◌≡◌, IfOk, IfSome, None};
 ghost use Rattle.aig_graph.specs.Border.{IsGreatestLeast};
 ghost use Rattle.aig_graph.specs.Chosen.{IsChosen};
@@ -11,17 +12,18 @@ use aig_graph::{Choice, ClosedSet, NoMemory};
 use std::alloc::Global;
 use unit_flows::{Frame, GateFlow, NodeMarks, UnitFlow, mark, shown_by_marks, shown_chosen};
 
-/// What a start comes to.
+/// The result of a start.
 #[derive(Drop)]
 pub struct Started {
-    /// The chosen least set, if its flow shows that.
+    /// The chosen least set, if the start's flow shows it.
     pub set: Option<ClosedSet>,
-    /// Else the marks of the nodes from which its units could still come to the sink, if they were looked for.
+    /// If not, the marks of the nodes from which units could still come to the sink, if they were
+    /// looked for.
     pub marks: Option<NodeMarks>,
 }
 
-/// What a flow comes to that leaves units so, where the greatest least set is looked for: the judge isn't asked where one is left at a node from
-/// which it could come to the sink, since more would come there.
+/// Judges a flow if the greatest least set is looked for. If a unit is left at a node from which it
+/// could come to the sink, more would come there, so the judge isn't asked.
 fn judged_greatest(
     alloc: Global,
     frame: &Frame,
@@ -59,7 +61,8 @@ fn judged_greatest(
     }
 }
 
-/// The same for the chosen one. For the smallest the judge is asked at once, which marks other nodes.
+/// Judges a flow by the chosen least set. The judge is asked for the smallest one at once, since it
+/// marks other nodes.
 fn judged(
     alloc: Global,
     frame: &Frame,
@@ -82,8 +85,8 @@ fn judged(
     }
 }
 
-/// By the start up the gates, for a circuit of whose gates no flow is known. Where it shows none, the start from the sink down takes its place if
-/// it brings more.
+/// Finds the set by the start up the gates, for a circuit of whose gates no flow is known. If that
+/// shows none, the start from the sink down replaces it if it brings more.
 fn start_first(
     alloc: Global,
     frame: &Frame,
@@ -111,7 +114,8 @@ fn start_first(
     }
 }
 
-/// The start from the sink down takes the place of one that shows none, if it brings more than so many units; else what that came to stays.
+/// Replaces a start that shows no set by the start from the sink down, if that brings more than
+/// `arrived` units. If it doesn't, returns `up`, the result of the first start.
 fn started_down(
     alloc: Global,
     region: &Region,
@@ -138,12 +142,13 @@ fn started_down(
     }
 }
 
-/// The chosen least set, where a start shows it: one along `flow`, what the last flow did at the circuit's gates, or along nothing where there
-/// is none. Then `flow` is what the start does there. They are hints: the set is the same whatever they say, or there is none.
+/// Returns the chosen least set, if a start shows it. The start goes along `flow`, what the last
+/// flow did at the circuit's gates, or along nothing if there is none; then `flow` is that of the
+/// start. Flows are hints: they decide if there is a set, and never which.
 ///
 /// # Errors
 ///
-/// `NoMemory` where a table is refused; then `flow` may be that of before, or of a start.
+/// `NoMemory` if a table is refused. Then `flow` is the flow of before, or that of a start.
 pub fn start_along(
     alloc: Global,
     frame: &Frame,
@@ -164,11 +169,12 @@ pub fn start_along(
     judged
 }
 
-/// Puts a start along nothing in place of a flow over a region, the one of two that brings more, and judges nothing. Whether it leaves units.
+/// Replaces a flow over a region by a start along nothing, the one of two that brings more, and
+/// judges nothing. Returns true if it leaves units.
 ///
 /// # Errors
 ///
-/// `NoMemory` where a table is refused; then `flows` may be those of before, or of a start.
+/// `NoMemory` if a table is refused. Then `flows` are those of before, or of a start.
 pub fn start_in(
     alloc: Global,
     region: &Region,

@@ -1,4 +1,4 @@
-//! Where a start left units.
+//! The places at which a start left units.
 
 use aig_graph::NoMemory;
 use std::alloc::Global;
@@ -15,17 +15,17 @@ struct LeftUnit {
 #[derive(Drop)]
 pub(crate) struct LeftUnits {
     nodes: Vec<LeftUnit>,
-    /// Whether memory was refused for one, so that some are missing.
+    /// True if memory was refused for a node, so that some are missing.
     refused: bool,
 }
 
-/// Whether a place is marked.
+/// Returns true if `place` is marked.
 fn has_mark(marks: &[bool], place: usize) -> bool {
     place < marks.len() && marks[place]
 }
 
 impl LeftUnits {
-    /// None are left.
+    /// Returns the list with no node.
     pub fn none(alloc: Global) -> LeftUnits {
         LeftUnits {
             nodes: Vec::new(alloc),
@@ -33,23 +33,23 @@ impl LeftUnits {
         }
     }
 
-    /// Whether none are left.
+    /// Returns true if no unit is left.
     pub fn is_empty(&self) -> bool {
         self.nodes.is_empty()
     }
 
-    /// A unit is left before or after a place.
+    /// Adds a unit that is left before `place` if `before`, else after it.
     pub fn push(&mut self, place: usize, before: bool) {
         if self.nodes.push(LeftUnit { place, before }).is_err() {
             self.refused = true;
         }
     }
 
-    /// The same, unless memory was refused for one.
+    /// Returns these nodes, unless memory was refused for one.
     ///
     /// # Errors
     ///
-    /// `NoMemory` where it was.
+    /// `NoMemory` if it was.
     pub fn complete(self) -> Result<LeftUnits, NoMemory> {
         if self.refused {
             drop(self);
@@ -58,7 +58,7 @@ impl LeftUnits {
         Ok(self)
     }
 
-    /// Whether one is left at a marked node.
+    /// Returns true if a unit is left at a marked node.
     pub fn are_marked(&self, marks: &NodeMarks) -> bool {
         let (before, after) = (marks.before.as_slice(), marks.after.as_slice());
         let nodes = self.nodes.as_slice();

@@ -1,9 +1,11 @@
-//! Starts: flows of units that a few passes over the gates make, along what the last frame's flow did or along nothing. Of most frames a start brings
-//! all units to the sink, or all but a few.
+//! Starts: flows of units that a few passes over the gates make, along the last frame's flow or
+//! along nothing. A start brings all units to the sink for most frames, or all but a few.
 //!
-//! They go over a region: a whole frame, or some components of its network with tables of their own.
+//! They go over a region: a whole frame, or some components of its network with tables of their
+//! own.
 //!
-//! What is made here are hints. No clause speaks of a flow's values; the judge of `unit_flows` says whether one shows the chosen least set.
+//! The flows that are made here are hints. No clause speaks of a flow's values; the judge of
+//! `unit_flows` says if one shows the chosen least set.
 #![tactic(auto)]
 
 mod along;

@@ -1,4 +1,4 @@
-//! One start of a circuit's first flow: which gate takes a unit from which fan-in.
+//! One start of a circuit's first flow: the fan-ins from which gates take units.
 
 use crate::left_units::LeftUnits;
 use crate::region::Region;
@@ -12,7 +12,8 @@ pub(crate) enum FanIn {
     Larger,
 }
 
-/// What stands after a latch or a gate: whether it leaves there, whether its unit is asked for, and whether a unit waits there.
+/// The place after a latch or a gate: if units leave there, if its unit is asked for, and if a unit
+/// waits there.
 #[derive(Clone, Copy)]
 struct Spot {
     is_observed: bool,
@@ -21,7 +22,7 @@ struct Spot {
 }
 
 impl Spot {
-    /// What stands where units don't leave.
+    /// Stands at a place that units don't leave.
     const NONE: Spot = Spot {
         is_observed: false,
         asked: false,
@@ -29,7 +30,7 @@ impl Spot {
     };
 }
 
-/// Where units leave there is the sink, and a unit is asked for.
+/// Sets the places from which units leave: each has the sink, and its unit is asked for.
 fn put_sink(spots: &mut [Spot], leaving: &[bool]) {
     for place in 0..spots.len() {
         if place < leaving.len() {
@@ -42,7 +43,8 @@ fn put_sink(spots: &mut [Spot], leaving: &[bool]) {
     }
 }
 
-/// A unit comes after a latch or a gate: from there it goes to the sink, or it waits. How many have come to the sink, where it was so many.
+/// Lets a unit come after a latch or a gate: from there it goes to the sink, or it waits. Returns
+/// the number of units that have come to the sink, if it was `arrived`.
 fn put_after(spots: &mut [Spot], place: usize, arrived: usize) -> usize {
     if place >= spots.len() {
         return arrived;
@@ -52,7 +54,7 @@ fn put_after(spots: &mut [Spot], place: usize, arrived: usize) -> usize {
     arrived.saturating_add(u32::from(leaves) as usize)
 }
 
-/// Lists where units wait.
+/// Lists the places at which units wait.
 fn list_waiting(spots: &[Spot], left: &mut LeftUnits) {
     for place in 0..spots.len() {
         if spots[place].waits {
@@ -61,8 +63,8 @@ fn list_waiting(spots: &[Spot], left: &mut LeftUnits) {
     }
 }
 
-/// A start: the fan-in from which each gate takes a unit, what stands after each variable, by its place from the first latch on, and how many
-/// units came to the sink.
+/// A start: the fan-in from which each gate takes a unit, and the spot after each variable, by
+/// place from the first latch on. `arrived` units have come to the sink.
 #[derive(Drop)]
 pub(crate) struct Start {
     pub takes: Vec<Option<FanIn>>,
@@ -71,7 +73,8 @@ pub(crate) struct Start {
 }
 
 impl Start {
-    /// A unit has come after each known latch, and no gate has taken one.
+    /// Returns the start in which a unit has come after each known latch, and no gate has taken
+    /// one.
     pub(crate) fn new(alloc: Global, region: &Region) -> Result<Start, NoMemory> {
         let Ok(takes) = vec![in alloc; None; region.gates.len()] else {
             return Err(NoMemory);
@@ -82,7 +85,7 @@ impl Start {
         Ok(Start::begin(region, takes, spots))
     }
 
-    /// The same, in tables that say nothing yet.
+    /// Returns that start, made of tables that say nothing yet.
     fn begin(region: &Region, takes: Vec<Option<FanIn>>, spots: Vec<Spot>) -> Start {
         let mut spots = spots;
         let mut arrived = 0usize;
@@ -99,18 +102,19 @@ impl Start {
         }
     }
 
-    /// Where units wait.
+    /// Returns the places at which units wait.
     ///
     /// # Errors
     ///
-    /// `NoMemory` where a list is refused.
+    /// `NoMemory` if a list is refused.
     pub(crate) fn left(&self, alloc: Global) -> Result<LeftUnits, NoMemory> {
         let mut left = LeftUnits::none(alloc);
         list_waiting(self.spots.as_slice(), &mut left);
         left.complete()
     }
 
-    /// Whether a unit waited after a fan-in; then the gate has taken it, and it comes after the gate's own place.
+    /// Lets `gate` take the unit that waits at `place`, after its fan-in; it then comes after the
+    /// gate's own place. Returns true if there was one.
     pub(crate) fn takes_from(
         &mut self,
         gate: usize,
@@ -128,7 +132,7 @@ impl Start {
         true
     }
 
-    /// Notes from which fan-in a gate takes its unit.
+    /// Notes the fan-in from which a gate takes its unit.
     pub(crate) fn note(&mut self, gate: usize, taken: Option<FanIn>) {
         let takes = self.takes.as_mut_slice();
         if gate < takes.len() {
@@ -136,7 +140,7 @@ impl Start {
         }
     }
 
-    /// The fan-in from which a gate takes its unit.
+    /// Returns the fan-in from which a gate takes its unit.
     pub(crate) fn taken(&self, gate: usize) -> Option<FanIn> {
         let takes = self.takes.as_slice();
         if gate < takes.len() {
@@ -146,7 +150,7 @@ impl Start {
         }
     }
 
-    /// Whether nobody has asked for the unit after a fan-in yet; now it is asked for.
+    /// Asks for the unit after `place`. Returns true if nobody has asked for it before.
     pub(crate) fn asks(&mut self, place: usize) -> bool {
         let spots = self.spots.as_mut_slice();
         if place >= spots.len() {
@@ -157,7 +161,7 @@ impl Start {
         !asked
     }
 
-    /// Whether the unit after a place is asked for.
+    /// Returns true if the unit after `place` is asked for.
     pub(crate) fn is_asked(&self, place: usize) -> bool {
         let spots = self.spots.as_slice();
         place < spots.len() && spots[place].asked

@@ -10,8 +10,8 @@ use Rattle.aig_graph.proofs.FoldingLaws.{gate_at-first_gate, gate_at-is}
 use Rattle.aig_graph.proofs.KindLaws.{element, is_constant, is_gate, is_input, is_latch, kind_of}
 use Rattle.aig_graph.proofs.SignLaws.{value_signed}
 use Rattle.aig_graph.proofs.ListLaws.{map-same}
-use Rattle.retimed_circuits.specs.States.{Digits, State, after_step}
-use Rattle.retimed_circuits.proofs.WithinLaws.{within_laws}
+use Rattle.state_maps.specs.States.{Digits, State, after_step}
+use Rattle.state_maps.proofs.WithinLaws.{within_laws}
 use Rattle.aig_graph.proofs.StreamLaws.{funext}
 
 -- as many inputs and latches, and the same gates

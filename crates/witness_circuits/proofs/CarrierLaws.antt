@@ -8,8 +8,8 @@ use Rattle.aig_graph.specs.Circuits.{AreLiteralsOf, Netlist, IsNetlist}
 use Rattle.aig_graph.specs.Graph.{IsGraph, free_before}
 use Rattle.aig_graph.specs.Value.{Choice, next_value, opening, opening_at, value_within}
 use Rattle.aig_graph.proofs.KindLaws.{element}
-use Rattle.retimed_circuits.specs.States.{Digits, IsAllowed, State, after_step, opening_state}
-use Rattle.retimed_circuits.specs.MapCircuits.{image, is_kept, mapped}
+use Rattle.state_maps.specs.States.{Digits, IsAllowed, State, after_step, opening_state}
+use Rattle.state_maps.specs.MapCircuits.{image, is_kept, mapped}
 use Rattle.witness_circuits.specs.declared.sharing.Sharing.{Sharing}
 use Rattle.witness_circuits.specs.Joining.{own_at}
 use Rattle.witness_circuits.specs.Witnesses.{AreJoint, Agree, GoesOn, HasResets, IsGood, IsSharing, IsWitness, bad_or, bad_states}

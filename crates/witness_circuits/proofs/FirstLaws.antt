@@ -10,7 +10,7 @@ use Rattle.aig_graph.specs.Circuits.{Netlist}
 use Rattle.aig_graph.specs.Graph.{Graph, free_before, is_free}
 use Rattle.aig_graph.specs.Value.{Choice, next_value, opening, opening_at, value_within}
 use Rattle.aig_graph.proofs.KindLaws.{element}
-use Rattle.retimed_circuits.specs.States.{Digits, State, after_step, opening_state}
+use Rattle.state_maps.specs.States.{Digits, State, after_step, opening_state}
 use Rattle.witness_circuits.specs.Lifting.{GoesAs, in_circuit}
 
 -- a latch is free where its reset is

@@ -4,11 +4,11 @@ use Rattle.std.specs.List.{All}
 use Rattle.aig_graph.specs.Circuits.{Netlist}
 use Rattle.aig_graph.specs.Streams.{chosen}
 use Rattle.aig_graph.specs.Value.{value_within}
-use Rattle.retimed_circuits.specs.MapCircuits.{IsMapCircuit, mapped}
-use Rattle.retimed_circuits.specs.States.{Digits, SameReads, State}
+use Rattle.state_maps.specs.MapCircuits.{IsMapCircuit, mapped}
+use Rattle.state_maps.specs.States.{Digits, SameReads, State}
 use Rattle.witness_circuits.specs.declared.sharing.Sharing.{Sharing}
 use Rattle.witness_circuits.specs.Witnesses.{IsGood, bad_or}
-use Rattle.retimed_circuits.specs.States.{IsAllowed}
+use Rattle.state_maps.specs.States.{IsAllowed}
 use Rattle.witness_circuits.specs.LiftedLaws.{LiftsWitnesses}
 use Rattle.witness_circuits.proofs.CarrierLaws.{IsCarrier, sharing-carried, witness-carried}
 use Rattle.witness_circuits.proofs.FirstLaws.{goes-itself}

@@ -7,7 +7,7 @@ use Rattle.std.proofs.lemmas.List.Kept.{AllPairs-from_increasing}
 use Rattle.std.proofs.lemmas.Option.{get_or_from_slice_get, none-some, same_Some, slice_get-get_or, slice_get_past, slice_get_within}
 use Rattle.aig_graph.specs.declared.properties.Symbol.{Symbol}
 use Rattle.aig_graph.specs.Circuits.{AreNamesBelow}
-use Rattle.counted_io.specs.Numbers.{number_of}
+use Rattle.file_words.specs.Numbers.{number_of}
 use Rattle.witness_circuits.specs.Naming.{AreNamed, IsRefused, IsSaid, IsSaying, Says, Takes}
 
 -- an element that is set, and the others

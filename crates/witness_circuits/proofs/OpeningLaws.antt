@@ -11,7 +11,7 @@ use Rattle.aig_graph.specs.Graph.{Graph, first_latch, free_before, is_free, is_f
 use Rattle.aig_graph.specs.Value.{Choice, opening, opening_at}
 use Rattle.aig_graph.proofs.FreeLaws.{free-count, is_free_at, free-where}
 use Rattle.aig_graph.proofs.KindLaws.{element, latch_at-first_latch}
-use Rattle.retimed_circuits.specs.States.{State, opening_state}
+use Rattle.state_maps.specs.States.{State, opening_state}
 use Rattle.aig_graph.proofs.StreamLaws.{funext}
 
 -- what is held at step 0 is what the reset leaves

@@ -3,8 +3,8 @@ use Rattle.std.proofs.Common.{ℕ, ◌≡◌, Bool, false, List, length, map, ge
 use Rattle.aig_graph.specs.Circuits.{IsNetlist, Netlist}
 use Rattle.aig_graph.specs.Graph.{Graph}
 use Rattle.aig_graph.specs.Value.{value_within}
-use Rattle.retimed_circuits.specs.States.{Digits, State}
-use Rattle.retimed_circuits.specs.MapCircuits.{mapped}
+use Rattle.state_maps.specs.States.{Digits, State}
+use Rattle.state_maps.specs.MapCircuits.{mapped}
 use Rattle.map_circuits.specs.Growing.{Extends}
 use Rattle.map_circuits.proofs.GrowingLaws.{extends-transitive}
 use Rattle.witness_circuits.specs.declared.sharing.Sharing.{Sharing}

@@ -12,9 +12,9 @@ use Rattle.aig_graph.specs.Graph.{Graph, IsGraph, IsLiteralOf, variable, variabl
 use Rattle.aig_graph.specs.Value.{value_within}
 use Rattle.aig_graph.proofs.GraphLaws.{all_from_slice_get}
 use Rattle.aig_graph.proofs.SignLaws.{signed-odd, value_signed_as, variable-signed_as}
-use Rattle.retimed_circuits.specs.States.{Digits, IsAllowed, State}
-use Rattle.retimed_circuits.specs.MapCircuits.{is_kept}
-use Rattle.retimed_circuits.proofs.WithinLaws.{within_laws}
+use Rattle.state_maps.specs.States.{Digits, IsAllowed, State}
+use Rattle.state_maps.specs.MapCircuits.{is_kept}
+use Rattle.state_maps.proofs.WithinLaws.{within_laws}
 use Rattle.witness_circuits.specs.declared.sharing.Sharing.{Sharing}
 use Rattle.witness_circuits.specs.Witnesses.{IsGood, bad_states}
 use Rattle.map_circuits.specs.Instances.{AreAll, substitute}

@@ -7,7 +7,7 @@ use Rattle.std.proofs.lemmas.List.Kept.{AllPairs-from_increasing}
 use Rattle.std.proofs.lemmas.Option.{get_or_from_slice_get, same_Some, slice_get-get_or, slice_get_within}
 use Rattle.aig_graph.specs.declared.properties.Symbol.{Symbol}
 use Rattle.aig_graph.specs.Circuits.{Netlist}
-use Rattle.counted_io.specs.Numbers.{number_of}
+use Rattle.file_words.specs.Numbers.{number_of}
 use Rattle.witness_circuits.specs.declared.sharing.Sharing.{Sharing}
 use Rattle.witness_circuits.specs.Naming.{AreNamed, IsByNames, IsRefused, IsSaid, IsSaying, IsSharedBy, Says, SomeSays}
 use Rattle.witness_circuits.proofs.NamingLaws.{AreTaken, IsSaidBefore}

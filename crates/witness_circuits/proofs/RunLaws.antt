@@ -6,7 +6,7 @@ use Rattle.aig_graph.specs.declared.graph.Latch.{Latch}
 use Rattle.aig_graph.specs.Circuits.{Netlist}
 use Rattle.aig_graph.specs.Value.{Choice, Inputs, latch_value, next_value, opening, value_within}
 use Rattle.aig_graph.proofs.KindLaws.{element}
-use Rattle.retimed_circuits.specs.States.{Digits, IsAllowed, State, after_step, opening_state}
+use Rattle.state_maps.specs.States.{Digits, IsAllowed, State, after_step, opening_state}
 use Rattle.witness_circuits.specs.declared.sharing.Sharing.{Sharing}
 use Rattle.witness_circuits.specs.Joining.{joined}
 use Rattle.witness_circuits.specs.Witnesses.{Agree, GoesOn, HasResets, IsGood, IsSharing, IsWitness}

@@ -9,8 +9,8 @@ use Rattle.aig_graph.specs.Circuits.{AreLiteralsOf}
 use Rattle.aig_graph.specs.Graph.{Graph, IsGraph, IsLiteralOf, first_gate, first_latch, variables_end}
 use Rattle.aig_graph.specs.Value.{value_within}
 use Rattle.aig_graph.proofs.KindLaws.{element}
-use Rattle.retimed_circuits.specs.States.{Digits, State}
-use Rattle.retimed_circuits.proofs.WithinLaws.{within_laws}
+use Rattle.state_maps.specs.States.{Digits, State}
+use Rattle.state_maps.proofs.WithinLaws.{within_laws}
 use Rattle.map_circuits.specs.Growing.{Extends}
 use Rattle.witness_circuits.specs.declared.sharing.Sharing.{Sharing}
 use Rattle.witness_circuits.specs.Joining.{joined, joined_at, own_at, own_count}

@@ -19,6 +19,7 @@ pub record IsFilled (h : Graph) (c m w : Netlist) (k : Sharing) (p : Props) : Ty
       → GoesAs h (own_at (length c.aig.latches) k.latches j) latch (in_witness c m w k)
   pub props : AreLiftedProps h c m w k p
 
+-- a graph whose latches go on as they should, with its properties
 abbrev pub IsBuilt : Netlist → Netlist → Netlist → Sharing → Built → Type 0
 IsBuilt c m w k b = IsFilled b.gates c m w k b.props
 

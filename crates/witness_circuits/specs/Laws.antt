@@ -2,7 +2,7 @@
 use Rattle.std.specs.Prelude.{ℕ, ◌≤◌}
 use Rattle.aig_graph.specs.Circuits.{Netlist}
 use Rattle.aig_graph.specs.Value.{Choice, Inputs, latch_value}
-use Rattle.retimed_circuits.specs.States.{IsAllowed}
+use Rattle.state_maps.specs.States.{IsAllowed}
 use Rattle.witness_circuits.specs.declared.sharing.Sharing.{Sharing}
 use Rattle.witness_circuits.specs.Witnesses.{IsGood, IsSharing, IsWitness}
 

@@ -3,7 +3,7 @@ use Rattle.std.specs.Prelude.{ℕ, ◌-◌, ◌++◌, List, length, map, replica
 use Rattle.std.specs.List.{range_with_len}
 use Rattle.aig_graph.specs.Circuits.{Netlist, IsNetlist}
 use Rattle.aig_graph.specs.Graph.{IsGraph}
-use Rattle.retimed_circuits.specs.MapCircuits.{IsMapCircuit}
+use Rattle.state_maps.specs.MapCircuits.{IsMapCircuit}
 use Rattle.witness_circuits.specs.declared.sharing.Sharing.{Sharing}
 use Rattle.witness_circuits.specs.Witnesses.{IsSharing, IsWitness}
 use Rattle.witness_circuits.specs.Lifting.{IsLifted}
@@ -12,6 +12,7 @@ use Rattle.witness_circuits.specs.Lifting.{IsLifted}
 abbrev pub first_places : ℕ → ℕ → List (Option ℕ)
 first_places n all = map (λ i. Some i) (range_with_len 0 n) ++ replicate (all - n) None
 
+-- the first inputs and latches are the model's, in order
 abbrev pub first_shared : Netlist → Netlist → Sharing
 first_shared c r = record { inputs = first_places c.aig.inputs r.aig.inputs; latches = first_places (length c.aig.latches) (length r.aig.latches) }
 

@@ -6,8 +6,8 @@ use Rattle.aig_graph.specs.declared.properties.Symbol.{Symbol}
 use Rattle.aig_graph.specs.Circuits.{Netlist}
 use Rattle.aig_graph.specs.Graph.{Graph, first_latch}
 use Rattle.aig_graph.specs.Value.{value_within}
-use Rattle.retimed_circuits.specs.States.{Digits, IsAllowed, State}
-use Rattle.retimed_circuits.specs.MapCircuits.{is_kept, mapped}
+use Rattle.state_maps.specs.States.{Digits, IsAllowed, State}
+use Rattle.state_maps.specs.MapCircuits.{is_kept, mapped}
 use Rattle.witness_circuits.specs.declared.sharing.Sharing.{Sharing}
 use Rattle.witness_circuits.specs.Witnesses.{IsGood}
 use Rattle.witness_circuits.specs.Joining.{joined, own_at, own_count}
@@ -16,6 +16,8 @@ use Rattle.witness_circuits.specs.Joining.{joined, own_at, own_count}
 abbrev pub witness_digits : Netlist → Sharing → Digits → Digits
 witness_digits c k z = joined k.inputs z (λ i. z (own_at c.aig.inputs k.inputs i))
 
+-- what the latches of the witness hold in a step of the lifted one: what is shared comes through
+-- the map, its own latches stand after the circuit's
 abbrev pub witness_state : Netlist → Netlist → Sharing → State → State
 witness_state c m k u = joined k.latches (mapped m u) (λ j. u (own_at (length c.aig.latches) k.latches j))
 
@@ -26,9 +28,11 @@ pub record GoesAs (g : Graph) (j : ℕ) (latch : Latch) (own : Digits → State 
   pub reset : is.reset ≡ latch.reset
   pub next : (z : Digits) (u : State) → value_within g z u is.next ≡ own z u latch.next
 
+-- the values of literals in a step of the circuit
 abbrev pub in_circuit : Netlist → Digits → State → ℕ → Bool
 in_circuit c z u = value_within c.aig z u
 
+-- the values of literals in a step of the witness
 abbrev pub in_witness : Netlist → Netlist → Netlist → Sharing → Digits → State → ℕ → Bool
 in_witness c m w k z u = value_within w.aig (witness_digits c k z) (witness_state c m k u)
 
@@ -36,6 +40,7 @@ in_witness c m w k z u = value_within w.aig (witness_digits c k z) (witness_stat
 abbrev pub literal_name : ℕ → ℕ → Symbol
 literal_name first i = record { position = i; name = codes "= " ++ decimal (2 * (first + i)) }
 
+-- a name that says its literal, for each of the first n
 abbrev pub literal_names : ℕ → ℕ → List Symbol
 literal_names first n = table 0 n (literal_name first)
 

@@ -14,5 +14,6 @@ pub record AreSources (places : List (Option ℕ)) (shared : List ℕ) (own : �
   pub many : length lits ≡ length places
   pub each : (k : ℕ) → k < length places → slice_index_or lits k 0 ≡ source_of shared (own_at own places k) (slice_index_or places k None)
 
+-- the literal with the other sign
 abbrev pub negated : ℕ → ℕ
 negated lit = signed_as 1 lit

@@ -4,13 +4,14 @@ use Rattle.aig_graph.specs.Tables.{table}
 use Rattle.aig_graph.specs.declared.properties.Symbol.{Symbol}
 use Rattle.aig_graph.specs.Circuits.{Netlist}
 use Rattle.aig_graph.specs.Graph.{first_latch}
-use Rattle.counted_io.specs.Numbers.{number_of}
+use Rattle.file_words.specs.Numbers.{number_of}
 use Rattle.witness_circuits.specs.declared.sharing.Sharing.{Sharing}
 
 -- a name that begins with `= `, and one in which the number of a literal follows
 abbrev pub IsSaying : List ℕ → Type 0
 IsSaying name = (digits : List ℕ) × (name ≡ codes "= " ++ digits)
 
+-- a name begins with `= `, and the number of this literal follows
 abbrev pub Says : List ℕ → ℕ → Type 0
 Says name lit = (digits : List ℕ) × (name ≡ codes "= " ++ digits) × (number_of digits ≡ Some lit)
 
@@ -23,9 +24,11 @@ Tells name false = IsSaying name.name → ⊥
 abbrev pub SomeSays : List Symbol → Type 0
 SomeSays names = (j : ℕ) × (name : Symbol) × (slice_get names j ≡ Some name) × IsSaying name.name
 
+-- no name begins with `= ` and a number
 abbrev pub NoneSays : List Symbol → Type 0
 NoneSays names = (j : ℕ) (name : Symbol) → slice_get names j ≡ Some name → IsSaying name.name → ⊥
 
+-- the bit tells whether one of the names says a literal
 abbrev pub TellsWhether : List Symbol → Bool → Type 0
 TellsWhether names true = SomeSays names
 TellsWhether names false = NoneSays names
@@ -57,10 +60,12 @@ IsRefused first name taken = IsSaying name.name × ((place : ℕ) → slice_get 
 abbrev pub place_below : ℕ → ℕ → Option ℕ
 place_below count place = if nat_lt place count then Some place else None
 
+-- what is shared is found by name
 pub record IsByNames (c w : Netlist) (k : Sharing) : Type 0 where
   pub inputs : AreNamed 1 c.aig.inputs w.symbols.inputs w.aig.inputs k.inputs
   pub latches : AreNamed (first_latch c.aig) (length c.aig.latches) w.symbols.latches (length w.aig.latches) k.latches
 
+-- what is shared is found by number
 pub record IsByPlaces (c w : Netlist) (k : Sharing) : Type 0 where
   pub inputs : k.inputs ≡ table 0 w.aig.inputs (place_below c.aig.inputs)
   pub latches : k.latches ≡ table 0 (length w.aig.latches) (place_below (length c.aig.latches))

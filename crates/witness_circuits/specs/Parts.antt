@@ -7,8 +7,8 @@ use Rattle.aig_graph.specs.declared.properties.Props.{Props}
 use Rattle.aig_graph.specs.Circuits.{AreLiteralsOf, ArePropsOf, Netlist}
 use Rattle.aig_graph.specs.Graph.{Graph, variable, variables_end}
 use Rattle.aig_graph.specs.Value.{value_within}
-use Rattle.retimed_circuits.specs.States.{Digits, IsAllowed, State}
-use Rattle.retimed_circuits.specs.MapCircuits.{is_kept}
+use Rattle.state_maps.specs.States.{Digits, IsAllowed, State}
+use Rattle.state_maps.specs.MapCircuits.{is_kept}
 use Rattle.witness_circuits.specs.declared.sharing.Sharing.{Sharing}
 use Rattle.witness_circuits.specs.Joining.{joined, own_at, own_count}
 use Rattle.witness_circuits.specs.Witnesses.{IsGood, bad_states}
@@ -66,10 +66,12 @@ over_latches g z u = value_within g u (λ j. false)
 abbrev pub held_by : Graph → List ℕ → Digits → State → State
 held_by h lits z u = λ j. slice_index_or (map (value_within h z u) lits) j false
 
+-- the values of a witness's literals over what is shared
 abbrev pub in_shared : Graph → List ℕ → Graph → Graph → Sharing → Digits → State → ℕ → Bool
 in_shared h outputs c w k z u =
     value_within w (joined k.inputs z (λ i. z (own_at c.inputs k.inputs i))) (joined k.latches (held_by h outputs z u) (λ j. u (own_at (length c.latches) k.latches j)))
 
+-- views of all three circuits
 pub record AreParts (h : Graph) (c m w : Netlist) (k : Sharing) (p : Parts) : Type 0 where
   pub first : IsView h c.aig (in_circuit c) p.first
   pub map : IsView h m.aig (over_latches m.aig) p.map

@@ -4,7 +4,7 @@ use Rattle.aig_graph.specs.declared.graph.Latch.{Latch}
 use Rattle.aig_graph.specs.declared.properties.Props.{Props}
 use Rattle.aig_graph.specs.Circuits.{Netlist}
 use Rattle.aig_graph.specs.Value.{Choice, opening, value_within}
-use Rattle.retimed_circuits.specs.States.{Digits, IsAllowed, State, after_step, opening_state}
+use Rattle.state_maps.specs.States.{Digits, IsAllowed, State, after_step, opening_state}
 use Rattle.witness_circuits.specs.declared.sharing.Sharing.{Sharing}
 
 -- the places are those of inputs and latches of the model
@@ -27,6 +27,7 @@ abbrev pub bad_or : List ℕ → List ℕ → List ℕ
 bad_or [] outputs = outputs
 bad_or (lit ∷ lits) outputs = lit ∷ lits
 
+-- the bad states; in a circuit without any they are the outputs
 abbrev pub bad_states : Props → List ℕ
 bad_states p = bad_or p.bad p.outputs
 

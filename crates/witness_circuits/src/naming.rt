@@ -2,13 +2,13 @@
 ghost use Rattle.std.specs.Prelude.{ℕ, List, ◌≡◌, ◌+◌, ◌*◌, ◌<◌, ◌≤◌, ◌++◌, All, IfErr, IfOk, IsErrOf, MatchOption, Option, OnOk, Some, None, codes, false, length, map, replicate};
 ghost use Rattle.std.specs.List.Sorted.{IsStrictlyIncreasing};
 ghost use Rattle.aig_graph.specs.declared.literal.TheConstants.{MAX_VARIABLES};
-ghost use Rattle.counted_io.specs.Numbers.{number_of};
+ghost use Rattle.file_words.specs.Numbers.{number_of};
 ghost use Rattle.witness_circuits.specs.Naming.{AreNamed, IsRefused, Says, Takes, Tells, TellsWhether};
 ghost use Rattle.witness_circuits.specs.declared.sharing_errors.SharingError.TheVariants.{NoMemory, NoSuchLiteral};
 
 use crate::sharing_errors::SharingError;
 use aig_graph::Symbol;
-use counted_io::number;
+use file_words::number;
 use std::alloc::Global;
 
 /// The text after these letters, where it begins with them.

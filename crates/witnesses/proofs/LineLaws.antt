@@ -1,9 +1,9 @@
 -- The lines that are left of a text.
 use Rattle.std.proofs.Common.{ℕ, ◌+◌, ◌-◌, ◌<◌, ◌≤◌, ◌≡◌, ◌∷◌, [], List, true, false, length, refl, arith, sym, ap, ◌∙◌}
 use Rattle.std.proofs.lemmas.Bool.{cond-true, cond-false}
-use Rattle.counted_io.specs.Cuts.{IsFirst}
-use Rattle.counted_io.specs.Lines.{lines}
-use Rattle.counted_io.proofs.FirstLaws.{apart}
+use Rattle.file_words.specs.Cuts.{IsFirst}
+use Rattle.file_words.specs.Lines.{lines}
+use Rattle.file_words.proofs.FirstLaws.{apart}
 use Rattle.witnesses.specs.Statements.{Statement, is_comment_line, with_line, statements, lines_left}
 
 -- after the last line

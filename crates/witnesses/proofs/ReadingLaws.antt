@@ -1,8 +1,8 @@
 -- What the next line of a witness makes of it.
 use Rattle.std.proofs.Common.{ℕ, ◌≡◌, ◌∷◌, [], List, true, false, cond, codes, Result, Ok, Err, ap, ◌∙◌}
 use Rattle.std.proofs.lemmas.Bool.{cond-true, cond-false}
-use Rattle.counted_io.specs.Answering.{◌>>=◌, Fails, Gives}
-use Rattle.counted_io.specs.Lines.{pieces, is_word}
+use Rattle.file_words.specs.Answering.{◌>>=◌, Fails, Gives}
+use Rattle.file_words.specs.Lines.{pieces, is_word}
 use Rattle.witnesses.specs.declared.witness.Digit.{Digit}
 use Rattle.witnesses.specs.declared.witness.Property.{Property}
 use Rattle.witnesses.specs.declared.witness.Witness.{Witness}
@@ -13,7 +13,7 @@ use Rattle.witnesses.specs.Statements.{Statement}
 use Rattle.witnesses.specs.Rows.{row_of}
 use Rattle.witnesses.specs.Properties.{properties_of}
 use Rattle.witnesses.specs.Reading.{followed, status_from, properties_from, latches_from, with_step, steps_from, closed_witness}
-use Rattle.counted_io.proofs.AnsweringLaws.{Fails-where, Gives-where}
+use Rattle.file_words.proofs.AnsweringLaws.{Fails-where, Gives-where}
 
 abbrev line_of : ℕ → List ℕ → Statement
 line_of at text = record { at = at; text = text }

@@ -1,15 +1,15 @@
 -- The properties of a line, word by word.
 use Rattle.std.proofs.Common.{ℕ, true, ◌≡◌, List, [], Result, Ok, ap, ◌∙◌}
-use Rattle.counted_io.specs.Answering.{◌>>=◌, Fails}
-use Rattle.counted_io.specs.Lines.{pieces}
-use Rattle.counted_io.specs.Cuts.{Cuts, lacks}
-use Rattle.counted_io.proofs.DecimalLaws.{pieces-at_space, pieces-at_end}
+use Rattle.file_words.specs.Answering.{◌>>=◌, Fails}
+use Rattle.file_words.specs.Lines.{pieces}
+use Rattle.file_words.specs.Cuts.{Cuts, lacks}
+use Rattle.file_words.proofs.DecimalLaws.{pieces-at_space, pieces-at_end}
 use Rattle.witnesses.specs.declared.witness.Property.{Property}
 use Rattle.witnesses.specs.declared.widths.Widths.{Widths}
 use Rattle.witnesses.specs.declared.fault.WitnessError.{WitnessError}
 use Rattle.witnesses.specs.declared.fault.WitnessError.TheVariants.{NoMemory}
 use Rattle.witnesses.specs.Properties.{with_property, properties_of}
-use Rattle.counted_io.proofs.AnsweringLaws.{Fails-where}
+use Rattle.file_words.proofs.AnsweringLaws.{Fails-where}
 
 -- ---- words with a space after them, and the last one
 

@@ -3,6 +3,7 @@ use Rattle.std.specs.Prelude.{ℕ, List, Option, Some, None, codes}
 use Rattle.witnesses.specs.declared.fault.WitnessError.{WitnessError}
 use Rattle.witnesses.specs.declared.fault.WitnessError.TheVariants.{BadHeader, BadLine, Width, NoSuchProperty, Truncated, Trailing, NoMemory}
 
+-- the number of a fault
 abbrev pub code_of : WitnessError → ℕ
 code_of (BadHeader at) = 1
 code_of (BadLine at) = 2

@@ -42,6 +42,7 @@ abbrev pub AgreeEach : Netlist → Netlist → InputSequence → InputSequence �
 AgreeEach c d run other properties reached =
     (i : ℕ) (p : Property) (r : Reached) → slice_get properties i ≡ Some p → slice_get reached i ≡ Some r → IsAgreed c d run other p (Ok r)
 
+-- each of the properties was reached at one step by both circuits
 pub record AreAgreed (c d : Netlist) (run other : InputSequence) (properties : List Property) (reached : List Reached) : Type 0 where
   pub many : length reached ≡ length properties
   pub each : AgreeEach c d run other properties reached
@@ -53,6 +54,7 @@ pub record IsObjected (c d : Netlist) (run other : InputSequence) (properties : 
   pub here : slice_get properties place ≡ Some property
   pub objected : IsAgreed c d run other property (Err objection)
 
+-- the first step at which each property fails in both circuits, or an objection to one
 abbrev pub IsConfirmation : Netlist → Netlist → InputSequence → InputSequence → List Property → Result (List Reached) Objection → Type 0
 IsConfirmation c d run other properties (Ok reached) = AreAgreed c d run other properties reached
 IsConfirmation c d run other properties (Err objection) = IsObjected c d run other properties objection

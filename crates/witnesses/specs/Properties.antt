@@ -1,8 +1,8 @@
 -- The line of the properties that fail.
 use Rattle.std.specs.Prelude.{ℕ, ◌==◌, ◌++◌, Bool, nat_lt, List, [], ◌∷◌, Option, Some, None, Result, Ok, Err, if◌then◌else◌}
 use Rattle.std.specs.Option.{option_and_then}
-use Rattle.counted_io.specs.Answering.{◌>>=◌}
-use Rattle.counted_io.specs.Numbers.{number_of}
+use Rattle.file_words.specs.Answering.{◌>>=◌}
+use Rattle.file_words.specs.Numbers.{number_of}
 use Rattle.witnesses.specs.declared.witness.Property.{Property}
 use Rattle.witnesses.specs.declared.witness.Property.TheVariants.{Bad, Justice}
 use Rattle.witnesses.specs.declared.widths.Widths.{Widths}

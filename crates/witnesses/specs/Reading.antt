@@ -1,7 +1,7 @@
 -- The text of a witness.
 use Rattle.std.specs.Prelude.{ℕ, ◌++◌, List, [], ◌∷◌, length, codes, Result, Ok, Err, if◌then◌else◌}
-use Rattle.counted_io.specs.Answering.{◌>>=◌}
-use Rattle.counted_io.specs.Lines.{pieces, is_word}
+use Rattle.file_words.specs.Answering.{◌>>=◌}
+use Rattle.file_words.specs.Lines.{pieces, is_word}
 use Rattle.witnesses.specs.declared.witness.Digit.{Digit}
 use Rattle.witnesses.specs.declared.witness.Property.{Property}
 use Rattle.witnesses.specs.declared.witness.Witness.{Witness}

@@ -1,8 +1,9 @@
 -- The lines of a witness: those that are no comments, each with the offset of its first byte.
 use Rattle.std.specs.Prelude.{ℕ, ◌+◌, ◌-◌, ◌==◌, Bool, false, List, [], ◌∷◌, length, if◌then◌else◌}
-use Rattle.counted_io.specs.Lines.{lines}
-use Rattle.counted_io.specs.declared.lines.Lines.{Lines}
+use Rattle.file_words.specs.Lines.{lines}
+use Rattle.file_words.specs.declared.lines.Lines.{Lines}
 
+-- a line of a witness without its end, and where it begins
 pub record Statement : Type 0 where
   pub at : ℕ
   pub text : List ℕ

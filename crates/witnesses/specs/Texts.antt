@@ -52,10 +52,12 @@ property_in (Unchecked p) = p
 property_in (Unreached p) = p
 property_in (Lost p) = p
 
+-- why a property is not confirmed
 abbrev pub reason : Objection → List ℕ
 reason (Unchecked p) = codes " isn't checked\n"
 reason (Unreached p) = codes " doesn't hold in OUT\n"
 reason (Lost p) = codes " doesn't hold in IN at the same step\n"
 
+-- what is printed of an objection
 abbrev pub objection_text : Objection → List ℕ
 objection_text objection = property_text (property_in objection) ++ reason objection

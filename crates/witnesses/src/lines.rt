@@ -5,7 +5,7 @@ ghost use Rattle.witnesses.specs.Statements.{left};
 
 use crate::fault::WitnessError;
 use crate::marks::is_comment;
-use counted_io::{Line, Lines};
+use file_words::{Line, Lines};
 
 /// Takes the next line that is no comment, where there is one.
 pub(crate) fn following<'a>(lines: &mut Lines<'a>) -> Option<Line<'a>>

@@ -2,7 +2,7 @@
 //! is met first is the first of the text.
 ghost use Rattle.std.specs.Prelude.{ℕ, ◌≡◌, ◌⊎◌, [], IfOk, IfErr, Ok, Err};
 ghost use Rattle.witnesses.specs.declared.fault.WitnessError.TheVariants.{NoMemory};
-ghost use Rattle.counted_io.specs.Answering.{Gives};
+ghost use Rattle.file_words.specs.Answering.{Gives};
 ghost use Rattle.witnesses.specs.Reading.{closed_witness, latches_from, properties_from, read_text, status_from, steps_from, with_step};
 ghost use Rattle.witnesses.specs.Statements.{left};
 
@@ -13,7 +13,7 @@ use crate::widths::Widths;
 use crate::witness::{Digit, Property, Witness};
 use crate::words::properties;
 use aig_graph::Sequence;
-use counted_io::{Line, Lines, is_word};
+use file_words::{Line, Lines, is_word};
 use std::alloc::Global;
 
 /// Takes the line that says that there is a witness.

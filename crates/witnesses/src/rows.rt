@@ -1,13 +1,13 @@
 ghost use Rattle.std.specs.Prelude.{◌≡◌, IfOk, map};
 ghost use Rattle.std.specs.List.{list_all};
 ghost use Rattle.witnesses.specs.declared.fault.WitnessError.TheVariants.{NoMemory};
-ghost use Rattle.counted_io.specs.Answering.{Gives};
+ghost use Rattle.file_words.specs.Answering.{Gives};
 ghost use Rattle.witnesses.specs.Rows.{digit_of, is_ternary_digit, row_of};
 
 use crate::fault::WitnessError;
 use crate::witness::Digit;
 use aig_graph::Sequence;
-use counted_io::Line;
+use file_words::Line;
 use std::alloc::{AllocError, Global};
 
 fn digit(byte: u8) -> Digit

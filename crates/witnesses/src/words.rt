@@ -1,15 +1,15 @@
 //! The words of the line of properties. A number is read up to 2^64 - 1, which is past every circuit's properties, and stays there.
 ghost use Rattle.std.specs.Prelude.{◌≡◌, []};
-ghost use Rattle.counted_io.specs.Lines.{pieces};
+ghost use Rattle.file_words.specs.Lines.{pieces};
 ghost use Rattle.witnesses.specs.declared.fault.WitnessError.TheVariants.{NoMemory};
-ghost use Rattle.counted_io.specs.Answering.{Gives};
+ghost use Rattle.file_words.specs.Answering.{Gives};
 ghost use Rattle.witnesses.specs.Properties.{has_property, properties_of, property_of, with_property};
 
 use crate::fault::WitnessError;
 use crate::widths::Widths;
 use crate::witness::Property;
 use aig_graph::Sequence;
-use counted_io::{Line, cut, number};
+use file_words::{Line, cut, number};
 use std::alloc::Global;
 
 /// The property that a word names: `b` or `j`, and its number.

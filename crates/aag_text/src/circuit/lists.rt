@@ -2,7 +2,7 @@
 //! `resolve` needn't ask its caller for it.
 use crate::circuit::placing::{Placed, place_all};
 use ascii_file::{Header, Names, Places, PropertyLists, RawGate, RawLatch};
-use counted_io::ReadError;
+use file_words::ReadError;
 use std::alloc::Global;
 
 /// The lists that the sections of a file left, by the file's own literals, and the place of each variable that a line
@@ -23,8 +23,8 @@ impl RawLists {
     ghost use Rattle.std.specs.List.{sum};
     ghost use Rattle.ascii_file.specs.Raw.{safety_count};
     ghost use Rattle.ascii_file.specs.Headers.{IsHeaderWithin};
-    ghost use Rattle.counted_io.specs.declared.fault.ReadError.TheVariants.{NoMemory};
-    ghost use Rattle.counted_io.specs.Answering.{Gives};
+    ghost use Rattle.file_words.specs.declared.fault.ReadError.TheVariants.{NoMemory};
+    ghost use Rattle.file_words.specs.Answering.{Gives};
     ghost use Rattle.aag_text.specs.Numbering.{placed_lists};
     ghost use Rattle.aag_text.specs.Resolving.{IsConsistent};
 

@@ -1,13 +1,13 @@
 //! Literals by the places of their variables.
 ghost use Rattle.std.specs.Prelude.{◌≡◌, ◌<◌, ◌^◌, Some, None, if◌then◌else◌};
 ghost use Rattle.ascii_file.specs.Meaning as meaning;
-ghost use Rattle.counted_io.specs.declared.fault.ReadError.TheVariants.{NoMemory};
-ghost use Rattle.counted_io.specs.Answering.{Gives};
+ghost use Rattle.file_words.specs.declared.fault.ReadError.TheVariants.{NoMemory};
+ghost use Rattle.file_words.specs.Answering.{Gives};
 ghost use Rattle.aag_text.specs.Numbering.{is_placed, is_gate_placed, placed, placed_gate, placed_literals, placed_latches, placed_gates};
 
 use aig_graph::{Gate, Latch, Lit, Reset};
 use ascii_file::{Places, RawGate, RawLatch};
-use counted_io::ReadError;
+use file_words::ReadError;
 use std::alloc::Global;
 
 /// The literal of the place of its variable, if that has one of so many.

@@ -1,14 +1,14 @@
 //! The order of the gates.
 ghost use Rattle.std.specs.Prelude.{◌≡◌, ◌<◌, ◌≤◌, ◌^◌, length, map, All, IfOk};
-ghost use Rattle.ascii_file.specs.Order.{ordered, IsOrder, AreReadsInFile};
-ghost use Rattle.counted_io.specs.declared.fault.ReadError.TheVariants as faults;
-ghost use Rattle.counted_io.specs.Answering.{Gives};
+ghost use Rattle.ascii_file.specs.order.Order.{ordered, IsOrder, AreReadsInFile};
+ghost use Rattle.file_words.specs.declared.fault.ReadError.TheVariants as faults;
+ghost use Rattle.file_words.specs.Answering.{Gives};
 ghost use Rattle.aag_text.specs.Arranging as arranging;
 ghost use Rattle.aag_text.specs.Arranging.{gate_read, order_or_cycle, AreRanks, AreDistinct, HasFanInsBelow};
 
 use aig_graph::{Gate, Lit, NoMemory};
 use ascii_file::{Reads, gate_order};
-use counted_io::ReadError;
+use file_words::ReadError;
 use std::alloc::Global;
 
 /// The place in the file of the gate that the literal reads.

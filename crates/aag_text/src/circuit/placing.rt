@@ -1,12 +1,12 @@
 ghost use Rattle.std.specs.Prelude.{◌<◌, ◌^◌};
-ghost use Rattle.counted_io.specs.declared.fault.ReadError.TheVariants.{NoMemory};
-ghost use Rattle.counted_io.specs.Answering.{Gives};
+ghost use Rattle.file_words.specs.declared.fault.ReadError.TheVariants.{NoMemory};
+ghost use Rattle.file_words.specs.Answering.{Gives};
 ghost use Rattle.aag_text.specs.Numbering.{placed_lists};
 
 use crate::circuit::numbering;
 use aig_graph::{Gate, Latch, Lit};
 use ascii_file::{Places, RawGate, RawLatch};
-use counted_io::ReadError;
+use file_words::ReadError;
 use std::alloc::Global;
 use std::marker::Model;
 

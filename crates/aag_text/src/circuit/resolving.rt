@@ -4,14 +4,14 @@
 ghost use Rattle.std.specs.Prelude.{ℕ, List, ◌≡◌, ◌+◌, ◌≤◌, ◌^◌, ◌↔◌, length, map, All, IsTrue, IfOk, IfErr};
 ghost use Rattle.aig_graph.specs.declared.properties.Symbols.{Symbols};
 ghost use Rattle.aig_graph.specs.Circuits.{IsNetlist};
-ghost use Rattle.ascii_file.specs.Order.{IsOrder, ordered};
+ghost use Rattle.ascii_file.specs.order.Order.{IsOrder, ordered};
 ghost use Rattle.ascii_file.specs.Raw.{RawSymbol};
 ghost use Rattle.ascii_file.specs.Headers.{IsHeaderWithin};
 ghost use Rattle.ascii_file.specs.Meaning.{props_of};
 ghost use Rattle.ascii_file.specs.Reading as reading;
-ghost use Rattle.counted_io.specs.declared.fault.ReadError.TheVariants as faults;
-ghost use Rattle.counted_io.specs.Answering.{Fails, Gives};
-ghost use Rattle.ascii_file.specs.Parts.{AreNamesWithin};
+ghost use Rattle.file_words.specs.declared.fault.ReadError.TheVariants as faults;
+ghost use Rattle.file_words.specs.Answering.{Fails, Gives};
+ghost use Rattle.ascii_file.specs.parts.Parts.{AreNamesWithin};
 ghost use Rattle.aag_text.specs.Arranging.{AreRanks, graph_in_order, moved, order_or_cycle};
 ghost use Rattle.aag_text.specs.Resolving.{AreListsRead, PlacedListsFit, IsArranged, IsConsistent, IsOrdered, placed_reads, raw_of};
 
@@ -21,7 +21,7 @@ use crate::circuit::order::{order, ranks};
 use crate::circuit::placing::Placed;
 use aig_graph::{Aig, Circuit, NoMemory, Props};
 use ascii_file::{Header, Names, props};
-use counted_io::ReadError;
+use file_words::ReadError;
 use std::alloc::Global;
 
 /// The graph with its gates in order.

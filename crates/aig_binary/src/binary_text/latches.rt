@@ -1,7 +1,7 @@
 ghost use Rattle.std.specs.Prelude.{◌+◌, ◌≤◌, ◌<◌, length};
 ghost use Rattle.counted_io.specs.Buffered.{Puts};
 ghost use Rattle.counted_io.specs.Line.{line};
-ghost use Rattle.counted_io.specs.Text.{numbered_rows};
+ghost use Rattle.file_words.specs.Text.{numbered_rows};
 ghost use Rattle.aig_binary.specs.Text.{next_row};
 
 use aig_graph::{Latch, MAX_VARIABLES, Reset};

@@ -1,7 +1,7 @@
 use crate::sections::Sections;
 use aig_graph::{Aig, Circuit};
 use ascii_file::Section;
-use counted_io::ReadError;
+use file_words::ReadError;
 use std::alloc::Global;
 
 impl Sections {
@@ -9,8 +9,8 @@ impl Sections {
     ghost use Rattle.ascii_file.specs.declared.header.Header.{Header};
     ghost use Rattle.ascii_file.specs.declared.raw.Section.TheVariants.{Symbols};
     ghost use Rattle.ascii_file.specs.Raw.{Raw};
-    ghost use Rattle.counted_io.specs.declared.fault.ReadError.TheVariants.{NoMemory};
-    ghost use Rattle.counted_io.specs.Answering.{Gives};
+    ghost use Rattle.file_words.specs.declared.fault.ReadError.TheVariants.{NoMemory};
+    ghost use Rattle.file_words.specs.Answering.{Gives};
     ghost use Rattle.binary_file.specs.Contents.{IsAt, section_to_fill, netlist_of_contents};
     ghost use Rattle.binary_file.specs.Taking.{circuit_at_end};
 

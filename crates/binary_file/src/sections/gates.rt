@@ -3,15 +3,15 @@ use crate::delta::{GATE_BYTES, whole_gate};
 use crate::sections::Sections;
 use crate::sections::numbers::literal;
 use aig_graph::Gate;
-use counted_io::ReadError;
+use file_words::ReadError;
 
 impl Sections {
     ghost use Rattle.std.specs.Prelude.{ℕ, ◌≡◌, ◌<◌, ◌≤◌, ◌^◌, length, Ok, IfOk, IfErr};
     ghost use Rattle.ascii_file.specs.declared.header.Header.{Header};
     ghost use Rattle.ascii_file.specs.declared.raw.Section.TheVariants.{Gates};
     ghost use Rattle.ascii_file.specs.Raw.{Raw};
-    ghost use Rattle.counted_io.specs.declared.fault.ReadError.TheVariants.{NoMemory};
-    ghost use Rattle.counted_io.specs.Answering.{Gives};
+    ghost use Rattle.file_words.specs.declared.fault.ReadError.TheVariants.{NoMemory};
+    ghost use Rattle.file_words.specs.Answering.{Gives};
     ghost use Rattle.binary_file.specs.Items.{next_section, next_gate};
     ghost use Rattle.binary_file.specs.Contents.{IsAt, section_to_fill, gate_literal};
     ghost use Rattle.binary_file.specs.ReaderItems.{contents_with_gate};

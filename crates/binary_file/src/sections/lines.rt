@@ -4,7 +4,7 @@ use crate::sections::Sections;
 use crate::sections::numbers::{latch_numbers, literal, literal_within, only_number, reset_in};
 use aig_graph::Latch;
 use ascii_file::Section;
-use counted_io::ReadError;
+use file_words::ReadError;
 
 /// The greatest sum of the sizes of justice properties.
 const MAX_SIZES: u32 = 1 << 24;
@@ -15,9 +15,9 @@ impl Sections {
     ghost use Rattle.ascii_file.specs.declared.raw.Section.TheVariants as section;
     ghost use Rattle.ascii_file.specs.Raw.{Raw};
     ghost use Rattle.ascii_file.specs.Reading.{is_symbols};
-    ghost use Rattle.counted_io.specs.declared.fault.ReadError.TheVariants.{NoMemory};
-    ghost use Rattle.counted_io.specs.Answering.{Gives};
-    ghost use Rattle.ascii_file.specs.Rows.{row_of};
+    ghost use Rattle.file_words.specs.declared.fault.ReadError.TheVariants.{NoMemory};
+    ghost use Rattle.file_words.specs.Answering.{Gives};
+    ghost use Rattle.ascii_file.specs.parts.Rows.{row_of};
     ghost use Rattle.binary_file.specs.Items.{next_section};
     ghost use Rattle.binary_file.specs.Reading.{read_line};
     ghost use Rattle.binary_file.specs.Contents.{IsAt, section_to_fill, latch_literal};

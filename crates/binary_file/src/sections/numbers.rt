@@ -3,7 +3,7 @@ ghost use Rattle.binary_file.specs.ReaderItems.{only_number, literal_within, lat
 
 use aig_graph::{Lit, Reset};
 use ascii_file::Header;
-use counted_io::ReadError;
+use file_words::ReadError;
 
 /// The only number of the line at an offset.
 pub(crate) fn only_number(at: u64, numbers: &[u32]) -> Result<u32, ReadError>

@@ -1,7 +1,7 @@
 use crate::sections::Sections;
 use aig_graph::Sequence;
 use ascii_file::{SymbolKind, SymbolText};
-use counted_io::ReadError;
+use file_words::ReadError;
 
 impl Sections {
     ghost use Rattle.std.specs.Prelude.{ℕ, List, ◌≡◌, false};
@@ -10,12 +10,12 @@ impl Sections {
     ghost use Rattle.ascii_file.specs.Raw.{Raw, RawSymbol};
     ghost use Rattle.ascii_file.specs.Items.{begins_comment};
     ghost use Rattle.ascii_file.specs.Meaning.{symbols_of};
-    ghost use Rattle.counted_io.specs.declared.fault.ReadError.TheVariants.{NoMemory};
-    ghost use Rattle.counted_io.specs.Answering.{Gives};
-    ghost use Rattle.ascii_file.specs.Symbols.{text_of};
+    ghost use Rattle.file_words.specs.declared.fault.ReadError.TheVariants.{NoMemory};
+    ghost use Rattle.file_words.specs.Answering.{Gives};
+    ghost use Rattle.ascii_file.specs.parts.Symbols.{text_of};
     ghost use Rattle.binary_file.specs.Items.{next_section};
     ghost use Rattle.binary_file.specs.Reading.{read_line};
-    ghost use Rattle.ascii_file.specs.Names.{symbol_at};
+    ghost use Rattle.ascii_file.specs.parts.Names.{symbol_at};
     ghost use Rattle.binary_file.specs.Contents.{IsAt};
     ghost use Rattle.binary_file.specs.ReaderItems.{symbol_taken};
     ghost use Rattle.binary_file.specs.Taking.{Takes};

@@ -1,5 +1,5 @@
 use Rattle.std.proofs.Common.{◌≤◌, ◌≡◌, take}
-use Rattle.counted_io.specs.Text.{without_last_zeros}
+use Rattle.file_words.specs.Text.{without_last_zeros}
 use Rattle.aag_text.proofs.counts.used.Given as goal
 
 abbrev pub invariant-loop-k : goal.invariant-loop-k

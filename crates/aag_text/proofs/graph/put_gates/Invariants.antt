@@ -1,5 +1,5 @@
 use Rattle.std.proofs.Common.{take}
-use Rattle.counted_io.specs.Text.{gate_row, numbered_rows}
+use Rattle.file_words.specs.Text.{gate_row, numbered_rows}
 use Rattle.counted_io.specs.Buffered.{Puts}
 use Rattle.aag_text.proofs.graph.put_gates.Given as goal
 

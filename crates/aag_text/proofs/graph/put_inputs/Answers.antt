@@ -2,7 +2,7 @@ use Rattle.std.proofs.Common.{ℕ, ◌+◌, ◌-◌, ◌*◌, ◌≡◌, [], ◌
 use Rattle.counted_io.specs.Buffered.{Puts}
 use Rattle.counted_io.specs.Line.{line}
 use Rattle.counted_io.proofs.BufferedLaws.{puts-range_next, puts-range_ended}
-use Rattle.counted_io.specs.Text.{input_rows}
+use Rattle.file_words.specs.Text.{input_rows}
 use Rattle.aag_text.proofs.graph.put_inputs.Goals as goal
 
 pub loop-input-preserved : goal.loop-input-preserved

@@ -1,4 +1,4 @@
-use Rattle.counted_io.specs.Text.{input_rows}
+use Rattle.file_words.specs.Text.{input_rows}
 use Rattle.counted_io.specs.Buffered.{Puts}
 use Rattle.aag_text.proofs.graph.put_inputs.Given as goal
 

@@ -2,7 +2,7 @@ use Rattle.std.proofs.Common.{ℕ}
 use Rattle.aig_graph.specs.declared.graph.Latch.{Latch}
 use Rattle.counted_io.specs.Line.{line}
 use Rattle.counted_io.proofs.BufferedLaws.{puts-numbered_next}
-use Rattle.counted_io.specs.Text.{latch_row}
+use Rattle.file_words.specs.Text.{latch_row}
 use Rattle.aag_text.proofs.graph.put_latches.Goals as goal
 
 pub loop-k-preserved : goal.loop-k-preserved

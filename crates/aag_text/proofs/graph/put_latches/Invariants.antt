@@ -1,5 +1,5 @@
 use Rattle.std.proofs.Common.{take}
-use Rattle.counted_io.specs.Text.{latch_row, numbered_rows}
+use Rattle.file_words.specs.Text.{latch_row, numbered_rows}
 use Rattle.counted_io.specs.Buffered.{Puts}
 use Rattle.aag_text.proofs.graph.put_latches.Given as goal
 

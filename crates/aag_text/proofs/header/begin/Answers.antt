@@ -1,8 +1,8 @@
 use Rattle.std.proofs.Common.{ℕ, List, ◌∷◌, ◌-◌, arith, length, length-append, refl, ap, ◌∙◌, subst}
 use Rattle.std.proofs.lemmas.Result.{err_from_is_err_and}
 use Rattle.ascii_file.specs.Pieces.{fed}
-use Rattle.counted_io.specs.declared.fault.ReadError.TheVariants.{NoMemory}
-use Rattle.counted_io.specs.Answering.{Fails}
+use Rattle.file_words.specs.declared.fault.ReadError.TheVariants.{NoMemory}
+use Rattle.file_words.specs.Answering.{Fails}
 use Rattle.aag_text.specs.Standing.{Hold}
 use Rattle.aag_text.proofs.BeginningLaws.{awaits_more, to_line_end, whole_piece, header_fails, items_begin}
 use Rattle.aag_text.proofs.header.begin.Goals as goal

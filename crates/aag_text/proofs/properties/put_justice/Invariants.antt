@@ -1,6 +1,6 @@
 use Rattle.std.proofs.Common.{take}
 use Rattle.std.specs.List.{flat_map}
-use Rattle.counted_io.specs.Text.{single_rows}
+use Rattle.file_words.specs.Text.{single_rows}
 use Rattle.counted_io.specs.Buffered.{Puts}
 use Rattle.aag_text.proofs.properties.put_justice.Given as goal
 

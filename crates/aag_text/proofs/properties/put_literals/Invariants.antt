@@ -1,5 +1,5 @@
 use Rattle.std.proofs.Common.{take}
-use Rattle.counted_io.specs.Text.{single_rows}
+use Rattle.file_words.specs.Text.{single_rows}
 use Rattle.counted_io.specs.Buffered.{Puts}
 use Rattle.aag_text.proofs.properties.put_literals.Given as goal
 

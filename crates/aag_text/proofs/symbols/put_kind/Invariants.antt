@@ -1,5 +1,5 @@
 use Rattle.std.proofs.Common.{take}
-use Rattle.counted_io.specs.Text.{symbol_lines}
+use Rattle.file_words.specs.Text.{symbol_lines}
 use Rattle.counted_io.specs.Buffered.{Puts}
 use Rattle.aag_text.proofs.symbols.put_kind.Given as goal
 

@@ -1,4 +1,4 @@
-use Rattle.counted_io.specs.Text.{symbol_line}
+use Rattle.file_words.specs.Text.{symbol_line}
 use Rattle.counted_io.proofs.BufferedLaws.{puts-byte, puts-then}
 use Rattle.aag_text.proofs.symbols.put_symbol.Goals as goal
 

@@ -1,4 +1,4 @@
-use Rattle.counted_io.specs.Text.{text}
+use Rattle.file_words.specs.Text.{text}
 use Rattle.aag_text.specs.Header.{header_text}
 use Rattle.counted_io.proofs.BufferedLaws.{puts-then}
 use Rattle.aag_text.proofs.writing.put_text.Goals as goal

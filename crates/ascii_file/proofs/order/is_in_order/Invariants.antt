@@ -1,6 +1,6 @@
 use Rattle.std.proofs.Common.{ℕ, ◌<◌, ◌≡◌, Some, slice_get}
-use Rattle.ascii_file.specs.declared.reads.Reads.{Reads}
-use Rattle.ascii_file.specs.Order.{ReadsBelow}
+use Rattle.ascii_file.specs.declared.order.reads.Reads.{Reads}
+use Rattle.ascii_file.specs.order.Order.{ReadsBelow}
 use Rattle.ascii_file.proofs.order.is_in_order.Given as goal
 
 abbrev pub invariant-loop-place : goal.invariant-loop-place

@@ -1,8 +1,8 @@
 use Rattle.std.proofs.Common.{ℕ, ◌≡◌, ◌∙◌, ◌+◌, List, [], get_or, Bool, None, sym, arith}
 use Rattle.std.specs.BinaryHeap.{heap_items}
 use Rattle.std.proofs.lemmas.Option.{slice_get-get_or}
-use Rattle.ascii_file.specs.declared.reads.Reads.{Reads}
-use Rattle.ascii_file.specs.Order.{may_follow}
+use Rattle.ascii_file.specs.declared.order.reads.Reads.{Reads}
+use Rattle.ascii_file.specs.order.Order.{may_follow}
 use Rattle.ascii_file.proofs.ReadyLaws.{Gains-none, Gains-same, Gains-push, before, before_none, before_skip, before_push, before_all, may_follow-start, may_follow-past}
 use Rattle.ascii_file.proofs.order.ready_at_start.Goals as goal
 use Rattle.ascii_file.proofs.order.ready_at_start.Goals.{then-is_free+in_ok-push, else-is_free}

@@ -1,7 +1,7 @@
 use Rattle.std.proofs.Common.{[]}
 use Rattle.std.specs.BinaryHeap.{heap_items}
-use Rattle.ascii_file.specs.Order.{may_follow}
-use Rattle.ascii_file.specs.Ready.{Gains, IsReadyHeap}
+use Rattle.ascii_file.specs.order.Order.{may_follow}
+use Rattle.ascii_file.specs.order.Ready.{Gains, IsReadyHeap}
 use Rattle.ascii_file.proofs.ReadyLaws.{before}
 use Rattle.ascii_file.proofs.order.ready_at_start.Given as goal
 

@@ -2,9 +2,9 @@ use Rattle.std.proofs.Common.{ℕ, ◌≡◌, ◌∙◌, ◌+◌, ◌-◌, ◌<�
 use Rattle.std.specs.BinaryHeap.{heap_items}
 use Rattle.std.proofs.lemmas.List.{get_or_default}
 use Rattle.std.proofs.lemmas.Option.{slice_get-get_or}
-use Rattle.ascii_file.specs.declared.reads.Reads.{Reads}
-use Rattle.ascii_file.specs.Readers.{read_by, IsLastReader, AreReaderTables}
-use Rattle.ascii_file.specs.Ready.{Gains, is_released}
+use Rattle.ascii_file.specs.declared.order.reads.Reads.{Reads}
+use Rattle.ascii_file.specs.order.Readers.{read_by, IsLastReader, AreReaderTables}
+use Rattle.ascii_file.specs.order.Ready.{Gains, is_released}
 use Rattle.ascii_file.proofs.ReadyLaws.{Gains-none, Gains-same, Gains-push, from, from_skip, from_push, released-gap, released-none, released-at, from-all}
 use Rattle.ascii_file.proofs.order.release.Goals as goal
 use Rattle.ascii_file.proofs.order.release.Goals.{then-are_marked+in_ok-push, else-are_marked}

@@ -1,7 +1,7 @@
 use Rattle.std.proofs.Common.{ℕ, ◌≡◌, ◌≤◌, ◌+◌, Some, length}
 use Rattle.std.specs.BinaryHeap.{heap_items}
-use Rattle.ascii_file.specs.Readers.{read_by}
-use Rattle.ascii_file.specs.Ready.{Gains, IsReadyHeap, is_released}
+use Rattle.ascii_file.specs.order.Readers.{read_by}
+use Rattle.ascii_file.specs.order.Ready.{Gains, IsReadyHeap, is_released}
 use Rattle.ascii_file.proofs.ReadyLaws.{from}
 use Rattle.ascii_file.proofs.order.release.Given as goal
 

@@ -2,8 +2,8 @@ use Rattle.std.proofs.Common.{ℕ, ◌≡◌, ◌∙◌, ◌+◌, ◌-◌, [], L
 use Rattle.std.specs.BinaryHeap.{heap_items}
 use Rattle.std.specs.declared.cmp.Reverse.{Reverse}
 use Rattle.std.proofs.lemmas.List.{nil_from_length, length_push}
-use Rattle.ascii_file.specs.Order.{IsNextGate, order_from}
-use Rattle.ascii_file.specs.Ready.{IsState}
+use Rattle.ascii_file.specs.order.Order.{IsNextGate, order_from}
+use Rattle.ascii_file.specs.order.Ready.{IsState}
 use Rattle.ascii_file.proofs.GateOrderLaws.{follows_where_true, order_from-zero}
 use Rattle.ascii_file.proofs.ReadyLaws.{state_start, state_then, popped_follows, popped_next, rest_then, rest_none, unmarked}
 use Rattle.ascii_file.proofs.order.sorted.Goals as goal

@@ -1,7 +1,7 @@
 use Rattle.std.proofs.Common.{◌≡◌, ◌-◌, length}
 use Rattle.std.specs.BinaryHeap.{heap_items}
-use Rattle.ascii_file.specs.Order.{order_from, ordered}
-use Rattle.ascii_file.specs.Ready.{IsState}
+use Rattle.ascii_file.specs.order.Order.{order_from, ordered}
+use Rattle.ascii_file.specs.order.Ready.{IsState}
 use Rattle.ascii_file.proofs.order.sorted.Given as goal
 
 -- going on from here gives the order

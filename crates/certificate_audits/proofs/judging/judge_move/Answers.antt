@@ -1,6 +1,6 @@
 use Rattle.std.proofs.Common.{◌≡◌, ◌<◌, ◌≤◌, ◌∙◌, Some, ap, arith}
 use Rattle.retimed_circuits.specs.Frames.{moved_over}
-use Rattle.retimed_circuits.specs.Levels.{levels}
+use Rattle.path_levels.specs.Levels.{levels}
 use Rattle.certificate_audits.proofs.judging.judge_move.Goals as goal
 
 pub moved_over-requires-clause-saves : goal.moved_over-requires-clause-saves

@@ -1,7 +1,7 @@
 use Rattle.std.proofs.Common.{ℕ, sym, ap, ◌∙◌}
 use Rattle.certificates.specs.Files.{saying_of}
 use Rattle.certificates.specs.Forms.{framed}
-use Rattle.counted_io.proofs.AnsweringLaws.{Gives-exact}
+use Rattle.file_words.proofs.AnsweringLaws.{Gives-exact}
 use Rattle.certificates.proofs.StepLaws.{frame_leads}
 use Rattle.certificates.proofs.blocks.next_frame.Goals as goal
 

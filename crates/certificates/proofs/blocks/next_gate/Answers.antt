@@ -2,7 +2,7 @@ use Rattle.std.proofs.Common.{inr, ℕ, sym, ap, ◌∙◌}
 use Rattle.std.proofs.lemmas.Result.{err_from_is_err_and}
 use Rattle.certificates.specs.Files.{saying_of}
 use Rattle.certificates.specs.Forms.{gated}
-use Rattle.counted_io.proofs.AnsweringLaws.{Gives-exact}
+use Rattle.file_words.proofs.AnsweringLaws.{Gives-exact}
 use Rattle.certificates.proofs.StepLaws.{gate_leads, ends_in_gates}
 use Rattle.certificates.proofs.blocks.next_gate.Goals as goal
 

@@ -1,5 +1,5 @@
 use Rattle.std.proofs.Common.{List, ℕ, Option, [], ◌++◌, sym, ap, ◌∙◌, append-nil}
-use Rattle.ascii_file.specs.Rows.{row_of}
+use Rattle.ascii_file.specs.parts.Rows.{row_of}
 use Rattle.certificates.specs.Forms.{framed}
 use Rattle.certificates.specs.Files.{frame_saying}
 use Rattle.certificates.proofs.FormLaws.{framed_other, framed-row}

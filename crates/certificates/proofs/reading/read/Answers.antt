@@ -1,6 +1,6 @@
 use Rattle.std.proofs.Common.{sym, ap, ◌∙◌, length}
 use Rattle.std.proofs.lemmas.Result.{err_from_is_err_and}
-use Rattle.counted_io.proofs.AnsweringLaws.{Fails-same, Fails-where}
+use Rattle.file_words.proofs.AnsweringLaws.{Fails-same, Fails-where}
 use Rattle.certificates.proofs.FileLaws.{text_read, with_blocks, with_fault}
 use Rattle.certificates.proofs.reading.read.Goals as goal
 

@@ -1,4 +1,4 @@
-use Rattle.counted_io.proofs.AnsweringLaws.{Gives-fault}
+use Rattle.file_words.proofs.AnsweringLaws.{Gives-fault}
 use Rattle.certificates.proofs.reading.read_cert.Goals as goal
 
 pub returns-clause-err : goal.returns-clause-err

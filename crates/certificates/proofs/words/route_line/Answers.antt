@@ -1,8 +1,8 @@
 use Rattle.std.proofs.Common.{inr, sym, ap, ◌∙◌}
 use Rattle.std.proofs.lemmas.Result.{err_from_is_err_and}
-use Rattle.counted_io.specs.Lines.{pieces}
+use Rattle.file_words.specs.Lines.{pieces}
 use Rattle.certificates.specs.Forms.{routed}
-use Rattle.counted_io.proofs.AnsweringLaws.{Fails-where, Gives-exact}
+use Rattle.file_words.proofs.AnsweringLaws.{Fails-where, Gives-exact}
 use Rattle.certificates.proofs.FormLaws.{routed_other, saying-route}
 use Rattle.certificates.proofs.WordLaws.{routed_points, routed_fault}
 use Rattle.certificates.proofs.words.route_line.Goals as goal

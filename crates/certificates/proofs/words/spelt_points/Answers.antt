@@ -1,10 +1,10 @@
 use Rattle.std.proofs.Common.{[], List, ℕ, Ok, sym, ap, ◌∙◌, append-nil}
 use Rattle.std.proofs.lemmas.Result.{err_from_is_err_and}
-use Rattle.counted_io.specs.Lines.{pieces}
+use Rattle.file_words.specs.Lines.{pieces}
 use Rattle.frame_net.specs.declared.net.Point.{Point}
 use Rattle.certificates.specs.Forms.{onto, spelt_at}
-use Rattle.counted_io.proofs.AnsweringLaws.{Fails-same}
-use Rattle.counted_io.proofs.DecimalLaws.{pieces-at_end}
+use Rattle.file_words.proofs.AnsweringLaws.{Fails-same}
+use Rattle.file_words.proofs.DecimalLaws.{pieces-at_end}
 use Rattle.certificates.proofs.WordLaws.{pieces_cut}
 use Rattle.certificates.proofs.words.spelt_points.Goals as goal
 

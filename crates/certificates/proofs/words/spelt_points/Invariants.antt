@@ -1,5 +1,5 @@
 use Rattle.std.proofs.Common.{◌≡◌, length}
-use Rattle.counted_io.specs.Lines.{pieces}
+use Rattle.file_words.specs.Lines.{pieces}
 use Rattle.certificates.specs.Forms.{onto, spelt_at}
 use Rattle.certificates.proofs.words.spelt_points.Given as goal
 

@@ -1,5 +1,5 @@
 use Rattle.std.proofs.Common.{ap, sym}
-use Rattle.circuit_files.specs.Pages.{meaning_of, rule_of, advice_of}
+use Rattle.circuit_files.specs.pages.Pages.{meaning_of, rule_of, advice_of}
 use Rattle.circuit_files.proofs.pages.page_of.Goals as goal
 
 pub returns-in-BadHeader : goal.returns-in-BadHeader

@@ -1,7 +1,7 @@
 use Rattle.std.proofs.Common.{◌∙◌, map}
 use Rattle.std.proofs.lemmas.Result.{err_from_is_err_and}
 use Rattle.circuit_files.specs.Entries.{paths}
-use Rattle.counted_io.proofs.ReadingLaws.{line_fails, line_taken, no_lines}
+use Rattle.file_words.proofs.ReadingLaws.{line_fails, line_taken, no_lines}
 use Rattle.circuit_files.specs.Lists.{read_line}
 use Rattle.circuit_files.proofs.read.read_list.Goals as goal
 

@@ -1,6 +1,6 @@
 use Rattle.std.proofs.Common.{◌≡◌, ◌-◌, length, map}
-use Rattle.counted_io.specs.Lines.{lines}
-use Rattle.counted_io.specs.Reading.{read_lines}
+use Rattle.file_words.specs.Lines.{lines}
+use Rattle.file_words.specs.Reading.{read_lines}
 use Rattle.circuit_files.specs.Entries.{paths}
 use Rattle.circuit_files.specs.Lists as lists
 use Rattle.circuit_files.proofs.read.read_list.Given as goal

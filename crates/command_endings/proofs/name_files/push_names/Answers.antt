@@ -1,6 +1,6 @@
 use Rattle.std.proofs.Common.{◌∙◌}
 use Rattle.std.proofs.lemmas.Result.{err_from_is_err_and}
-use Rattle.counted_io.proofs.ReadingLaws.{line_fails, line_taken, no_lines}
+use Rattle.file_words.proofs.ReadingLaws.{line_fails, line_taken, no_lines}
 use Rattle.command_endings.specs.HeldNames.{texts_of}
 use Rattle.command_endings.specs.NameFiles.{with_line}
 use Rattle.command_endings.proofs.name_files.push_names.Goals as goal

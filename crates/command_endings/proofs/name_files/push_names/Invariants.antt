@@ -1,6 +1,6 @@
 use Rattle.std.proofs.Common.{◌≡◌, ◌-◌, length}
-use Rattle.counted_io.specs.Lines.{lines}
-use Rattle.counted_io.specs.Reading.{read_lines}
+use Rattle.file_words.specs.Lines.{lines}
+use Rattle.file_words.specs.Reading.{read_lines}
 use Rattle.command_endings.specs.HeldNames.{texts_of}
 use Rattle.command_endings.specs.NameFiles.{with_line, with_names}
 use Rattle.command_endings.proofs.name_files.push_names.Given as goal

@@ -1,8 +1,8 @@
 use Rattle.std.proofs.Common.{List, subst, sym}
-use Rattle.flow_part.specs.declared.parts.FlowPart.{FlowPart}
-use Rattle.flow_part.specs.Parts.{AreFlowParts}
-use Rattle.flow_part.specs.Start.{start_res, start_excess}
-use Rattle.flow_part.proofs.StartStateLaws.{held_cut}
+use Rattle.pulse_parts.specs.declared.parts.FlowPart.{FlowPart}
+use Rattle.pulse_parts.specs.Parts.{AreFlowParts}
+use Rattle.pulse_parts.specs.Start.{start_res, start_excess}
+use Rattle.pulse_parts.proofs.StartStateLaws.{held_cut}
 use Rattle.frame_tests.proofs.distances.starts_with.Goals as goal
 
 pub exact_labels-requires-clause-parts : goal.exact_labels-requires-clause-parts

@@ -1,9 +1,9 @@
 use Rattle.std.proofs.Common.{◌≡◌, ℕ, ◌<◌, ◌&&◌, ◌||◌, nat_lt, nat_le, Bool, true, false, List, refl, arith, sym, ◌∙◌, subst}
 use Rattle.std.proofs.lemmas.Bool.{lt-ltb, le-leb}
 use Rattle.frame_net.specs.FlowNet.{FlowNet, node_count, IsFlowNet}
-use Rattle.flow_part.specs.Parts.{IsSound, pairs}
-use Rattle.flow_part.specs.Delivering.{HoldPushes}
-use Rattle.flow_part.specs.Marks.{AllMarked, DeliveredSoFar}
+use Rattle.pulse_parts.specs.Parts.{IsSound, pairs}
+use Rattle.pulse_parts.specs.Delivering.{HoldPushes}
+use Rattle.pulse_parts.specs.Marks.{AllMarked, DeliveredSoFar}
 use Rattle.pulse.specs.Values.{FlowState, PushState}
 use Rattle.pulse.specs.Conditions.{IsBetween, is_marked, state_of}
 use Rattle.pulse.specs.Phases.{RangeDelivered, Turns}

@@ -1,7 +1,7 @@
 use Rattle.std.proofs.Common.{Err, ap, [], ◌∷◌}
 use Rattle.std.specs.Option.{unwrap_or}
 use Rattle.aig_binary.proofs.SpellingLaws.{the_spelling_law}
-use Rattle.retimed_circuits.proofs.LimitLaws.{stays-within}
+use Rattle.frames.proofs.LimitLaws.{stays-within}
 use Rattle.frames.specs.declared.errors.BytesError.TheVariants.{Retime}
 use Rattle.frames.specs.declared.errors.RetimeError.{RetimeError}
 use Rattle.frames.specs.Answering.{IsStop}

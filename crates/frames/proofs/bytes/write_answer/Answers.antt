@@ -1,6 +1,6 @@
 use Rattle.std.proofs.Common.{subst}
 use Rattle.counted_io.specs.Output.{Writes}
-use Rattle.counted_io.specs.declared.spelling.Spelling.{Spelling}
+use Rattle.file_words.specs.declared.spelling.Spelling.{Spelling}
 use Rattle.aig_binary.specs.Spellings.{text_in}
 use Rattle.frames.proofs.bytes.write_answer.Goals as goal
 

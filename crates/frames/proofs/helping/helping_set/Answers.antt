@@ -4,8 +4,8 @@ use Rattle.std.proofs.lemmas.Result.{IfOk-weaker}
 use Rattle.aig_graph.specs.Chosen.{IsChosen}
 use Rattle.aig_graph.specs.Circuits.{Netlist}
 use Rattle.chosen_cuts.specs.Certified.{AddsOne}
-use Rattle.retimed_circuits.specs.Bounded.{BoundedLaw}
-use Rattle.retimed_circuits.proofs.BoundedLaws.{bounded-law}
+use Rattle.path_levels.specs.Bounded.{BoundedLaw}
+use Rattle.path_levels.proofs.BoundedLaws.{bounded-law}
 use Rattle.frames.specs.declared.bounding.Judged.{Judged}
 use Rattle.frames.specs.Found.{Finds, IsFoundOver, IsSetJudged, IsLook}
 use Rattle.frames.proofs.LookLaws.{bounded-closed, finds-first, finds-within, over-saves}

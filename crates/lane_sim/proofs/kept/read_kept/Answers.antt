@@ -2,9 +2,9 @@ use Rattle.std.proofs.Common.{◌≡◌, ◌∙◌, [], Ok, Result, List, ℕ, a
 use Rattle.std.specs.Result.{IfOk}
 use Rattle.std.proofs.lemmas.Bool.{eq-eqb, cond-true, cond-false}
 use Rattle.std.proofs.lemmas.Result.{err_from_is_err_and}
-use Rattle.counted_io.specs.Answering.{◌>>=◌}
-use Rattle.counted_io.specs.Lines.{lines}
-use Rattle.counted_io.proofs.ReadingLaws.{line_fails, line_taken, no_lines}
+use Rattle.file_words.specs.Answering.{◌>>=◌}
+use Rattle.file_words.specs.Lines.{lines}
+use Rattle.file_words.proofs.ReadingLaws.{line_fails, line_taken, no_lines}
 use Rattle.lane_sim.specs.Kept.{ArePlaces, counted, read_place}
 use Rattle.lane_sim.specs.declared.fault.StimError.{StimError}
 use Rattle.lane_sim.proofs.KeptLaws.{count_fails, lines_placed, no_places}

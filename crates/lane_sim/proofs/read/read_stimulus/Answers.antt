@@ -1,6 +1,6 @@
 use Rattle.std.proofs.Common.{Ok, ◌∙◌, sym, ap}
 use Rattle.std.proofs.lemmas.Result.{err_from_is_err_and}
-use Rattle.counted_io.proofs.ReadingLaws.{line_fails, line_taken, no_lines}
+use Rattle.file_words.proofs.ReadingLaws.{line_fails, line_taken, no_lines}
 use Rattle.lane_sim.specs.Stimuli.{read_line}
 use Rattle.lane_sim.proofs.read.read_stimulus.Goals as goal
 

@@ -1,6 +1,6 @@
 use Rattle.std.proofs.Common.{◌≡◌, ◌-◌, length}
-use Rattle.counted_io.specs.Lines.{lines}
-use Rattle.counted_io.specs.Reading.{read_lines}
+use Rattle.file_words.specs.Lines.{lines}
+use Rattle.file_words.specs.Reading.{read_lines}
 use Rattle.lane_sim.specs.Stimuli.{read_line, read_text}
 use Rattle.lane_sim.proofs.read.read_stimulus.Given as goal
 

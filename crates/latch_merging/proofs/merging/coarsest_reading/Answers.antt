@@ -1,8 +1,8 @@
 use Rattle.std.proofs.Common.{◌≡◌, ◌∙◌, sym, subst, nat_lt, false, List, ℕ}
 use Rattle.std.proofs.lemmas.Bool.{ltb-false}
 use Rattle.aig_graph.specs.Graph.{Graph, IsGraph}
-use Rattle.retimed_circuits.specs.Partitions.{IsCoarsest}
-use Rattle.retimed_circuits.specs.Counts.{merged_latches}
+use Rattle.merged_circuits.specs.Partitions.{IsCoarsest}
+use Rattle.merged_circuits.specs.Counts.{merged_latches}
 use Rattle.latch_merging.proofs.CoarsestLaws.{round-first, round-long, round-after, round-last}
 use Rattle.latch_merging.proofs.merging.coarsest_reading.Goals as goal
 

@@ -1,4 +1,4 @@
-use Rattle.retimed_circuits.specs.Counts.{merged_latches}
+use Rattle.merged_circuits.specs.Counts.{merged_latches}
 use Rattle.latch_merging.proofs.CoarsestLaws.{IsRound}
 use Rattle.latch_merging.proofs.merging.coarsest_reading.Given as goal
 

@@ -1,7 +1,7 @@
 use Rattle.std.proofs.Common.{ℕ, List, subst}
 use Rattle.std.specs.Result.{IfOk}
 use Rattle.aig_graph.specs.Graph.{Graph}
-use Rattle.retimed_circuits.specs.Partitions.{IsCoarsest}
+use Rattle.merged_circuits.specs.Partitions.{IsCoarsest}
 use Rattle.std.proofs.Common.{◌∙◌}
 use Rattle.latch_merging.proofs.reading.latch_reading.Goals as goal
 

@@ -4,9 +4,9 @@ use Rattle.aig_graph.specs.Circuits.{Netlist, IsNetlist}
 use Rattle.aig_graph.specs.Laws.{all_free}
 use Rattle.aig_graph.specs.Streams.{SameStreams}
 use Rattle.cleaned_circuits.specs.Merged.{replaced_circuit}
-use Rattle.retimed_circuits.specs.Readings.{substitutes_by}
-use Rattle.retimed_circuits.specs.Counts.{counts_of}
-use Rattle.retimed_circuits.proofs.MergingLaws.{IsGraph-kept, IsNetlist-kept, kept-streams}
+use Rattle.merged_circuits.specs.Readings.{substitutes_by}
+use Rattle.merged_circuits.specs.Counts.{counts_of}
+use Rattle.merged_circuits.proofs.MergingLaws.{IsGraph-kept, IsNetlist-kept, kept-streams}
 use Rattle.latch_merging.proofs.RoundStepLaws.{substitutes_by-long}
 use Rattle.latch_merging.proofs.reading.merged_by.Goals as goal
 

@@ -1,7 +1,7 @@
 use Rattle.std.proofs.Common.{arith, length}
 use Rattle.std.proofs.lemmas.List.Sums.{count_by-le-length}
 use Rattle.aig_graph.proofs.PlacesLaws.{count-bound}
-use Rattle.retimed_circuits.specs.Counts.{is_constant, is_merged}
+use Rattle.merged_circuits.specs.Counts.{is_constant, is_merged}
 use Rattle.latch_merging.proofs.rounds.counts_of.Goals as goal
 
 pub overflow_cast-result : goal.overflow_cast-result

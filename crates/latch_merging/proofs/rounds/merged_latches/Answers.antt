@@ -1,7 +1,7 @@
 use Rattle.std.proofs.Common.{◌≡◌, ◌∙◌, ◌+◌, ap, sym, arith, ℕ, Bool, add-one}
 use Rattle.aig_graph.specs.Counting.{count_below}
 use Rattle.aig_graph.proofs.PlacesLaws.{count-zero, count-pass, count-fail, count-bound}
-use Rattle.retimed_circuits.specs.Counts.{is_merged}
+use Rattle.merged_circuits.specs.Counts.{is_merged}
 use Rattle.latch_merging.proofs.RoundStepLaws.{merged-is}
 use Rattle.latch_merging.proofs.rounds.merged_latches.Goals as goal
 use Rattle.latch_merging.proofs.rounds.merged_latches.Goals.{then-ne, else-ne}

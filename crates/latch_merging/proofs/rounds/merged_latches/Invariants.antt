@@ -1,6 +1,6 @@
 use Rattle.std.proofs.Common.{◌≡◌}
 use Rattle.aig_graph.specs.Counting.{count_below}
-use Rattle.retimed_circuits.specs.Counts.{is_merged}
+use Rattle.merged_circuits.specs.Counts.{is_merged}
 use Rattle.latch_merging.proofs.rounds.merged_latches.Given as goal
 
 abbrev pub invariant-loop-place : goal.invariant-loop-place

@@ -4,7 +4,7 @@ use Rattle.aig_graph.specs.declared.graph.Latch.{Latch}
 use Rattle.aig_graph.specs.Graph.{Graph}
 use Rattle.aig_graph.specs.Building.{gate_of}
 use Rattle.cleaned_circuits.specs.Merged.{replaced, replaced_gate}
-use Rattle.retimed_circuits.specs.Readings.{leaves}
+use Rattle.merged_circuits.specs.Readings.{leaves}
 use Rattle.clean.proofs.MappingLaws.{gate-there}
 use Rattle.latch_merging.specs.Names.{IsNamed, IsRenamed}
 use Rattle.latch_merging.proofs.SplitLaws.{gate-named}

@@ -2,7 +2,7 @@ use Rattle.std.proofs.Common.{◌≡◌, ◌∙◌, ◌<◌, ap, sym, arith, len
 use Rattle.aig_graph.specs.declared.graph.Latch.{Latch}
 use Rattle.aig_graph.specs.Graph.{Graph}
 use Rattle.aig_graph.proofs.TableLaws.{table-none}
-use Rattle.retimed_circuits.specs.Readings.{from_reset, read}
+use Rattle.merged_circuits.specs.Readings.{from_reset, read}
 use Rattle.latch_merging.specs.declared.signature.Signature.{Signature}
 use Rattle.latch_merging.specs.Names.{class_of}
 use Rattle.latch_merging.specs.Rounds.{entries_by_signature, read_by_signature}

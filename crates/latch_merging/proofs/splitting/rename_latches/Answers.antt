@@ -2,7 +2,7 @@ use Rattle.std.proofs.Common.{ℕ, ◌≡◌, ◌<◌, ◌∙◌, ap, arith, len
 use Rattle.aig_graph.specs.declared.graph.Latch.{Latch}
 use Rattle.aig_graph.specs.Graph.{Graph}
 use Rattle.clean.proofs.MappingLaws.{latch-there}
-use Rattle.retimed_circuits.specs.Readings.{read}
+use Rattle.merged_circuits.specs.Readings.{read}
 use Rattle.latch_merging.specs.declared.signature.Signature.{Signature}
 use Rattle.latch_merging.specs.Names.{group_name, renamed_latch}
 use Rattle.latch_merging.proofs.RoundStepLaws.{item-read}

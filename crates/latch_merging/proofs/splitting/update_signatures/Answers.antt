@@ -1,7 +1,7 @@
 use Rattle.std.proofs.Common.{ℕ, ◌<◌, ◌∙◌, ap, sym, arith, refl, length, List, Bool, not, ◌&&◌, nat_eq, slice_set}
 use Rattle.aig_graph.specs.declared.graph.Latch.{Latch}
 use Rattle.aig_graph.specs.Graph.{Graph}
-use Rattle.retimed_circuits.specs.Readings.{may_merge}
+use Rattle.merged_circuits.specs.Readings.{may_merge}
 use Rattle.clean.proofs.MappingLaws.{latch-there}
 use Rattle.latch_merging.specs.declared.signature.Signature.{Signature}
 use Rattle.latch_merging.specs.Names.{is_marked}

@@ -1,6 +1,6 @@
 use Rattle.std.proofs.Common.{◌≡◌, ◌∙◌, IfNone, List, Option, ℕ, sym, subst}
 use Rattle.aig_graph.specs.Streams.{SameStreams}
-use Rattle.retimed_circuits.specs.MapCircuits.{IsMapCircuit}
+use Rattle.state_maps.specs.MapCircuits.{IsMapCircuit}
 use Rattle.map_checks.specs.declared.answer.Obligation.{Obligation}
 use Rattle.map_checks.specs.declared.checking.Opening.{Opening}
 use Rattle.map_checks.specs.Answers.{MapsFirstStates, IsOpeningOf, KeepsStates}

@@ -2,7 +2,8 @@ use Rattle.std.proofs.Common.{◌≡◌, ◌∙◌, ◌+◌, List, Some, ℕ, ar
 use Rattle.std.proofs.lemmas.Option.{slice_get_read}
 use Rattle.aig_graph.specs.declared.graph.Gate.{Gate}
 use Rattle.aig_graph.specs.Graph.{Graph, variable, variables_end}
-use Rattle.map_checks.specs.Shared.{Grows, IsSharedLiteral, Shared}
+use Rattle.aig_graph.specs.Gates.{Gates, Grows}
+use Rattle.map_checks.specs.Shared.{IsSharedLiteral}
 use Rattle.map_checks.specs.Copies.{AreShared, Copy, CopiesValues, copied_end, copy_of, with_literal}
 use Rattle.map_checks.proofs.SharedLaws.{grows-itself, grows-transitive, respects-fewer}
 use Rattle.map_checks.proofs.CopyLaws.{end-more, fan-ins-there, gate-copied, shared-push}
@@ -50,8 +51,8 @@ loop-gate-preserved c =
     let i : ℕ = c.loop-gate.gate-index in
     let items : List Gate = c.gates-gate-items.result.now in
     let gate : Gate = c.gate-item.result in
-    let k : Shared = c.loop-gate.shared in
-    let l : Shared = c.gate.new.self in
+    let k : Gates = c.loop-gate.shared in
+    let l : Gates = c.gate.new.self in
     let copied : Copy = c.loop-gate.copied in
     let new : ℕ = c.find.result in
     let grows : Grows k l = c.in_ok-lit.ensures.grows in

@@ -1,6 +1,6 @@
 use Rattle.std.proofs.Common.{ℕ, ◌≡◌, ◌+◌, Bool}
 use Rattle.aig_graph.specs.Graph.{first_gate}
-use Rattle.map_checks.specs.Shared.{Grows, Respects, gates_of}
+use Rattle.aig_graph.specs.Gates.{Grows, Respects, gates_of}
 use Rattle.map_checks.specs.Equal.{IsRight, StaysRight}
 use Rattle.map_checks.specs.Copies.{AreShared, CopiesValues, copied_end}
 use Rattle.map_checks.proofs.copied.copy.Given as goal

@@ -3,7 +3,7 @@ use Rattle.std.specs.List.{All}
 use Rattle.std.proofs.lemmas.Option.{get_or_from_slice_get, slice_get_read}
 use Rattle.aig_graph.specs.declared.properties.Props.{Props}
 use Rattle.aig_graph.specs.Graph.{Graph, IsLiteralOf, variable, variables_end}
-use Rattle.map_checks.specs.Shared.{Respects, gates_of}
+use Rattle.aig_graph.specs.Gates.{Respects, gates_of}
 use Rattle.map_checks.proofs.learning.assume_constraints.Goals as goal
 
 pub loop-constraint-preserved : goal.loop-constraint-preserved

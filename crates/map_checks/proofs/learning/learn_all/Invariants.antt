@@ -1,4 +1,4 @@
-use Rattle.map_checks.specs.Shared.{Grows}
+use Rattle.aig_graph.specs.Gates.{Grows}
 use Rattle.map_checks.specs.Images.{Learns}
 use Rattle.map_checks.proofs.learning.learn_all.Given as goal
 

@@ -1,6 +1,6 @@
 use Rattle.std.proofs.Common.{ℕ, ◌≡◌, ◌+◌, ◌*◌, ◌<◌, ◌≤◌, Bool, length, get_or}
 use Rattle.aig_graph.specs.Graph.{first_latch, variable}
-use Rattle.map_checks.specs.Shared.{IsNegated}
+use Rattle.aig_graph.specs.Gates.{IsNegated}
 use Rattle.map_checks.specs.Equal.{IsRight, StaysRight}
 use Rattle.map_checks.proofs.leaves.latch_leaves.Given as goal
 

@@ -3,7 +3,7 @@ use Rattle.std.proofs.Common.{ℕ, ◌<◌, ◌≡◌, ◌∙◌, ◌+◌, List,
 use Rattle.std.proofs.lemmas.Option.{slice_get_read}
 use Rattle.aig_graph.specs.declared.graph.Latch.{Latch}
 use Rattle.map_circuits.proofs.ConstrainingLaws.{read-entry}
-use Rattle.retimed_circuits.specs.MapCircuits.{free_outputs}
+use Rattle.state_maps.specs.MapCircuits.{free_outputs}
 use Rattle.map_circuits.proofs.FreeLaws.{free-more, known-more}
 use Rattle.map_circuits.proofs.free.free_outputs.Goals as goal
 use Rattle.map_circuits.proofs.free.free_outputs.Goals.{then-is_free+in_ok-push, else-is_free}

@@ -1,5 +1,5 @@
 use Rattle.std.proofs.Common.{◌≡◌, take}
-use Rattle.retimed_circuits.specs.MapCircuits.{free_outputs}
+use Rattle.state_maps.specs.MapCircuits.{free_outputs}
 use Rattle.map_circuits.proofs.free.free_outputs.Given as goal
 
 abbrev pub invariant-loop-place : goal.invariant-loop-place

@@ -5,7 +5,7 @@ use Rattle.aig_graph.specs.declared.graph.Latch.{Latch}
 use Rattle.aig_graph.specs.declared.properties.Props.{Props}
 use Rattle.aig_graph.specs.Circuits.{Netlist}
 use Rattle.aig_graph.specs.Graph.{Graph}
-use Rattle.retimed_circuits.specs.MapCircuits.{IsFreeInput, free_outputs}
+use Rattle.state_maps.specs.MapCircuits.{IsFreeInput, free_outputs}
 use Rattle.map_circuits.proofs.FreeLaws.{stay-says}
 use Rattle.map_circuits.proofs.free.free_stay.Goals as goal
 

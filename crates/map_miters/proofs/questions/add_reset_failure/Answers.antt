@@ -3,7 +3,7 @@ use Rattle.std.proofs.Common.{ℕ, ◌≡◌, ◌∙◌, List, ap, length, refl,
 use Rattle.aig_graph.specs.declared.graph.Latch.{Latch}
 use Rattle.aig_graph.specs.Circuits.{Netlist, AreLiteralsOf}
 use Rattle.aig_graph.specs.Graph.{Graph}
-use Rattle.retimed_circuits.specs.MapCircuits.{mapped}
+use Rattle.state_maps.specs.MapCircuits.{mapped}
 use Rattle.map_miters.specs.Asking.{asked_state}
 use Rattle.map_miters.specs.Comparing.{AreEqualIn, SaysThat}
 use Rattle.map_miters.specs.Holding.{Held, HoldAs, IsImage, reset_at, reset_state}

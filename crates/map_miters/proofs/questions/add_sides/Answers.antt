@@ -1,8 +1,8 @@
 use Rattle.std.proofs.Common.{ℕ, ◌∙◌, List, ap, length, sym, subst}
 use Rattle.aig_graph.specs.Circuits.{Netlist, AreLiteralsOf}
 use Rattle.aig_graph.specs.Graph.{Graph}
-use Rattle.retimed_circuits.specs.MapCircuits.{mapped}
-use Rattle.retimed_circuits.specs.States.{after_step}
+use Rattle.state_maps.specs.MapCircuits.{mapped}
+use Rattle.state_maps.specs.States.{after_step}
 use Rattle.map_circuits.proofs.GrowingLaws.{extends-transitive}
 use Rattle.map_miters.specs.Asking.{asked_digits, asked_state}
 use Rattle.map_miters.specs.Holding.{Held, HoldAs, IsImage, IsStep}

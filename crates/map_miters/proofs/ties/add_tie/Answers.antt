@@ -1,10 +1,10 @@
 use Rattle.std.proofs.Common.{ℕ, ◌≡◌, ◌<◌, ◌∙◌, ◌+◌, ◌*◌, true, arith, ap, get_or, length, subst}
 use Rattle.aig_graph.specs.Circuits.{Netlist}
 use Rattle.aig_graph.specs.Graph.{Graph, first_gate, variable}
-use Rattle.retimed_circuits.specs.MapCircuits.{IsFreeInput}
+use Rattle.state_maps.specs.MapCircuits.{IsFreeInput}
 use Rattle.map_miters.specs.Ties.{HasLatches}
 use Rattle.map_miters.proofs.LeafLaws.{latches-room, latches-stay}
-use Rattle.retimed_circuits.proofs.FreeLaws.{free-within}
+use Rattle.state_maps.proofs.FreeLaws.{free-within}
 use Rattle.map_miters.proofs.TieLaws.{first-value, second-value, tie-says}
 use Rattle.map_miters.proofs.ties.add_tie.Goals as goal
 

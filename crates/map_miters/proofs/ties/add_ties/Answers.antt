@@ -8,7 +8,7 @@ use Rattle.aig_graph.specs.Graph.{Graph}
 use Rattle.map_circuits.specs.Growing.{Extends}
 use Rattle.map_circuits.proofs.ConstrainingLaws.{read-entry}
 use Rattle.map_circuits.proofs.GrowingLaws.{extends-itself, extends-transitive}
-use Rattle.retimed_circuits.specs.MapCircuits.{IsFreeInput}
+use Rattle.state_maps.specs.MapCircuits.{IsFreeInput}
 use Rattle.map_miters.specs.Ties.{AreTies}
 use Rattle.map_miters.proofs.TieLaws.{free-each, ties-more, ties-none, ties-skip}
 use Rattle.map_miters.proofs.ties.add_ties.Goals as goal

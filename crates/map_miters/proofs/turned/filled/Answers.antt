@@ -2,7 +2,7 @@ use Rattle.std.proofs.Common.{ℕ, ◌≡◌, ◌+◌, ◌*◌, ◌∙◌, List,
 use Rattle.aig_graph.proofs.TableLaws.{length-table}
 use Rattle.aig_graph.specs.Circuits.{AreLiteralsOf, Netlist}
 use Rattle.aig_graph.specs.Graph.{Graph}
-use Rattle.retimed_circuits.specs.States.{Digits, State}
+use Rattle.state_maps.specs.States.{Digits, State}
 use Rattle.map_miters.specs.Holding.{HoldAs}
 use Rattle.map_miters.specs.Products.{second_state}
 use Rattle.map_miters.proofs.TurnedLaws.{first-hold, inputs-hold, leaves-first, leaves-second}

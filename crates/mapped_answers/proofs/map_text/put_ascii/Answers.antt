@@ -3,7 +3,7 @@ use Rattle.std.specs.Prelude.{codes}
 use Rattle.aig_graph.specs.Graph.{first_latch}
 use Rattle.counted_io.specs.Buffered.{Puts}
 use Rattle.counted_io.proofs.BufferedLaws.{puts-nothing, puts-then}
-use Rattle.counted_io.specs.Text.{latch_row, numbered_rows, text}
+use Rattle.file_words.specs.Text.{latch_row, numbered_rows, text}
 use Rattle.mapped_answers.proofs.map_text.put_ascii.Goals as goal
 
 pub returns : goal.returns

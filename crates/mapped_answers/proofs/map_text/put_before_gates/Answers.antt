@@ -3,7 +3,7 @@ use Rattle.std.specs.Prelude.{codes}
 use Rattle.aig_graph.specs.Graph.{first_latch}
 use Rattle.counted_io.specs.Buffered.{Puts}
 use Rattle.counted_io.proofs.BufferedLaws.{puts-nothing, puts-then}
-use Rattle.counted_io.specs.Text.{numbered_rows}
+use Rattle.file_words.specs.Text.{numbered_rows}
 use Rattle.aig_binary.specs.Text.{next_row}
 use Rattle.mapped_answers.specs.MapText.{before_gates}
 use Rattle.mapped_answers.proofs.map_text.put_before_gates.Goals as goal

@@ -5,7 +5,7 @@ use Rattle.aig_graph.specs.Graph.{first_gate}
 use Rattle.counted_io.specs.Buffered.{Puts}
 use Rattle.counted_io.specs.Line.{numbered_lines}
 use Rattle.counted_io.proofs.BufferedLaws.{puts-nothing}
-use Rattle.counted_io.specs.Text.{gate_row, numbered_rows}
+use Rattle.file_words.specs.Text.{gate_row, numbered_rows}
 use Rattle.aig_binary.specs.Text.{gate_deltas}
 use Rattle.mapped_answers.proofs.MapTextLaws.{gate-next, gate-stands, gate_of_place, puts-gate, puts-gates-end, puts-gates-ended}
 use Rattle.mapped_answers.proofs.map_text.put_gates.Goals as goal

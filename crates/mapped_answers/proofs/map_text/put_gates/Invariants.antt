@@ -1,7 +1,7 @@
 use Rattle.std.proofs.Common.{◌+◌, ◌≡◌, drop, take}
 use Rattle.counted_io.specs.Buffered.{Puts}
 use Rattle.counted_io.specs.Line.{numbered_lines}
-use Rattle.counted_io.specs.Text.{gate_row, numbered_rows}
+use Rattle.file_words.specs.Text.{gate_row, numbered_rows}
 use Rattle.aig_binary.specs.Text.{gate_deltas}
 use Rattle.mapped_answers.proofs.map_text.put_gates.Given as goal
 

@@ -1,4 +1,4 @@
-use Rattle.counted_io.specs.Text.{input_rows}
+use Rattle.file_words.specs.Text.{input_rows}
 use Rattle.counted_io.specs.Buffered.{Puts}
 use Rattle.mapped_answers.proofs.map_text.put_inputs.Given as goal
 

@@ -2,7 +2,7 @@ use Rattle.std.proofs.Common.{ℕ, ◌++◌, Err, List, subst}
 use Rattle.aig_graph.specs.Graph.{first_gate}
 use Rattle.counted_io.specs.Line.{numbered_lines}
 use Rattle.counted_io.specs.Output.{Writes}
-use Rattle.counted_io.specs.Text.{all_symbols}
+use Rattle.file_words.specs.Text.{all_symbols}
 use Rattle.aig_binary.specs.Text.{gate_deltas}
 use Rattle.mapped_answers.specs.MapText.{before_gates}
 use Rattle.mapped_answers.proofs.MapTextLaws.{binary-pieces, writes-no-more, writes-then}

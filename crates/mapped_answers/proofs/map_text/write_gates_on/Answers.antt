@@ -2,7 +2,7 @@ use Rattle.std.proofs.Common.{ℕ, ◌≡◌, ◌∙◌, List, ap, subst}
 use Rattle.aig_graph.specs.Graph.{Graph, first_gate}
 use Rattle.counted_io.specs.Line.{numbered_lines}
 use Rattle.counted_io.specs.Output.{WritesAll, WritesPart}
-use Rattle.counted_io.specs.Text.{all_symbols}
+use Rattle.file_words.specs.Text.{all_symbols}
 use Rattle.aig_binary.specs.Text.{gate_deltas}
 use Rattle.mapped_answers.proofs.MapTextLaws.{writes-no-more, writes-then}
 use Rattle.mapped_answers.proofs.map_text.write_gates_on.Goals as goal

@@ -1,7 +1,7 @@
 use Rattle.std.proofs.Common.{◌≡◌, ℕ, ◌+◌, arith, ap, sym, ◌∙◌}
 use Rattle.frame_net.specs.FlowNet.{FlowNet, node_count}
-use Rattle.flow_part.specs.Reading.{active_below, cells_active}
-use Rattle.flow_part.proofs.WalkLaws.{active_few, active_flat, active_on}
+use Rattle.pulse_parts.specs.Reading.{active_below, cells_active}
+use Rattle.pulse_parts.proofs.WalkLaws.{active_few, active_flat, active_on}
 use Rattle.pulse.specs.Values.{FlowState}
 use Rattle.pulse.proofs.active.active_nodes.Goals as goal
 use Rattle.pulse.proofs.active.active_nodes.Goals.{then-is_node_active, else-is_node_active}

@@ -1,5 +1,5 @@
 use Rattle.std.proofs.Common.{◌≡◌}
-use Rattle.flow_part.specs.Reading.{active_below}
+use Rattle.pulse_parts.specs.Reading.{active_below}
 use Rattle.pulse.proofs.active.active_nodes.Given as goal
 
 abbrev pub invariant-loop-v : goal.invariant-loop-v

@@ -1,8 +1,8 @@
 use Rattle.std.proofs.Common.{◌≡◌, ℕ, List, ap, ◌∙◌, length, subst}
 use Rattle.frame_net.specs.FlowNet.{node_count}
-use Rattle.flow_part.specs.declared.parts.FlowPart.{FlowPart}
-use Rattle.flow_part.specs.Parts.{cells_of, pairs}
-use Rattle.flow_part.specs.Runs.{any_active}
+use Rattle.pulse_parts.specs.declared.parts.FlowPart.{FlowPart}
+use Rattle.pulse_parts.specs.Parts.{cells_of, pairs}
+use Rattle.pulse_parts.specs.Runs.{any_active}
 use Rattle.pulse.specs.Values.{FlowState}
 use Rattle.pulse.specs.Conditions.{state_of}
 use Rattle.pulse.proofs.active.is_active.Goals as goal

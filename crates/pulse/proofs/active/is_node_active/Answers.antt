@@ -1,6 +1,6 @@
 use Rattle.std.proofs.Common.{ℕ, slice_index, arith, ap, ◌∙◌}
 use Rattle.frame_net.specs.FlowNet.{FlowNet, node_count}
-use Rattle.flow_part.specs.Listing.{active_by}
+use Rattle.pulse_parts.specs.Listing.{active_by}
 use Rattle.pulse.specs.Values.{FlowState}
 use Rattle.pulse.proofs.active.is_node_active.Goals as goal
 

@@ -1,5 +1,5 @@
 use Rattle.frame_net.specs.FlowNet.{node_count}
-use Rattle.flow_part.proofs.NumberLaws.{flow_parted}
+use Rattle.pulse_parts.proofs.NumberLaws.{flow_parted}
 use Rattle.pulse.proofs.fast_run.part_ahead.Goals as goal
 use Rattle.pulse.proofs.PartLaws.{between_parts, parted_lists, parted_state}
 

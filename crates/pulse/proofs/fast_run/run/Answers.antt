@@ -1,8 +1,8 @@
 use Rattle.std.proofs.Common.{◌+◌, arith, sym, ◌∙◌}
 use Rattle.frame_net.specs.FlowNet.{node_count}
 use Rattle.frame_net.specs.Flow.{is_active}
-use Rattle.flow_part.proofs.ActiveLaws.{none_at}
-use Rattle.flow_part.proofs.RunLaws.{paid_none, paid_pulse, pulses_fit}
+use Rattle.pulse_parts.proofs.ActiveLaws.{none_at}
+use Rattle.pulse_parts.proofs.RunLaws.{paid_none, paid_pulse, pulses_fit}
 use Rattle.pulse.specs.Conditions.{state_of}
 use Rattle.pulse.proofs.PartLaws.{pulse_parted}
 use Rattle.pulse.proofs.StepLaws.{paid_labels, pulse_left}

@@ -1,6 +1,6 @@
 use Rattle.std.proofs.Common.{◌≡◌, ℕ, ◌<◌, true, false, length, slice_index_or, arith, refl, sym, ◌∙◌, subst}
 use Rattle.std.proofs.lemmas.List.{length-set}
-use Rattle.flow_part.specs.Marks.{and_range}
+use Rattle.pulse_parts.specs.Marks.{and_range}
 use Rattle.pulse.proofs.marks.mark.Goals as goal
 use Rattle.pulse.proofs.MarkLaws.{range_none, mark_more}
 

@@ -1,5 +1,5 @@
 use Rattle.std.proofs.Common.{◌≡◌, ℕ, ◌<◌, false, length, slice_index_or}
-use Rattle.flow_part.specs.Marks.{and_range}
+use Rattle.pulse_parts.specs.Marks.{and_range}
 use Rattle.pulse.proofs.marks.mark.Given as goal
 
 abbrev pub invariant-loop-v : goal.invariant-loop-v

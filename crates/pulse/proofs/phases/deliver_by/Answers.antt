@@ -2,7 +2,7 @@ use Rattle.std.proofs.Common.{ℕ, List, arith, ap, length, refl, subst, sym, �
 use Rattle.std.specs.Vec.{with_items}
 use Rattle.std.proofs.lemmas.Bool.{false≢true}
 use Rattle.std.proofs.lemmas.List.{with_items_is}
-use Rattle.flow_part.specs.Listing.{ListActive}
+use Rattle.pulse_parts.specs.Listing.{ListActive}
 use Rattle.pulse.specs.Values.{FlowState, PushState}
 use Rattle.pulse.proofs.phases.deliver_by.Goals as goal
 use Rattle.pulse.proofs.CrewLaws.{lists_seen}

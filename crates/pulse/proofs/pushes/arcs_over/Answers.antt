@@ -1,5 +1,5 @@
 use Rattle.std.proofs.Common.{arith}
-use Rattle.flow_part.proofs.GatheredLaws.{from_nodes, pushing_lists}
+use Rattle.pulse_parts.proofs.GatheredLaws.{from_nodes, pushing_lists}
 use Rattle.pulse.proofs.pushes.arcs_over.Goals as goal
 
 pub arcs_of-requires : goal.arcs_of-requires

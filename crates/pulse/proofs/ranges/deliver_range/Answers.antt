@@ -2,11 +2,11 @@ use Rattle.std.proofs.Common.{List, arith, sym, subst}
 use Rattle.std.specs.Vec.{with_items}
 use Rattle.std.proofs.lemmas.Bool.{false≢true}
 use Rattle.std.proofs.lemmas.List.{with_items_is}
-use Rattle.flow_part.specs.declared.parts.FlowPart.{FlowPart}
-use Rattle.flow_part.specs.Parts.{values_of}
-use Rattle.flow_part.specs.Marks.{NoneMarked, IsPartlyDelivered}
-use Rattle.flow_part.specs.Start.{FlowNumbered}
-use Rattle.flow_part.proofs.NumberLaws.{numbered_given}
+use Rattle.pulse_parts.specs.declared.parts.FlowPart.{FlowPart}
+use Rattle.pulse_parts.specs.Parts.{values_of}
+use Rattle.pulse_parts.specs.Marks.{NoneMarked, IsPartlyDelivered}
+use Rattle.pulse_parts.specs.Start.{FlowNumbered}
+use Rattle.pulse_parts.proofs.NumberLaws.{numbered_given}
 use Rattle.pulse.specs.Values.{FlowState, PushState, flow_state, push_state}
 use Rattle.pulse.specs.Conditions.{IsFlowOf, is_marked}
 use Rattle.pulse.specs.Phases.{RangeDelivered}

@@ -1,10 +1,10 @@
 use Rattle.std.proofs.Common.{List, arith, subst, sym}
 use Rattle.std.specs.Vec.{with_items}
 use Rattle.std.proofs.lemmas.List.{with_items_is}
-use Rattle.flow_part.specs.declared.parts.PushPart.{PushPart}
-use Rattle.flow_part.specs.Parts.{cells_of}
-use Rattle.flow_part.specs.Start.{PushesNumbered}
-use Rattle.flow_part.proofs.NumberLaws.{numbered_read_on}
+use Rattle.pulse_parts.specs.declared.parts.PushPart.{PushPart}
+use Rattle.pulse_parts.specs.Parts.{cells_of}
+use Rattle.pulse_parts.specs.Start.{PushesNumbered}
+use Rattle.pulse_parts.proofs.NumberLaws.{numbered_read_on}
 use Rattle.pulse.specs.Values.{FlowState, PushState, flow_state, push_state}
 use Rattle.pulse.specs.Phases.{RangeRead}
 use Rattle.pulse.proofs.ranges.read_range.Goals as goal

@@ -1,7 +1,7 @@
 use Rattle.std.proofs.Common.{arith, ap, ◌∙◌, length}
 use Rattle.std.specs.Vec.{with_items}
 use Rattle.std.proofs.lemmas.List.{with_items_is}
-use Rattle.flow_part.proofs.NumberLaws.{numbered_held}
+use Rattle.pulse_parts.proofs.NumberLaws.{numbered_held}
 use Rattle.pulse.specs.Values.{FlowState}
 use Rattle.pulse.proofs.FlowLaws.{flow_unspent, parts_seen}
 use Rattle.pulse.proofs.RelabelLaws.{held_flow, hold_ready, holds_seen, lists_relabelled, relabelled}

@@ -1,7 +1,7 @@
 use Rattle.std.proofs.Common.{◌+◌, arith, sym, ◌∙◌}
 use Rattle.frame_net.specs.FlowNet.{node_count}
-use Rattle.flow_part.proofs.AgreeingStateLaws.{agree_self}
-use Rattle.flow_part.proofs.RunLaws.{running_none, running_more, running_falls, running_fits, running_done}
+use Rattle.pulse_parts.proofs.AgreeingStateLaws.{agree_self}
+use Rattle.pulse_parts.proofs.RunLaws.{running_none, running_more, running_falls, running_fits, running_done}
 use Rattle.pulse.specs.Conditions.{state_of}
 use Rattle.pulse.proofs.run.run.Goals as goal
 

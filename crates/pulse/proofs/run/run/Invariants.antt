@@ -1,7 +1,7 @@
 use Rattle.std.proofs.Common.{◌≡◌, false}
 use Rattle.frame_net.specs.FlowNet.{node_count}
-use Rattle.flow_part.proofs.ActiveLaws.{work}
-use Rattle.flow_part.proofs.RunLaws.{Running}
+use Rattle.pulse_parts.proofs.ActiveLaws.{work}
+use Rattle.pulse_parts.proofs.RunLaws.{Running}
 use Rattle.pulse.specs.Conditions.{ArePushesOf, IsBetween, state_of}
 use Rattle.pulse.proofs.run.run.Given as goal
 

@@ -1,9 +1,9 @@
 use Rattle.frame_net.specs.Laws.{started}
 use Rattle.frame_net.specs.FlowNet.{node_count}
-use Rattle.flow_part.specs.Parts.{pair}
+use Rattle.pulse_parts.specs.Parts.{pair}
 use Rattle.pulse.specs.Conditions.{state_of}
 use Rattle.pulse.proofs.run.run_to_end.Goals as goal
-use Rattle.flow_part.proofs.RunLaws.{run_from}
+use Rattle.pulse_parts.proofs.RunLaws.{run_from}
 
 pub returns-clause-run : goal.returns-clause-run
 returns-clause-run g c =

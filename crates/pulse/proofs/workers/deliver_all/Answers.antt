@@ -1,8 +1,8 @@
 use Rattle.std.proofs.Common.{arith, length}
-use Rattle.flow_part.specs.Parts.{values_of}
+use Rattle.pulse_parts.specs.Parts.{values_of}
 use Rattle.pulse.proofs.workers.deliver_all.Goals as goal
 use Rattle.frame_net.specs.FlowNet.{node_count}
-use Rattle.flow_part.proofs.NumberLaws.{flow_parted, numbered_given}
+use Rattle.pulse_parts.proofs.NumberLaws.{flow_parted, numbered_given}
 use Rattle.pulse.proofs.CrewLaws.{sound_anew, read_anew, labels_ready, all_pulsed, keep_labels, lists_turned, parts_delivered}
 
 pub deliver_parts-requires-clause-sound : goal.deliver_parts-requires-clause-sound

@@ -1,11 +1,11 @@
 use Rattle.std.proofs.Common.{subst, sym}
 use Rattle.frame_net.specs.FlowNet.{node_count}
-use Rattle.flow_part.specs.declared.parts.FlowPart.{FlowPart}
-use Rattle.flow_part.specs.Listing.{ListsActive}
-use Rattle.flow_part.specs.Parts.{FlowPartFits, values_of}
-use Rattle.flow_part.specs.Delivering.{PartSafe}
+use Rattle.pulse_parts.specs.declared.parts.FlowPart.{FlowPart}
+use Rattle.pulse_parts.specs.Listing.{ListsActive}
+use Rattle.pulse_parts.specs.Parts.{FlowPartFits, values_of}
+use Rattle.pulse_parts.specs.Delivering.{PartSafe}
 use Rattle.pulse.proofs.workers.deliver_by_crew.Goals as goal
-use Rattle.flow_part.proofs.PartsLeftLaws.{part_fits}
+use Rattle.pulse_parts.proofs.PartsLeftLaws.{part_fits}
 
 pub map_vec-requires-after_bounds : goal.map_vec-requires-after_bounds
 map_vec-requires-after_bounds g c κs within = λ i x h e. (

@@ -1,9 +1,9 @@
 use Rattle.std.proofs.Common.{List, arith, ap, refl, subst, sym}
 use Rattle.std.proofs.lemmas.List.{with_items_is}
 use Rattle.frame_net.specs.FlowNet.{node_count}
-use Rattle.flow_part.specs.declared.parts.FlowPart.{FlowPart}
-use Rattle.flow_part.specs.Listing.{ListActive}
-use Rattle.flow_part.specs.Parts.{values_of}
+use Rattle.pulse_parts.specs.declared.parts.FlowPart.{FlowPart}
+use Rattle.pulse_parts.specs.Listing.{ListActive}
+use Rattle.pulse_parts.specs.Parts.{values_of}
 use Rattle.pulse.proofs.workers.deliver_parts.Goals as goal
 use Rattle.pulse.proofs.CrewLaws.{all_safe, all_delivered}
 

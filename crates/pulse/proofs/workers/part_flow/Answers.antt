@@ -1,10 +1,10 @@
 use Rattle.std.proofs.Common.{List, inr, subst, sym}
 use Rattle.frame_net.specs.FlowNet.{node_count}
-use Rattle.flow_part.specs.declared.parts.FlowPart.{FlowPart}
-use Rattle.flow_part.specs.Listing.{ListActive}
-use Rattle.flow_part.specs.Parts.{Agree, cells_of, pairs}
+use Rattle.pulse_parts.specs.declared.parts.FlowPart.{FlowPart}
+use Rattle.pulse_parts.specs.Listing.{ListActive}
+use Rattle.pulse_parts.specs.Parts.{Agree, cells_of, pairs}
 use Rattle.pulse.proofs.workers.part_flow.Goals as goal
-use Rattle.flow_part.proofs.StartStateLaws.{held_cut, parted_agrees}
+use Rattle.pulse_parts.proofs.StartStateLaws.{held_cut, parted_agrees}
 
 pub returns-in_ok-parts-clause-parts : goal.returns-in_ok-parts-clause-parts
 returns-in_ok-parts-clause-parts c = held_cut c.args.net.now _ _ c.in_ok-parts.field-0.items c.in_ok-parts.ensures.holds

@@ -1,7 +1,7 @@
 use Rattle.std.proofs.Common.{arith, ap, refl}
 use Rattle.std.proofs.lemmas.List.{with_items_is}
 use Rattle.pulse.proofs.workers.read_all.Goals as goal
-use Rattle.flow_part.proofs.NumberLaws.{pushes_parted}
+use Rattle.pulse_parts.proofs.NumberLaws.{pushes_parted}
 use Rattle.frame_net.specs.FlowNet.{node_count}
 use Rattle.pulse.proofs.CrewLaws.{all_numbered, all_read, all_walked}
 

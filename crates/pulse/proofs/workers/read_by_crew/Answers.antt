@@ -1,9 +1,9 @@
 use Rattle.std.proofs.Common.{subst, sym}
 use Rattle.frame_net.specs.FlowNet.{node_count}
-use Rattle.flow_part.specs.declared.parts.PushPart.{PushPart}
-use Rattle.flow_part.specs.Parts.{PushPartFits}
+use Rattle.pulse_parts.specs.declared.parts.PushPart.{PushPart}
+use Rattle.pulse_parts.specs.Parts.{PushPartFits}
 use Rattle.pulse.proofs.workers.read_by_crew.Goals as goal
-use Rattle.flow_part.proofs.PartsLeftLaws.{part_fits}
+use Rattle.pulse_parts.proofs.PartsLeftLaws.{part_fits}
 
 pub map_vec-requires-after_bounds : goal.map_vec-requires-after_bounds
 map_vec-requires-after_bounds g c κs within = λ i x h e. (

@@ -1,7 +1,7 @@
 use Rattle.std.proofs.Common.{◌∙◌, ap, subst, sym}
 use Rattle.aig_graph.specs.declared.properties.Symbols.{Symbols}
 use Rattle.aig_graph.specs.Circuits.{Netlist}
-use Rattle.retimed_circuits.specs.MapCircuits.{FreeStay, IsMapCircuit}
+use Rattle.state_maps.specs.MapCircuits.{FreeStay, IsMapCircuit}
 use Rattle.retiming_maps.specs.Mapping.{map_of}
 use Rattle.retiming_maps.specs.Plain.{IsPlainMap}
 use Rattle.retiming_maps.proofs.FinishingLaws.{map-circuit, map-free, map-plain}

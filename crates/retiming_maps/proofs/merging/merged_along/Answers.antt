@@ -1,5 +1,5 @@
 use Rattle.std.proofs.Common.{ℕ, List, subst, sym}
-use Rattle.retimed_circuits.specs.Partitions.{IsCoarsest}
+use Rattle.merged_circuits.specs.Partitions.{IsCoarsest}
 use Rattle.retiming_maps.proofs.merging.merged_along.Goals as goal
 
 pub follow_merging-requires-clause-coarsest : goal.follow_merging-requires-clause-coarsest

@@ -1,8 +1,8 @@
 use Rattle.std.proofs.Common.{◌∙◌, ap, ap₂, subst, sym}
 use Rattle.aig_graph.specs.Circuits.{Netlist}
 use Rattle.lane_sim.specs.Traces.{trace}
-use Rattle.reports.specs.WaveDumps.{waves_text}
-use Rattle.reports.specs.WaveMoments.{IsWaveRoomFor}
+use Rattle.reports.specs.waves.Dumps.{waves_text}
+use Rattle.reports.specs.waves.Moments.{IsWaveRoomFor}
 use Rattle.simulation_commands.proofs.dumping.put_dump.Goals as goal
 
 pub write_waves-requires : goal.write_waves-requires

@@ -2,7 +2,7 @@ use Rattle.std.proofs.Common.{length}
 use Rattle.aig_graph.specs.Graph.{Graph}
 use Rattle.witness_circuits.specs.declared.sharing.Sharing.{Sharing}
 use Rattle.witness_circuits.specs.Joining.{joined, own_at}
-use Rattle.retimed_circuits.specs.States.{Digits, State}
+use Rattle.state_maps.specs.States.{Digits, State}
 use Rattle.witness_circuits.specs.Parts.{held_by}
 use Rattle.witness_circuits.proofs.ViewLaws.{instance-view, witness-have, witness-long, witness-within}
 use Rattle.witness_circuits.proofs.parts.add_witness.Goals as goal

@@ -3,7 +3,7 @@ use Rattle.std.proofs.lemmas.Result.{err_from_is_err_and}
 use Rattle.witnesses.specs.declared.witness.Digit.{Digit}
 use Rattle.witnesses.specs.Reading.{steps_from}
 use Rattle.witnesses.specs.Statements.{left}
-use Rattle.counted_io.proofs.AnsweringLaws.{Fails-with}
+use Rattle.file_words.proofs.AnsweringLaws.{Fails-with}
 use Rattle.witnesses.proofs.ReadingLaws.{steps_missing, steps_end, step_taken, step_fails}
 use Rattle.witnesses.proofs.reading.step_lines.Goals as goal
 

@@ -1,5 +1,5 @@
 use Rattle.std.proofs.Common.{◌≡◌, [], length}
-use Rattle.counted_io.specs.Lines.{pieces}
+use Rattle.file_words.specs.Lines.{pieces}
 use Rattle.witnesses.specs.Properties.{properties_of}
 use Rattle.witnesses.proofs.words.properties.Given as goal
 

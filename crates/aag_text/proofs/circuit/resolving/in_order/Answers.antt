@@ -1,6 +1,6 @@
 use Rattle.std.proofs.Common.{ℕ, ◌+◌, List, length, All, Some, sym, ap, subst, ◌∙◌}
 use Rattle.aig_graph.specs.declared.graph.Gate.{Gate}
-use Rattle.ascii_file.specs.Order.{IsOrder}
+use Rattle.ascii_file.specs.order.Order.{IsOrder}
 use Rattle.aag_text.specs.Numbering.{PlacedLists}
 use Rattle.aag_text.specs.Arranging.{HasFanInsBelow}
 use Rattle.aag_text.specs.Resolving.{placed_reads}

@@ -1,7 +1,7 @@
 use Rattle.std.proofs.Common.{◌≡◌, ◌+◌, ◌&&◌, false, Bool, length, ap₂, ◌∙◌}
 use Rattle.std.proofs.lemmas.Result.{err_from_is_err_and}
 use Rattle.ascii_file.specs.Items.{begins_comment}
-use Rattle.ascii_file.specs.Symbols.{text_of}
+use Rattle.ascii_file.specs.parts.Symbols.{text_of}
 use Rattle.aag_text.proofs.TakingLaws.{line_fails, line_taken, comment_taken, is_comment_text, no_comment_text}
 use Rattle.aag_text.proofs.items.Items.take_symbol.Goals as goal
 

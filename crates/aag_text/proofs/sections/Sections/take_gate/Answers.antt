@@ -6,8 +6,8 @@ use Rattle.ascii_file.specs.declared.raw.Section.TheVariants.{Gates}
 use Rattle.ascii_file.specs.Reading.{definition_checks, with_item}
 use Rattle.ascii_file.specs.Items.{GateItem}
 use Rattle.ascii_file.proofs.CheckLaws.{fits_where_passes}
-use Rattle.counted_io.specs.declared.fault.ReadError.TheVariants.{BadLine}
-use Rattle.ascii_file.specs.Names.{AreNamesOf}
+use Rattle.file_words.specs.declared.fault.ReadError.TheVariants.{BadLine}
+use Rattle.ascii_file.specs.parts.Names.{AreNamesOf}
 use Rattle.aag_text.specs.declared.sections.Sections.{Sections}
 use Rattle.aag_text.specs.Taking.{raw_of}
 use Rattle.aag_text.proofs.CountLaws.{room_in}

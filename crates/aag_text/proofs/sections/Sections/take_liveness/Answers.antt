@@ -1,8 +1,8 @@
 use Rattle.std.proofs.Common.{sym, ap, refl, arith, ◌∙◌, ℕ, Option}
 use Rattle.std.specs.Option.{option_map}
-use Rattle.ascii_file.specs.Lists.{Lists}
+use Rattle.ascii_file.specs.parts.Lists.{Lists}
 use Rattle.ascii_file.specs.Items.{LivenessItem}
-use Rattle.counted_io.specs.declared.fault.ReadError.TheVariants.{BadLine}
+use Rattle.file_words.specs.declared.fault.ReadError.TheVariants.{BadLine}
 use Rattle.aag_text.specs.Taking.{raw_of}
 use Rattle.aag_text.proofs.TakeLaws.{next-without, takes_plain}
 use Rattle.aag_text.proofs.sections.Sections.take_liveness.Goals as goal

@@ -1,9 +1,9 @@
 use Rattle.std.proofs.Common.{refl, subst, arith, ◌∷◌, ◌++◌, [], Bool}
 use Rattle.std.specs.List.{list_any}
-use Rattle.counted_io.specs.declared.fault.ReadError.TheVariants.{BadSymbol}
+use Rattle.file_words.specs.declared.fault.ReadError.TheVariants.{BadSymbol}
 use Rattle.ascii_file.specs.Items.{SymbolItem}
 use Rattle.ascii_file.specs.Reading.{is_of_same}
-use Rattle.ascii_file.specs.Names.{AreNamesOf, symbol_at, with_new}
+use Rattle.ascii_file.specs.parts.Names.{AreNamesOf, symbol_at, with_new}
 use Rattle.aag_text.proofs.TakeLaws.{takes_plain, was_false}
 use Rattle.aag_text.proofs.sections.Sections.take_name.Goals as goal
 

@@ -1,11 +1,11 @@
 use Rattle.std.proofs.Common.{inr, sym, subst, ◌∙◌, ◌≡◌, ℕ, false, List, Option, Some, None, Result, MatchOption, Bor}
-use Rattle.counted_io.specs.declared.fault.ReadError.{ReadError}
-use Rattle.counted_io.specs.declared.fault.ReadError.TheVariants.{BadLine}
+use Rattle.file_words.specs.declared.fault.ReadError.{ReadError}
+use Rattle.file_words.specs.declared.fault.ReadError.TheVariants.{BadLine}
 use Rattle.ascii_file.specs.declared.raw.Section.{Section}
 use Rattle.ascii_file.specs.declared.raw.Section.TheVariants.{Inputs, Latches, Safety, Sizes, Liveness, Gates}
 use Rattle.ascii_file.specs.Raw.{RawSymbol}
 use Rattle.ascii_file.specs.Reading.{take_item, next_section, read_line, is_complete}
-use Rattle.ascii_file.specs.Rows.{row_of}
+use Rattle.ascii_file.specs.parts.Rows.{row_of}
 use Rattle.aag_text.specs.declared.sections.Sections.{Sections}
 use Rattle.aag_text.specs.Items.{item_of_numbers}
 use Rattle.aag_text.specs.Taking.{raw_of, IsAt, Takes}

@@ -1,5 +1,5 @@
 use Rattle.std.proofs.Common.{inr, sym, ap, ◌∙◌}
-use Rattle.ascii_file.specs.declared.symbols.SymbolText.{SymbolText}
+use Rattle.ascii_file.specs.declared.parts.symbols.SymbolText.{SymbolText}
 use Rattle.aag_text.specs.Taking.{raw_of}
 use Rattle.aag_text.proofs.CountLaws.{symbols_next}
 use Rattle.aag_text.proofs.ClampLaws.{by_text, line_by_text, no_comment}

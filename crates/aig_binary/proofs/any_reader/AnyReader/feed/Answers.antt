@@ -1,5 +1,5 @@
 use Rattle.std.proofs.Common.{◌++◌, ◌∙◌, inr, length-append, subst, arith}
-use Rattle.counted_io.specs.declared.spelling.Spelling.TheVariants.{Ascii, Binary}
+use Rattle.file_words.specs.declared.spelling.Spelling.TheVariants.{Ascii, Binary}
 use Rattle.aig_binary.specs.declared.any_reader.Phase.{Phase}
 use Rattle.aig_binary.specs.declared.any_reader.Phase.TheVariants.{InAscii, InBinary, Neither}
 use Rattle.aig_binary.specs.Readers.{PhaseHoldsEither}

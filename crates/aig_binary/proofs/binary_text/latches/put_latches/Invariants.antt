@@ -1,5 +1,5 @@
 use Rattle.std.proofs.Common.{take}
-use Rattle.counted_io.specs.Text.{numbered_rows}
+use Rattle.file_words.specs.Text.{numbered_rows}
 use Rattle.counted_io.specs.Buffered.{Puts}
 use Rattle.aig_binary.specs.Text.{next_row}
 use Rattle.aig_binary.proofs.binary_text.latches.put_latches.Given as goal

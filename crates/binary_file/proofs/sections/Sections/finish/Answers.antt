@@ -1,5 +1,5 @@
 use Rattle.std.proofs.Common.{sym}
-use Rattle.counted_io.proofs.AnsweringLaws.{Gives-same}
+use Rattle.file_words.proofs.AnsweringLaws.{Gives-same}
 use Rattle.binary_file.proofs.CircuitLaws.{ended}
 use Rattle.binary_file.proofs.sections.Sections.finish.Goals as goal
 

@@ -1,5 +1,5 @@
 use Rattle.std.proofs.Common.{arith}
-use Rattle.ascii_file.specs.Names.{symbol_at}
+use Rattle.ascii_file.specs.parts.Names.{symbol_at}
 use Rattle.binary_file.proofs.KeptLaws.{names_kept}
 use Rattle.binary_file.proofs.sections.Sections.take_name.Goals as goal
 

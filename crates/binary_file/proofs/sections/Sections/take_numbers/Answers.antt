@@ -1,5 +1,5 @@
 use Rattle.std.proofs.Common.{◌≡◌, ◌∙◌, inr, sym, subst, List, ℕ, Option, Some, None, MatchOption, Bor}
-use Rattle.ascii_file.specs.Rows.{row_of}
+use Rattle.ascii_file.specs.parts.Rows.{row_of}
 use Rattle.binary_file.proofs.TakingLaws.{given_takes, header_within}
 use Rattle.binary_file.proofs.LineLaws.{line_latch, line_safety, line_size, line_liveness, line_refused, no_lines}
 use Rattle.binary_file.proofs.sections.Sections.take_numbers.Goals as goal

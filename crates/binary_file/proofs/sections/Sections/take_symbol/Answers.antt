@@ -1,7 +1,7 @@
 use Rattle.std.proofs.Common.{◌∙◌, inr, sym, subst, ap}
-use Rattle.ascii_file.specs.declared.symbols.SymbolText.TheVariants.{NoSymbol, Comment, Malformed, Name}
+use Rattle.ascii_file.specs.declared.parts.symbols.SymbolText.TheVariants.{NoSymbol, Comment, Malformed, Name}
 use Rattle.binary_file.specs.Reading.{read_line}
-use Rattle.ascii_file.specs.Names.{symbol_at}
+use Rattle.ascii_file.specs.parts.Names.{symbol_at}
 use Rattle.binary_file.specs.Contents.{Contents}
 use Rattle.binary_file.specs.ReaderItems.{symbol_taken}
 use Rattle.binary_file.proofs.TakingLaws.{Agrees, given_takes, header_within}

@@ -1,6 +1,6 @@
 use Rattle.std.proofs.Common.{ℕ, ◌≡◌, ◌≤◌, Bool}
 use Rattle.aig_graph.specs.Graph.{variable}
-use Rattle.map_checks.specs.Shared.{IsNegated}
+use Rattle.aig_graph.specs.Gates.{IsNegated}
 use Rattle.map_checks.specs.Equal.{IsRight, StaysRight}
 use Rattle.map_checks.proofs.equalities.Equalities.find.Given as goal
 

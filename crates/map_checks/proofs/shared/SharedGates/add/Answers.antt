@@ -1,24 +1,25 @@
 use Rattle.std.proofs.Common.{◌≡◌, ◌<◌, ◌∙◌, arith, sym, subst}
 use Rattle.aig_graph.specs.declared.literal.TheConstants.{MAX_VARIABLES}
 use Rattle.aig_graph.specs.Graph.{IsGateAt}
-use Rattle.map_checks.specs.Shared.{Grows, Shared, shared_end, shared_gates}
+use Rattle.aig_graph.specs.Gates.{Gates, Grows, gates_end}
+use Rattle.map_checks.specs.Shared.{shared_gates}
 use Rattle.map_checks.proofs.SharedLaws.{gates-after, grows-after, takes-one, last-there}
 use Rattle.map_checks.proofs.shared.SharedGates.add.Goals as goal
 
 pub invariant_of-self-2 : goal.invariant_of-self-2
 invariant_of-self-2 c =
-    let k : Shared = record { first = c.self.inside.first; gates = shared_gates c.self.inside.gates.items } in
+    let k : Gates = record { first = c.self.inside.first; gates = shared_gates c.self.inside.gates.items } in
     let same : k ≡ c.args.self.now = c.self.view_is ∙ c.in_ok-before.ensures in
-    let at : IsGateAt (shared_end k) c.args.gate = subst (λ (s : Shared). IsGateAt (shared_end s) c.args.gate) (sym same) c.requires.at in
-    let room : shared_end k < MAX_VARIABLES = subst (λ (s : Shared). shared_end s < MAX_VARIABLES) (sym same) c.requires.room in
+    let at : IsGateAt (gates_end k) c.args.gate = subst (λ (s : Gates). IsGateAt (gates_end s) c.args.gate) (sym same) c.requires.at in
+    let room : gates_end k < MAX_VARIABLES = subst (λ (s : Gates). gates_end s < MAX_VARIABLES) (sym same) c.requires.room in
     gates-after c.self.inside.first (shared_gates c.self.inside.gates.items) (shared_gates c.push.new.self.items) c.args.gate
     (takes-one c.self.inside.gates.items c.push.new.self.items (record { gate = c.args.gate; before = c.in_ok-before.before }) c.in_ok-push.ensures.items) c.self.invariant room at
 
 pub returns-clause-grows : goal.returns-clause-grows
 returns-clause-grows c =
-    let k : Shared = record { first = c.self.inside.first; gates = shared_gates c.self.inside.gates.items } in
+    let k : Gates = record { first = c.self.inside.first; gates = shared_gates c.self.inside.gates.items } in
     let same : k ≡ c.args.self.now = c.self.view_is ∙ c.in_ok-before.ensures in
-    subst (λ (s : Shared). Grows s (record { first = c.self.inside.first; gates = shared_gates c.push.new.self.items })) same
+    subst (λ (s : Gates). Grows s (record { first = c.self.inside.first; gates = shared_gates c.push.new.self.items })) same
     (grows-after c.self.inside.first (shared_gates c.self.inside.gates.items) (shared_gates c.push.new.self.items) c.args.gate
     (takes-one c.self.inside.gates.items c.push.new.self.items (record { gate = c.args.gate; before = c.in_ok-before.before }) c.in_ok-push.ensures.items))
 

@@ -1,7 +1,7 @@
 use Rattle.std.proofs.Common.{◌≡◌, ◌∙◌, ℕ, List, length, slice_index, ap, arith}
 use Rattle.std.proofs.lemmas.Bool.{false≢true}
 use Rattle.frame_net.specs.FlowNet.{node_count}
-use Rattle.flow_part.proofs.NumberLaws.{flow_numbered}
+use Rattle.pulse_parts.proofs.NumberLaws.{flow_numbered}
 use Rattle.pulse.proofs.flow.Flow.start_for.Goals as goal
 use Rattle.pulse.proofs.RangeLaws.{flow_ranges_of}
 use Rattle.pulse.proofs.TurnLaws.{started_flow}

@@ -1,6 +1,6 @@
 use Rattle.std.proofs.Common.{arith}
 use Rattle.frame_net.specs.FlowNet.{node_count}
-use Rattle.flow_part.proofs.NumberLaws.{pushes_numbered}
+use Rattle.pulse_parts.proofs.NumberLaws.{pushes_numbered}
 use Rattle.pulse.proofs.pushes.Pushes.new_for.Goals as goal
 use Rattle.pulse.proofs.FlowLaws.{pushes_with}
 use Rattle.pulse.proofs.RangeLaws.{push_ranges_of}

@@ -1,8 +1,0 @@
-use Rattle.ascii_file.proofs.CycleLaws.{cycle_law, exists_law}
-use Rattle.ascii_file.proofs.gate_order_laws.cycle_laws.Goals as goal
-
-pub returns-clause-computed : goal.returns-clause-computed
-returns-clause-computed c = cycle_law
-
-pub returns-clause-exists : goal.returns-clause-exists
-returns-clause-exists c = exists_law

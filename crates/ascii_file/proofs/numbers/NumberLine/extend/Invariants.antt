@@ -1,6 +1,0 @@
-use Rattle.std.proofs.Common.{◌≡◌, ℕ, List, ◌++◌, drop}
-use Rattle.ascii_file.specs.Open.{numbers_with}
-use Rattle.ascii_file.proofs.numbers.NumberLine.extend.Given as goal
-
-abbrev pub invariant-loop-byte : goal.invariant-loop-byte
-invariant-loop-byte l = (rest : List ℕ) → numbers_with l.self (drop l.byte-index l.part ++ rest) ≡ numbers_with l.fn.self (l.part ++ rest)

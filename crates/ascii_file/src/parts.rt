@@ -1,0 +1,28 @@
+//! What the readers of both spellings are made of.
+//!
+//! Lines come to a reader in pieces, and of a line only what is needed is held: numbers as far as 32 bits and nine of them go, so that a
+//! number with a million leading zeros costs nothing, and of bytes the names alone. Names by kind and position, and the
+//! literals of properties, are collected, and become parts of a circuit at the end of a file.
+//!
+//! Variables of a file are mostly small and dense, so a table by variable serves nearly all of their places; one that is far
+//! above the number of variables so far is hashed, since no room is asked for by a number that a file states.
+
+mod begun;
+mod by_kind;
+mod header_line;
+mod kind_names;
+mod laws;
+mod lists;
+mod names;
+mod numbers;
+mod places;
+mod symbols;
+
+pub use by_kind::props;
+pub use header_line::HeaderLine;
+pub use laws::netlist_law;
+pub use lists::PropertyLists;
+pub use names::Names;
+pub use numbers::NumberLine;
+pub use places::Places;
+pub use symbols::{SymbolLine, SymbolText};

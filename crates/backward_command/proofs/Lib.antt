@@ -1,0 +1,3 @@
+mod MovingLaws
+mod PlainLaws
+mod PrintingLaws

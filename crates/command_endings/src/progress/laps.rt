@@ -1,0 +1,140 @@
+//! The parts of a run that have ended, with the time that each took, and what a report says of them.
+ghost use Rattle.std.specs.Prelude.{◌≡◌, ◌++◌, IfOk, OnOk};
+ghost use Rattle.std.specs.Option.{option_to_list};
+ghost use Rattle.command_endings.specs.progress.Laps as wanted;
+
+use aig_graph::Sequence;
+use frames::Stage;
+use json_reports::{FrameTimes, Times};
+use std::alloc::{AllocError, Global};
+
+/// What a run does.
+#[derive(Clone, Copy)]
+pub(crate) enum Part {
+    Reading,
+    Cleaning,
+    Looking,
+    Moving,
+    Writing,
+}
+
+impl Part {
+    /// The part that begins with the stage.
+    pub(crate) fn of(stage: Stage<'_>) -> Part
+        ensures { result ≡ wanted.part_of stage.entry }
+    {
+        match stage {
+            Stage::Cleaning => Part::Cleaning,
+            Stage::Looking { .. } => Part::Looking,
+            Stage::Moving => Part::Moving,
+            Stage::Writing => Part::Writing,
+        }
+    }
+
+    /// Its place among the parts.
+    fn place(self) -> u8
+        ensures { result ≡ wanted.place_of self }
+    {
+        match self {
+            Part::Reading => 0,
+            Part::Cleaning => 1,
+            Part::Looking => 2,
+            Part::Moving => 3,
+            Part::Writing => 4,
+        }
+    }
+
+    fn is_same(self, other: Part) -> bool
+        ensures { result ≡ wanted.is_part self other }
+    {
+        self.place() == other.place()
+    }
+}
+
+/// A part that has ended.
+#[derive(Clone, Copy)]
+pub(crate) struct Lap {
+    pub part: Part,
+    pub microseconds: u64,
+}
+
+/// How long the first part of this kind took; 0 where there was none.
+fn time_in(part: Part, laps: &[Lap]) -> u64
+    ensures { result ≡ wanted.time_in part laps.now }
+{
+    for lap in laps {
+        if lap.part.is_same(part) {
+            return lap.microseconds;
+        }
+    }
+    0
+}
+
+/// How long latches moved in a part; 0 in one of another kind.
+fn moving_in(lap: &Lap) -> u64
+    ensures { result ≡ wanted.moving_in lap.now }
+{
+    if lap.part.is_same(Part::Moving) {
+        lap.microseconds
+    } else {
+        0
+    }
+}
+
+/// How long latches moved, where they did next.
+fn moving_first(laps: &[Lap]) -> u64
+    ensures { result ≡ wanted.moving_first laps.now }
+{
+    match laps.first() {
+        Some(lap) => moving_in(lap),
+        None => 0,
+    }
+}
+
+/// The times of a circuit of which a set was looked for in this part, before these.
+fn look_of(lap: &Lap, rest: &[Lap]) -> Option<FrameTimes>
+    ensures { result ≡ wanted.look_of lap.now rest.now }
+{
+    if lap.part.is_same(Part::Looking) {
+        Some(FrameTimes {
+            looking: lap.microseconds,
+            moving: moving_first(rest),
+        })
+    } else {
+        None
+    }
+}
+
+fn add(frames: &mut Vec<FrameTimes>, times: Option<FrameTimes>) -> Result<(), AllocError>
+    ensures { OnOk result (frames.new.items ≡ frames.old.items ++ option_to_list times) }
+{
+    if let Some(times) = times {
+        frames.push(times)?;
+    }
+    Ok(())
+}
+
+/// The times of each circuit of which a set was looked for.
+fn frames_in(alloc: Global, laps: &[Lap]) -> Result<Vec<FrameTimes>, AllocError>
+    ensures { IfOk result (λ frames. frames.items ≡ wanted.frames_in laps.now) }
+{
+    let mut frames = Vec::new(alloc);
+    for (k, lap) in laps.iter().enumerate() {
+        add(&mut frames, look_of(lap, &laps[k + 1..]))?;
+    }
+    Ok(frames)
+}
+
+/// Returns what was measured of a run of these parts, in which networks found so many sets.
+pub(crate) fn times_of(alloc: Global, laps: &[Lap], networks: u32) -> Result<Times, AllocError>
+    ensures { IfOk result (λ times. times ≡ wanted.times_of networks laps.now) }
+{
+    let frames = frames_in(alloc, laps)?;
+    Ok(Times {
+        reading: time_in(Part::Reading, laps),
+        cleaning: time_in(Part::Cleaning, laps),
+        frames: Sequence::from_vec(frames),
+        writing: time_in(Part::Writing, laps),
+        networks,
+    })
+}

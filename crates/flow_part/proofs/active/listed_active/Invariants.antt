@@ -1,6 +1,0 @@
-use Rattle.std.proofs.Common.{◌≡◌, ℕ, ◌-◌, ◌<◌, false, slice_index}
-use Rattle.flow_part.specs.Listing.{active_by}
-use Rattle.flow_part.proofs.active.listed_active.Given as goal
-
-abbrev pub invariant-loop-i : goal.invariant-loop-i
-invariant-loop-i l = (j : ℕ) → j < l.i → active_by l.nodes (slice_index l.part.active.nodes.items j) (slice_index l.part.excess.items (slice_index l.part.active.nodes.items j - l.part.first)) (slice_index l.labels (slice_index l.part.active.nodes.items j)) ≡ false

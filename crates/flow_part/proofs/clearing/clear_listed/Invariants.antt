@@ -1,5 +1,0 @@
-use Rattle.flow_part.specs.Reading.{ClearsListed}
-use Rattle.flow_part.proofs.clearing.clear_listed.Given as goal
-
-abbrev pub invariant-loop-i : goal.invariant-loop-i
-invariant-loop-i l = ClearsListed l.net l.base l.list l.i l.fn.values l.values

@@ -1,5 +1,0 @@
-use Rattle.flow_part.proofs.GatheredLaws.{GathersActive}
-use Rattle.flow_part.proofs.gathering.add_active.Given as goal
-
-abbrev pub invariant-loop-i : goal.invariant-loop-i
-invariant-loop-i l = GathersActive l.nodes l.labels l.first l.excess l.listed l.i l.fn.list l.list

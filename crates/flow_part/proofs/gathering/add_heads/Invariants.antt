@@ -1,6 +1,0 @@
-use Rattle.flow_part.specs.Parts.{values_of}
-use Rattle.flow_part.proofs.GatheredLaws.{GathersHeads}
-use Rattle.flow_part.proofs.gathering.add_heads.Given as goal
-
-abbrev pub invariant-loop-k : goal.invariant-loop-k
-invariant-loop-k l = GathersHeads l.net (values_of l.pushes) l.first l.end l.u l.k l.fn.list l.list

@@ -1,7 +1,0 @@
-use Rattle.std.proofs.Common.{drop}
-use Rattle.flow_part.specs.declared.parts.FlowPart.{FlowPart}
-use Rattle.flow_part.proofs.JoinedLaws.{IsAhead}
-use Rattle.flow_part.proofs.joined.residual_at.Given as goal
-
-abbrev pub invariant-loop-part : goal.invariant-loop-part
-invariant-loop-part l = IsAhead (λ (p : FlowPart). p.residuals.items) l.parts (drop l.part-index l.parts) l.arc l.place

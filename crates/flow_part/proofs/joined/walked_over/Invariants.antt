@@ -1,9 +1,0 @@
-use Rattle.std.proofs.Common.{◌≡◌, ◌+◌, ◌-◌, ◌≤◌, ◌^◌, min, drop}
-use Rattle.flow_part.specs.Parts.{rows_walked}
-use Rattle.flow_part.proofs.joined.walked_over.Given as goal
-
-abbrev pub invariant-loop-part : goal.invariant-loop-part
-invariant-loop-part l = record {
-  small : l.walked ≤ 2 ^ 32 - 1;
-  sum : min (l.walked + rows_walked (drop l.part-index l.parts)) (2 ^ 32 - 1) ≡ min (rows_walked l.parts) (2 ^ 32 - 1);
-}

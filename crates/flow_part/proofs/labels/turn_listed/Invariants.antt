@@ -1,5 +1,0 @@
-use Rattle.flow_part.proofs.TurningLaws.{TurnedFirst}
-use Rattle.flow_part.proofs.labels.turn_listed.Given as goal
-
-abbrev pub invariant-loop-i : goal.invariant-loop-i
-invariant-loop-i l = TurnedFirst l.first l.next l.list l.i l.fn.labels l.labels

@@ -1,6 +1,0 @@
-use Rattle.std.proofs.Common.{slice_index}
-use Rattle.flow_part.proofs.laws.parting_law.Goals as goal
-use Rattle.flow_part.proofs.StartStateLaws.{held_cut, parted_agrees}
-
-pub returns : goal.returns
-returns c = λ net labels cells qs ok cut. (held_cut net (slice_index cells.residuals) (slice_index cells.excess) qs cut, parted_agrees net labels cells qs ok cut)

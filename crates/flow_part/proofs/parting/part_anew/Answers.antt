@@ -1,6 +1,0 @@
-use Rattle.flow_part.proofs.parting.part_anew.Goals as goal
-use Rattle.flow_part.proofs.CarryLaws.{lists_anew}
-
-pub returns-clause-lists : goal.returns-clause-lists
-returns-clause-lists c =
-    lists_anew c.args.net.now c.args.labels.now c.args.flow.now _ c.known.ensures.network c.requires.flow c.requires.within c.in-Ok-copied_excess.ensures.len c.in-Ok-copied_excess.ensures.each c.in-Ok-copied_labels.ensures.each c.in-Ok-list_of.ensures

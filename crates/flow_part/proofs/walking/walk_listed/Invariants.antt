@@ -1,6 +1,0 @@
-use Rattle.flow_part.specs.Parts.{cells_of}
-use Rattle.flow_part.proofs.PartWalkLaws.{PartListed}
-use Rattle.flow_part.proofs.walking.walk_listed.Given as goal
-
-abbrev pub invariant-loop-i : goal.invariant-loop-i
-invariant-loop-i l = PartListed l.net l.labels (cells_of l.flow) l.list l.i l.fn.part l.part

@@ -1,6 +1,0 @@
-use Rattle.flow_part.specs.Parts.{values_of}
-use Rattle.flow_part.proofs.DeliveredPartLaws.{PartVisited}
-use Rattle.flow_part.proofs.whole.deliver_listed.Given as goal
-
-abbrev pub invariant-loop-i : goal.invariant-loop-i
-invariant-loop-i l = PartVisited l.net l.labels (values_of l.pushes) l.i l.fn.part l.part

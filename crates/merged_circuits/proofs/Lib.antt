@@ -1,0 +1,7 @@
+pub mod ReadingLaws
+pub mod ValueLaws
+pub mod MergingLaws
+pub mod FinerLaws
+pub mod ClassRunLaws
+pub mod CoarserLaws
+pub mod Examples

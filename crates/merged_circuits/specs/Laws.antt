@@ -1,0 +1,32 @@
+-- Laws of merging latches.
+use Rattle.std.specs.Prelude.{ℕ, ◌<◌, ◌≡◌, List, length}
+use Rattle.aig_graph.specs.Graph.{Graph, IsGraph}
+use Rattle.aig_graph.specs.Circuits.{Netlist, IsNetlist}
+use Rattle.aig_graph.specs.Laws.{all_free}
+use Rattle.aig_graph.specs.Streams.{SameStreams}
+use Rattle.aig_graph.specs.Value.{Inputs, Choice, value}
+use Rattle.merged_circuits.specs.Readings.{own_literal, read}
+use Rattle.merged_circuits.specs.Partitions.{IsInductive, IsCoarsest, IsMerged}
+use Rattle.merged_circuits.specs.Counts.{AreCounts}
+use Rattle.merged_circuits.specs.declared.counts.MergeCounts.{MergeCounts}
+
+-- where latches read by an inductive reading, each has at each step the value of what it reads as
+abbrev pub HasItsValue : Graph → List ℕ → List ℕ → Type 0
+HasItsValue g held reads =
+    IsGraph g → IsInductive g held reads → (x : Inputs) (f : Choice) (t j : ℕ) → j < length g.latches → value g x f t (read reads j) ≡ value g x f t (own_literal g j)
+
+-- a merged circuit has the streams of the circuit, each free latch in its place
+abbrev pub KeepsStreams : List ℕ → Netlist → Netlist → Type 0
+KeepsStreams held c d = IsGraph c.aig → IsNetlist c → IsMerged held c d → SameStreams c d (all_free c.aig)
+
+-- two coarsest inductive readings are one
+abbrev pub IsOneReading : Graph → List ℕ → List ℕ → List ℕ → Type 0
+IsOneReading g held reads other = IsCoarsest g held reads → IsCoarsest g held other → reads ≡ other
+
+-- a circuit is merged to one circuit
+abbrev pub IsOneCircuit : List ℕ → Netlist → Netlist → Netlist → Type 0
+IsOneCircuit held c d e = IsMerged held c d → IsMerged held c e → d ≡ e
+
+-- and so many latches are merged
+abbrev pub AreOneCount : Graph → List ℕ → MergeCounts → MergeCounts → Type 0
+AreOneCount g held counts other = AreCounts g held counts → AreCounts g held other → counts ≡ other

@@ -1,0 +1,4 @@
+pub mod Readings
+pub mod Partitions
+pub mod Counts
+pub mod Laws

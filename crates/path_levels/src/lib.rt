@@ -1,0 +1,14 @@
+//! How many gates are on the paths of a circuit, and a bound on them: levels, arrivals, and the circuit of which gates past a bound are no
+//! longer passable.
+#![tactic(auto)]
+
+mod arriving;
+mod barring;
+mod bounding;
+mod entries;
+mod laws;
+mod leveling;
+
+pub use bounding::{bounded, bounded_if_barred};
+pub use laws::bounded_law;
+pub use leveling::levels;

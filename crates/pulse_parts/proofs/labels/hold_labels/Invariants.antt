@@ -1,0 +1,10 @@
+use Rattle.std.proofs.Common.{◌≡◌, ℕ, ◌<◌, ◌≤◌, slice_index_or}
+use Rattle.pulse_parts.specs.declared.parts.FlowPart.{FlowPart}
+use Rattle.pulse_parts.specs.Labels.{HoldsLabels}
+use Rattle.pulse_parts.proofs.labels.hold_labels.Given as goal
+
+abbrev pub invariant-loop-i : goal.invariant-loop-i
+invariant-loop-i l = record {
+  below : (j : ℕ) (d : FlowPart) → j < l.i → HoldsLabels l.labels (slice_index_or l.fn.parts j d) (slice_index_or l.parts j d);
+  above : (j : ℕ) (d : FlowPart) → l.i ≤ j → slice_index_or l.parts j d ≡ slice_index_or l.fn.parts j d;
+}

@@ -1,0 +1,6 @@
+use Rattle.std.proofs.Common.{drop}
+use Rattle.pulse_parts.proofs.PushPartLaws.{Ahead}
+use Rattle.pulse_parts.proofs.places.push_at.Given as goal
+
+abbrev pub invariant-loop-part : goal.invariant-loop-part
+invariant-loop-part l = Ahead l.net l.w l.parts (drop l.part-index l.parts)

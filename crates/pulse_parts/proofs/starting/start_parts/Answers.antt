@@ -1,0 +1,26 @@
+use Rattle.std.proofs.Common.{◌≡◌, ℕ, arith, ap, ◌∙◌, subst}
+use Rattle.frame_net.specs.FlowNet.{node_count}
+use Rattle.pulse_parts.specs.Start.{AreFlowShares, border_of, start_res, start_excess, PartHolds, PartsHold}
+use Rattle.pulse_parts.proofs.starting.start_parts.Goals as goal
+use Rattle.pulse_parts.proofs.BorderLaws.{border_last, cut_pushed, shares_pushed}
+
+pub loop-worker-preserved : goal.loop-worker-preserved
+loop-worker-preserved c = record {
+  reached = c.border-end.ensures.value;
+  len = omega (arith, c.loop-worker.invariant.len, c.in-Ok-push.ensures.len);
+  shares = shares_pushed (λ q. q.worker) (λ q. q.first) (λ q. q.end) c.nodes-nodes.result c.args.workers c.loop-worker.worker c.loop-worker.parts.items c.push.new.self.items c.in-Ok-start_part.part
+      c.in-Ok-push.ensures.items c.loop-worker.invariant.shares c.loop-worker.invariant.len
+      (record { number = c.in-Ok-start_part.ensures.worker; from = c.in-Ok-start_part.ensures.first ∙ c.loop-worker.invariant.reached; to = c.in-Ok-start_part.ensures.end ∙ c.border-end.ensures.value });
+  starts = cut_pushed (PartHolds c.args.net.now (start_res c.args.net.now) (start_excess c.args.net.now)) (λ q. q.first) (λ q. q.end) c.loop-worker.first c.border-end.result c.loop-worker.parts.items c.push.new.self.items c.in-Ok-start_part.part
+      c.in-Ok-push.ensures.items c.loop-worker.invariant.starts c.in-Ok-start_part.ensures.first c.in-Ok-start_part.ensures.end c.in-Ok-start_part.ensures.starts;
+}
+
+pub returns-clause-starts : goal.returns-clause-starts
+returns-clause-starts c =
+    let all : c.loop-worker.worker ≡ c.args.workers = omega arith in
+    let last : c.loop-worker.first ≡ node_count c.args.net.now =
+    c.loop-worker.invariant.reached ∙ (ap (λ (k : ℕ). border_of c.nodes-nodes.result c.args.workers k) all ∙ (border_last c.nodes-nodes.result c.args.workers c.requires ∙ c.nodes-nodes.ensures)) in
+    subst (λ (m : ℕ). PartsHold c.args.net.now (start_res c.args.net.now) (start_excess c.args.net.now) m c.loop-worker.parts.items) last c.loop-worker.invariant.starts
+
+pub returns-clause-shares : goal.returns-clause-shares
+returns-clause-shares c = subst (λ (n : ℕ). AreFlowShares n c.args.workers c.loop-worker.parts.items) c.nodes-nodes.ensures c.loop-worker.invariant.shares

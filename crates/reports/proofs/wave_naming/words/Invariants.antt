@@ -1,7 +1,0 @@
-use Rattle.std.proofs.Common.{◌≡◌}
-use Rattle.aig_graph.specs.Tables.{table}
-use Rattle.reports.specs.WaveNames.{default_name}
-use Rattle.reports.proofs.wave_naming.words.Given as goal
-
-abbrev pub invariant-loop-position : goal.invariant-loop-position
-invariant-loop-position l = l.words.items ≡ table 0 l.position (default_name l.letter)

@@ -1,7 +1,0 @@
-use Rattle.std.proofs.Common.{◌≡◌}
-use Rattle.aig_graph.specs.Tables.{table}
-use Rattle.reports.specs.WaveProbes.{literal}
-use Rattle.reports.proofs.wave_probes.leaf_literals.Given as goal
-
-abbrev pub invariant-loop-k : goal.invariant-loop-k
-invariant-loop-k l = l.literals.items ≡ table 1 l.k literal

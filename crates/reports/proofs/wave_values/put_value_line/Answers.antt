@@ -1,7 +1,0 @@
-use Rattle.counted_io.proofs.BufferedLaws.{puts-byte, puts-then}
-use Rattle.reports.specs.WaveDumps.{value_line}
-use Rattle.reports.proofs.wave_values.put_value_line.Goals as goal
-
-pub returns : goal.returns
-unfolding value_line
-returns g c = puts-byte c.put_byte.ensures (puts-then c.put_code.ensures c.put_byte-2.ensures)

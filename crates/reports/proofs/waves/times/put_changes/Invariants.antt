@@ -1,0 +1,16 @@
+use Rattle.std.specs.Prelude.{◌+◌, ◌*◌, length, min}
+use Rattle.std.specs.List.{flat_map, range_with_len}
+use Rattle.counted_io.specs.Buffered.{Puts}
+use Rattle.lane_sim.specs.Traces.{trace}
+use Rattle.reports.specs.waves.Dumps.{values_of}
+use Rattle.reports.specs.waves.Moments.{HasStates, IsAt}
+use Rattle.reports.proofs.waves.times.put_changes.Given as goal
+
+abbrev pub invariant-loop-block : goal.invariant-loop-block
+invariant-loop-block g l = record {
+  room : HasStates l.shown.circuit.now l.shown.sequences.now (IsAt l.shown.circuit.now l.shown.sequences.now (l.step + 1))
+      (IsAt l.shown.circuit.now l.shown.sequences.now l.step) l.block l.room;
+  text : Puts g.W.CountedWrite.output l.fn.out l.out
+      (flat_map (values_of (trace l.shown.circuit.now l.shown.sequences.now) l.shown.places (l.step + 1))
+      (range_with_len 0 (min (256 * l.block) (length l.shown.sequences.now))));
+}

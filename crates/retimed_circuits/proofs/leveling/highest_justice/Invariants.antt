@@ -1,7 +1,0 @@
-use Rattle.std.proofs.Common.{◌≡◌, take}
-use Rattle.std.specs.List.{flat_map}
-use Rattle.retimed_circuits.specs.Levels.{entry_at, highest}
-use Rattle.retimed_circuits.proofs.leveling.highest_justice.Given as goal
-
-abbrev pub invariant-loop-lits : goal.invariant-loop-lits
-invariant-loop-lits l = l.high ≡ highest (entry_at l.first l.entries) l.level (flat_map (λ lits. lits) (take l.lits-index l.justice))

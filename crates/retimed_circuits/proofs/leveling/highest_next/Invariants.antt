@@ -1,6 +1,0 @@
-use Rattle.std.proofs.Common.{◌≡◌, map, take}
-use Rattle.retimed_circuits.specs.Levels.{entry_at, highest}
-use Rattle.retimed_circuits.proofs.leveling.highest_next.Given as goal
-
-abbrev pub invariant-loop-latch : goal.invariant-loop-latch
-invariant-loop-latch l = l.high ≡ highest (entry_at l.first l.entries) 0 (map (λ latch. latch.next) (take l.latch-index l.latches))

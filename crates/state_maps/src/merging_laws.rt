@@ -1,0 +1,16 @@
+ghost use Rattle.std.specs.Prelude.{Bool, List, Option, ℕ};
+ghost use Rattle.aig_graph.specs.Circuits.{Netlist};
+ghost use Rattle.aig_graph.specs.Keep.{Holding};
+ghost use Rattle.aig_graph.specs.declared.choice.Choice.{Choice};
+ghost use Rattle.retimed_circuits.specs.declared.report.Retimed.{Retimed};
+ghost use Rattle.state_maps.specs.MergingLaws.{HasMergingMap, MergedRetimingMaps, MergingMaps};
+
+/// Merging maps each state of a circuit to itself, where each latch holds what it reads as. So a merged circuit has a map of the circuit's
+/// states, where something holds that can be tested in each state; and so has what a circuit is retimed to after its latches were merged.
+pub fn merging_map_laws()
+    ensures merging { (held : List ℕ) (c d : Netlist) → MergingMaps held c d }
+    ensures has_map { (held : List ℕ) (c d : Netlist) → HasMergingMap held c d }
+    ensures retiming { (bound : Option ℕ) (choice : Choice) (holding : Holding) (c : Netlist)
+        (max_frames : ℕ) (certify : Bool) (r : Retimed)
+        → MergedRetimingMaps bound choice holding c max_frames certify r }
+{}

@@ -1,0 +1,92 @@
+//! Which gate is looked at next: the gate of each literal that was found, and then those that read
+//! its variable. Nothing that is proved rests on it.
+use aig_graph::{Aig, Lit, NoMemory};
+use std::alloc::Global;
+
+/// By variable the link to the last fan-in that reads it, and by fan-in, two a gate, the link to
+/// the one before it: one more than its number, and 0 where there is none. And how far the walk
+/// along a trail has come.
+pub(crate) struct Readers {
+    first_gate: u32,
+    last: Vec<u32>,
+    before: Vec<u32>,
+    fan_ins: u32,
+    head: usize,
+    link: u32,
+}
+
+impl Drop for Readers {
+    // written out: docs/PROOFS.md, Drops and exits
+    fn drop(self) {
+        let Readers {
+            first_gate: _first_gate,
+            last: _last,
+            before: _before,
+            fan_ins: _fan_ins,
+            head: _head,
+            link: _link,
+        } = self;
+    }
+}
+
+impl Readers {
+    /// Those of a graph's gates.
+    pub(crate) fn of(alloc: Global, aig: &Aig) -> Result<Readers, NoMemory> {
+        let mut readers = Readers {
+            first_gate: aig.first_gate(),
+            last: vec![in alloc; 0u32; aig.variables()]?,
+            before: Vec::with_capacity(alloc, 2 * aig.gates().len())?,
+            fan_ins: 0,
+            head: 0,
+            link: 0,
+        };
+        for gate in aig.gates() {
+            readers.add(gate.rhs0)?;
+            readers.add(gate.rhs1)?;
+        }
+        Ok(readers)
+    }
+
+    /// One more fan-in.
+    fn add(&mut self, lit: Lit) -> Result<(), NoMemory> {
+        let var = lit.var() as usize;
+        let mut link = 0;
+        if var < self.last.len() {
+            link = self.last[var];
+        }
+        self.before.push(link)?;
+        self.fan_ins = self.fan_ins.wrapping_add(1);
+        if var < self.last.len() {
+            self.last[var] = self.fan_ins;
+        }
+        Ok(())
+    }
+
+    /// Goes back to the beginning of the trail.
+    pub(crate) fn begin(&mut self) {
+        self.head = 0;
+        self.link = 0;
+    }
+
+    /// The place of the gate that is to be looked at next, or one past all gates; none where the
+    /// trail is at its end.
+    pub(crate) fn next(&mut self, trail: &[Lit]) -> Option<usize> {
+        if self.link == 0 {
+            if self.head >= trail.len() {
+                return None;
+            }
+            let var = trail[self.head].var();
+            self.head += 1;
+            if (var as usize) < self.last.len() {
+                self.link = self.last[var as usize];
+            }
+            return Some((var as usize).wrapping_sub(self.first_gate as usize));
+        }
+        let slot = (self.link - 1) as usize;
+        self.link = 0;
+        if slot < self.before.len() {
+            self.link = self.before[slot];
+        }
+        Some(slot / 2)
+    }
+}

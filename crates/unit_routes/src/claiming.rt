@@ -1,0 +1,109 @@
+//! The certificate of a set, claimed by the routes of units and judged.
+ghost use Rattle.std.specs.Prelude.{◌≡◌, IfOk, IfSome};
+ghost use Rattle.aig_graph.specs.Tables.{table};
+ghost use Rattle.aig_graph.specs.Graph.{first_latch, latches_and_gates};
+ghost use Rattle.aig_graph.specs.Closed.{IsClosedSet};
+ghost use Rattle.frame_net.specs.Passable.{IsPassSet};
+ghost use Rattle.frame_net.specs.Capacity.{is_observed};
+ghost use Rattle.certificates.specs.Verdicts.{IsVerdict};
+ghost use Rattle.certificates.specs.declared.verdict.Verdict.TheVariants.{Yes};
+
+use crate::following::routes_of_units;
+use aig_graph::{Circuit, ClosedSet, Keep, NoMemory, Sequence};
+use certificates::{Certificate, Verdict, check_closed};
+use frame_net::{PassSet, leaving_marks, passable};
+use std::alloc::Global;
+use unit_flows::GateFlow;
+
+/// Returns the members of a set.
+fn members(alloc: Global, set: &ClosedSet) -> Result<Sequence<u32>, NoMemory>
+    ensures { IfOk result (λ gates. gates ≡ set.now) }
+{
+    match Vec::from_slice(alloc, set.vars()) {
+        Ok(gates) => Ok(Sequence::from_vec(gates)),
+        Err(_) => Err(NoMemory),
+    }
+}
+
+/// Claims that the units of a flow show a set: the claim has its gates, and a route for each unit
+/// that leaves.
+fn claim(
+    alloc: Global,
+    circuit: &Circuit,
+    leaving: &[bool],
+    set: &ClosedSet,
+    flows: &[GateFlow],
+) -> Result<Certificate, NoMemory>
+    ensures { IfOk result (λ cert. cert.gates ≡ set.now) }
+{
+    let Ok(routes) = routes_of_units(alloc, circuit, leaving, flows) else {
+        return Err(NoMemory);
+    };
+    match members(alloc, set) {
+        Ok(gates) => Ok(Certificate {
+            count: routes.len().min(u32::MAX as usize) as u32,
+            gates,
+            routes,
+        }),
+        Err(error) => {
+            drop(routes);
+            Err(error)
+        }
+    }
+}
+
+/// Returns the certificate of a closed set by the routes of the units of `flows`, if it passes all
+/// tests.
+///
+/// `pass` has the circuit's passable gates, and `leaving` marks what is read from outside them.
+fn judged(
+    alloc: Global,
+    circuit: &Circuit,
+    keep: &Keep,
+    pass: &PassSet,
+    leaving: &[bool],
+    set: &ClosedSet,
+    flows: &[GateFlow],
+) -> Result<Option<Certificate>, NoMemory>
+    requires pass { IsPassSet circuit.now.aig keep.now pass.now }
+    requires leaving { leaving.now ≡ table (first_latch circuit.now.aig)
+        (latches_and_gates circuit.now.aig) (is_observed circuit.now.aig circuit.now.props
+        keep.now) }
+    requires closed { IsClosedSet circuit.now.aig keep.now set.now }
+    ensures gates { IfOk result (λ found. IfSome found (λ cert. cert.gates ≡ set.now)) }
+    ensures passes { IfOk result (λ found.
+        IfSome found (λ cert. IsVerdict circuit.now keep.now cert Yes)) }
+{
+    let certificate = claim(alloc, circuit, leaving, set, flows)?;
+    match check_closed(alloc, circuit, keep, pass, leaving, set, &certificate) {
+        Ok(Verdict::Yes) => Ok(Some(certificate)),
+        Ok(Verdict::No(_)) => Ok(None),
+        Err(error) => Err(error),
+    }
+}
+
+/// Returns the certificate of a closed set by the routes of the units of `flows`, if it passes all
+/// tests of `certificates::check`.
+///
+/// `flows` are hints: any may be given.
+///
+/// # Errors
+///
+/// `NoMemory` if a table or a route is refused.
+pub fn certificate_by_units(
+    alloc: Global,
+    circuit: &Circuit,
+    keep: &Keep,
+    set: &ClosedSet,
+    flows: &[GateFlow],
+) -> Result<Option<Certificate>, NoMemory>
+    requires { IsClosedSet circuit.now.aig keep.now set.now }
+    ensures gates { IfOk result (λ found. IfSome found (λ cert. cert.gates ≡ set.now)) }
+    ensures passes { IfOk result (λ found.
+        IfSome found (λ cert. IsVerdict circuit.now keep.now cert Yes)) }
+{
+    let aig = circuit.aig();
+    let pass = passable(alloc, aig, keep)?;
+    let leaving = leaving_marks(alloc, aig, circuit.props(), &pass, keep)?;
+    judged(alloc, circuit, keep, &pass, leaving.as_slice(), set, flows)
+}
