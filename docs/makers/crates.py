@@ -31,7 +31,12 @@ def row(crate):
     said = ''
     for sentence in sentences(' '.join(head(crate)[:1])):
         said += ' ' * bool(said) + sentence if len(said) < ENOUGH else ''
-    return [f'`{crate}`', said]
+    return [link(crate, '../crates'), said]
+
+
+def link(crate, above):
+    """A link to a crate's README, from a folder of which this leads to crates/."""
+    return f'[`{crate}`]({above}/{crate}/README.md)'
 
 
 def tables():
@@ -39,7 +44,7 @@ def tables():
     lines = []
     for heading, crates in tree.map_of_crates()[0]:
         if crates:
-            lines += [f'## {heading}', '', *table(['Crate', 'What it is'], [row(crate) for crate in crates]), '']
+            lines += [f'### {heading}', '', *table(['Crate', 'What it is'], [row(crate) for crate in crates]), '']
     return '\n'.join(lines)
 
 

@@ -1,33 +1,41 @@
-"""The words of docs/DEFINITIONS.md, from specs/ of each crate: the comment at the head of a file, and of each word the comment above it.
-Words without a comment have their text from docs/words.txt, or stand there as those whose definition says all."""
+"""The words of docs/DEFINITIONS.md: those of specs/ that the clauses of public calls cite, each with the comment above it. A word
+without one is shown as it is defined, which is short then."""
 import dataclasses
+import pathlib
 import re
 
 import tree
-from marks import NotMade, text_of
 
-SOURCE = 'docs/words.txt'
 # The head of a definition: its indent, how it is declared, whether it is a record or data, and its name.
 HEAD = re.compile(r'( *)((?:abbrev |unfoldable )?pub (?:abbrev |unfoldable )?)(?:(record|data) )?(?!mod |module |use )(\S+)')
-# The most characters of a definition that is shown, and of a word with its parameters.
+# The most characters of a definition that says all by itself, and of a word with its parameters.
 LONGEST_DEFINITION = 160
 LONGEST_HEAD = 60
 
 
 @dataclasses.dataclass
 class Word:
-    """A public word: the lines of its definition, and of the comments on it and on its members."""
+    """A public word: the comment above it in one line and as it stands, the lines of its definition, and the comments on its members."""
     crate: str
     file: str
     name: str
     kind: str
     comment: str
+    said: list
     lines: list
     members: list
 
-    def keys(self):
-        """What it may be called in docs/words.txt."""
-        return (f'{self.file}.{self.name}', self.name)
+    def place(self):
+        """Where it stands."""
+        return tree.Cited(self.crate, self.file, self.name)
+
+    def is_name_alone(self):
+        """Whether it only gives a name to other words."""
+        return not self.kind and self.lines[0].startswith('abbrev')
+
+    def verbatim(self):
+        """Its lines in specs/, with those of the comment above it."""
+        return [*self.said, *self.lines]
 
     def equations(self):
         """Its equations, each in one line; none of a record or of data."""
@@ -49,23 +57,23 @@ class Word:
         return f'`{text}`' if len(text) <= LONGEST_HEAD and '◌' not in text else f'`{self.name}`'
 
     def definition(self):
-        """Its definition in one line, or else its type, or what members it has."""
-        if self.kind:
-            members = re.findall(r'(?m)^ +(?:pub )?(\S+) :', '\n'.join(self.lines[1:]))
-            return f'{self.head()}: {self.kind} of ' + ', '.join(f'`{name}`' for name in dict.fromkeys(members))
+        """Its definition in one line, if that is short and says all."""
         shown = '; '.join(f'{self.name} {equation}' for equation in self.equations())
-        if shown and len(shown) <= LONGEST_DEFINITION and '`' not in shown:
-            return f'`{shown}`'
-        declared = re.match(r'.*(?:\n +.*)*', '\n'.join(self.lines))[0]
-        return '`' + re.sub(r'\s+', ' ', declared.partition('pub ')[2]) + '`'
+        return f'`{shown}`' if shown and len(shown) <= LONGEST_DEFINITION and '`' not in shown else ''
+
+
+def lines_above(lines, number):
+    """The lines of the comment that ends just before a line, or before the rank of the operator that is defined there."""
+    end = number - bool(number and re.match(r'infix', lines[number - 1]))
+    begin = end
+    while begin and re.match(r' *--', lines[begin - 1]):
+        begin -= 1
+    return [line.strip() for line in lines[begin:end]]
 
 
 def comment_above(lines, number):
     """The comment that ends just before a line, in one line."""
-    begin = number
-    while begin and re.match(r' *--', lines[begin - 1]):
-        begin -= 1
-    return ' '.join(re.sub(r'^ *--+ ?', '', line).strip() for line in lines[begin:number]).strip()
+    return ' '.join(re.sub(r'^--+ ?', '', line) for line in lines_above(lines, number)).strip()
 
 
 def head_at(line):
@@ -93,97 +101,69 @@ def members_of(lines):
 
 @dataclasses.dataclass
 class File:
-    """A file of specs/: what its head says, and its parts, each a word or what a module says."""
+    """A file of specs/: its path, its words, and what it imports, by name."""
     name: str
-    head: str
-    parts: list
+    path: pathlib.Path
+    words: list
+    imports: dict
 
 
-def file_of(crate, path):
-    """What a file has."""
+def file_of(crate, name, path):
+    """What a file has, whose path below specs/ is this name, with points."""
     lines = path.read_text(encoding='utf-8').splitlines()
-    first = next((number for number, line in enumerate(lines) if not line.startswith('--')), len(lines))
-    is_of_word = first < len(lines) and head_at(lines[first])
-    file = File(path.stem, '' if is_of_word else comment_above(lines, first), [])
+    file = File(name, path, [], tree.imported_words('\n'.join(lines)))
     for number, line in enumerate(lines):
         found, comment = head_at(line), comment_above(lines, number)
         if found:
             body = lines_of(lines, number, found[1])
-            file.parts.append(Word(crate, path.stem, found[4], found[3] or '', comment, body, list(members_of(body)) if found[3] else []))
-        elif line.startswith('module ') and comment:
-            file.parts.append(comment)
+            members = list(members_of(body)) if found[3] else []
+            file.words.append(Word(crate, name, found[4], found[3] or '', comment, lines_above(lines, number), body, members))
     return file
 
 
+def modules(path, folder, prefix=''):
+    """The files that a file names as its modules, and those that they name, each with its name."""
+    for name in re.findall(r'(?m)^pub mod (\w+)', path.read_text(encoding='utf-8')) if path.is_file() else []:
+        if (folder / f'{name}.antt').is_file():
+            yield prefix + name, folder / f'{name}.antt'
+            yield from modules(folder / f'{name}.antt', folder / name, f'{prefix}{name}.')
+
+
 def files_of(crate):
-    """The files of a crate, in the order of its Lib."""
-    paths = {path.stem: path for path in tree.sources(crate, '.antt', ('specs',)) if 'declared' not in path.parts}
-    lib = paths.pop('Lib', None)
-    listed = re.findall(r'(?m)^pub mod (\w+)', lib.read_text(encoding='utf-8')) if lib else []
-    return [file_of(crate, paths[name]) for name in dict.fromkeys([*listed, *sorted(paths)]) if name in paths]
-
-
-def by_hand():
-    """By crate what docs/words.txt says of it, of each word, and the words whose definition says all, each with an empty text."""
-    abouts, texts = {}, {}
-    for part in re.split(r'(?m)^== ', text_of(SOURCE))[1:]:
-        crate, _, rest = part.partition('\n')
-        for line in re.sub(r'\n  +', ' ', rest).splitlines():
-            name, colon, text = line.partition(': ')
-            if name == 'about':
-                abouts[crate] = text
-            elif name == 'as defined':
-                texts.update({(crate, word): '' for word in text.split()})
-            elif colon:
-                texts[crate, name] = text
-            elif line:
-                raise NotMade(f'{SOURCE}: {crate}: {line}')
-    return abouts, texts
+    """The files of a crate, in the order in which its Lib, and the file of each folder, name them."""
+    specs = tree.CRATES / crate / 'specs'
+    return [file_of(crate, name, path) for name, path in modules(specs / 'Lib.antt', specs) if not name.startswith('declared')]
 
 
 def words():
     """All words of specs/."""
-    return [part for crate in tree.crates() for file in files_of(crate) for part in file.parts if isinstance(part, Word)]
-
-
-def key_of(word, texts):
-    """The key of a word's text by hand."""
-    return next(((word.crate, name) for name in word.keys() if (word.crate, name) in texts), None)
+    return [word for crate in tree.crates() for file in files_of(crate) for word in file.words]
 
 
 def faults():
-    """Words that have neither a comment nor a text by hand; and texts by hand of words with a comment, or of none."""
-    abouts, texts = by_hand()
-    bare = [word for word in words() if not word.comment]
-    taken = {key_of(word, texts) for word in bare}
-    yield 'words of specs/ have a comment', [f'{it.crate}.{it.file}.{it.name}' for it in bare if not key_of(it, texts)]
-    yield f'{SOURCE} has words without a comment alone', ['.'.join(key) for key in texts if key not in taken]
-    yield f'{SOURCE} has crates of crates.txt', sorted(set(abouts) - set(tree.crates()))
+    """Words that neither a comment nor a short definition explains."""
+    yield 'words of specs/ have a comment, or a short definition', [
+        f'{it.crate}.{it.file}.{it.name}' for it in words() if not it.comment and not it.definition()]
 
 
-def line_of(word, texts):
+def line_of(word):
     """What is said of a word, and of its members."""
-    text = word.comment or texts.get(key_of(word, texts)) or ''
-    yield f'- {word.head()}: {text}' if text else f'- {word.definition()}'
+    yield f'- {word.head()}: {word.comment}' if word.comment else f'- {word.definition()}'
     for name, comment in word.members:
         yield f'  - `{name}`: {comment}'
 
 
-def section(file, texts):
-    """The lines of a file's section."""
-    lines = [f'### `{file.name}`', '', *([file.head, ''] if file.head else [])]
-    for part in file.parts:
-        lines += line_of(part, texts) if isinstance(part, Word) else ['', f'{part[:1].upper()}{part[1:]}:', '']
-    return [*lines, '']
+def section(name, words):
+    """The lines of the words of a file."""
+    return [f'### `{name.replace(".", "/")}`', '', *(line for word in words for line in line_of(word)), '']
 
 
 def definitions():
-    """The sections of all crates that have words."""
-    abouts, texts = by_hand()
-    lines = []
+    """The words that clauses of public calls cite, by crate and by file."""
+    cited, lines = tree.cited_words(), []
     for crate in tree.crates():
-        files = [file for file in files_of(crate) if file.parts]
-        if files:
-            lines += [f'## `{crate}`', '', *([abouts[crate], ''] if crate in abouts else [])]
-            lines += [line for file in files for line in section(file, texts)]
-    return re.sub(r'\n{3,}', '\n\n', '\n'.join(lines)) + '\n'
+        files = [(file.name, [word for word in file.words if word.place() in cited]) for file in files_of(crate)]
+        if any(words for _, words in files):
+            lines += [f'## `{crate}`', '']
+            lines += [line for name, words in files if words for line in section(name, words)]
+    return '\n'.join(lines)
