@@ -14,8 +14,9 @@ constraints hold in each reachable state of IN. Asked is:
   read    where they hold, has each property of IN the value of that of OUT?
 
 If so, all properties have the same values at all steps, whoever made the three files. Of each question there is a pair of literals
-for each part, which must have the same value. Most are one gate, once gates with the same fan-ins are one; the rest goes to a SAT
-solver, as a formula that must have no solution. With --plain no gates are shared, and all goes to the solver.
+for each part, which must have the same value. Most are one gate, once gates with the same fan-ins are one. More are where an input or a
+latch has one value, and where it has the other: so cases are made. The rest goes to a SAT solver, as a formula that must have no solution.
+With --plain no gates are shared and no cases are made, and all goes to the solver.
 
 The status is 0 where all is shown, 5 where it isn't, 1 where a file is refused, 3 where one can't be read.
 """
@@ -33,6 +34,8 @@ from checker import Refused, Text, binary_gate, in_order, number, read  # noqa: 
 # SAT solvers that may be installed; each reads a DIMACS file, and ends with status 20 where it has no solution.
 SOLVERS = ['cadical -q', 'minisat -verb=0']
 ANSWERS = {10: 'fails', 20: 'holds'}
+# of how many inputs and latches a case is at most, and how many cases are made
+DEEPEST, MOST_CASES = 8, 400
 
 
 # Circuits, by the literals of their files.
@@ -153,6 +156,25 @@ class Graph:
         self.equal[large & ~1] = small ^ large & 1
         return True
 
+    def cone(self, lits):
+        """The variables on which literals rest, themselves among them."""
+        found, waiting = set(), [lit >> 1 for lit in lits]
+        while waiting:
+            v = waiting.pop()
+            if v not in found:
+                found.add(v)
+                waiting += [lit >> 1 for lit in self.fan_ins[v] or ()]
+        return found
+
+    def most_read(self, pair, pairs):
+        """The unknown on which a pair rests that is read most often in the cones of all pairs; None if it rests on none."""
+        counts = dict.fromkeys((v for v in self.cone(pair) if v and not self.fan_ins[v]), 0)
+        for v in self.cone([lit for pair in pairs for lit in pair]):
+            for lit in self.fan_ins[v] or ():
+                if lit >> 1 in counts:
+                    counts[lit >> 1] += 1
+        return max(counts, key=lambda v: (counts[v], -v), default=None)
+
     def formula(self, facts, pairs):
         """In DIMACS: the facts hold, and some pair differs."""
         numbers, clauses, waiting = {0: 1}, [[-1]], [lit >> 1 for lits in [facts, *pairs] for lit in lits]
@@ -220,19 +242,64 @@ def questions(graph, c, d, m):
     yield 'read', facts, list(zip(map(at, c.properties()), map(to, d.properties())))
 
 
+class Cases:
+    """Parts of a step that stay two literals, and cases of inputs and latches that show them."""
+
+    def __init__(self, c, d, m):
+        self.circuits, self.count = (c, d, m), 0
+
+    def open_in(self, case):
+        """The gates where unknowns have these values, and by part, a question and a place, the two literals if they aren't one."""
+        graph = Graph(True)
+        graph.equal.update({2 * v: bit for v, bit in case.items()})
+        self.count += 1
+        parts = [((name, place), tuple(map(graph.standing, pair)))
+                 for name, _, pairs in questions(graph, *self.circuits) if name != 'reset' for place, pair in enumerate(pairs)]
+        return graph, {part: pair for part, pair in parts if pair[0] != pair[1]}
+
+    def left_in(self, case, part):
+        """The parts that aren't shown where unknowns have these values; cases are made until this part is."""
+        graph, pairs = self.open_in(case)
+        left = set(pairs)
+        split = graph.most_read(pairs[part], pairs.values()) if part in left and len(case) < DEEPEST else None
+        if split is None:
+            return left
+        found = set()
+        for bit in (1, 0):
+            if self.count >= MOST_CASES:
+                return left
+            found |= self.left_in({**case, split: bit}, part)
+            if part in found:
+                return left
+        return left & found
+
+    def left(self, parts):
+        """Those of these parts that no cases show."""
+        left = set(parts)
+        for part in parts:
+            if part in left and self.count < MOST_CASES:
+                left &= self.left_in({}, part)
+        return left
+
+
 @dataclass
 class Judge:
-    """Whether gates are shared, the command of a SAT solver or None, and where formulas are written to or None."""
+    """Whether gates are shared and cases are made, the command of a SAT solver or None, and where formulas are written to or None."""
     shares: bool = True
     solver: str = None
     prefix: str = None
 
     def verdicts(self, c, d, m):
-        """For each question its name, its number of pairs, how many of these aren't one gate, and whether it holds."""
+        """For each question its name, its number of pairs, how many of these neither are one gate nor shown by cases, and whether it holds."""
         graph = Graph(self.shares)
-        for name, facts, pairs in questions(graph, c, d, m):
-            left = [(a, b) for a, b in pairs if a != b] if self.shares else pairs
-            yield name, len(pairs), len(left), self.answer(name, graph.formula(facts, left)) if left else 'holds'
+        asked = list(questions(graph, c, d, m))
+        left = {(name, place) for name, _, pairs in asked for place, (a, b) in enumerate(pairs) if a != b or not self.shares}
+        if self.shares:
+            of_step = sorted(part for part in left if part[0] != 'reset')
+            left -= set(of_step) - Cases(c, d, m).left(of_step)
+        for name, facts, pairs in asked:
+            open_pairs = [pair for place, pair in enumerate(pairs) if (name, place) in left]
+            yield name, len(pairs), len(open_pairs), self.answer(name, graph.formula(facts, open_pairs)) if open_pairs else 'holds'
 
     def answer(self, name, formula):
         if self.prefix:

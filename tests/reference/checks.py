@@ -1,10 +1,14 @@
-"""Whether a map of states shows that a circuit is a retiming of another, without a search: gates with the same fan-ins are one, and
-where a constraint of the map says that two literals are equal, the smaller one stands for the other. What has to be equal is shown
-where it is one literal then."""
+"""Whether a map of states shows that a circuit is a retiming of another one: gates with the same fan-ins are one, and where a constraint
+of the map says that two literals are equal, the smaller one stands for the other. What has to be equal is shown if it is one literal then, if
+propagation over the gates refutes that either is 1 without the other, or if either is so in all cases of some inputs and latches."""
 from reference.circuit import FREE, ordered
 
 # how often the constraints are taken, where each time says something new
 ROUNDS = 4
+# how often what is known is taken into account to learn more
+PASSES = 17
+# of how many variables a case is at most, how many cases are made for a part, and for all
+DEEPEST, FOR_ONE, FOR_ALL = 8, 100, 400
 
 
 def at(literals, lit):
@@ -46,6 +50,10 @@ class Shared:
             literals.append(self.gate(at(literals, a), at(literals, b)))
         return literals
 
+    def gates(self):
+        """The literal of each gate, and its fan-ins."""
+        return [(2 * (self.first + place), *fan_ins) for fan_ins, place in self.places.items()]
+
     def latches(self, c):
         return [self.standing(2 * (c.first_latch() + k)) for k in range(len(c.latches))]
 
@@ -60,9 +68,11 @@ def sides(m, lit):
     return lit, 1
 
 
-def learnt(c, m):
-    """Shared gates under what the constraints say of the latches of c."""
+def learnt(c, m, case):
+    """Shared gates under what the constraints say of the latches of c, where the literals of a case are 1."""
     shared = Shared(c)
+    for lit in case:
+        shared.assume(lit, 1)
     for _ in range(ROUNDS):
         image = shared.copied(m, shared.latches(c))
         if not any([shared.assume(*(at(image, lit) for lit in sides(m, constraint))) for constraint in m.constraints]):
@@ -91,31 +101,127 @@ def reset_obligation(c, d, m):
     return None
 
 
-def unlike(question, kind, one, other):
-    return next((f'{question} {kind} {k}' for k, (a, b) in enumerate(zip(one, other)) if a != b), None)
-
-
-def step_obligation(c, d, m):
-    """What the map doesn't keep in a step."""
-    shared = learnt(c, m)
+def parts_of_step(c, d, m, case):
+    """What a step has to show where the literals of a case are 1, by name: two literals that must be equal; and the gates that they are of."""
+    shared = learnt(c, m, case)
     image = shared.copied(m, shared.latches(c))
     inputs = list(range(2, 2 + 2 * c.inputs, 2))
     before = shared.copied(c, inputs + shared.latches(c))
     later = shared.copied(m, [at(before, next_lit) for next_lit, _ in c.latches])
     after = shared.copied(d, inputs + [at(image, lit) for lit in m.outputs])
-    place = open_constraint(later, m)
-    if place is not None:
-        return f'keep constraint {place}'
+    parts = [(f'keep constraint {k}', at(later, lit), 1) for k, lit in enumerate(m.constraints)]
+    parts += [(f'next latch {k}', at(later, lit), at(after, latch[0])) for k, (lit, latch) in enumerate(zip(m.outputs, d.latches))]
+    kinds = [('output', c.outputs, d.outputs), ('bad', c.bad, d.bad), ('constraint', c.constraints, d.constraints)]
+    kinds += [(f'justice {k}', *lits) for k, lits in enumerate(zip(c.justice, d.justice))] + [('fairness', c.fairness, d.fairness)]
+    for kind, ones, others in kinds:
+        for k, (one, other) in enumerate(zip(ones, others)):
+            parts.append((f'read {kind}' if ' ' in kind else f'read {kind} {k}', at(after, other), at(before, one)))
+    return shared, [(name, shared.standing(a), shared.standing(b)) for name, a, b in parts]
 
-    def read(lits, literals):
-        return [at(literals, lit) for lit in lits]
 
-    pairs = [('output', c.outputs, d.outputs), ('bad', c.bad, d.bad), ('constraint', c.constraints, d.constraints)]
-    found = [unlike('next', 'latch', read(m.outputs, later), read([latch[0] for latch in d.latches], after))]
-    found += [unlike('read', kind, read(one, before), read(other, after)) for kind, one, other in pairs]
-    found.append(unlike('read', 'justice', [read(one, before) for one in c.justice], [read(other, after) for other in d.justice]))
-    found.append(unlike('read', 'fairness', read(c.fairness, before), read(d.fairness, after)))
-    return next(filter(None, found), None)
+def propagated(gates, lits):
+    """The literals that are 1 wherever these are, as far as they follow gate by gate; None if one is 0 then."""
+    known, grows = {1, *lits}, True
+    while grows:
+        before = len(known)
+        for own, a, b in gates:
+            if own in known:
+                known |= {a, b}
+            if a ^ 1 in known or b ^ 1 in known:
+                known.add(own ^ 1)
+            if a in known and b in known:
+                known.add(own)
+            for one, other in ((a, b), (b, a)):
+                if one in known and own ^ 1 in known:
+                    known.add(other ^ 1)
+        if any(lit ^ 1 in known for lit in known):
+            return None
+        grows = len(known) > before
+    return known
+
+
+def cone(gates, lits):
+    """The variables on which literals rest, themselves among them."""
+    found = {lit // 2 for lit in lits}
+    for own, a, b in reversed(gates):
+        if own // 2 in found:
+            found |= {a // 2, b // 2}
+    return found
+
+
+def is_refuted(gates, lits, variables):
+    """Whether these literals can't all be 1, once it is learnt what these variables are where they are."""
+    known, left = list(lits), sorted(variables)
+    for _ in range(PASSES):
+        others = []
+        for var in left:
+            lit = next((lit for lit in (2 * var, 2 * var + 1) if propagated(gates, [*known, lit]) is None), None)
+            if lit is None:
+                others.append(var)
+            else:
+                known.append(lit ^ 1)
+        if len(others) == len(left):
+            break
+        left = others
+    return propagated(gates, known) is None
+
+
+def are_equal(shared, a, b, learns):
+    gates = shared.gates()
+    variables = cone(gates, (a, b)) - {0} if learns else []
+    return a == b or is_refuted(gates, (a, b ^ 1), variables) and is_refuted(gates, (a ^ 1, b), variables)
+
+
+def split_of(shared, parts, shown, part):
+    """The variable before the gates on which a part rests that most gates read of those on which open parts rest."""
+    gates = shared.gates()
+    wide = cone(gates, [lit for (_, *lits), yes in zip(parts, shown) if not yes for lit in lits])
+    counts = {var: 0 for var in cone(gates, parts[part][1:]) if 0 < var < shared.first}
+    for own, a, b in gates:
+        for lit in (a, b) if own // 2 in wide else ():
+            if lit // 2 in counts:
+                counts[lit // 2] += 1
+    return max(counts, key=lambda var: (counts[var], -var), default=None)
+
+
+class Cases:
+    """Cases of a step, and how many more may be made."""
+
+    def __init__(self, c, d, m):
+        self.circuits, self.left = (c, d, m), FOR_ALL
+
+    def asked(self, case, part):
+        """By part whether it is shown where these literals are 1; and what to make cases of, if this part isn't."""
+        shared, parts = parts_of_step(*self.circuits, case)
+        shown = [are_equal(shared, a, b, part is None) for _, a, b in parts]
+        return shown, None if part is None or shown[part] else split_of(shared, parts, shown, part)
+
+    def settled(self, part, count):
+        """By part whether all cases show it, of which there are as many as this part needs."""
+        pending, shown = [[]], [True] * count
+        for _ in range(FOR_ONE):
+            if not (self.left and pending and shown[part]):
+                break
+            self.left -= 1
+            case = pending.pop()
+            found, split = self.asked(case, part)
+            if split is None or len(case) == DEEPEST:
+                shown = [a and b for a, b in zip(shown, found)]
+            else:
+                pending += [[2 * split + 1, *case], [2 * split, *case]]
+        return [not pending and yes for yes in shown]
+
+
+def step_obligation(c, d, m):
+    """What the map isn't shown to keep in a step."""
+    cases = Cases(c, d, m)
+    shown, _ = cases.asked([], None)
+    while False in shown:
+        part = shown.index(False)
+        shown = [a or b for a, b in zip(shown, cases.settled(part, len(shown)))]
+        if not shown[part]:
+            return parts_of_step(c, d, m, [])[1][part][0]
+    return None
 
 
 def is_map(m):

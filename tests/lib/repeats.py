@@ -1,0 +1,136 @@
+"""What makes sources long to read, counted: functions of many parameters, long heads and clauses, statements of lemmas that stand in two
+crates, words of definitions that two crates have, long lines, and comments that name no number or nothing of their own."""
+import collections
+import re
+
+import tree
+
+# The most characters of a head or a clause that isn't long.
+LONGEST = 200
+# The most columns of a line.
+COLUMNS = 100
+# The most parameters of a function.
+MOST_PARAMETERS = 7
+# Files of proofs/ that have answers and no lemmas.
+NO_LEMMAS = {'Answers', 'Invariants', 'Lib', 'Proof'}
+# How a line of a proof begins that states no lemma.
+NO_LEMMA = re.compile(r'(use|mod|record|data|abbrev|unfoldable|where|let|syntax|pub (use|mod|record|data|abbrev|unfoldable)) ')
+COMMENT = re.compile(r' *//[/!]? ?')
+FUNCTION = re.compile(r'(?m)^ *(?:pub(?:\([a-z]+\))? )?(?:const )?fn (\w+)')
+
+
+def texts():
+    """The text of each source that isn't of tests."""
+    paths = (path for crate in tree.crates() if not crate.endswith('_tests') for path in tree.sources(crate))
+    return [path.read_text() for path in paths if not tree.is_of_tests(path)]
+
+
+def comments(text):
+    """Each comment of a source, in one line."""
+    lines = []
+    for line in [*text.splitlines(), '']:
+        if COMMENT.match(line):
+            lines.append(line[COMMENT.match(line).end():])
+        elif lines:
+            yield ' '.join(lines)
+            lines = []
+
+
+def long_lines(texts):
+    """How many lines of comments are too long, and how many lines of code, imports aside."""
+    long = [line for text in texts for line in text.splitlines() if len(line) > COLUMNS]
+    of_comments = sum(bool(COMMENT.match(line)) for line in long)
+    return of_comments, len(long) - of_comments - sum(bool(re.match(r' *(pub )?(ghost )?use ', line)) for line in long)
+
+
+def heads(text):
+    """The head of each function of a source in one line: from `fn` to its clauses or its body."""
+    for match in FUNCTION.finditer(text):
+        begin = text.index('fn ', match.start())
+        yield ' '.join(re.split(r'\n *(?:requires|ensures)\b|;\n| ?\{\n|\n *\{', text[begin:], maxsplit=1)[0].split())
+
+
+def parts_at_top(text):
+    """The parts of a text between commas that no bracket holds, up to the bracket that closes it, and what follows that."""
+    depth, parts = 0, ['']
+    for at, letter in enumerate(text):
+        before = text[at - 1] if at else ''
+        depth += (letter in '([<{') - (letter in ')]}' or letter == '>' and before != '-')
+        if depth < 0:
+            return [part for part in parts if part.strip()], text[at + 1:]
+        if letter == ',' and depth == 0:
+            parts.append('')
+        else:
+            parts[-1] += letter
+    return parts, ''
+
+
+def parameters(head):
+    """How many parameters a head has, `self` among them."""
+    rest = re.sub(r'^fn \w+', '', head)
+    if rest.startswith('<'):
+        rest = parts_at_top(rest[1:])[1]
+    return len(parts_at_top(rest[1:])[0])
+
+
+def clauses(text):
+    """Each clause of a source in one line."""
+    lines = text.splitlines()
+    for number, line in enumerate(lines):
+        if FUNCTION.match(line):
+            indent = re.match(' *', line)[0]
+            yield from (clause.text for clause in tree.clauses_after(lines, number, indent, {}))
+
+
+def statements(crate):
+    """What each lemma of a crate states, without its name, in one line."""
+    for path in (path for path in tree.sources(crate, '.antt', ('proofs',)) if path.stem not in NO_LEMMAS):
+        lines = [re.sub(r' *-- .*', '', line) for line in path.read_text().splitlines()]
+        for number, line in enumerate(lines):
+            head = re.match(r'(?:pub )?\S+ : (.*)', line)
+            if head and not NO_LEMMA.match(line):
+                others = range(number + 1, len(lines))
+                end = next((at for at in others if not lines[at].startswith(' ')), len(lines))
+                yield ' '.join([head[1], *(more.strip() for more in lines[number + 1:end])])
+
+
+def words(crate):
+    """The words that a crate's specs define."""
+    for path in tree.sources(crate, '.antt', ('specs',)):
+        yield from re.findall(r'(?m)^(?:abbrev |unfoldable )?pub (?:abbrev |record |data )?(?!mod\b)(\S+)', path.read_text())
+
+
+def in_two_crates(each):
+    """How many of the things that crates have stand in two or more of them."""
+    crates_of = collections.defaultdict(set)
+    for crate in tree.crates():
+        for thing in each(crate):
+            crates_of[thing].add(crate)
+    return sum(len(crates) > 1 for crates in crates_of.values())
+
+
+def counts():
+    """Each count by its name; those of lines and of comments are of all sources, tests among them."""
+    all_texts = texts()
+    every_text = [path.read_text() for crate in tree.crates() for path in tree.sources(crate)]
+    all_comments = [comment.lower() for text in every_text for comment in comments(text)]
+    long_comments, long_code = long_lines(every_text)
+    all_heads = [head for text in all_texts for head in heads(text)]
+    all_clauses = [clause for text in all_texts for clause in clauses(text)]
+    return {
+        'functions of more parameters than seven': sum(parameters(head) > MOST_PARAMETERS for head in all_heads),
+        'functions of six parameters or seven': sum(parameters(head) in (6, 7) for head in all_heads),
+        f'heads of over {LONGEST} characters': sum(len(head) > LONGEST for head in all_heads),
+        f'clauses of over {LONGEST} characters': sum(len(clause) > LONGEST for clause in all_clauses),
+        'statements of lemmas that stand in two crates': in_two_crates(statements),
+        'words of definitions that two crates have': in_two_crates(words),
+        f'lines of comments over {COLUMNS} columns': long_comments,
+        f'lines of code over {COLUMNS} columns': long_code,
+        "times 'so many' in comments": sum(len(re.findall(r'\bso many\b', comment)) for comment in all_comments),
+        "comments that begin with 'the same'": sum(bool(re.match(r'the same\b', comment)) for comment in all_comments),
+    }
+
+
+if __name__ == '__main__':
+    for name, count in counts().items():
+        print(f'{count:6} {name}')
