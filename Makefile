@@ -21,11 +21,12 @@ DATE := $(shell sed -n '/^\#\# \[[0-9].*\] - /{s/.* - //p;q}' CHANGELOG.md)
 VERSION := $(shell sed -n 's/.*\.version("\([^"]*\)").*/\1/p' crates/*/src/*.rt)
 INSTALLED = $(addprefix $(PREFIX)/bin/,$(COMMANDS)) $(addprefix $(MANDIR)/,$(COMMANDS:=.1)) $(addprefix $(BASHDIR)/,$(COMMANDS)) \
 	$(addprefix $(ZSHDIR)/_,$(COMMANDS)) $(addprefix $(FISHDIR)/,$(COMMANDS:=.fish)) $(DATADIR) $(DOCDIR)
-COMMANDS = fretime fretime_verilog
-# the script from Verilog to Verilog, and its modules, which the examples lead to
-SCRIPTS = fretime_verilog $(notdir $(wildcard examples/verilog/*.py))
+COMMANDS = fretime fretime_verilog fretime_prove
+# the scripts, from Verilog to Verilog and to checked proofs, and their modules, which the examples lead to
+VERILOG = fretime_verilog $(notdir $(wildcard examples/verilog/*.py))
+PROOF = fretime_prove $(notdir $(wildcard examples/proof/*.py))
 # the documents that are installed: all but those of work on the sources
-DOCUMENTS = README.md CHANGELOG.md SECURITY.md examples/verilog/README.md \
+DOCUMENTS = README.md CHANGELOG.md SECURITY.md examples/verilog/README.md $(wildcard crates/*/README.md) \
 	$(filter-out $(addprefix docs/,ARCHITECTURE.md COSTS.md PROOFS.md TRAPS.md),$(wildcard docs/*.md))
 STAGE = out/deb
 # Debian has what comes before a version by a tilde.
@@ -64,7 +65,8 @@ version:
 install: all
 	install -d $(DESTDIR)$(PREFIX)/bin $(DESTDIR)$(MANDIR) $(DESTDIR)$(BASHDIR) $(DESTDIR)$(ZSHDIR) $(DESTDIR)$(FISHDIR) \
 		$(DESTDIR)$(DATADIR)
-	install -d $(addprefix $(DESTDIR)$(DOCDIR)/,docs/pictures release tests $(addprefix examples/,cluster match proof verilog))
+	install -d $(addprefix $(DESTDIR)$(DOCDIR)/,docs/pictures release tests $(addprefix examples/,cluster match proof verilog) \
+		$(dir $(filter crates/%,$(DOCUMENTS))))
 	install -m 755 "$$(release/make --program)" $(DESTDIR)$(PREFIX)/bin/fretime
 	for name in $(COMMANDS); do $(FILLED) install/$$name.1 > $(DESTDIR)$(MANDIR)/$$name.1; done
 	chmod 644 $(addprefix $(DESTDIR)$(MANDIR)/,$(COMMANDS:=.1))
@@ -80,12 +82,13 @@ install: all
 	install -m 644 examples/*.aag examples/*.py $(DESTDIR)$(DOCDIR)/examples
 	install -m 755 examples/cluster/* $(DESTDIR)$(DOCDIR)/examples/cluster
 	install -m 644 examples/match/*.v examples/match/*.ys examples/match/*.stim $(DESTDIR)$(DOCDIR)/examples/match
-	install -m 644 examples/proof/*.aag examples/proof/*.py $(DESTDIR)$(DOCDIR)/examples/proof
+	install -m 644 examples/proof/*.aag $(DESTDIR)$(DOCDIR)/examples/proof
 	install -m 644 examples/verilog/*.v $(DESTDIR)$(DOCDIR)/examples/verilog
-	install -m 644 examples/verilog/*.py $(DESTDIR)$(DATADIR)
-	install -m 755 examples/verilog/fretime_verilog $(DESTDIR)$(DATADIR)
-	ln -sfr $(addprefix $(DESTDIR)$(DATADIR)/,$(SCRIPTS)) $(DESTDIR)$(DOCDIR)/examples/verilog
-	ln -sfr $(DESTDIR)$(DATADIR)/fretime_verilog $(DESTDIR)$(PREFIX)/bin
+	install -m 644 examples/verilog/*.py examples/proof/*.py $(DESTDIR)$(DATADIR)
+	install -m 755 examples/verilog/fretime_verilog examples/proof/fretime_prove $(DESTDIR)$(DATADIR)
+	ln -sfr $(addprefix $(DESTDIR)$(DATADIR)/,$(VERILOG)) $(DESTDIR)$(DOCDIR)/examples/verilog
+	ln -sfr $(addprefix $(DESTDIR)$(DATADIR)/,$(PROOF)) $(DESTDIR)$(DOCDIR)/examples/proof
+	ln -sfr $(addprefix $(DESTDIR)$(DATADIR)/,fretime_verilog fretime_prove) $(DESTDIR)$(PREFIX)/bin
 	install -m 755 tests/checker.py tests/map_checker.py tests/witness_checker.py $(DESTDIR)$(DOCDIR)/tests
 
 uninstall:

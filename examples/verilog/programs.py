@@ -1,5 +1,6 @@
 """The programs that a run starts, in a folder of its own: Yosys, fretime and ABC; how a run ends that has no result, and what it says on
 standard error."""
+import contextlib
 import os
 import pathlib
 import re
@@ -33,12 +34,19 @@ class Stopped(BaseException):
         self.number = number
 
 
+class Held:
+    """Whether a signal that ends the run waits, and the one that does: while a program starts, for nothing would end that program."""
+    waits, number = False, None
+
+
 def stop_by_signals():
     """Has a signal that ends a process raise Stopped, so that programs are ended and folders taken away. One that is ignored stays so."""
     def stop(number, _):
         for other in SIGNALS:
             signal.signal(other, signal.SIG_IGN)
-        raise Stopped(number)
+        Held.number = number
+        if not Held.waits:
+            raise Stopped(number)
 
     for number in SIGNALS:
         if signal.getsignal(number) != signal.SIG_IGN:
@@ -60,9 +68,31 @@ def tool(names):
     return found
 
 
-def started(words, folder, **more):
+@contextlib.contextmanager
+def signals_wait():
+    """Within this block no signal raises Stopped; one that came does so at its end."""
+    Held.waits = True
+    try:
+        yield
+    finally:
+        Held.waits = False
+        if Held.number is not None:
+            raise Stopped(Held.number)
+
+
+def started(words, folder, timeout=None, **more):
     """A program that was run to its end in a folder. (If a signal ends this run, it ends the program first.)"""
-    return subprocess.run([str(word) for word in words], cwd=folder, stdin=subprocess.DEVNULL, capture_output=True, text=True, **more)
+    process = None
+    try:
+        with signals_wait():
+            process = subprocess.Popen([str(word) for word in words], cwd=folder, stdin=subprocess.DEVNULL, stdout=subprocess.PIPE,
+                                       stderr=subprocess.PIPE, text=True, **more)
+        told = process.communicate(timeout=timeout)
+    finally:
+        if process:
+            process.kill()
+            process.wait()
+    return subprocess.CompletedProcess(words, process.returncode, *told)
 
 
 def show(step=''):
