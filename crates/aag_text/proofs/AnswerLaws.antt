@@ -28,7 +28,8 @@ use Rattle.aag_text.proofs.ResolveLaws.{both_left, both_right, placed_is, placin
 
 -- ---- lists of a reader are consistent
 
--- lists that have been read have as many items as the header says, and names of things that it counts
+-- lists that have been read have as many items as the header says, and names of things that it
+-- counts
 pub consistent : (l : RawLists) (symbols : List RawSymbol) → AreListsRead l symbols → IsConsistent l
 consistent l symbols read = record {
   inputs = read.counted.inputs;
@@ -137,7 +138,8 @@ module _ (l : RawLists) (symbols : List RawSymbol) (read : AreListsRead l symbol
         ∙ circuit_is l.header (raw_of l symbols) read.apart resolved read.counted.inputs read.counted.latches ok.order ok.arranged.ranks ok.is_order ok.arranged.are_ranks))
     answered sizes same (Err e) ok err = ordering_fails l.header (raw_of l symbols) (placed_reads l.header (by_position (raw_of l symbols))) e resolved reads_same err
 
-  -- the circuit in the order found, or the fault of the order, is what the raw circuit gives where all that it reads is defined
+  -- the circuit in the order found, or the fault of the order, is what the raw circuit gives if all
+  -- that it reads is defined
   pub answers : (sizes : List ℕ) → sizes ≡ l.properties.sizes → (p : PlacedLists)
       → placed_lists l.places (length l.inputs.items + length l.latches.items + length l.gates.items) l.latches.items l.properties.safety l.properties.liveness l.gates.items ≡ Ok p
       → (result : Result Netlist ReadError) → IfOk result (λ c. IsOrdered l.header sizes p l.names c) → IfErr result (λ e. Fails NoMemory e (order_or_cycle (ordered (placed_reads l.header p))))

@@ -69,7 +69,7 @@ module _ (h : Header) (raw : Raw) (at : ℕ) (small : h.greatest < 2 ^ 28) where
     | inr within ↦ ap (λ (ns : List ℕ). cond (past_greatest h ns) (Err (MaxIndex at)) (rest ns)) (sym (all-within lits within))
   ]
 
-  -- one more item, where no check of it fails
+  -- one more item, if no check of it fails
   abbrev taken : Item → Result Raw ReadError
   taken item = unless (checks h raw at item) (Ok (with_item raw item))
 

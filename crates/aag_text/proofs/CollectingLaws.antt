@@ -22,7 +22,7 @@ pub known_some : {Y : Type 0} (known : Bool) (x y : Y) → Some y ≡ cond known
 known_some true x y e = (refl, cc)
 known_some false x y e = absurd (cc)
 
--- where there is no value, what it reads isn't known
+-- if there is no value, what it reads isn't known
 pub known_none : {Y : Type 0} (known : Bool) (x : Y) → None ≡ cond known (Some x) None → known ≡ false
 known_none true x e = absurd (cc)
 known_none false x e = refl
@@ -59,7 +59,7 @@ pub mapped_more : {X Y : Type 0} (f : X → Y) (xs : List X) (i : ℕ) (d : X) (
 mapped_more f xs i d y found more within before here same =
     same ∙ ap (λ z. found ++ z ∷ []) here ∙ ap (λ ys. ys ++ f (get_or xs i d) ∷ []) before ∙ sym (map-append f (take i xs) (get_or xs i d ∷ [])) ∙ ap (map f) (sym (take_more xs i d within))
 
--- where there is room for all items, there is room for what one more gives
+-- if there is room for all items, there is room for what one more gives
 pub has_room : {X Y : Type 0} (f : X → Y) (xs : List X) (i room : ℕ) (found : List Y) → i < length xs → length xs ≤ room → found ≡ map f (take i xs) → length found < room
 has_room f xs i room found within enough same =
     omega (arith, within, enough, ap (λ ys. length ys) same, length-map (take i xs) f, length-take-le i xs (omega (arith, within)))

@@ -46,7 +46,7 @@ room h raw =
 pub room_in : (h : Header) (raw : Raw) (section : Section) → next_section h raw ≡ section → HasRoom h raw section
 room_in h raw section e = subst (HasRoom h raw) e (room h raw)
 
--- where all items but symbols have been read, symbols come next
+-- if all items but symbols have been read, symbols come next
 pub symbols_next : (h : Header) (raw : Raw) → is_complete h raw ≡ true → next_section h raw ≡ Symbols
 symbols_next h raw e = symbols_are (next_section h raw) e
 

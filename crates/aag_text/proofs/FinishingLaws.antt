@@ -22,7 +22,7 @@ pub read-closed : (bytes : List ℕ) (state : State) → fed bytes ≡ Ok state 
 unfolding closed
 read-closed bytes state leads = (the_pieces_law bytes []).whole ∙ ap (λ (r : Result State ReadError). r >>= closed bytes) leads
 
--- the last line, where it has a byte
+-- the last line, if it has a byte
 last_taken : (state : State) (line : List ℕ) → 0 < length line → with_last_line state line ≡ take_line state line
 last_taken state [] some = absurd (omega (arith, some))
 last_taken state (b ∷ line) some = refl
@@ -58,7 +58,7 @@ module _ (items : Items) (bytes : List ℕ) (end : ℕ) (hold : Hold items bytes
     pub open_fails : (e : ReadError) → ((state : State) (line : List ℕ) → StandAt items.sections items.line items.at state line → Fails NoMemory e (take_line state line)) → Fails NoMemory e (read_bytes bytes)
     open_fails e fails = Fails-same e _ _ (sym open_read) (Fails-bind e (take_line hold.state (open_line bytes)) (finish end) (fails hold.state (open_line bytes) hold.stands))
 
-    -- where the last line, which no newline ends, is taken, the file gives what the end gives after it
+    -- if the last line, which no newline ends, is taken, the file gives what the end gives after it
     pub open_closes : {X : Type 0} (view : X → Netlist) (r : Result X ReadError) (new : Items)
         → ((state : State) (line : List ℕ) → StandAt items.sections items.line items.at state line → (next : State) × (take_line state line ≡ Ok next) × StandAt new.sections new.line (items.at + length line + 1) next [])
         → Closes end view r new.sections → Gives NoMemory view r (read_bytes bytes)
@@ -66,7 +66,7 @@ module _ (items : Items) (bytes : List ℕ) (end : ℕ) (hold : Hold items bytes
         let taken = takes hold.state (open_line bytes) hold.stands in
         Gives-same NoMemory view r _ _ (sym (open_read ∙ ap (λ (s : Result State ReadError). s >>= finish end) taken.1)) (stand_closes end view r new.sections new.line (items.at + length (open_line bytes) + 1) taken.0 [] taken.2 closes)
 
-  -- where no line is open, the file gives what its end gives
+  -- if no line is open, the file gives what its end gives
   pub none_closes : {X : Type 0} (view : X → Netlist) (r : Result X ReadError) → end ≤ items.at
       → Closes end view r items.sections → Gives NoMemory view r (read_bytes bytes)
   none_closes view r past closes =

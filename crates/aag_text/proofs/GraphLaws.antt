@@ -37,7 +37,7 @@ ranked gates order ranks is are g less =
     let there : slice_get order stands.0 ≡ Some g = slice_get-get_or order stands.0 g stands.1 ∙ ap (λ n. Some n) stands.2 in
     ap (slice_get order) (are.at stands.0 g there) ∙ there
 
--- ranks of an order may move literals, where the variables are few enough
+-- ranks of an order may move literals, if the variables are few enough
 pub movable : (first : ℕ) (gates : List Reads) (order ranks : List ℕ) → IsOrder gates order → AreRanks order ranks → first + length gates ≤ 2 ^ 28 → AreMovable first ranks
 movable first gates order ranks is are small = record {
   small = omega (arith, small, are.as_many, is.as_many);

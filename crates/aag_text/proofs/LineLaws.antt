@@ -1,4 +1,4 @@
--- A line before the symbols, where its numbers are known.
+-- A line before the symbols, if its numbers are known.
 use Rattle.std.proofs.Common.{ℕ, ◌≡◌, List, Option, Some, None, Err, false, sym, ap, ◌∙◌}
 use Rattle.std.specs.Option.{option_and_then}
 use Rattle.file_words.specs.declared.fault.ReadError.TheVariants.{BadLine}

@@ -22,7 +22,7 @@ has_place_position xs v count same = by_test (nat_lt (position_or_len (λ w. w =
     by_test false is = refl
 
 module _ (places : Places) (variables : List ℕ) (are : (v : ℕ) → place_of places v ≡ position (λ w. w == v) variables) where
-  -- a literal has a place exactly where its variable is among those defined
+  -- a literal has a place if and only if its variable is among those defined
   pub known_same : (count : ℕ) → count ≡ length variables → (lit : ℕ) → is_placed places count lit ≡ is_known_among variables lit
   known_same count same lit = ap (λ (b : Bool). (variable lit == 0) || b) (ap (has_place count) (are (variable lit)) ∙ has_place_position variables (variable lit) count same)
 
@@ -38,7 +38,8 @@ constant_literal variables lit is =
     let none : renumbered variables (variable lit) ≡ 0 = cond-true _ _ _ (ap (λ (n : ℕ). nat_eq n 0) is) in
     omega (arith, none)
 
--- a literal of a variable defined at a position is that of one more than the position, its sign kept
+-- a literal of a variable defined at a position is that of one more than the position, its sign
+-- kept
 pub placed_literal : (variables : List ℕ) (lit p : ℕ) → nat_eq (variable lit) 0 ≡ false → position (λ w. w == variable lit) variables ≡ Some p → literal_in variables lit ≡ 2 * (1 + p) + lit % 2
 placed_literal variables lit p other found =
     let number : renumbered variables (variable lit) ≡ 1 + p = cond-false _ _ _ other ∙ ap (λ (o : Option ℕ). 1 + unwrap_or o 0) found in
@@ -83,7 +84,8 @@ read_same front back apart no_constant first lit from known = elim (known_by (fr
 
 -- ---- a literal in the order of the gates
 
--- a literal by positions, moved by the ranks, is the literal by positions once the gates stand in order
+-- a literal by positions, moved by the ranks, is the literal by positions once the gates stand in
+-- order
 pub moved_same : (front back again order ranks : List ℕ) → IsReordered front back again order ranks → (first lit : ℕ) → first ≡ 1 + length front
     → is_known_among (front ++ back) lit ≡ true → moved first ranks (literal_in (front ++ back) lit) ≡ literal_in (front ++ again) lit
 moved_same front back again order ranks is first lit from known = elim (known_by (front ++ back) lit known) [

@@ -26,7 +26,7 @@ module _ {X : Type 0} (p : X → Bool) where
         | inr full ↦ le-ltb (1 + position_or_len p xs) (length (x ∷ xs)) (omega arith) ∙ sym (le-ltb (position_or_len p xs) (length xs) full) ∙ e
       ]
 
-  -- there is a position exactly where an element passes
+  -- there is a position if and only if an element passes
   some-position : (xs : List X) → is_some (position p xs) ≡ list_any p xs
   some-position xs = by_test (nat_lt (position_or_len p xs) (length xs)) ∙ within-any xs
     where
@@ -66,7 +66,7 @@ module _ {X : Type 0} (p : X → Bool) where
       | inr full ↦ is-none full fails
     ]
 
-    -- one that passes is the first where none does before it
+    -- one that passes is the first if none does before it
     found : list_any p xs ≡ false → p y ≡ true → position p (xs ++ y ∷ []) ≡ Some (length xs)
     found none passes = elim (cases_lt (position_or_len p xs) (length xs)) [
       | inl less ↦ absurd (differ (sym (lt-ltb (position_or_len p xs) (length xs) less) ∙ within-any xs ∙ none))
@@ -93,7 +93,7 @@ places-push old new vs v are absent inserted w =
       | inr apart ↦ inserted w ∙ cond-false _ _ _ (ne_eqb w v apart) ∙ are w ∙ sym (unchanged (λ x. nat_eq x w) vs v (ne_eqb v w (λ e. apart (sym e))))
     ]
 
--- the same, where the variable was added
+-- that place, if the variable was added
 pub places-added : {E : Type 0} (r : Result (Unit {0}) E) (old new : Places) (vs : List ℕ) (v n : ℕ) → ArePlacesOf old vs → place_of old v ≡ None → n ≡ length vs
     → OnOk r ((w : ℕ) → place_of new w ≡ cond (nat_eq w v) (Some n) (place_of old w)) → OnOk r (ArePlacesOf new (vs ++ v ∷ []))
 places-added (Ok done) old new vs v n are absent last inserted =

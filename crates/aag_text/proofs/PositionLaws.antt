@@ -1,4 +1,4 @@
--- Positions in a list that has no number twice, and in the same list with its end in another order.
+-- Positions in a list that has no number twice, and in that list with its end in another order.
 use Rattle.std.proofs.Common.{ℕ, suc, ◌+◌, ◌-◌, ◌<◌, ◌≤◌, ◌≡◌, ◌≢◌, List, [], ◌∷◌, ◌++◌, length, get_or, slice_get, slice_index, AllPairs, Bool, true, false, not, cond, nat_eq, nat_lt, ◌==◌, ◌||◌, Option, Some, None, position, refl, sym, ap, ◌∙◌, inl, inr, length-append, arith}
 use Rattle.std.specs.List.{position_or_len}
 use Rattle.std.proofs.lemmas.Bool.{cases_lt, lt-ltb, le-ltb, ne_eqb, eq-eqb, eqb-true, cond-true, cond-false}
@@ -41,7 +41,7 @@ cond_shift false n xs = elim (cases_lt n (length xs)) [
   | inr more ↦ le-ltb (1 + n) (1 + length xs) (omega (arith, more)) ∙ sym (le-ltb n (length xs) more)
 ]
 
--- a list has a number exactly where the number's position isn't past its end
+-- a list has a number if and only if the number's position isn't past its end
 pub has_by_position : (xs : List ℕ) (v : ℕ) → nat_lt (position_or_len (λ w. w == v) xs) (length xs) ≡ has xs v
 has_by_position [] v = refl
 has_by_position (x ∷ xs) v =

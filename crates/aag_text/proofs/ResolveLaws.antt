@@ -37,12 +37,12 @@ use Rattle.aag_text.proofs.MeaningLaws.{known_same, number_same, read_same, move
 
 -- ---- what two tests together pass
 
--- where two tests pass together, the first does
+-- if two tests pass together, the first does
 pub both_left : (a b : Bool) → (a && b) ≡ true → a ≡ true
 both_left true b e = refl
 both_left false b e = e
 
--- where two tests pass together, the second does
+-- if two tests pass together, the second does
 pub both_right : (a b : Bool) → (a && b) ≡ true → b ≡ true
 both_right true b e = e
 both_right false b e = absurd (cc)
@@ -57,7 +57,7 @@ map_at : {X Y : Type 0} (f g : X → Y) (xs : List X) → ((k : ℕ) (d : X) →
 map_at f g [] same = refl
 map_at f g (x ∷ xs) same = ap₂ (λ y ys. y ∷ ys) (same 0 x (omega arith)) (map_at f g xs (λ k d less. same (suc k) d (omega (arith, less))))
 
--- where all elements of a list are known, the one at each place is
+-- if all elements of a list are known, the one at each place is
 pub known_at : {X : Type 0} (known : X → Bool) (xs : List X) → list_all known xs ≡ true → (k : ℕ) (d : X) → k < length xs → known (get_or xs k d) ≡ true
 known_at known [] all k d less = absurd (omega (arith, less))
 known_at known (x ∷ xs) all zero d less = both_left (known x) (list_all known xs) all
@@ -82,7 +82,7 @@ chain known number latches safety liveness gates =
 abbrev pub as_placed : List Latch → List ℕ → List ℕ → List Gate → PlacedLists
 as_placed latches safety liveness gates = record { latches = latches; safety = safety; liveness = liveness; gates = gates }
 
--- four parts that are known one after another are known where all four tests pass together
+-- four parts that are known one after another are known if all four tests pass together
 pub by_parts : (a b c d : Bool) (ls : List Latch) (ss vs : List ℕ) (gs : List Gate)
     → (if_known a ls >>= λ l. if_known b ss >>= λ s. if_known c vs >>= λ v. if_known d gs >>= λ g. Ok (as_placed l s v g))
     ≡ if_known (((a && b) && c) && d) (as_placed ls ss vs gs)
@@ -127,7 +127,7 @@ by_position raw = record {
   gates = map (λ (gate : RawGate). record { rhs0 = literal_in (defined raw) gate.rhs0; rhs1 = literal_in (defined raw) gate.rhs1 }) raw.gates;
 }
 
--- the lists of a raw circuit by places are those by positions, where all that it reads is defined
+-- the lists of a raw circuit by places are those by positions, if all that it reads is defined
 pub placed_is : (raw : Raw) (places : Places) (count : ℕ) → count ≡ length (defined raw) → ((v : ℕ) → place_of places v ≡ position (λ w. w == v) (defined raw))
     → placed_lists places count raw.latches raw.safety raw.liveness raw.gates ≡ if_known (is_resolved raw) (by_position raw)
 placed_is raw places count same are =
@@ -251,7 +251,8 @@ module _ (raw : Raw) (apart : DefinesApart raw) (resolved : is_resolved raw ≡ 
     literal_moved : (lit : ℕ) → is_known_among (defined raw) lit ≡ true → moved first ranks (literal_in (defined raw) lit) ≡ literal_in (defined (with_gates_at raw order)) lit
     literal_moved lit known = moved_same (front_of raw) (back_of raw) (map (λ (gate : RawGate). variable gate.lhs) (map (λ k. get_or raw.gates k meaning.no_gate) order)) order ranks reordered first lit first_is known
 
-    -- known literals by positions, moved by the ranks, are the literals once the gates stand in order
+    -- known literals by positions, moved by the ranks, are the literals once the gates stand in
+    -- order
     pub literals_moved : (lits : List ℕ) → list_all (is_known_among (defined raw)) lits ≡ true → map (moved first ranks) (map (literal_in (defined raw)) lits) ≡ map (literal_in (defined (with_gates_at raw order))) lits
     literals_moved lits known =
         map-map (moved first ranks) (literal_in (defined raw)) lits
@@ -308,7 +309,7 @@ circuit_is h raw apart resolved inputs latches order ranks is are =
         → of_parts h names n sizes ls gs ss vs ≡ of_parts h names m sizes ls' gs' ss' vs'
     parts_same h names sizes n m ls ls' gs gs' ss ss' vs vs' a b c d e = rw (a, b, c, d, e) refl
 
--- the answer where all is known: what comes of the order
+-- the answer if all is known: what comes of the order
 pub resolved_is : (h : Header) (raw : Raw) (found : Option (List ℕ)) → is_resolved raw ≡ true → ordered (gate_reads raw) ≡ found → resolve h raw ≡ circuit_in_order h (option_map (with_gates_at raw) found)
 resolved_is h raw found resolved is = cond-true _ _ _ resolved ∙ ap (λ (o : Option (List ℕ)). circuit_in_order h (option_map (with_gates_at raw) o)) is
 

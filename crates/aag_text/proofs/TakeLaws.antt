@@ -32,12 +32,12 @@ checks-fail e list value fails = Fails-same e _ _ (sym (unless-bind list value))
 
 -- ---- the symbols don't matter for the section
 
--- the next section is the same whatever symbols were read
+-- the next section doesn't depend on the symbols that were read
 pub next-without : (m : Sections) (symbols : List RawSymbol) → next_section m.header (raw_of m symbols) ≡ next_section m.header (raw_of m [])
 unfolding next_section
 next-without m symbols = refl
 
--- a list that may have grown by one, where it had room for one
+-- a list that may have grown by one, if it had room for one
 pub at-most : {X : Type 0} (grown : Bool) (xs ys : List X) (x : X) (most : ℕ) → ys ≡ cond grown (xs ++ x ∷ []) xs → length xs < most → length ys ≤ most
 at-most true xs ys x most e room = omega (arith, room, length_push xs x, ap length e)
 at-most false xs ys x most e room = omega (arith, room, ap length e)
@@ -80,7 +80,7 @@ faulty h raw at fault e item found is fails = Fails-same e _ _ (ap (take_item h 
 
 -- ---- the checks of a definition
 
--- where the checks of a definition find no fault, each is passed
+-- if the checks of a definition find no fault, each is passed
 pub definition_passes : (h : Header) (raw : Raw) (at lit : ℕ) (others : List ℕ) → Ok (tt {0}) ≡ unless (definition_checks h raw at lit others) (Ok (tt {0})) → Passes (definition_checks h raw at lit others)
 definition_passes h raw at lit others e = (unless_ok (definition_checks h raw at lit others) (Ok (tt {0})) tt (sym e)).0
 

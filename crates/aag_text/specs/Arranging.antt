@@ -8,7 +8,7 @@ use Rattle.ascii_file.specs.declared.order.reads.Reads.{Reads}
 use Rattle.file_words.specs.declared.fault.ReadError.{ReadError}
 use Rattle.file_words.specs.declared.fault.ReadError.TheVariants.{Cycle}
 
--- the gate that a literal reads, by its place in the file, where gates have the variables from this one on
+-- the gate that a literal reads, by its place in the file; variables of gates begin with this one
 abbrev pub gate_read : ℕ → ℕ → Option ℕ
 gate_read first lit = if nat_le first (variable lit) then Some (variable lit - first) else None
 
@@ -16,7 +16,7 @@ gate_read first lit = if nat_le first (variable lit) then Some (variable lit - f
 abbrev pub reads_of_gate : ℕ → Gate → Reads
 reads_of_gate first gate = record { first = gate_read first gate.rhs0; second = gate_read first gate.rhs1 }
 
--- the order, or the fault where there is none
+-- the order, or the fault if there is none
 abbrev pub order_or_cycle : Option (List ℕ) → Result (List ℕ) ReadError
 order_or_cycle None = Err Cycle
 order_or_cycle (Some order) = Ok order

@@ -10,7 +10,8 @@ use Rattle.ascii_file.specs.parts.Header.{header_row, header_with}
 use Rattle.aag_text.specs.declared.items.Items.{Items}
 use Rattle.aag_text.specs.Standing.{Hold}
 
--- the bytes are a part of the first line: whatever the rest, it makes of the line what the whole line is
+-- the bytes are a part of the first line: whatever the rest, it makes of the line what the whole
+-- line is
 pub record Awaits (line : HeaderLine) (bytes : List ℕ) : Type 0 where
   pub one_line : HasNoNewline bytes
   pub row : (rest : List ℕ) → header_with line rest ≡ header_row (codes "aag ") (bytes ++ rest)

@@ -6,7 +6,8 @@ use Rattle.ascii_file.specs.Raw.{Raw, safety_count, liveness_count}
 use Rattle.ascii_file.specs.Headers.{IsHeaderWithin}
 use Rattle.ascii_file.specs.Files.{IsInRange, DefinesApart, HasReset, NamesApart}
 
--- No section has more items than the header says, and one that defines begins where those before it that define are full.
+-- No section has more items than the header says. One that defines begins only if those before it
+-- that define are full.
 pub record IsFilling (h : Header) (raw : Raw) : Type 0 where
   pub inputs : length raw.inputs ≤ h.inputs
   pub latches : length raw.latches ≤ h.latches

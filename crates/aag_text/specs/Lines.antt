@@ -6,7 +6,8 @@ use Rattle.ascii_file.specs.parts.Symbols.{text_of, text_with}
 use Rattle.aag_text.specs.declared.lines.OpenLine.{OpenLine}
 use Rattle.aag_text.specs.declared.lines.OpenLine.TheVariants.{Numbers, Symbol, Comment}
 
--- These bytes of the line have come, where all items but symbols have been read or not: whatever the rest, it makes of the line what the whole line is.
+-- These bytes of the line have come, after all items but symbols or before. Whatever the rest, it
+-- makes of the line what the whole line is.
 abbrev pub IsOpen : OpenLine → Bool → List ℕ → Type 0
 IsOpen (Numbers line) complete begun = (complete ≡ false) × ((rest : List ℕ) → numbers_with line rest ≡ row_of (begun ++ rest))
 IsOpen (Symbol line) complete begun = (complete ≡ true) × ((rest : List ℕ) → text_with line rest ≡ text_of (begun ++ rest))

@@ -18,11 +18,11 @@ abbrev pub has_place : ℕ → Option ℕ → Bool
 has_place count None = false
 has_place count (Some p) = nat_lt p count
 
--- whether the literal is of the constant, or of a variable that has one of so many places
+-- whether the literal is of the constant, or of a variable that has one of n places
 abbrev pub is_placed : Places → ℕ → ℕ → Bool
 is_placed places count lit = (variable lit == 0) || has_place count (place_of places (variable lit))
 
--- the literal of the variable's place, counted from 1, with the same sign
+-- the literal of the variable's place, counted from 1, with the sign of this one
 abbrev pub placed : Places → ℕ → ℕ
 placed places lit = 2 * (if variable lit == 0 then 0 else 1 + unwrap_or (place_of places (variable lit)) 0) + lit % 2
 

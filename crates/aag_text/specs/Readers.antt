@@ -1,4 +1,4 @@
--- Where a reader stands.
+-- The state of a reader.
 use Rattle.std.specs.Prelude.{ℕ, ◌≡◌, List, length, Result, Ok, Err}
 use Rattle.aig_graph.specs.Circuits.{Netlist}
 use Rattle.file_words.specs.declared.fault.ReadError.{ReadError}
@@ -17,7 +17,8 @@ PhaseReads (Header line) len bytes = Awaits line bytes × (len ≡ length bytes)
 PhaseReads (Items items) len bytes = Hold items bytes × (len ≡ length bytes)
 PhaseReads (Failed fault) len bytes = ⊥
 
--- these bytes have come: they have no fault, or the reader has failed with theirs, or for want of memory
+-- these bytes have come: they have no fault, or the reader has failed with theirs, or for want of
+-- memory
 abbrev pub PhaseHolds : Phase → ℕ → List ℕ → Type 0
 PhaseHolds (Header line) len bytes = PhaseReads (Header line) len bytes
 PhaseHolds (Items items) len bytes = PhaseReads (Items items) len bytes
@@ -26,8 +27,8 @@ PhaseHolds (Failed fault) len bytes = Fails NoMemory fault (fed bytes)
 abbrev pub HasReadBytes : AagReader → List ℕ → Type 0
 HasReadBytes reader bytes = PhaseReads reader.phase reader.taken bytes
 
--- the reader was fed these bytes, in whatever pieces: it stands where they lead, or has failed with
--- their fault or for want of memory
+-- The reader was fed these bytes, in whatever pieces. Its state is that after them, or it has
+-- failed with their fault or for want of memory.
 abbrev pub Holds : AagReader → List ℕ → Type 0
 Holds reader bytes = PhaseHolds reader.phase reader.taken bytes
 

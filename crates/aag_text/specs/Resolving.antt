@@ -28,7 +28,8 @@ raw_of l symbols = record {
   symbols = symbols;
 }
 
--- what reading has established: as many items as the header says, each variable defined once, and its place, names of things of their own
+-- what reading has established: items in the header's numbers, each variable defined once, with its
+-- place, and names of things of their own
 pub record AreListsRead (l : RawLists) (symbols : List RawSymbol) : Type 0 where
   pub counted : IsCountedBy l.header (raw_of l symbols)
   pub apart : DefinesApart (raw_of l symbols)
@@ -75,7 +76,7 @@ pub record IsArranged (h : Header) (sizes : List ℕ) (p : PlacedLists) (names :
   pub are_ranks : AreRanks order ranks
   pub circuit : c ≡ arranged h sizes p names order ranks
 
--- the same, in the one order
+-- these, in the one order
 pub record IsOrdered (h : Header) (sizes : List ℕ) (p : PlacedLists) (names : Symbols) (c : Netlist) : Type 0 where
   pub order : List ℕ
   pub is_order : IsOrder (placed_reads h p) order

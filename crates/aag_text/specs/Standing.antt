@@ -1,4 +1,4 @@
--- Where the items stand that have been read.
+-- The state of the items that have been read.
 use Rattle.std.specs.Prelude.{ℕ, ◌≡◌, ◌+◌, Bool, true, false, List, [], ◌++◌, length, Result, Ok, Err}
 use Rattle.file_words.specs.declared.fault.ReadError.{ReadError}
 use Rattle.file_words.specs.declared.fault.ReadError.TheVariants.{NoMemory}
@@ -12,7 +12,7 @@ use Rattle.aag_text.specs.declared.lines.OpenLine.{OpenLine}
 use Rattle.aag_text.specs.declared.items.Items.{Items}
 use Rattle.aag_text.specs.Lines.{IsOpen, is_comment}
 
--- the state of sections with these symbols: in the comment, or at the offset where the open line begins
+-- the state of sections with these symbols: in the comment, or at the offset of the open line
 abbrev pub state_of : Sections → List RawSymbol → Bool → ℕ → State
 state_of m symbols true at = InComment m.header (raw_of m symbols)
 state_of m symbols false at = InItems m.header (raw_of m symbols) at
@@ -24,7 +24,7 @@ pub record StandAt (m : Sections) (line : OpenLine) (at : ℕ) (state : State) (
   pub is_state : state ≡ state_of m symbols (is_comment line) at
   pub is_open : IsOpen line (is_complete m.header (raw_of m symbols)) begun
 
--- the items stand where the bytes lead, which have no fault
+-- the items are in the state after the bytes, which have no fault
 pub record Hold (items : Items) (bytes : List ℕ) : Type 0 where
   pub state : State
   pub leads : fed bytes ≡ Ok state
@@ -37,7 +37,7 @@ pub record HoldBefore (items : Items) (left bytes : List ℕ) : Type 0 where
   pub parts : taken ++ left ≡ bytes
   pub hold : Hold items taken
 
--- What a function returned: Ok where P holds, or the fault that reading gives, unless memory ran out.
+-- What a function returned: Ok if P holds, or the fault that reading gives, unless memory ran out.
 abbrev pub HoldsOrFaults : {X Y : Type 0} → Type 0 → Result X ReadError → Result Y ReadError → Type 0
 HoldsOrFaults P (Ok x) read = P
 HoldsOrFaults P (Err error) read = Fails NoMemory error read
@@ -47,7 +47,7 @@ abbrev pub LeadsToStanding : {X Y : Type 0} → (Y → Type 0) → Result X Read
 LeadsToStanding {Y} Stands (Ok x) read = (y : Y) × (read ≡ Ok y) × Stands y
 LeadsToStanding Stands (Err error) read = Fails NoMemory error read
 
--- What taking the open line returned, whose bytes are these: the state after it, at which the new items stand with no byte of the next
--- line; or its fault.
+-- What taking the open line returned, whose bytes are these. It is the state after the line, in
+-- which the new items are with no byte of the next line; or its fault.
 abbrev pub TakesLine : {X : Type 0} → Items → Items → State → List ℕ → Result X ReadError → Type 0
 TakesLine old new state line result = LeadsToStanding (λ next. StandAt new.sections new.line (old.at + length line + 1) next []) result (take_line state line)

@@ -26,13 +26,14 @@ raw_of m symbols = record {
 abbrev pub ArePlacesOf : Places → List ℕ → Type 0
 ArePlacesOf places variables = (v : ℕ) → place_of places v ≡ position (λ w. w == v) variables
 
--- The items with these symbols have been read: they meet the conditions on a file so far, the places are those of the variables that they define, and the names are those of the symbols.
+-- The items with these symbols have been read. They meet the conditions on a file so far. The
+-- places are those of the variables that they define, and the names are those of the symbols.
 pub record IsAt (m : Sections) (symbols : List RawSymbol) : Type 0 where
   pub read : IsReadSoFar m.header (raw_of m symbols)
   pub places : ArePlacesOf m.places (defined (raw_of m symbols))
   pub names : AreNamesOf m.names symbols
 
--- new has what reading gives, with some symbols, under the same header
+-- new has what reading gives, with some symbols, under the header of old
 pub record GoesOn (old new : Sections) (read : Result Raw ReadError) : Type 0 where
   pub symbols : List RawSymbol
   pub header : new.header ≡ old.header

@@ -1,6 +1,6 @@
-//! The last step of reading: the lists that the sections left become a circuit. Literals are renumbered by the places of the
-//! variables that the lines define, inputs first, then latches, then gates; gates take the order in which each reads only what
-//! stands before it.
+//! The last step of reading: the lists that the sections left become a circuit. Literals are
+//! renumbered by the places of the variables that the lines define, inputs first, then latches,
+//! then gates. Gates take an order in which each reads only what stands before it.
 ghost use Rattle.std.specs.Prelude.{List, ◌≡◌, true};
 ghost use Rattle.ascii_file.specs.Raw.{RawSymbol};
 ghost use Rattle.ascii_file.specs.Reading as reading;
@@ -21,7 +21,7 @@ use aig_graph::Circuit;
 use file_words::ReadError;
 use std::alloc::Global;
 
-/// The circuit of sections that have all their items.
+/// Returns the circuit of sections that have all their items.
 pub(crate) fn resolve(alloc: Global, sections: Sections) -> Result<Circuit, ReadError>
     ensures { (symbols : List RawSymbol) → IsAt sections symbols
         → reading.is_complete sections.header (raw_of sections symbols) ≡ true

@@ -13,7 +13,7 @@ const LEAST: usize = 5;
 /// How many counts a header can have.
 const MOST: usize = 9;
 
-/// The greatest variable, and how many there are of each kind.
+/// Returns the greatest variable, and the number of items of each kind.
 fn counts(circuit: &Circuit) -> [u64; MOST]
     ensures { result ≡ header_counts circuit.now }
 {
@@ -32,7 +32,7 @@ fn counts(circuit: &Circuit) -> [u64; MOST]
     ]
 }
 
-/// How many counts there are up to the last one that isn't 0.
+/// Returns the number of counts up to the last one that isn't 0.
 fn used(counts: &[u64]) -> usize
     ensures within { result ≤ length counts.now }
     ensures used { take result counts.now ≡ without_last_zeros counts.now }
@@ -46,8 +46,8 @@ fn used(counts: &[u64]) -> usize
     used
 }
 
-/// Puts what follows the letters of the first line, with its newline. The counts of bad states, constraints, justice
-/// properties and fairness constraints stand up to the last one that isn't 0.
+/// Puts what follows the letters of the first line, with its newline. The counts of bad states,
+/// constraints, justice properties and fairness constraints stand up to the last one that isn't 0.
 pub fn put_counts<W: CountedWrite>(out: &mut Buffered<'_, W>, circuit: &Circuit)
     ensures { Puts W.output out.old out.new (line (header_row circuit.now)) }
 {

@@ -6,8 +6,8 @@ ghost use Rattle.file_words.specs.Text.{gate_row, input_rows, latch_row, numbere
 use aig_graph::{Gate, Latch, MAX_VARIABLES, Reset};
 use counted_io::{Buffered, CountedWrite};
 
-/// Puts a line for each input; their variables are the first. A header alone may announce 2^28 of them, so it ends at a write
-/// that failed.
+/// Puts a line for each input; their variables are the first. A header alone may announce 2^28 of
+/// them, so it ends at a write that failed.
 pub(crate) fn put_inputs<W: CountedWrite>(out: &mut Buffered<'_, W>, inputs: u32)
     ensures { Puts W.output out.old out.new (input_rows inputs) }
 {

@@ -6,7 +6,8 @@ use ascii_file::HeaderLine;
 use file_words::{ReadError, cut};
 use std::alloc::Global;
 
-/// Takes the next bytes, which end at the offset, where the first line is open: the items, where these bytes end it.
+/// Takes the next bytes of an open first line; they end at offset `end`. Returns the items if these
+/// bytes end the line.
 pub(crate) fn begin(
     alloc: Global,
     line: &mut HeaderLine,

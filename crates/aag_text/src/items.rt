@@ -1,9 +1,11 @@
-//! What is held between two pieces of an ASCII file: the items of the lines that have ended, and how far the open line has come.
+//! The state between two pieces of an ASCII file: the items of the lines that have ended, and the
+//! open line.
 //!
 //!     line of numbers ──newline──► next line, of the section that isn't full
 //!     line after the gates ──newline──► next line, or comment          comment stays
 //!
-//! The open line is taken out by value while it is taken, and `Comment` stands in its place, since it owns nothing.
+//! The open line is taken out by value, and `Comment` stands in its place until then, since it owns
+//! nothing.
 ghost use Rattle.std.specs.Prelude.{ℕ, List, ◌≡◌, Bool, true};
 ghost use Rattle.ascii_file.specs.Raw.{RawSymbol};
 ghost use Rattle.ascii_file.specs.Reading as reading;
@@ -27,7 +29,7 @@ pub(crate) struct Items {
     alloc: Global,
     sections: Sections,
     line: OpenLine,
-    /// Where the open line begins.
+    /// The offset at which the open line begins.
     at: u64,
 }
 
@@ -45,7 +47,7 @@ impl Items {
     ghost use Rattle.aag_text.specs.Taking.{raw_of, IsAt};
     ghost use Rattle.aag_text.specs.Standing.{StandAt, TakesLine, HoldsOrFaults, Hold};
 
-    /// The items after a header, whose first line begins at the offset. Takes no memory.
+    /// Returns the items after a header. Their first line begins at offset `at`. Takes no memory.
     pub(crate) fn new(alloc: Global, header: Header, at: u64) -> Items
         requires { IsHeaderWithin header }
         ensures at { result.at ≡ at }
@@ -79,7 +81,7 @@ impl Items {
         Ok(())
     }
 
-    /// The circuit of the items, which end at the offset.
+    /// Returns the circuit of the items, which end at offset `end`.
     pub(crate) fn finish(self, end: u64) -> Result<Circuit, ReadError>
         ensures { (bytes : List ℕ) → Hold self bytes → length bytes ≡ end
             → Gives NoMemory (λ circuit. circuit) result (reading.read_bytes bytes) }
@@ -102,7 +104,8 @@ impl Items {
         close(alloc, sections, end)
     }
 
-    /// Takes the open line, of which all bytes have come, and opens the next. After an `Err` the items are of no more use.
+    /// Takes the open line, of which all bytes have come, and opens the next. After an `Err` the
+    /// items are of no more use.
     fn take_line(&mut self) -> Result<(), ReadError>
         ensures { (state : reading.State) (line : List ℕ)
             → StandAt self.old.sections self.old.line self.old.at state line
@@ -146,7 +149,7 @@ impl Items {
     }
 }
 
-/// The circuit of the items that have been read, at the end of the file.
+/// Returns the circuit of the items that have been read, at the end of the file.
 pub(crate) fn close(alloc: Global, sections: Sections, end: u64) -> Result<Circuit, ReadError>
     ensures { (symbols : List RawSymbol) (in_comment : Bool) (at : ℕ) → IsAt sections symbols
         → (in_comment ≡ true → reading.is_complete sections.header (raw_of sections symbols) ≡ true)

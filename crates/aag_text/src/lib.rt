@@ -1,8 +1,9 @@
-//! Circuits in ASCII: the reader, whole or in pieces (of a line that is open only its numbers are held, or the name of a symbol), the
-//! writer, the faults, counted readers and writers, and the laws of what a file is.
+//! Circuits in ASCII: the reader, whole or in pieces, the writer, the faults, counted readers and
+//! writers, and the laws of what a file is. Of an open line the reader holds only its numbers, or
+//! the name of a symbol.
 //!
-//! The writer goes through a buffer that takes no memory. The parts that the binary form has in common with it (counts, properties, symbols) are
-//! for its writer too.
+//! The writer goes through a buffer that takes no memory. The binary writer has some parts in
+//! common with it: counts, properties, symbols.
 #![tactic(auto)]
 
 mod circuit;

@@ -35,7 +35,7 @@ impl OpenLine {
     }
 }
 
-/// A line of the section, of which no byte has come.
+/// Returns a line of the section, of which no byte has come.
 pub(crate) fn line_of(alloc: Global, section: Section) -> OpenLine
     ensures opens { IsOpen result (is_symbols section) [] }
     ensures item { is_comment result ≡ false }

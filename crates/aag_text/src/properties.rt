@@ -33,7 +33,8 @@ fn put_justice<W: CountedWrite>(out: &mut Buffered<'_, W>, justice: &[Sequence<L
     }
 }
 
-/// Puts the lines of all properties: outputs, bad states, constraints, sizes and literals of justice, fairness.
+/// Puts the lines of all properties: outputs, bad states, constraints, sizes and literals of
+/// justice, fairness.
 pub fn put_properties<W: CountedWrite>(out: &mut Buffered<'_, W>, props: &Props)
     ensures { Puts W.output out.old out.new (property_rows props.now) }
 {

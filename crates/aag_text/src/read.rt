@@ -9,8 +9,9 @@ use aig_graph::Circuit;
 use file_words::ReadError;
 use std::alloc::Global;
 
-/// Reads the circuit that an ASCII file stands for, with its gates in order. Inputs, latches and gates get new variables in
-/// this order. The time is linear in the bytes, and memory in the items that were read; the bytes aren't copied.
+/// Reads the circuit of an ASCII file, with its gates in order. Inputs, latches and gates get new
+/// variables in this order. The time is linear in the bytes, and memory in the items that were
+/// read; the bytes aren't copied.
 ///
 /// # Errors
 ///
@@ -31,7 +32,7 @@ fn read(alloc: Global, bytes: &[u8]) -> Result<Circuit, ReadError>
     circuit
 }
 
-/// The circuit of a file that ends with these bytes.
+/// Returns the circuit of a file that ends with these bytes.
 fn read_rest(reader: &mut AagReader, bytes: &[u8]) -> Result<Circuit, ReadError>
     ensures { (before : List ℕ) → Holds reader.old before
         → Gives NoMemory (λ circuit. circuit) result (reading.read_bytes (before ++ bytes.now)) }

@@ -27,7 +27,8 @@ pub(crate) enum Phase {
     Failed(ReadError),
 }
 
-/// A reader of an ASCII file that comes in pieces, however cut. Of the bytes it keeps the names of symbols alone.
+/// A reader of an ASCII file that comes in pieces, however cut. Of the bytes it keeps the names of
+/// symbols alone.
 pub struct AagReader {
     alloc: Global,
     phase: Phase,
@@ -56,7 +57,7 @@ impl AagReader {
     ghost use Rattle.aag_text.specs.Standing.{HoldsOrFaults};
     ghost use Rattle.aag_text.specs.Readers.{HasReadBytes, Holds, standing, after_finish};
 
-    /// A reader to which no byte has come. Takes no memory.
+    /// Returns a reader to which no byte has come. Takes no memory.
     pub fn new(alloc: Global) -> AagReader
         ensures holds { Holds result [] }
         ensures standing { standing result ≡ Ok tt }
@@ -72,8 +73,9 @@ impl AagReader {
     ///
     /// # Errors
     ///
-    /// The first fault of the bytes so far, with its offset from the first piece on, and then each further call answers
-    /// that same one; or `NoMemory`, also where the pieces come to `2^64` bytes, since no offset is that great.
+    /// The first fault of the bytes so far, with its offset from the first piece on; each further
+    /// call then answers that fault. `NoMemory` if memory is refused, and if the pieces come to
+    /// `2^64` bytes, since no offset is that great.
     pub fn feed(&mut self, piece: &[u8]) -> Result<(), ReadError>
         ensures holds { (bytes : List ℕ) → Holds self.old bytes
             → Holds self.new (bytes ++ piece.now) }
@@ -90,12 +92,12 @@ impl AagReader {
         answer
     }
 
-    /// The circuit of all bytes that have come.
+    /// Returns the circuit of all bytes that have come.
     ///
     /// # Errors
     ///
-    /// The first fault of the bytes, or `NoMemory`, and then each further call answers that same one. After a circuit each
-    /// further call answers `BadHeader` at 0.
+    /// The first fault of the bytes, or `NoMemory`; each further call then answers that error.
+    /// After a circuit each further call answers `BadHeader` at 0.
     pub fn finish(&mut self) -> Result<Circuit, ReadError>
         ensures gives { (bytes : List ℕ) → Holds self.old bytes
             → Gives NoMemory (λ circuit. circuit) result (reading.read_bytes bytes) }
@@ -146,7 +148,7 @@ impl AagReader {
     }
 }
 
-/// How many bytes have come with this piece.
+/// Returns the number of bytes that have come with this piece.
 fn joined_len(taken: u64, piece: &[u8]) -> Result<u64, ReadError>
     ensures { MatchResult result (λ len. len ≡ taken + length piece.now)
         (λ error. error ≡ NoMemory) }
@@ -157,7 +159,7 @@ fn joined_len(taken: u64, piece: &[u8]) -> Result<u64, ReadError>
     }
 }
 
-/// The circuit of a file of this length that has come so far.
+/// Returns the circuit of a file of this length that has come so far.
 fn end(alloc: Global, phase: Phase, len: u64) -> Result<Circuit, ReadError>
     ensures gives { (bytes : List ℕ) → PhaseHolds phase len bytes
         → Gives NoMemory (λ circuit. circuit) result (reading.read_bytes bytes) }

@@ -1,6 +1,6 @@
-//! Items line by line. Which section a line is of follows from the header's numbers and from what has come. The checks of a line
-//! stand in the order in which their faults are named, and no later line changes one: so the first fault of the file is the one
-//! that is met first.
+//! Items line by line. The section of a line follows from the header's numbers and from what has
+//! come. The checks of a line stand in the order in which their faults are named, and no later line
+//! changes one. So the first fault of the file is the one that is met first.
 ghost use Rattle.std.specs.Prelude.{◌≤◌, length};
 ghost use Rattle.ascii_file.specs.Headers.{IsHeaderWithin};
 
@@ -17,8 +17,9 @@ use std::alloc::{AllocError, Global};
 /// The greatest number of literals that all justice properties have together.
 const MAX_JUSTICE_LITERALS: u64 = 1 << 24;
 
-/// What the lines of an ASCII file have given so far, in the file's own literals. Room grows with the items that have come,
-/// whatever the header counts. After an `Err` the sections are of no more use.
+/// The items that the lines of an ASCII file have given so far, in the file's own literals. Room
+/// grows with the items that have come, whatever the header counts. After an `Err` the sections are
+/// of no more use.
 #[derive(Drop)]
 pub struct Sections {
     pub header: Header,
@@ -53,7 +54,7 @@ impl Sections {
     ghost use Rattle.aag_text.specs.Items.{item_of_numbers};
     ghost use Rattle.aag_text.specs.Taking.{raw_of, ArePlacesOf, IsAt, Takes};
 
-    /// No item. Takes no memory.
+    /// Returns sections of no item. Takes no memory.
     pub fn new(alloc: Global, header: Header) -> Sections
         requires { IsHeaderWithin header }
         ensures header { result.header ≡ header }
@@ -71,7 +72,7 @@ impl Sections {
         }
     }
 
-    /// The section of the next item: the first that has fewer items than the header says.
+    /// Returns the section of the next item: the first that has fewer items than the header says.
     pub fn section(&self) -> Section
         ensures { (symbols : List RawSymbol) → result
             ≡ reading.next_section self.now.header (raw_of self.now symbols) }
@@ -96,7 +97,7 @@ impl Sections {
         }
     }
 
-    /// Whether all items but symbols have come.
+    /// Returns true if all items but symbols have come.
     pub fn is_complete(&self) -> bool
         ensures value { (symbols : List RawSymbol) → result
             ≡ reading.is_complete self.now.header (raw_of self.now symbols) }
@@ -106,8 +107,9 @@ impl Sections {
         matches!(self.section(), Section::Symbols)
     }
 
-    /// Takes the next line, of a section before the symbols, by its numbers: `None` where it isn't at most nine numbers with
-    /// one space between, and a number past 32 bits as `u32::MAX`. The line begins at the offset.
+    /// Takes the next line, of a section before the symbols, by its numbers; it begins at offset
+    /// `at`. The numbers are `None` unless the line is at most nine numbers with one space between.
+    /// A number past 32 bits is `u32::MAX`.
     ///
     /// # Errors
     ///
@@ -133,8 +135,8 @@ impl Sections {
         }
     }
 
-    /// Takes the next line, after the gates, by what it is: a symbol, or none. One that begins the comment isn't for this
-    /// call, which then takes nothing.
+    /// Takes the next line, after the gates, by its reading: a symbol, or none. One that begins the
+    /// comment isn't for this call, which then takes nothing.
     ///
     /// # Errors
     ///
@@ -285,7 +287,7 @@ impl Sections {
         }
     }
 
-    /// The checks of a line that defines the literal and reads the others.
+    /// Checks a line that defines the literal and reads the others.
     fn check_definition(&self, at: u64, lit: u32, others: &[u32]) -> Result<(), ReadError>
         ensures checks { (symbols : List RawSymbol) → IsAt self.now symbols
             → result ≡ reading.unless

@@ -25,7 +25,8 @@ fn put_kind<W: CountedWrite>(out: &mut Buffered<'_, W>, letter: u8, symbols: &[S
     }
 }
 
-/// Puts the symbols of all kinds: inputs, latches, outputs, bad states, constraints, justice, fairness.
+/// Puts the symbols of all kinds: inputs, latches, outputs, bad states, constraints, justice,
+/// fairness.
 pub fn put_symbols<W: CountedWrite>(out: &mut Buffered<'_, W>, symbols: &Symbols)
     ensures { Puts W.output out.old out.new (all_symbols symbols.now) }
 {

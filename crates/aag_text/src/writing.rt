@@ -31,7 +31,8 @@ fn put_text<W: CountedWrite>(out: &mut Buffered<'_, W>, circuit: &Circuit)
 ///
 /// # Errors
 ///
-/// `Device` where a write failed: a beginning of the text was written then, and the writer isn't called again.
+/// `Device` if a write failed: a beginning of the text was written then, and the writer isn't
+/// called again.
 pub fn write_aag<W: CountedWrite>(circuit: &Circuit, writer: &mut W) -> Result<(), WriteError>
     ensures { Writes (W.output writer.old) (W.output writer.new) result (text circuit.now) }
 {

@@ -18,7 +18,7 @@ use Rattle.aig_binary.specs.Fed.{ascii_fed, binary_fed, fed_in, fed_any}
 use Rattle.file_words.proofs.AnsweringLaws.{Fails-bind}
 use Rattle.aig_binary.proofs.LetterLaws.{none_short}
 
--- a reading without a fault is none where its value is dropped
+-- a reading without a fault is none if its value is dropped
 pub ok_then : {X : Type 0} (read : Result X ReadError) → IsOk read → ◌≡◌ {A = Result (Unit {0}) ReadError} (read >>= λ x. Ok tt) (Ok tt)
 ok_then (Ok x) is = refl
 ok_then (Err e) is = absurd cc

@@ -35,7 +35,7 @@ fault-of-bytes s t u read e before fails rest = record {
   of_bytes = fails.of_bytes;
 }
 
--- where all bytes that were left were read, the reader was read to its end
+-- if all bytes that were left were read, the reader was read to its end
 pub all-to-end : (s u : Input) (read : List ℕ) → ReadsAll s u read → ReadsToEnd s u
 all-to-end s u read all = record { bytes = λ left e. (all.bytes left e).1; failures = all.failures }
 
@@ -48,7 +48,8 @@ finish-error s u read e all (inr fails) = inr (inr (record {
   of_bytes = fails.of_bytes;
 }))
 
--- the circuit of all bytes that were read, with their spelling, is what the bytes that were left spell
+-- the circuit of all bytes that were read, with their spelling, is what the bytes that were left
+-- spell
 pub spelt-all : (s u : Input) (read : List ℕ) (spelt : SpeltCircuit) → ReadsAll s u read → read_any read ≡ Ok spelt.circuit → spelling_of read ≡ Some spelt.spelling → Spells s spelt
 spelt-all s u read spelt all circuit spelling = record {
   circuit = record { bytes = λ left h. ap read_any (sym (all.bytes left h).0) ∙ circuit };

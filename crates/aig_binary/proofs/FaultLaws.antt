@@ -84,7 +84,7 @@ pub feed_error : (result : Result (Unit {0}) ReadError) (bytes : List ℕ) → G
 feed_error (Ok u) bytes gives = tt
 feed_error (Err e) bytes gives = feed_fails bytes e gives
 
--- an error that finishing gives is memory's, or a fault of the bytes where nothing follows
+-- an error that finishing gives is memory's, or a fault of the bytes if nothing follows
 pub finish_error : (result : Result Netlist ReadError) (bytes : List ℕ) → Gives NoMemory (λ c. c) result (read_any bytes) → IfErr result (IsFinishError bytes)
 finish_error (Ok c) bytes gives = tt
 finish_error (Err e) bytes gives = finish_fails bytes e gives

@@ -22,7 +22,7 @@ numbered-more f first xs k x h there =
     ∙ ap (λ ys. numbered_lines f first (take k xs) ++ ys) (append-nil (f (first + k) x))
 
 module _ {W : Type 0} {output : W → Output} where
-  -- where the deltas that waited were put, none wait
+  -- if the deltas that waited were put, none wait
   pub keeps-put : {b c : Buffered W} (waited : List ℕ) → Puts output b c waited → KeepsText output b waited c []
   keeps-put waited put end more after = puts-then put after
 

@@ -16,12 +16,12 @@ pub same_grown : (items : List Item) (raw : Raw) → with_items raw items ≡ fo
 same_grown [] raw = refl
 same_grown (item ∷ items) raw = same_grown items (with_item raw item)
 
--- A section whose items have these bytes: where one fits after those before it, it is spelt.
+-- A section whose items have these bytes: if one fits after those before it, it is spelt.
 module _ (h : Header) (X : Type 0) (section : Section) (count : ℕ) (make : X → Item) (state : List X → Raw) (bytes_of : X → List ℕ) (Fit : List X → X → Type 0)
     (here : (xs : List X) → length xs < count → next_section h (state xs) ≡ section)
     (grows : (xs : List X) (x : X) → with_item (state xs) (make x) ≡ state (xs ++ x ∷ []))
     (one : (xs : List X) (x : X) (rest : List ℕ) → next_section h (state xs) ≡ section → Fit xs x → IsItem h (state xs) (make x) (bytes_of x ++ rest) rest) where
-  -- where each item of a section fits after those before it, the section's bytes spell the items
+  -- if each item of a section fits after those before it, the section's bytes spell the items
   pub section_spelt : (ys xs : List X) (items : List Item) (rest : List ℕ) → length xs + length ys ≤ count → AllFollow Fit xs ys → AreItems h (state (xs ++ ys)) items rest
       → AreItems h (state xs) (map make ys ++ items) (flat_map bytes_of ys ++ rest)
   section_spelt [] xs items rest room fit later = subst (λ (zs : List X). AreItems h (state zs) items rest) (append-nil xs) later

@@ -8,7 +8,7 @@ use Rattle.aig_binary.specs.Spellings.{spelling_of}
 
 -- ---- three bytes
 
--- where the first three are fewer, they are all
+-- if the first three are fewer, they are all
 pub short_whole : (xs : List ℕ) → length (take 3 xs) < 3 → (take 3 xs ≡ xs) × (length xs < 3)
 short_whole [] few = (refl, omega arith)
 short_whole (a ∷ []) few = (refl, omega arith)
@@ -42,7 +42,7 @@ three_at_most (a ∷ []) = omega arith
 three_at_most (a ∷ b ∷ []) = omega arith
 three_at_most (a ∷ b ∷ d ∷ xs) = omega arith
 
--- where the first three bytes are three, there are more than two
+-- if the first three bytes are three, there are more than two
 pub three_many : (xs : List ℕ) → 3 ≤ length (take 3 xs) → 2 < length xs
 three_many [] many = absurd (omega (arith, many))
 three_many (a ∷ []) many = absurd (omega (arith, many))
@@ -56,7 +56,7 @@ taken_twice (a ∷ []) more = refl
 taken_twice (a ∷ b ∷ []) more = refl
 taken_twice (a ∷ b ∷ d ∷ xs) more = refl
 
--- one byte more, where there is room
+-- one byte more, if there is room
 pub letters_next : (old bytes items : List ℕ) (k x : ℕ) → items ≡ take 3 (old ++ take k bytes) → length items < 3 → k < length bytes → x ≡ get_or bytes k x → items ++ x ∷ [] ≡ take 3 (old ++ take (k + 1) bytes)
 letters_next old bytes items k x are room within here =
     let whole = short_whole (old ++ take k bytes) (subst (λ (l : List ℕ). length l < 3) are room) in
@@ -64,7 +64,7 @@ letters_next old bytes items k x are room within here =
     ap (λ (l : List ℕ). l ++ x ∷ []) (are ∙ whole.0) ∙ sym (push_short (old ++ take k bytes) x whole.1)
     ∙ ap (take 3) (append_assoc old (take k bytes) (x ∷ []) ∙ ap (λ (l : List ℕ). old ++ l) (sym one_more))
 
--- where there is no room, the rest changes nothing
+-- if there is no room, the rest changes nothing
 pub letters_full : (old bytes items : List ℕ) (k : ℕ) → items ≡ take 3 (old ++ take k bytes) → 3 ≤ length items → items ≡ take 3 (old ++ bytes)
 letters_full old bytes items k are full =
     are ∙ sym (full_stays (old ++ take k bytes) (drop k bytes) (subst (λ (l : List ℕ). 3 ≤ length l) are full))

@@ -112,7 +112,7 @@ pub record IsNextGate (h : Header) (raw : Raw) (gate : RawGate) : Type 0 where
   -- its literal is below 2^35
   pub small : gate.lhs < 2 ^ 35
 
--- so many bytes at most
+-- n bytes at most
 length-within : (more n : ℕ) → length (bytes_within more n) ≤ more + 1
 unfolding bytes_within
 length-within zero n = omega arith

@@ -142,7 +142,7 @@ names-are kind (x ∷ symbols) names all named =
     names-are kind symbols (with_symbol kind names x) all.1
     (cond_both (nat_eq (kind_number x.kind) (kind_number kind)) (with_name names own) names AreOneLine (λ e. with_name-is names own named (All-from_recursion (λ b. b ≢ 10) x.name all.0)) (λ e. named))
 
--- where no symbol's name has a newline, no name of the circuit has one
+-- if no symbol's name has a newline, no name of the circuit has one
 pub symbols-are : (symbols : List RawSymbol) → AreLineNames symbols → AreOneLine (all_names (symbols_of symbols))
 unfolding symbols_of
 symbols-are symbols all =

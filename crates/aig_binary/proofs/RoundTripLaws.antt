@@ -1,4 +1,5 @@
--- The binary text of a circuit is a file of the raw circuit by its own literals, so it is read as that circuit.
+-- The binary text of a circuit is a file of the raw circuit by its own literals, so it is read as
+-- that circuit.
 use Rattle.std.proofs.Common.{ℕ, ◌+◌, ◌≤◌, ◌≡◌, List, [], ◌∷◌, ◌++◌, map, Some, Ok, true, refl, sym, ap, ap₂, subst, ◌∙◌, append_assoc, arith, codes}
 use Rattle.std.specs.List.{flat_map, enumerate_from}
 use Rattle.aig_graph.specs.declared.graph.Gate.{Gate}

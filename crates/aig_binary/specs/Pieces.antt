@@ -10,7 +10,7 @@ pub record FailsFrom (bytes : List ℕ) (e : ReadError) : Type 0 where
   pub of_bytes : is_fault_of_bytes e ≡ true
   pub fault : (rest : List ℕ) → read_any (bytes ++ rest) ≡ Err e
 
--- the bytes have this fault, where nothing follows them
+-- the bytes have this fault if nothing follows them
 pub record FailsAtEnd (bytes : List ℕ) (e : ReadError) : Type 0 where
   pub of_bytes : is_fault_of_bytes e ≡ true
   pub fault : read_any bytes ≡ Err e

@@ -1,4 +1,4 @@
--- Where a reader of either spelling stands.
+-- The state of a reader of either spelling.
 use Rattle.std.specs.Prelude.{ℕ, ◌≡◌, ◌<◌, List, length, Option, Some, None, Result, Ok, Err}
 use Rattle.file_words.specs.declared.fault.ReadError.{ReadError}
 use Rattle.file_words.specs.declared.fault.ReadError.TheVariants.{BadHeader}
@@ -11,7 +11,8 @@ use Rattle.aig_binary.specs.declared.any_reader.AnyReader.{AnyReader}
 use Rattle.aig_binary.specs.declared.any_reader.Phase.{Phase}
 use Rattle.aig_binary.specs.declared.any_reader.Phase.TheVariants.{Letters, InAscii, InBinary, Neither}
 
--- these bytes have come: fewer than three, or such as the reader of their spelling holds, or neither spelling's
+-- these bytes have come: fewer than three, or such as the reader of their spelling holds, or
+-- neither spelling's
 abbrev pub PhaseHoldsEither : Phase → List ℕ → Type 0
 PhaseHoldsEither (Letters letters) bytes = (letters.items ≡ bytes) × (length bytes < 3)
 PhaseHoldsEither (InAscii reader) bytes = (spelling_of bytes ≡ Some Ascii) × ascii.Holds reader bytes
@@ -27,7 +28,7 @@ abbrev pub fault_in : Result (Unit {0}) ReadError → Option ReadError
 fault_in (Ok x) = None
 fault_in (Err fault) = Some fault
 
--- what each further call answers, where the file has a fault, or has ended
+-- the answer of each further call, if the file has a fault, or has ended
 abbrev pub phase_fault : Phase → Option ReadError
 phase_fault (Letters letters) = None
 phase_fault (InAscii reader) = fault_in (ascii.standing reader)

@@ -23,7 +23,8 @@ pub(crate) enum Phase {
     Neither,
 }
 
-/// A reader of a file of either spelling that comes in pieces, however cut. The first three bytes say which it is.
+/// A reader of a file of either spelling that comes in pieces, however cut. The first three bytes
+/// say which it is.
 pub struct AnyReader {
     alloc: Global,
     phase: Phase,
@@ -48,7 +49,7 @@ impl AnyReader {
     ghost use Rattle.aig_binary.specs.Fed.{fed_any};
     ghost use Rattle.aig_binary.specs.Readers.{HoldsEither, fault_of_either, spelling_read};
 
-    /// A reader to which no byte has come. Takes no memory.
+    /// Returns a reader to which no byte has come. Takes no memory.
     pub fn new(alloc: Global) -> AnyReader
         ensures holds { HoldsEither result [] }
         ensures sound { fault_of_either result ≡ None }
@@ -59,8 +60,8 @@ impl AnyReader {
         }
     }
 
-    /// The spelling that the first three bytes have named; `None` before the third, or where they are neither's. Takes no
-    /// memory, and answers the same after the end of the file.
+    /// Returns the spelling that the first three bytes have named. Gives `None` before the third,
+    /// or if they are neither's. Takes no memory, and its answer stays after the end of the file.
     pub fn spelling(&self) -> Option<Spelling>
         ensures read { result ≡ spelling_read self.now }
         ensures named { (bytes : List ℕ) → HoldsEither self.now bytes → result ≡ spelling_of bytes }
@@ -72,12 +73,14 @@ impl AnyReader {
         }
     }
 
-    /// Takes the next bytes. The fault of a line or delta is answered by the call that brings its last byte.
+    /// Takes the next bytes. The fault of a line or delta is answered by the call that brings its
+    /// last byte.
     ///
     /// # Errors
     ///
-    /// `BadHeader` at 0 with the third byte, where the first three are neither spelling's; else the first fault of the
-    /// bytes so far, with its offset from the first piece on, or `NoMemory`. Then each further call answers that same one.
+    /// `BadHeader` at 0 with the third byte, if the first three are neither spelling's. Otherwise
+    /// the first fault of the bytes so far, with its offset from the first piece on, or `NoMemory`.
+    /// Each further call then answers that error.
     pub fn feed(&mut self, piece: &[u8]) -> Result<(), ReadError>
         ensures holds { (bytes : List ℕ) → HoldsEither self.old bytes
             → HoldsEither self.new (bytes ++ piece.now) }
@@ -98,12 +101,12 @@ impl AnyReader {
         }
     }
 
-    /// The circuit of all bytes that have come.
+    /// Returns the circuit of all bytes that have come.
     ///
     /// # Errors
     ///
-    /// The first fault of the bytes, or `NoMemory`, and then each further call answers that same one. After a circuit each
-    /// further call answers `BadHeader` at 0.
+    /// The first fault of the bytes, or `NoMemory`; each further call then answers that error.
+    /// After a circuit each further call answers `BadHeader` at 0.
     pub fn finish(&mut self) -> Result<Circuit, ReadError>
         ensures gives { (bytes : List ℕ) → HoldsEither self.old bytes
             → Gives NoMemory (λ circuit. circuit) result (read_any bytes) }

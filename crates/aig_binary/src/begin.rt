@@ -21,7 +21,8 @@ pub(crate) struct Begun {
     pub answer: Result<(), ReadError>,
 }
 
-/// The letters go to the reader as they came: if they ran it out of memory, it answers that again with the piece.
+/// Begins with an ASCII reader. The letters go to it as they came: if they ran it out of memory, it
+/// answers that again with the piece.
 fn begin_ascii(alloc: Global, begun: &[u8], piece: &[u8]) -> Begun
     requires { spelling_of (begun.now ++ piece.now) ≡ Some Ascii }
     ensures holds { PhaseHoldsEither result.phase (begun.now ++ piece.now) }

@@ -3,7 +3,8 @@ ghost use Rattle.aig_binary.specs.Spellings.{spelling_of};
 
 use file_words::Spelling;
 
-/// The spelling that the first three bytes name; `None` where they are neither's, or fewer than three. Takes no memory.
+/// Returns the spelling that the first three bytes name, or `None` if they are neither's, or fewer
+/// than three. Takes no memory.
 pub fn spelling(bytes: &[u8]) -> Option<Spelling>
     ensures { result ≡ spelling_of bytes.now }
 {

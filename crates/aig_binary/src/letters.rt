@@ -21,7 +21,8 @@ fn append(letters: &mut Letters, bytes: &[u8])
     }
 }
 
-/// The first three of the bytes that have begun and those of the next piece, or all of them.
+/// Returns the first three of the bytes that have begun and those of the next piece, or all of
+/// them.
 pub(crate) fn first_letters(begun: &[u8], piece: &[u8]) -> Letters
     ensures { result.items ≡ take 3 (begun.now ++ piece.now) }
 {

@@ -1,6 +1,7 @@
-//! Circuits of either spelling: which one bytes have, what is read of them, and the text of a circuit in either. They are read
-//! whole, in pieces, or from a reader with no copy of its bytes kept (to their end also where they have a fault). And what
-//! binary files alone need: their text is written here, through a buffer that takes no memory.
+//! Circuits of either spelling: the spelling of bytes, the circuit that is read of them, and the
+//! text of a circuit in either. They are read whole, in pieces, or from a reader with no copy of
+//! its bytes kept. A reader is read to its end also after a fault. Binary text is written here,
+//! through a buffer that takes no memory.
 #![tactic(auto)]
 
 mod any_reader;

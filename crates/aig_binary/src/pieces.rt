@@ -14,25 +14,25 @@ pub trait CircuitReader {
     ///
     /// # Errors
     ///
-    /// The fault that the bytes have so far, whatever follows; `NoMemory` where memory is refused.
+    /// The fault that the bytes have so far, whatever follows; `NoMemory` if memory is refused.
     fn feed(&mut self, piece: &[u8]) -> Result<(), ReadError>
         ensures held { (bytes : List ℕ) → holds self.old bytes
             → OnOk result (holds self.new (bytes ++ piece.now)) }
         ensures err { (bytes : List ℕ) → holds self.old bytes
             → IfErr result (IsFeedError (bytes ++ piece.now)) };
 
-    /// The circuit of the bytes, of which there are no more.
+    /// Returns the circuit of the bytes, of which there are no more.
     ///
     /// # Errors
     ///
-    /// The fault of the bytes; `NoMemory` where memory is refused.
+    /// The fault of the bytes; `NoMemory` if memory is refused.
     fn finish(&mut self) -> Result<Circuit, ReadError>
         ensures ok { (bytes : List ℕ) → holds self.old bytes
             → IfOk result (λ circuit. read_any bytes ≡ Ok circuit) }
         ensures err { (bytes : List ℕ) → holds self.old bytes
             → IfErr result (IsFinishError bytes) };
 
-    /// The spelling that the first three bytes tell.
+    /// Returns the spelling that the first three bytes tell.
     fn spelling(&self) -> Option<Spelling>
         ensures { (bytes : List ℕ) → holds self.now bytes → result ≡ spelling_of bytes };
 }

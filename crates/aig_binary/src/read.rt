@@ -9,12 +9,12 @@ use aig_graph::Circuit;
 use file_words::ReadError;
 use std::alloc::Global;
 
-/// The circuit of a file of either spelling, all of whose bytes are there.
+/// Reads the circuit of a file of either spelling, all of whose bytes are there.
 ///
 /// # Errors
 ///
-/// `BadHeader` at 0 where the first three bytes are neither spelling's; else the first fault of the bytes, or `NoMemory`,
-/// which may come before it. Never `Device`.
+/// `BadHeader` at 0 if the first three bytes are neither spelling's. Otherwise the first fault of
+/// the bytes, or `NoMemory`, which may come before it. Never `Device`.
 pub fn read_any(alloc: Global, bytes: &[u8]) -> Result<Circuit, ReadError>
     ensures ok { IfOk result (λ circuit. read_any bytes.now ≡ Ok circuit) }
     ensures err { IfErr result (λ error. (error ≡ NoMemory) ⊎ (read_any bytes.now ≡ Err error)) }
@@ -32,7 +32,7 @@ fn read(alloc: Global, bytes: &[u8]) -> Result<Circuit, ReadError>
     circuit
 }
 
-/// The circuit of a file that ends with these bytes.
+/// Returns the circuit of a file that ends with these bytes.
 fn read_rest(reader: &mut AnyReader, bytes: &[u8]) -> Result<Circuit, ReadError>
     ensures { (before : List ℕ) → HoldsEither reader.old before
         → Gives NoMemory (λ circuit. circuit) result (read_any (before ++ bytes.now)) }

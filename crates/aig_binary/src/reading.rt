@@ -16,7 +16,7 @@ pub struct SpeltCircuit {
     pub spelling: Spelling,
 }
 
-/// The circuit of the bytes that were fed, of which there are no more.
+/// Returns the circuit of the bytes that were fed, of which there are no more.
 fn finished<C: CircuitReader>(circuits: &mut C) -> Result<SpeltCircuit, ReadError>
     requires { (bytes : List ℕ) × C.holds circuits.old bytes }
     ensures ok { (bytes : List ℕ) → C.holds circuits.old bytes
@@ -34,12 +34,14 @@ fn finished<C: CircuitReader>(circuits: &mut C) -> Result<SpeltCircuit, ReadErro
     }
 }
 
-/// Feeds all bytes that a reader has left to a reader of circuits, in pieces of at most 65536 bytes, and returns the circuit.
+/// Feeds all bytes that a reader has left to a reader of circuits, in pieces of at most 65536
+/// bytes, and returns the circuit.
 ///
 /// # Errors
 ///
-/// `Device` where a read failed, and `NoMemory` where memory ran out: the reading ends there. Else the fault of the bytes, which
-/// are read to their end also after it. More than 2^64 - 2 pieces are refused as `NoMemory`.
+/// `Device` if a read failed, and `NoMemory` if memory ran out: the reading ends there. Otherwise
+/// the fault of the bytes, which are read to their end also after it. More than 2^64 - 2 pieces are
+/// refused as `NoMemory`.
 pub fn read_circuit<R: CountedRead, C: CircuitReader>(
     reader: &mut R,
     circuits: &mut C,

@@ -7,11 +7,13 @@ use aig_graph::Circuit;
 use counted_io::{CountedWrite, WriteError};
 use file_words::Spelling;
 
-/// Writes the circuit's text in the spelling. Takes no memory, and calls the writer about once for each 8 KiB of text.
+/// Writes the circuit's text in the spelling. Takes no memory, and calls the writer about once for
+/// each 8 KiB of text.
 ///
 /// # Errors
 ///
-/// `Device` where a write failed: a beginning of the text was written then, and the writer isn't called again.
+/// `Device` if a write failed: a beginning of the text was written then, and the writer isn't
+/// called again.
 pub fn write<W: CountedWrite>(
     circuit: &Circuit,
     spelling: Spelling,

@@ -71,7 +71,8 @@ module _ (c : Netlist) (held s : List ℕ) (inside marks : List Bool)
       ap₂ (λ (a b : Bool). a && ((is_some (gate_at c.aig v) && b) || is_known (latch_at c.aig v))) (here ∙ ap (λ (b : Bool). b || is_held c.aig held v) read) member
       ∙ turned (is_read c s v) (is_held c.aig held v) (is_gate_in c.aig s v) (is_known (latch_at c.aig v))
 
-  -- what marks of the set, and of what is held or read from outside, count is the size of the border
+  -- what marks of the set, and of what is held or read from outside, count is the size of the
+  -- border
   pub border_size-counted : count_below (is_counted c.aig inside marks) (variables_end c.aig) ≡ border_size (move_of c held s)
   unfolding border_size
   border_size-counted = count_below-same (is_counted c.aig inside marks) (in_border (move_of c held s)) (variables_end c.aig) (λ v h. elim (cases_lt v (first_latch c.aig)) [
@@ -79,7 +80,7 @@ module _ (c : Netlist) (held s : List ℕ) (inside marks : List Bool)
     | inr low ↦ counted-late v low h
   ])
 
--- the same by a graph and properties that are those of the circuit
+-- that size, by a graph and properties that are those of the circuit
 pub border_size-is : (c : Netlist) (held s : List ℕ) (g : Graph) (props : Props) (inside marks : List Bool) → g ≡ c.aig → props ≡ c.props
     → length inside ≡ latches_and_gates g → length marks ≡ latches_and_gates g → AreMarks (first_latch g) inside (has s)
     → AreMarks (first_latch g) marks (λ v. is_read_outside g props (mark_at (first_latch g) inside) v || is_held g held v)

@@ -12,7 +12,7 @@ pub chosen-least : (choice : Choice) (c : Netlist) (held s : List ℕ) → IsCho
 chosen-least Greatest c held s greatest = greatest.least
 chosen-least Smallest c held s smallest = smallest.least
 
--- two sets that are chosen by one choice are the same
+-- two sets that are chosen by one choice are one
 pub chosen-one : (choice : Choice) (c : Netlist) (held s r : List ℕ) → IsChosen choice c held s → IsChosen choice c held r → s ≡ r
 chosen-one Greatest c held s r p q = (at_most_one c held s r).greatest p q
 chosen-one Smallest c held s r p q = (at_most_one c held s r).smallest p q

@@ -12,7 +12,7 @@ use Rattle.aig_graph.specs.Counting.{count_below}
 use Rattle.aig_graph.specs.Marking.{has}
 use Rattle.aig_graph.proofs.CountingLaws.{count_below-same}
 
--- where each member is a gate, the gates of the set are its members
+-- if each member is a gate, the gates of the set are its members
 pub is_gate_in-same : (g : Graph) (s : List ℕ) → ((v : ℕ) → has s v ≡ true → is_some (gate_at g v) ≡ true) → (v : ℕ) → is_gate_in g s v ≡ has s v
 is_gate_in-same g s gates v = elim (cases_Bool (has s v)) [
   | inl member ↦ and_from (is_some (gate_at g v)) (has s v) (gates v member) member ∙ sym member

@@ -1,4 +1,4 @@
--- A set is closed exactly where each member rests on latches that may move and on members.
+-- A set is closed if and only if each member rests on latches that may move and on members.
 use Rattle.std.proofs.Common.{ℕ, ◌<◌, ◌≡◌, ◌⊎◌, inl, inr, suc, zero, Option, Some, None, refl, arith, Bool, true, false, not, ◌&&◌, List, get_or, subst, sym, ◌∙◌, IsTrue}
 use Rattle.std.specs.Prelude.{◌↔◌}
 use Rattle.std.specs.List.{Contains, All}
@@ -17,12 +17,12 @@ known-latch : (o : Option Latch) → IsTrue (is_known o) → (latch : Latch) × 
 known-latch None h = absurd (cc)
 known-latch (Some latch) h = (latch, refl)
 
--- where both of two hold, the first does
+-- if both of two hold, the first does
 pub and_left : (a b : Bool) → IsTrue (a && b) → IsTrue a
 and_left true b p = refl
 and_left false b p = absurd (cc)
 
--- where both of two hold, the second does
+-- if both of two hold, the second does
 pub and_right : (a b : Bool) → IsTrue (a && b) → IsTrue b
 and_right true b p = p
 and_right false b p = absurd (cc)
@@ -32,17 +32,17 @@ pub movable-latch : (g : Graph) (held : List ℕ) (v : ℕ) → IsTrue (may_move
 movable-latch g held v h = known-latch (latch_at g v) (and_right (not (is_held g held v)) (is_known (latch_at g v)) h)
 
 module _ (g : Graph) (held : List ℕ) where
-  -- a latch is settled where it may move
+  -- a latch is settled if it may move
   is_settled-latch : (v : ℕ) (latch : Latch) → latch_at g v ≡ Some latch → is_settled g held v ≡ may_move g held v
   unfolding is_settled
   is_settled-latch v latch e = fold_gates-leaf g (may_move g held) both v (gate_at-before g v (latch_place g v latch e).below)
 
-  -- what isn't a gate is settled where it is a latch that may move
+  -- what isn't a gate is settled if it is a latch that may move
   is_settled-leaf : (v : ℕ) → gate_at g v ≡ None → is_settled g held v ≡ may_move g held v
   unfolding is_settled
   is_settled-leaf v e = fold_gates-leaf g (may_move g held) both v e
 
-  -- a gate is settled exactly where both its fan-ins' variables are
+  -- a gate is settled if and only if both its fan-ins' variables are
   pub is_settled-gate : IsGraph g → (v : ℕ) (gate : Gate) → gate_at g v ≡ Some gate
       → is_settled g held v ≡ (is_settled g held (variable gate.rhs0) && is_settled g held (variable gate.rhs1))
   unfolding is_settled
@@ -73,7 +73,7 @@ module _ (g : Graph) (held : List ℕ) where
       option_cases (Some gate) = inr (gate, refl)
 
 module _ (g : Graph) (held : List ℕ) (valid : IsGraph g) (s : List ℕ) where
-  -- where each member rests on such latches and members, each member is settled
+  -- if each member rests on such latches and members, each member is settled
   settled-below : ((v : ℕ) → Contains s v → RestsOn g held s v) → (n v : ℕ) → v < n → MayMoveOrIn g held s v → IsTrue (is_settled g held v)
   unfolding RestsOn
   settled-below rests zero v h there = absurd (omega arith)
@@ -129,14 +129,15 @@ at_member P s all v member = subst P member.2 (all member.0 v member.1)
 at_each : (P : ℕ → Type 0) (s : List ℕ) → ((v : ℕ) → Contains s v → P v) → All P s
 at_each P s every = λ k d h. every (get_or s k d) (k, h, get_or_default s k (get_or s k d) d h)
 
--- a set is closed exactly where each of its list rests on latches that may move and on members
+-- a set is closed if and only if each of its list rests on latches that may move and on members
 pub closed_iff_rests : (g : Graph) (held : List ℕ) → IsGraph g → (s : List ℕ) → IsClosed g held s ↔ All (RestsOn g held s) s
 closed_iff_rests g held valid s = (
   (λ closed. at_each (RestsOn g held s) s (rests-from_closed g held valid s closed)),
   (λ all. closed-from_rests g held valid s (at_member (RestsOn g held s) s all)),
 )
 
--- a strictly rising list is a closed set exactly where each of it rests on latches that may move and on members
+-- a strictly rising list is a closed set if and only if each of it reads only latches that may move
+-- and members
 pub closed_set_iff_rests : (g : Graph) (held : List ℕ) → IsGraph g → (s : List ℕ) → IsStrictlyIncreasing s → IsClosedSet g held s ↔ All (RestsOn g held s) s
 closed_set_iff_rests g held valid s rising =
     let laws = closed_iff_rests g held valid s in

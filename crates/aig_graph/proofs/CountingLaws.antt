@@ -15,7 +15,7 @@ count_below-same p q (suc n) same =
     let before : count_below p n ≡ count_below q n = count_below-same p q n (λ v h. same v (omega arith)) in
     rw (here, before)
 
--- where each number below n that passes one test passes another, the other counts no fewer
+-- if each number below n that passes one test passes another, the other counts no fewer
 pub count-within : (p q : ℕ → Bool) (n : ℕ) → ((v : ℕ) → v < n → p v ≡ true → q v ≡ true) → count_below p n ≤ count_below q n
 count-within p q zero within = omega (arith, count-zero p, count-zero q)
 count-within p q (suc n) within =
@@ -38,7 +38,7 @@ pub places-none : (p : ℕ → Bool) (n : ℕ) → ((v : ℕ) → v < n → p v 
 places-none p zero none = places-zero p
 places-none p (suc n) none = places-fail p n (none n (omega arith)) ∙ places-none p n (λ v h. none v (omega arith))
 
--- tests that agree below n have the same places there
+-- tests that agree below n have equal places there
 pub places-same : (p q : ℕ → Bool) (n : ℕ) → ((v : ℕ) → v < n → p v ≡ q v) → places p n ≡ places q n
 unfolding places
 places-same p q zero same = refl

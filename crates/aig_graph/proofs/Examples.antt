@@ -26,7 +26,8 @@ values_of_gate :
 unfolding value latch_value fold_gates fold_to_depth
 values_of_gate = (refl, refl, refl, refl)
 
--- one input, a free latch at it, a latch that reads the free one, and the gate of both, the first of them negated
+-- one input, a free latch at it, a latch that reads the free one, and the gate of both, the first
+-- of them negated
 abbrev with_free : Graph
 with_free = record {
   inputs = 1;
@@ -42,7 +43,8 @@ values_with_free_latch :
 unfolding value latch_value fold_gates fold_to_depth
 values_with_free_latch = (refl, refl, refl, refl, refl, refl, refl, refl)
 
--- four known latches, the gates 9 to 12, of which each rests on 9 or on two others; latches 5 and 6 and gates 9 and 12 are read
+-- Four known latches, and the gates 9 to 12, each of which reads 9 or two others. Latches 5 and 6
+-- and gates 9 and 12 are read.
 netlist : Netlist
 netlist = record {
   aig = record {
@@ -54,7 +56,8 @@ netlist = record {
   symbols = no_symbols;
 }
 
--- an input, a free latch and a known one, and the gate of the input and the free latch, 4; an output reads each
+-- an input, a free latch and a known one, and the gate of the input and the free latch, 4; an
+-- output reads each
 reads_input : Netlist
 reads_input = record {
   aig = record {
@@ -73,7 +76,8 @@ counts :
 unfolding border_size in_border is_read_outside count_below netlist
 counts = (refl, refl, refl, refl, refl, refl)
 
--- of a list that is no closed set the gates count, as 10 without 9, on which it rests; the constant, inputs and free latches don't
+-- of a list that is no closed set the gates count, as 10 without 9, which it reads; the constant,
+-- inputs and free latches don't
 counts_of_other_lists :
     (border_size (move_of netlist [] (10 ∷ [])) ≡ 4) × (border_size (move_of netlist [] (12 ∷ [])) ≡ 5) × (border_size (move_of netlist [] (10 ∷ 11 ∷ 12 ∷ 13 ∷ [])) ≡ 3)
     × (border_size (move_of netlist [] (0 ∷ 1 ∷ [])) ≡ 4) × (border_size (move_of reads_input [] []) ≡ 1) × (border_size (move_of reads_input [] (1 ∷ 2 ∷ 3 ∷ [])) ≡ 1)
@@ -81,7 +85,8 @@ counts_of_other_lists :
 unfolding border_size in_border is_read_outside count_below netlist reads_input
 counts_of_other_lists = (refl, refl, refl, refl, refl, refl, refl, refl)
 
--- with the first latch, 5, held, gate 9 and what rests on it aren't passable; with the third, 7, gate 10 isn't
+-- with the first latch, 5, held, gate 9 and what rests on it aren't passable; with the third, 7,
+-- gate 10 isn't
 passable_beside_held_latches :
     (is_settled netlist.aig [] 9 ≡ true) × (is_settled netlist.aig (0 ∷ []) 9 ≡ false) × (is_settled netlist.aig (0 ∷ []) 12 ≡ false)
     × (is_settled netlist.aig (2 ∷ []) 9 ≡ true) × (is_settled netlist.aig (2 ∷ []) 10 ≡ false) × (is_settled netlist.aig (2 ∷ []) 11 ≡ true)
@@ -89,7 +94,8 @@ passable_beside_held_latches :
 unfolding is_settled fold_gates fold_to_depth netlist
 passable_beside_held_latches = (refl, refl, refl, refl, refl, refl, refl)
 
--- the third latch is read by gate 10 alone: over gates 9, 10 and 11 it leaves the border, unless it is held
+-- the third latch is read by gate 10 alone: over gates 9, 10 and 11 it leaves the border, unless it
+-- is held
 border_with_held_latches :
     (in_border (move_of netlist [] (9 ∷ 10 ∷ 11 ∷ [])) 7 ≡ false) × (in_border (move_of netlist (2 ∷ []) (9 ∷ 10 ∷ 11 ∷ [])) 7 ≡ true)
     × (in_border (move_of netlist (0 ∷ []) (9 ∷ 10 ∷ 11 ∷ [])) 7 ≡ false) × (border_size (move_of netlist (2 ∷ []) (9 ∷ 11 ∷ [])) ≡ 5)

@@ -50,7 +50,7 @@ free-count_rest g (suc k) =
 pub free-count_all : (g : Graph) → count_below (is_free_at g) (variables_end g) ≡ free_latches g
 free-count_all g = free-count_rest g (length g.gates)
 
--- one latch further there is one free latch more where it is free
+-- one latch further there is one free latch more if it is free
 pub free-more : (g : Graph) (k free one : ℕ) (latch : Latch) → slice_get g.latches k ≡ Some latch → free ≡ free_before g k → one ≡ cond (is_free latch) 1 0 → free + one ≡ free_before g (k + 1)
 free-more g k free one latch there is step =
     let within : k < length g.latches = slice_get_within g.latches k latch there in

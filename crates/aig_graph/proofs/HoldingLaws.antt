@@ -24,12 +24,12 @@ found-more p xs i d b found h here before =
     either false true = refl
     either false false = refl
 
--- some element of a mapped list passes exactly where some element's image does
+-- some element of a mapped list passes if and only if some element's image does
 pub list_any-map : {X Y : Type 0} (f : X → Y) (p : Y → Bool) (xs : List X) → list_any p (map f xs) ≡ list_any (λ x. p (f x)) xs
 list_any-map f p [] = refl
 list_any-map f p (x ∷ xs) = ap (λ (b : Bool). p (f x) || b) (list_any-map f p xs)
 
--- where all names before this one are symbols', and it isn't, it is the first that is missing
+-- if all names before this one are symbols', and it isn't, it is the first that is missing
 pub missing-at : (symbols : List Symbol) (names : List (List ℕ)) (i : ℕ) → i < length names
     → ((k : ℕ) → k < i → has_name symbols (get_or names k []) ≡ true) → has_name symbols (get_or names i []) ≡ false → first_missing symbols names ≡ Some i
 unfolding first_missing
@@ -37,7 +37,7 @@ missing-at symbols names i h before here =
     let at = position_or_len_is (λ name. not (has_name symbols name)) names i [] (omega arith) (λ k low. ap not (before k low)) (λ high. ap not here) in
     ap (λ (n : ℕ). cond (nat_lt n (length names)) (Some n) None) at ∙ ap (λ (b : Bool). cond b (Some i) None) (lt-ltb i (length names) h)
 
--- where each name is a symbol's, none is missing
+-- if each name is a symbol's, none is missing
 pub missing-none : (symbols : List Symbol) (names : List (List ℕ)) → ((k : ℕ) → k < length names → has_name symbols (get_or names k []) ≡ true) → first_missing symbols names ≡ None
 unfolding first_missing
 missing-none symbols names all =
@@ -45,7 +45,7 @@ missing-none symbols names all =
     let at = position_or_len_is (λ name. not (has_name symbols name)) names n [] (omega arith) (λ k low. ap not (all k low)) (λ high. absurd (omega arith)) in
     ap (λ (m : ℕ). cond (nat_lt m n) (Some m) None) at ∙ ap (λ (b : Bool). cond b (Some n) None) (le-ltb n n (omega arith))
 
--- where there is no symbol, nothing is held
+-- if there is no symbol, nothing is held
 pub held-none : (names : List (List ℕ)) → held_by names [] ≡ []
 unfolding held_by
 held-none names = refl

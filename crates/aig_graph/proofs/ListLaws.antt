@@ -6,7 +6,7 @@ use Rattle.std.proofs.lemmas.List.Sums.{sum_by-cons}
 use Rattle.std.proofs.lemmas.List.Elements.{All-head, All-tail}
 use Rattle.std.proofs.lemmas.List.{reverse-append}
 
--- where a list has an element at a place, the mapped list has its image there
+-- if a list has an element at a place, the mapped list has its image there
 pub slice_get-map_some : {A B : Type 0} (f : A → B) (xs : List A) (k : ℕ) (x : A) → slice_get xs k ≡ Some x → slice_get (map f xs) k ≡ Some (f x)
 slice_get-map_some f [] k x e = absurd (none-some x e)
 slice_get-map_some f (y ∷ ys) zero x e = let same : y ≡ x = same_Some y x e in cc
@@ -24,7 +24,7 @@ from_map f [] k y e = absurd (none-some y e)
 from_map f (x ∷ xs) zero y e = (x, refl, sym (same_Some (f x) y e))
 from_map f (x ∷ xs) (suc k) y e = from_map f xs k y e
 
--- functions that agree on the elements of a list map it to the same list
+-- functions that agree on the elements of a list map it to one list
 pub map-same : {A B : Type 0} (P : A → Type 0) (f g : A → B) → ((x : A) → P x → f x ≡ g x) → (xs : List A) → All P xs → map f xs ≡ map g xs
 map-same P f g same [] all = refl
 map-same P f g same (x ∷ xs) all =
@@ -37,7 +37,7 @@ pub map-map : {A B C : Type 0} (f : B → C) (g : A → B) (xs : List A) → map
 map-map f g [] = refl
 map-map {A} {B} {C} f g (x ∷ xs) = ap (λ (ys : List C). f (g x) ∷ ys) (map-map f g xs)
 
--- the first element adds one to a list's count where it passes
+-- the first element adds one to a list's count if it passes
 pub count_by-cons : {A : Type 0} (p : A → Bool) (x : A) (xs : List A) → count_by p (x ∷ xs) ≡ cond (p x) 1 0 + count_by p xs
 count_by-cons p x xs = sum_by-cons (λ y. cond (p y) 1 0) x xs
 

@@ -27,7 +27,7 @@ Marks-alike first xs ys p q marks same = record {
   each = λ k h. marks.each k h ∙ ap (λ (b : Bool). get_or xs k false || b) (same (first + k) (omega arith) (omega arith));
 }
 
--- tests that agree everywhere have the same marks
+-- tests that agree everywhere have equal marks
 pub Marks-same : (first : ℕ) (xs ys : List Bool) (p q : ℕ → Bool) → Marks first xs ys p → ((v : ℕ) → p v ≡ q v) → Marks first xs ys q
 Marks-same first xs ys p q marks same = Marks-alike first xs ys p q marks (λ v low high. same v)
 
@@ -60,7 +60,7 @@ Marks-more test items i y first xs ys zs h there before after =
     (Marks-then first xs ys zs (λ v. list_any (test v) (take i items)) (λ v. test v y) before after)
     (λ v. ap (λ x. list_any (test v) (take i items) || test v x) there ∙ sym (list_any_more (test v) items i y h))
 
--- the same where the loop has come to the end
+-- those marks, if the loop has come to the end
 pub Marks-all : {X : Type 0} (test : ℕ → X → Bool) (items : List X) (n first : ℕ) (xs ys : List Bool) → length items ≤ n
     → Marks first xs ys (λ v. list_any (test v) (take n items)) → Marks first xs ys (λ v. list_any (test v) items)
 Marks-all test items n first xs ys h marks = rw take_all at marks
@@ -84,7 +84,7 @@ AreMarks-table first n marks p filled k h =
     let long : length marks ≡ n = ap length filled ∙ length-table first n p in
     ap (λ (xs : List Bool). get_or xs k false) filled ∙ table-at first n p k false (omega arith)
 
--- a test's table has all its marks, where no variable before the table passes
+-- a test's table has all its marks, if no variable before the table passes
 pub AreAllMarks-table : (first n : ℕ) (marks : List Bool) (p : ℕ → Bool) → marks ≡ table first n p → ((v : ℕ) → v < first → p v ≡ false) → AreAllMarks first marks p
 AreAllMarks-table first n marks p filled before = record { before = before; each = AreMarks-table first n marks p filled }
 
@@ -94,7 +94,7 @@ unfolding mark_at
 mark_at-covered first marks p v each low high =
     ap (λ (b : Bool). b && get_or marks (v - first) false) (le-leb first v low) ∙ each (v - first) (omega arith) ∙ ap p (omega arith)
 
--- the mark of one before it or covered, where all are marked
+-- the mark of one before it or covered, if all are marked
 pub mark_at-all : (first : ℕ) (marks : List Bool) (p : ℕ → Bool) (v : ℕ) → AreAllMarks first marks p → v < first + length marks → mark_at first marks v ≡ p v
 unfolding mark_at
 mark_at-all first marks p v all high = elim (cases_lt v first) [
@@ -106,7 +106,7 @@ mark_at-all first marks p v all high = elim (cases_lt v first) [
 pub count-start : (first : ℕ) (marks : List Bool) (p : ℕ → Bool) → AreAllMarks first marks p → count_below p (first + 0) ≡ 0
 count-start first marks p all = count-none p (first + 0) (λ v h. all.before v (omega arith))
 
--- one entry further the count has grown by one where the entry is marked
+-- one entry further the count has grown by one if the entry is marked
 pub count-entry : (first : ℕ) (marks : List Bool) (p : ℕ → Bool) (i : ℕ) → AreAllMarks first marks p → i < length marks
     → count_below p (first + (i + 1)) ≡ count_below p (first + i) + cond (get_or marks i false) 1 0
 unfolding count_below
@@ -118,7 +118,7 @@ count-entry first marks p i all h =
 pub places-start : (first : ℕ) (marks : List Bool) (p : ℕ → Bool) → AreAllMarks first marks p → places p (first + 0) ≡ []
 places-start first marks p all = places-none p (first + 0) (λ v h. all.before v (omega arith))
 
--- one entry further the variables that pass have got the next one where the entry is marked
+-- one entry further the variables that pass have got the next one if the entry is marked
 pub places-entry : (first : ℕ) (marks : List Bool) (p : ℕ → Bool) (i : ℕ) → AreAllMarks first marks p → i < length marks
     → places p (first + (i + 1)) ≡ places p (first + i) ++ cond (get_or marks i false) ((first + i) ∷ []) []
 unfolding places

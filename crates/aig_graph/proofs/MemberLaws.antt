@@ -1,4 +1,5 @@
--- A rising list is the list of the places of its members, and a list with one more number at its end has that one too.
+-- A rising list is the list of the places of its members. A list with one more number at its end
+-- has that one too.
 use Rattle.std.proofs.Common.{ℕ, ◌+◌, ◌<◌, ◌≤◌, ◌≡◌, inl, inr, suc, zero, List, [], ◌∷◌, ◌++◌, filter, Bool, true, false, ◌||◌, cond, nat_eq, nat_lt, refl, arith, ap, sym, ◌∙◌, ◌==◌}
 use Rattle.std.specs.List.{All}
 use Rattle.std.specs.List.Sorted.{IsStrictlyIncreasing}

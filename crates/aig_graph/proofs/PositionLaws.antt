@@ -46,7 +46,7 @@ has-own xs k d h = (has_iff_contains xs (get_or xs k d)).1 (k, h, same_element k
     same_element : (i x y : ℕ) → i < length xs → get_or xs i y ≡ get_or xs i x
     same_element i x y low = let one = slice_get-get_or xs i x low in let other = slice_get-get_or xs i y low in cc
 
--- where there are positions, what is held with them is what passes one of two tests
+-- if there are positions, what is held with them is what passes one of two tests
 pub held_also-some : (held positions : List ℕ) (c : Netlist) → nat_eq (length positions) 0 ≡ false
     → held_also held positions c ≡ places (λ j. has held j || has positions j) (length c.aig.latches)
 held_also-some held [] c some = absurd (cc)

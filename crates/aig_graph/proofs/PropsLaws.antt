@@ -85,7 +85,7 @@ mapped-is f p outputs bad constraints justice fairness one two three four five =
     let fifth : List ℕ → Props = λ xs. record { outputs = map f p.outputs; bad = map f p.bad; constraints = map f p.constraints; justice = map (map f) p.justice; fairness = xs } in
     ap first one ∙ ap second two ∙ ap third three ∙ ap fourth four ∙ ap fifth five
 
--- a circuit with as many inputs and mapped properties has the same shape
+-- a circuit with equal inputs in number and mapped properties has this shape
 pub mapped-shape : (f : ℕ → ℕ) (c d : Netlist) → d.aig.inputs ≡ c.aig.inputs → d.props ≡ mapped_props f c.props → SameShape c d
 unfolding mapped_props
 mapped-shape f c d inputs props = record {
@@ -106,7 +106,7 @@ literals_within g p props =
 pub properties-within : (c : Netlist) → IsNetlist c → AreLiteralsOf c.aig (property_literals c.props)
 properties-within c net = literals_within c.aig c.props net.props
 
--- where f takes each property literal to one of d
+-- if f takes each property literal to one of d
 pub mapped-props : (f : ℕ → ℕ) (P : ℕ → Type 0) (g : Graph) (p : Props) → All P (property_literals p) → ((lit : ℕ) → P lit → IsLiteralOf g (f lit)) → ArePropsOf g (mapped_props f p)
 unfolding mapped_props
 mapped-props f P g p all each =

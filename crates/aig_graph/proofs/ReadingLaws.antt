@@ -19,7 +19,7 @@ list_any-numbered-same p q first (x ∷ xs) same =
     let rest = list_any-numbered-same p q (first + 1) xs (λ v y low high. same v y (omega arith) (omega arith)) in
     cc
 
--- what is read from outside, where two tests agree on the gates
+-- what is read from outside, if two tests agree on the gates
 pub is_read_outside-same : (g : Graph) (props : Props) (p q : ℕ → Bool) → ((v : ℕ) → first_gate g ≤ v → v < variables_end g → p v ≡ q v)
     → (v : ℕ) → is_read_outside g props p v ≡ is_read_outside g props q v
 unfolding is_read_outside
@@ -28,7 +28,7 @@ is_read_outside-same g props p q same v =
     (list_any-numbered-same (λ (e : ℕ × Gate). not (p e.0) && is_fan_in v e.1) (λ (e : ℕ × Gate). not (q e.0) && is_fan_in v e.1) (first_gate g) g.gates
     (λ w gate low high. ap (λ b. not b && is_fan_in v gate) (same w low high)))
 
--- the same by the marks of a test
+-- that reading, by the marks of a test
 pub is_read_outside-marks : (g : Graph) (props : Props) (marks : List Bool) (p : ℕ → Bool) → latches_and_gates g ≤ length marks → AreMarks (first_latch g) marks p
     → (v : ℕ) → is_read_outside g props (mark_at (first_latch g) marks) v ≡ is_read_outside g props p v
 is_read_outside-marks g props marks p long marked =

@@ -17,7 +17,7 @@ rising-le xs rising i j le within = elim (cases_lt i j) [
   | inr ge ↦ (let same : i ≡ j = omega arith in rw same (omega arith))
 ]
 
--- a binary search in a strictly rising list finds a number exactly where the list has it
+-- a binary search in a strictly rising list finds a number if and only if the list has it
 pub found_where_contained : (xs : List ℕ) (x : ℕ) (r : Result ℕ ℕ) → IsStrictlyIncreasing xs → IsBinarySearchResult (λ y. nat_cmp y x) xs r → IsTrue (is_ok r) ↔ Contains xs x
 found_where_contained xs x (Ok i) rising h =
     let found = searched xs x (Ok i) h (rising-le xs rising) in
@@ -40,7 +40,7 @@ bool_same false false h = refl
 bool_same true false h = sym (h.0 refl)
 bool_same false true h = h.1 refl
 
--- a list has a number by the test exactly where it contains it
+-- a list has a number by the test if and only if it contains it
 pub has_iff_contains : (s : List ℕ) (v : ℕ) → IsTrue (has s v) ↔ Contains s v
 has_iff_contains [] v = ((λ e. absurd (cc)), (λ member. absurd (omega arith)))
 has_iff_contains (x ∷ xs) v =

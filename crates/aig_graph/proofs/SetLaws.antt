@@ -18,11 +18,12 @@ use Rattle.aig_graph.proofs.ClosedBorderLaws.{closed-border_size}
 use Rattle.aig_graph.proofs.CountingLaws.{count_below-same}
 use Rattle.aig_graph.proofs.MemberLaws.{rising_rest}
 
--- a variable is settled exactly where it is a known latch that isn't held or a passable gate
+-- a variable is settled if and only if it is a known latch that isn't held or a passable gate
 settled_iff : (g : Graph) (held : List ℕ) (v : ℕ) → IsTrue (is_settled g held v) ↔ MayMoveOrPassable g held v
 settled_iff g held v = settled_where g held v
 
--- a gate is passable exactly where each fan-in's variable is a known latch that isn't held, or a passable gate
+-- a gate is passable if and only if each fan-in's variable is a known latch that isn't held, or a
+-- passable gate
 pub passable_law : (g : Graph) (held : List ℕ) (v : ℕ) → IsGraph g → PassableLaw g held v
 passable_law g held v valid = (
   (λ passable.
@@ -82,7 +83,7 @@ tail_above x xs rising v (k, h, e) =
     let there : get_or xs k 0 ≡ v = get_or_default xs k 0 v h ∙ e in
     omega arith
 
--- a member of one rising list is one of the other's tail, where the heads are one
+-- a member of one rising list is one of the other's tail, if the heads are one
 tail_within : (x : ℕ) (xs : List ℕ) (y : ℕ) (ys : List ℕ) → x ≡ y → IsStrictlyIncreasing (x ∷ xs) → ((v : ℕ) → Contains (x ∷ xs) v → Contains (y ∷ ys) v) → (v : ℕ) → Contains xs v → Contains ys v
 tail_within x xs y ys heads rising there v member =
     let above : x < v = tail_above x xs rising v member in
@@ -98,7 +99,7 @@ head_least x xs y ys rising there = elim (contains_cases y ys x (there x (contai
   | inr inner ↦ (let above : y < x = tail_above y ys rising x inner in omega arith)
 ]
 
--- rising lists of the same members are one
+-- rising lists of equal members are one
 pub rising_same : (xs ys : List ℕ) → IsStrictlyIncreasing xs → IsStrictlyIncreasing ys → ((v : ℕ) → Contains xs v → Contains ys v) → ((v : ℕ) → Contains ys v → Contains xs v) → xs ≡ ys
 rising_same [] [] p q there back = refl
 rising_same [] (y ∷ ys) p q there back = absurd (contains_none y (back y (contains_head y ys)))

@@ -5,7 +5,7 @@ use Rattle.aig_graph.specs.declared.properties.Props.{Props}
 use Rattle.aig_graph.specs.Circuits.{Netlist}
 use Rattle.aig_graph.specs.Streams.{SameShape, property_literals}
 
--- as many lists, each as long as the one at its place among the others, have the same lengths
+-- lists equal in number, each as long as the one at its place among the others, have equal lengths
 pub same_sizes : {X : Type 0} (xs ys : List (List X)) → length xs ≡ length ys → ((i : ℕ) → i < length xs → length (get_or xs i []) ≡ length (get_or ys i [])) → map length xs ≡ map length ys
 same_sizes [] [] long each = refl
 same_sizes [] (y ∷ ys) long each = absurd (omega arith)

@@ -21,14 +21,14 @@ signed-odd lit b e = ap (λ (m : ℕ). cond (nat_eq m 1) (not b) b) e
 parity : (n : ℕ) → (n % 2 ≡ 0) ⊎ (n % 2 ≡ 1)
 parity n = elim (cases_eq (n % 2) 0) [ inl even ↦ inl even | inr other ↦ inr (omega arith) ]
 
--- a literal's value is its variable's, negated where it is
+-- a literal's value is its variable's, negated if it is
 pub value_signed : (values : ℕ → Bool) → ((v : ℕ) → values (2 * v + 1) ≡ not (values (2 * v))) → (lit : ℕ) → values lit ≡ signed lit (values (2 * variable lit))
 value_signed values negated lit = elim (parity lit) [
   | inl even ↦ (let place : lit ≡ 2 * variable lit = omega arith in ap values place ∙ sym (signed-even lit (values (2 * variable lit)) even))
   | inr odd ↦ (let place : lit ≡ 2 * variable lit + 1 = omega arith in ap values place ∙ negated (variable lit) ∙ sym (signed-odd lit (values (2 * variable lit)) odd))
 ]
 
--- a literal with the sign of another added has its value, negated where the other is odd
+-- a literal with the sign of another added has its value, negated if the other is odd
 pub value_signed_as : (values : ℕ → Bool) → ((v : ℕ) → values (2 * v + 1) ≡ not (values (2 * v))) → (lit base : ℕ) → values (signed_as lit base) ≡ signed lit (values base)
 value_signed_as values negated lit base = elim (parity lit) [
   | inl even ↦ (
@@ -46,7 +46,7 @@ value_signed_as values negated lit base = elim (parity lit) [
   ]
 ]
 
--- a literal with another's sign is one of the same variable
+-- a literal with another's sign is one of its own variable
 pub variable-signed_as : (lit base : ℕ) → variable (signed_as lit base) ≡ variable base
 variable-signed_as lit base = omega arith
 

@@ -70,7 +70,7 @@ value-same g x f h same t lit = ap (λ (latches : ℕ → Bool). value_within g 
 pub values-same : (g : Graph) (x : Inputs) (f h : Choice) (t : ℕ) (lits : List ℕ) → ((j : ℕ) → j < free_latches g → f j ≡ h j) → map (value g x f t) lits ≡ map (value g x h t) lits
 values-same g x f h t lits same = ap (λ (v : ℕ → Bool). map v lits) (funext (value g x f t) (value g x h t) (value-same g x f h same t))
 
--- a latch opens with the same where it is known, or where the choices for it are the same
+-- a latch opens alike if it is known, or if the choices for it are equal
 pub opening-same : (r : Reset) (next : ℕ) (a b : Bool) → (is_free (record { next = next; reset = r }) ≡ true → a ≡ b) → opening r a ≡ opening r b
 opening-same Zero next a b same = refl
 opening-same One next a b same = refl
@@ -94,7 +94,8 @@ same_streams-reflexive c =
 rising-below : (first : List ℕ) → IsStrictlyIncreasing first → (i j : ℕ) → i < j → j < length first → get_or first i 0 < get_or first j 0
 rising-below first rising i j lt within = AllPairs-from_increasing first rising i j 0 lt within
 
--- equal streams of a first circuit and a second, and of that and a third, are equal ones of the first and the third
+-- equal streams of a first circuit and a second, and of that and a third, are equal ones of the
+-- first and the third
 pub same_streams-transitive : (c d e : Netlist) (first second : List ℕ) → IsTransitive c d e first second
 same_streams-transitive c d e first second p q =
     let at : ((k : ℕ) → k < length second → get_or (composed first second) k 0 ≡ get_or first (get_or second k 0) 0) =

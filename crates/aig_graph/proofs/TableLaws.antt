@@ -31,7 +31,7 @@ pub table-from : {A : Type 0} (first n : ℕ) (f : ℕ → A) (xs : List A) (d :
 table-from first n f xs d long each =
     ext_get_or d xs (table first n f) (long ∙ sym (length-table first n f)) (λ k h. each k (omega arith) ∙ sym (table-at first n f k d (omega arith)))
 
--- functions that agree on the variables of a table give the same table
+-- functions that agree on the variables of a table give one table
 pub table-same : {A : Type 0} (first n : ℕ) (f g : ℕ → A) (d : A) → ((v : ℕ) → first ≤ v → v < first + n → f v ≡ g v) → table first n f ≡ table first n g
 table-same first n f g d same =
     table-from first n g (table first n f) d (length-table first n f) (λ k h. table-at first n f k d h ∙ same (first + k) (omega arith) (omega arith))

@@ -57,13 +57,14 @@ module _ (g : Graph) (inputs latches : ℕ → Bool) where
   within-latch j h =
       within-even (first_latch g + j) ∙ fold_gates-leaf g (leaf_value g inputs latches) conjunction (first_latch g + j) (gate_at-before g (first_latch g + j) (omega arith)) ∙ leaf-latch j
 
-  -- a gate's literal is 1 where both fan-ins are
+  -- a gate's literal is 1 if both fan-ins are
   pub within-gate : IsGraph g → (k : ℕ) (gate : Gate) → slice_get g.gates k ≡ Some gate
       → value_within g inputs latches (2 * (first_gate g + k)) ≡ (value_within g inputs latches gate.rhs0 && value_within g inputs latches gate.rhs1)
   within-gate valid k gate e =
       within-even (first_gate g + k) ∙ fold_gates-gate g valid (leaf_value g inputs latches) conjunction (first_gate g + k) gate (gate_at-first_gate g k ∙ e)
 
--- the value of a constant, an input, a latch at step 0 and later, a gate and a negation is what it should be
+-- the value of a constant, an input, a latch at step 0 and later, a gate and a negation is what it
+-- should be
 pub value_laws : (g : Graph) → IsGraph g → (x : Inputs) (f : Choice) → ValueLaws g x f
 unfolding value latch_value
 value_laws g valid x f = record {

@@ -32,11 +32,13 @@ is_read c s = is_read_outside c.aig c.props (has s)
 abbrev pub is_gate_in : Graph → List ℕ → ℕ → Bool
 is_gate_in g s v = is_some (gate_at g v) && has s v
 
--- whether the variable is a known latch or a gate of the set, and is held or read from outside; any other member adds nothing
+-- whether the variable is a known latch or a gate of the set, and is held or read from outside; any
+-- other member adds nothing
 unfoldable pub in_border : Move → ℕ → Bool
 in_border m v = (is_known (latch_at m.circuit.aig v) || is_gate_in m.circuit.aig m.set v) && (is_held m.circuit.aig m.held v || is_read m.circuit m.set v)
 
--- whether the variable is in the border by marks, from the first latch on: of the set, and of what is held or read from outside
+-- Whether the variable is in the border. Marks from the first latch on are of the set, and of what
+-- is held or read from outside.
 unfoldable pub is_counted : Graph → List Bool → List Bool → ℕ → Bool
 is_counted g inside marks v = mark_at (first_latch g) marks v && ((is_some (gate_at g v) && mark_at (first_latch g) inside v) || is_known (latch_at g v))
 

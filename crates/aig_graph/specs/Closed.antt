@@ -1,4 +1,4 @@
--- Passable gates, and closed sets of them, where some latches are held.
+-- Passable gates, and closed sets of them, with some latches held.
 use Rattle.std.specs.Prelude.{ℕ, ◌-◌, ◌≡◌, ◌⊎◌, Bool, not, ◌&&◌, List, Some, is_some, IsTrue, Contains}
 use Rattle.std.specs.List.Sorted.{IsStrictlyIncreasing}
 use Rattle.aig_graph.specs.Marking.{has}

@@ -3,7 +3,8 @@ use Rattle.std.specs.Prelude.{ℕ, suc, zero, Option, Some, None}
 use Rattle.aig_graph.specs.declared.graph.Gate.{Gate}
 use Rattle.aig_graph.specs.Graph.{Graph, variable, gate_at}
 
--- what a variable gets: its own where it is no gate, else what the rule makes of what the two fan-ins get
+-- the value of a variable: its own unless it is a gate, else what the rule makes of those of the
+-- two fan-ins
 abbrev pub fold_step : {A : Type 0} → (ℕ → A) → (Gate → A → A → A) → (ℕ → A) → ℕ → Option Gate → A
 fold_step leaf rule fan_in v None = leaf v
 fold_step leaf rule fan_in v (Some gate) = rule gate (fan_in (variable gate.rhs0)) (fan_in (variable gate.rhs1))

@@ -22,17 +22,18 @@ pub record AreGates (k : Gates) : Type 0 where
 abbrev pub gates_of : Graph → Gates
 gates_of g = record { first = first_gate g; gates = g.gates }
 
--- the same gates, and perhaps more
+-- these gates, and perhaps more
 pub record Grows (k l : Gates) : Type 0 where
   pub first : l.first ≡ k.first
   pub long : length k.gates ≤ length l.gates
   pub gates : (j : ℕ) (gate : Gate) → slice_get k.gates j ≡ Some gate → slice_get l.gates j ≡ Some gate
 
--- a literal has the other value where it is negated
+-- a literal has the other value if it is negated
 abbrev pub IsNegated : (ℕ → Bool) → Type 0
 IsNegated values = (v : ℕ) → values (2 * v + 1) ≡ not (values (2 * v))
 
--- values of literals, of which each gate has that of its fan-ins; any values of the variables before the gates
+-- values of literals, of which each gate has that of its fan-ins; any values of the variables
+-- before the gates
 pub record Respects (k : Gates) (values : ℕ → Bool) : Type 0 where
   pub constant : values 0 ≡ false
   pub negation : IsNegated values

@@ -5,7 +5,8 @@ use Rattle.aig_graph.specs.declared.graph.Latch.{Latch}
 use Rattle.aig_graph.specs.declared.graph.Gate.{Gate}
 use Rattle.aig_graph.specs.declared.graph.Reset.TheVariants.{Zero, One, Free}
 
--- a number of inputs, the latches and the gates, which are numbered in this order from variable 1 on
+-- a number of inputs, the latches and the gates, which are numbered in this order from variable 1
+-- on
 pub record Graph : Type 0 where
   pub inputs : ℕ
   pub latches : List Latch
@@ -74,8 +75,8 @@ pub record IsGateAt (v : ℕ) (gate : Gate) : Type 0 where
   pub ordered : gate.rhs1 ≤ gate.rhs0
   pub below : variable gate.rhs0 < v
 
--- at most `MAX_VARIABLES` (2^28) variables with the constant, each next literal is one of the
--- graph, and each gate is a gate at its variable
+-- There are at most `MAX_VARIABLES` (2^28) variables with the constant. Each next literal is one of
+-- the graph, and each gate is a gate at its variable.
 pub record IsGraph (g : Graph) : Type 0 where
   pub small : variables_end g ≤ MAX_VARIABLES
   pub latches : (k : ℕ) (latch : Latch) → slice_get g.latches k ≡ Some latch → IsLiteralOf g latch.next

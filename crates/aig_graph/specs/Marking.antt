@@ -19,7 +19,8 @@ pub record Marks (first : ℕ) (old new : List Bool) (p : ℕ → Bool) : Type 0
 abbrev pub AreMarks : ℕ → List Bool → (ℕ → Bool) → Type 0
 AreMarks first marks p = (k : ℕ) → k < length marks → slice_index_or marks k false ≡ p (first + k)
 
--- the marks are those of the variables that pass the test, and no variable before the first entry passes it
+-- the marks are those of the variables that pass the test, and no variable before the first entry
+-- passes it
 pub record AreAllMarks (first : ℕ) (marks : List Bool) (p : ℕ → Bool) : Type 0 where
   pub before : (v : ℕ) → v < first → p v ≡ false
   pub each : AreMarks first marks p

@@ -2,7 +2,8 @@
 use Rattle.std.specs.Prelude.{ℕ, List}
 use Rattle.aig_graph.specs.Circuits.{Netlist}
 
--- a circuit, the positions of the latches that are held, and the set of gates over which latches move
+-- a circuit, the positions of the latches that are held, and the set of gates over which latches
+-- move
 pub record Move : Type 0 where
   pub circuit : Netlist
   pub held : List ℕ

@@ -15,11 +15,11 @@ Inputs = ℕ → ℕ → Bool
 abbrev pub Choice : Type 0
 Choice = ℕ → Bool
 
--- a value, negated where the literal is
+-- a value, negated if the literal is
 abbrev pub signed : ℕ → Bool → Bool
 signed lit b = if lit % 2 == 1 then not b else b
 
--- the literal base, negated where lit is
+-- the literal base, negated if lit is
 abbrev pub signed_as : ℕ → ℕ → ℕ
 signed_as lit base = 2 * variable base + (base + lit) % 2
 
@@ -32,13 +32,13 @@ abbrev pub reset_to : Bool → Reset
 reset_to true = One
 reset_to false = Zero
 
--- what a latch holds at step 0, where b was chosen for it
+-- the value of a latch at step 0, if b was chosen for it
 abbrev pub opening : Reset → Bool → Bool
 opening Zero b = false
 opening One b = true
 opening Free b = b
 
--- the literal of what a latch with this reset holds at step 0, where own is its own literal
+-- the literal of the value of a latch with this reset at step 0; own is its own literal
 abbrev pub opening_literal : Reset → ℕ → ℕ
 opening_literal Zero own = 0
 opening_literal One own = 1

@@ -1,5 +1,5 @@
-//! The border of a set, in one table of marks: first all that is read from outside of the set or
-//! held is marked; then the known latches and the members that have a mark are counted.
+//! The border of a set, in one table of marks. First all that is read from outside of the set or
+//! held is marked. Then the known latches and the members that have a mark are counted.
 ghost use Rattle.std.specs.Prelude.{◌≡◌, ◌==◌, ◌-◌, ◌&&◌, is_some, IfOk};
 ghost use Rattle.aig_graph.specs.Graph.{first_latch, variables_end, latch_at};
 ghost use Rattle.aig_graph.specs.Closed.{is_held};

@@ -224,7 +224,7 @@ fn held_also(
 
 /// Returns the latches that are held: those with one of the names, all of them if several have it,
 /// and those at the positions. Positions count from 0, stand in any order, and may stand there more
-/// than once. This is the one call that looks latches up: each step of a run returns the places of
+/// than once. This is the one call that looks latches up. Each step of a run returns the places of
 /// held latches in the circuit that it makes. It takes the time of [`keep_of`], and with positions
 /// time and memory linear in the latches. No names and no positions hold nothing, and take no
 /// memory.

@@ -9,9 +9,8 @@ use crate::graph::Aig;
 use crate::rising::contains;
 use std::marker::Model;
 
-/// The latches that are held: no move takes them from where they are. Contracts see their
-/// positions, from 0 and strictly rising, among the latches. A position past the last latch holds
-/// nothing.
+/// The latches that are held, which no move takes away. Contracts see their positions, from 0 and
+/// strictly rising, among the latches. A position past the last latch holds nothing.
 pub struct Keep {
     positions: Option<Vec<u32>>,
 }

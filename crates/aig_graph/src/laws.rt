@@ -4,8 +4,8 @@ ghost use Rattle.aig_graph.specs.Circuits.{Netlist};
 ghost use Rattle.aig_graph.specs.Value.{Inputs, Choice};
 ghost use Rattle.aig_graph.specs.Laws.{ValueLaws, IsReflexive, IsTransitive, EmptySetLaws, ClosedBorderLaw, AtMostOne, PassableLaw};
 
-/// The value of a literal, by its variable: a constant, an input, a latch at step 0 and at a later
-/// step, a gate, and the negation of each.
+/// The value of a literal, by its variable. It is that of a constant, an input, a latch at step 0
+/// and at a later step, or a gate. A negated literal has the other value.
 pub fn value_laws()
     ensures { (g : Graph) (x : Inputs) (f : Choice) → IsGraph g → ValueLaws g x f }
 {}

@@ -2,12 +2,12 @@
 //! sets of gates over which latches move forward. Every other crate stands on the definitions of
 //! this one.
 //!
-//! Of a circuit's least sets a frame takes one, the greatest or the smallest: that which holds all
-//! others, or that which lies in all others.
+//! Of a circuit's least sets a frame takes the greatest, which holds all others, or the smallest,
+//! which lies in all others.
 //!
-//! Tables by variable cover the variables from a first one on: entry `k` is that of variable
-//! `first + k`. Those of a circuit begin at its first latch, so inputs take no entry: a short file
-//! can have hundreds of millions of them.
+//! Tables by variable cover the variables from a first one on: entry `k` is that of variable `first
+//! + k`. Those of a circuit begin at its first latch, so inputs take no entry: a short file can
+//! have hundreds of millions of them.
 #![tactic(auto)]
 
 mod border;

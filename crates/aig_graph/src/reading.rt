@@ -1,5 +1,5 @@
-//! The variables that are read from outside of a set. Tables by variable begin at the first latch:
-//! a file of 30 bytes can have hundreds of millions of inputs, and they are never in a border.
+//! The variables that are read from outside of a set. Tables by variable begin at the first latch.
+//! A file of 30 bytes can have hundreds of millions of inputs, and they are never in a border.
 ghost use Rattle.std.specs.Prelude.{◌≡◌, ◌+◌, ◌≤◌, ◌&&◌, not, length};
 ghost use Rattle.std.specs.List.{list_any, flat_map, enumerate_from};
 ghost use Rattle.aig_graph.specs.declared.literal.TheConstants.{MAX_VARIABLES};

@@ -17,7 +17,7 @@ abbrev pub Passes : List (Bool × ReadError) → Type 0
 Passes [] = Unit {0}
 Passes ((fails, fault) ∷ more) = (fails ≡ false) × Passes more
 
--- where checks leave a value, none of them fails, and the value is what they leave
+-- if checks leave a value, none of them fails, and the value is what they leave
 pub unless_ok : {A : Type 0} (list : List (Bool × ReadError)) (value : Result A ReadError) (y : A) → unless list value ≡ Ok y → Passes list × (value ≡ Ok y)
 unless_ok [] value y e = (tt, e)
 unless_ok ((true, fault) ∷ more) value y e = absurd cc

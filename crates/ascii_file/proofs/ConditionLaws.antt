@@ -112,7 +112,7 @@ all_fitted h raw right =
 pairs-nil : AllPairs (λ (symbol other : RawSymbol). is_of_same other symbol ≡ false) []
 pairs-nil i j d less within = absurd (omega arith)
 
--- what holds where each item fits
+-- what holds if each item fits
 pub are_right : (h : Header) (raw : Raw) → AllFitted h raw → AreRight h raw
 are_right h raw fitted =
     let inputs = definitions_from h ℕ (λ lit. lit) (λ lit. []) at_inputs input_grows raw.inputs [] fitted.inputs in

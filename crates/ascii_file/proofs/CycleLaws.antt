@@ -1,4 +1,4 @@
--- Each gate stands once, and there is an order exactly where there is no cycle.
+-- Each gate stands once, and there is an order if and only if there is no cycle.
 use Rattle.std.proofs.Common.{ℕ, ◌+◌, ◌<◌, ◌≤◌, ◌≡◌, inl, inr, suc, zero, List, [], ◌∷◌, ◌++◌, length, take, true, false, not, nat_eq, Option, Some, None, slice_get, get_or, refl, arith, ap, sym, subst, ◌∙◌}
 use Rattle.std.specs.List.{IsDistinct, AllByRecursion}
 use Rattle.std.proofs.lemmas.Bool.{cases_eq, cases_lt, cases_Bool, both_ways, and_cases, or_cases, or_left, or_right, or_parts, eqb-true, eq-eqb, not-true, not-false, not_from_false, false_from_ne_true}
@@ -143,7 +143,7 @@ leads-push : (gates : List Reads) (g : ℕ) (rest : List ℕ) (h end : ℕ) → 
 leads-push gates g [] h end leads reads = (leads, reads)
 leads-push gates g (i ∷ rest) h end leads reads = (leads.0, leads-push gates i rest h end leads.1 reads)
 
--- where no gate may follow, a gate that isn't placed reads another
+-- if no gate may follow, a gate that isn't placed reads another
 abbrev IsStuck : List Reads → List ℕ → Type 0
 IsStuck gates placed = (h : ℕ) → h < length gates → may_follow gates placed h ≡ false
 
@@ -225,7 +225,7 @@ cycle_from gates placed in_file stuck (suc more) h seen apart below leads size w
       next.waits)
 ]
 
--- where fewer are placed than there are gates, one waits
+-- if fewer are placed than there are gates, one waits
 one_waits : (gates : List Reads) (placed : List ℕ) → length placed < length gates → (g : ℕ) × Waits gates placed g
 one_waits gates placed fewer = elim (first_below_cases (λ h. not (has_gate placed h)) (length gates)) [
   | inl found ↦ (found.0, record { below = found.2.below; fresh = not-true (has_gate placed found.0) found.2.passes })
@@ -251,7 +251,7 @@ none_where_cycle : (gates : List Reads) (o : Option (List ℕ)) → ordered gate
 none_where_cycle gates None e cycle = refl
 none_where_cycle gates (Some order) e cycle = absurd (no_cycle gates order ((ordered_law gates order).0 e) cycle)
 
--- no order is computed exactly where gates read each other in a cycle
+-- no order is computed if and only if gates read each other in a cycle
 pub cycle_law : (gates : List Reads) → CycleLaw gates
 cycle_law gates in_file = (
   cycle_where_none gates in_file (length gates) [] (λ k g e. absurd (none-some g e)) (omega arith),
@@ -262,7 +262,7 @@ order_where_none : (gates : List Reads) → AreReadsInFile gates → (o : Option
 order_where_none gates in_file None e none = absurd (none ((cycle_law gates in_file).0 e))
 order_where_none gates in_file (Some order) e none = (order, (ordered_law gates order).0 e)
 
--- there is an order exactly where there is no cycle
+-- there is an order if and only if there is no cycle
 pub exists_law : (gates : List Reads) → ExistsLaw gates
 exists_law gates in_file = (λ found cycle. no_cycle gates found.0 found.1 cycle, order_where_none gates in_file (ordered gates) refl)
 

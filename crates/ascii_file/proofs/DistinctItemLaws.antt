@@ -1,4 +1,5 @@
--- Variables that are defined once each, symbols that name a thing of their own, and what follows of the items.
+-- Variables that are defined once each, symbols that name a thing of their own, and what follows of
+-- the items.
 use Rattle.std.proofs.Common.{ℕ, ◌+◌, ◌<◌, ◌≤◌, ◌≡◌, ◌≢◌, List, [], ◌∷◌, ◌++◌, length, map, get_or, AllPairs, Bool, true, false, nat_eq, refl, sym, ap, subst, ◌∙◌, append_assoc, append-nil, arith}
 use Rattle.std.specs.List.{AllByRecursion, list_any, sum}
 use Rattle.std.proofs.lemmas.Bool.{eq-eqb, ne_eqb, both_ways}

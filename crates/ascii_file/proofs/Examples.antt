@@ -24,7 +24,8 @@ AreRewritten table = map (λ (e : List ℕ × List ℕ). rewritten e.0) table �
 abbrev AreRefused : List (List ℕ × ReadError) → Type 0
 AreRefused table = map (λ (e : List ℕ × ReadError). read_bytes e.0) table ≡ map (λ (e : List ℕ × ReadError). Err e.1) table
 
--- all sections, symbols in any order and a comment; gates in any order; variables left out; leading zeros and no last newline
+-- all sections, symbols in any order and a comment; gates in any order; variables left out; leading
+-- zeros and no last newline
 accepted : AreRewritten (
     (codes "aag 5 2 2 1 1\n2\n4\n6 2\n8 4\n10\n10 6 8\n", codes "aag 5 2 2 1 1\n2\n4\n6 2\n8 4\n10\n10 8 6\n")
     ∷ (

@@ -21,12 +21,12 @@ abbrev pub IsFaultOrOk : {A : Type 0} → Result A ReadError → Type 0
 IsFaultOrOk (Ok x) = Unit {0}
 IsFaultOrOk (Err e) = is_fault_of_bytes e ≡ true
 
--- where both of two are a value or a fault of the bytes, so is the one that is chosen
+-- if both of two are a value or a fault of the bytes, so is the one that is chosen
 pub choice : {A : Type 0} (b : Bool) (x y : Result A ReadError) → IsFaultOrOk x → IsFaultOrOk y → IsFaultOrOk (cond b x y)
 choice true x y one other = one
 choice false x y one other = other
 
--- where a step and what comes next are values or faults of the bytes, so are both together
+-- if a step and what comes next are values or faults of the bytes, so are both together
 pub in_turn : {A B : Type 0} (x : Result A ReadError) (f : A → Result B ReadError) → IsFaultOrOk x → ((a : A) → IsFaultOrOk (f a)) → IsFaultOrOk (x >>= f)
 in_turn (Ok a) f first then = then a
 in_turn (Err e) f first then = first

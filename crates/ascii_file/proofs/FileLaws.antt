@@ -1,4 +1,4 @@
--- Bytes are read exactly where they are a file, and as the circuit of its raw circuit.
+-- Bytes are read if and only if they are a file, and as the circuit of its raw circuit.
 use Rattle.std.proofs.Common.{ℕ, ◌+◌, ◌-◌, ◌^◌, ◌<◌, ◌≤◌, ◌≡◌, ◌⊎◌, inl, inr, List, [], ◌∷◌, ◌++◌, length, get_or, All, Option, Some, None, IfSome, Result, Ok, Err, Bool, true, false, cond, ◌&&◌, nat_eq, refl, sym, ap, subst, ◌∙◌, Contains, arith}
 use Rattle.std.specs.List.{AllZip}
 use Rattle.std.specs.Option.{option_map}
@@ -85,7 +85,7 @@ header_was_read line h e = by_case (header_of line) refl e
 
 -- ---- the lines after the items
 
--- where the items are complete, the end of the file gives what they resolve to
+-- if the items are complete, the end of the file gives what they resolve to
 record ReadToEnd (h : Header) (raw : Raw) (at : ℕ) (last : List (List ℕ)) : Type 0 where
   state : State
   read : take_lines (InItems h raw at) last ≡ Ok state
@@ -235,7 +235,7 @@ one_raw bytes h h' raw raw' file file' =
 
 -- ---- what is read is a file
 
--- the items are complete where the end gives a circuit
+-- the items are complete if the end gives a circuit
 record EndRead (h : Header) (raw : Raw) (last : List (List ℕ)) (c : Netlist) : Type 0 where
   complete : is_complete h raw ≡ true
   comment : IsComment last
@@ -307,6 +307,7 @@ file_of_read_bytes bytes c e =
     let step = bind_ok (take_lines AtHeader (lines bytes)) (finish (length bytes)) c e in
     file_of_lines bytes c (lines bytes) step.0 refl step.1 step.2
 
--- bytes are read as a circuit exactly where they are an ASCII file of a raw circuit, else there is a fault of the bytes
+-- Bytes are read as a circuit if and only if they are an ASCII file of a raw circuit. Otherwise
+-- there is a fault of the bytes.
 pub the_reading_law : (bytes : List ℕ) → ReadingLaw bytes
 the_reading_law bytes = record { file = read_bytes-of_file bytes; read = file_of_read_bytes bytes; one = one_raw bytes; fault = λ e was. record { read = was; of_bytes = fault_of_bytes bytes e was } }

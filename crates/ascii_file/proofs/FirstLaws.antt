@@ -14,7 +14,7 @@ pub record IsFirst (p : ℕ → Bool) (n g : ℕ) : Type 0 where
   -- no smaller number passes
   pub least : (h : ℕ) → p h ≡ true → g ≤ h
 
--- a search below n finds the first number that passes, or none where none below n does
+-- a search below n finds the first number that passes, or none if none below n does
 pub first_below_cases : (p : ℕ → Bool) (n : ℕ) → ((g : ℕ) × (first_below p n ≡ Some g) × IsFirst p n g) ⊎ ((first_below p n ≡ None) × ((h : ℕ) → h < n → p h ≡ false))
 unfolding first_below
 first_below_cases p zero = inr (refl, λ h less. absurd (omega arith))
@@ -56,7 +56,7 @@ first_below_is p n g f = elim (first_below_cases p n) [
   | inr none ↦ absurd (both_ways (p g) (none.1 g f.below) f.passes)
 ]
 
--- where no number below n passes, a search finds none
+-- if no number below n passes, a search finds none
 pub first_below_none : (p : ℕ → Bool) (n : ℕ) → ((h : ℕ) → h < n → p h ≡ false) → first_below p n ≡ None
 first_below_none p n all = elim (first_below_cases p n) [
   | inl found ↦ absurd (both_ways (p found.0) (all found.0 found.2.below) found.2.passes)

@@ -64,7 +64,7 @@ pub order_from-more : (gates : List Reads) (placed : List ℕ) (more : ℕ) (o :
 unfolding order_from
 order_from-more gates placed more o e = ap (option_and_then (λ g. order_from gates (placed ++ g ∷ []) more)) e
 
--- where no more gates are wanted, those placed are the order
+-- if no more gates are wanted, those placed are the order
 pub order_from-zero : (gates : List Reads) (placed : List ℕ) → order_from gates placed 0 ≡ Some placed
 unfolding order_from
 order_from-zero gates placed = refl
@@ -120,7 +120,7 @@ ordered_law gates order = (
   λ is. computed_where_order gates order is (length gates) 0 (omega arith),
 )
 
--- two orders of the same gates are the same
+-- two orders of one list of gates are one
 pub at_most_one : (gates : List Reads) (first second : List ℕ) → HasAtMostOneOrder gates first second
 at_most_one gates first second p q = same_Some first second (sym ((ordered_law gates first).1 p) ∙ (ordered_law gates second).1 q)
 

@@ -59,16 +59,19 @@ limits-cut h =
 abbrev pub Relation : Type 0
 Relation = Header → Bool
 
--- a header of this form, if there is one: its numbers within their limits, and in the right relation
+-- a header of this form, if there is one: its numbers within their limits, and in the right
+-- relation
 abbrev pub formed : Relation → Option Header → Result Header ReadError
 formed is_off None = Err (BadHeader 0)
 formed is_off (Some h) = unless (limits h) (unless ((is_off h, MaxIndex 0) ∷ []) (Ok h))
 
--- the relation bounds what is counted by the greatest variable, and cutting changes nothing about it
+-- the relation bounds what is counted by the greatest variable, and cutting changes nothing about
+-- it
 pub record IsCuttable (is_off : Relation) : Type 0 where
-  -- where the relation is right, inputs, latches and gates come to at most the greatest variable
+  -- if the relation is right, inputs, latches and gates come to at most the greatest variable
   pub bounds : (h : Header) → is_off h ≡ false → h.inputs + h.latches + h.gates ≤ h.greatest
-  -- where the greatest variable is within its limit, cutting the numbers doesn't change whether the relation is right
+  -- if the greatest variable is within its limit, cutting the numbers doesn't change whether the
+  -- relation is right
   pub cuts : (h : Header) → h.greatest ≤ 2 ^ 28 - 1 → is_off (cut h) ≡ is_off h
 
 clamped-small : (n : ℕ) → n < 2 ^ 32 → clamped n ≡ n
@@ -117,7 +120,8 @@ header-cut : (ns : List ℕ) → header_by (number_at (map clamped ns)) ≡ cut 
 header-cut ns =
     header_same (cut (header_by (number_at ns))) _ _ _ _ _ _ _ _ _ (number-cut ns 0) (number-cut ns 1) (number-cut ns 2) (number-cut ns 3) (number-cut ns 4) (number-cut ns 5) (number-cut ns 6) (number-cut ns 7) (number-cut ns 8)
 
--- a line of more than nine numbers is no header, and one of up to nine is the header of the cut numbers
+-- a line of more than nine numbers is no header, and one of up to nine is the header of the cut
+-- numbers
 numbers-cut : (is_off : Relation) → IsCuttable is_off → (ns : List ℕ) → formed is_off (option_and_then header_in (up_to_nine (map clamped ns))) ≡ formed is_off (header_in ns)
 numbers-cut is_off cuttable ns = by_test (nat_le 5 (length ns)) (nat_le (length ns) 9) (ap (nat_le 5) (length-map ns clamped)) (ap (λ (n : ℕ). nat_le n 9) (length-map ns clamped))
   where

@@ -28,7 +28,7 @@ equal_numbers p k = by_test (nat_lt p k) (nat_eq p k) (λ less. ne_eqb p k (λ s
     by_test false true apart = refl
     by_test false false apart = refl
 
--- a map has a position exactly where one of its names has it
+-- a map has a position if and only if one of its names has it
 pub found : (p : ℕ) (es : List (ℕ × List ℕ)) → has_position (symbols_in es) p ≡ is_some (lookup (is_at (nat_cmp p)) es)
 found p [] = refl
 found p (e ∷ es) = by_test (nat_eq p e.0) (has_position (symbols_in es) p) e.1 (lookup (is_at (nat_cmp p)) es) (found p es)
@@ -38,16 +38,16 @@ found p (e ∷ es) = by_test (nat_eq p e.0) (has_position (symbols_in es) p) e.1
     by_test true rest name found h = refl
     by_test false rest name found h = h
 
--- a position is taken among names exactly where the map that they are of has it
+-- a position is taken among names if and only if the map that they are of has it
 pub taken : (names : List Symbol) (p : ℕ) (es : List (ℕ × List ℕ)) (result : Bool) → symbols_in es ≡ names → result ≡ is_some (lookup (is_at (nat_cmp p)) es) → has_position names p ≡ result
 taken names p es result seen is = ap (λ (ns : List Symbol). has_position ns p) (sym seen) ∙ found p es ∙ sym is
 
--- where neither of two holds, the first doesn't
+-- if neither of two holds, the first doesn't
 pub or_first : (a b : Bool) → (a || b) ≡ false → a ≡ false
 or_first true b h = h
 or_first false b h = refl
 
--- where neither of two holds, the second doesn't
+-- if neither of two holds, the second doesn't
 pub or_second : (a b : Bool) → (a || b) ≡ false → b ≡ false
 or_second true b h = absurd (cc)
 or_second false b h = h
@@ -114,7 +114,7 @@ positions kind p name names (s ∷ symbols) =
     ∙ ap (λ (b : Bool). b || list_any (is_of_same (symbol_at kind p name)) symbols) (position-with_symbol kind p name names s)
     ∙ or_assoc (has_position names p) (is_of_same (symbol_at kind p name) s) (list_any (is_of_same (symbol_at kind p name)) symbols)
 
--- the names of a kind have a position exactly where a symbol is of the same thing
+-- the names of a kind have a position if and only if a symbol is of that thing
 pub same_position : (kind : SymbolKind) (p : ℕ) (name : List ℕ) (symbols : List RawSymbol) → has_position (names_of kind symbols) p ≡ list_any (is_of_same (symbol_at kind p name)) symbols
 same_position kind p name symbols = positions kind p name [] symbols
 

@@ -39,7 +39,7 @@ full_where_counted h raw counted = record {
   gates = omega (arith, counted.gates);
 }
 
--- where each section is full, all items but symbols have been read
+-- if each section is full, all items but symbols have been read
 pub complete_where_full : (h : Header) (raw : Raw) → IsFull h raw → is_complete h raw ≡ true
 complete_where_full h raw full = ap is_symbols (symbols_next h raw.inputs full.inputs raw.latches full.latches raw.safety full.safety raw.sizes full.sizes raw.liveness full.liveness raw.gates full.gates raw.symbols)
 

@@ -189,7 +189,8 @@ pub record AreInRange (h : Header) (g : Graph) (l : Lists) : Type 0 where
   pub safety : length l.safety ≡ safety_count h
   -- as many justice properties as the header says
   pub sizes : length l.sizes ≡ h.justice
-  -- as many literals of justice properties as their sizes come to, and as many fairness literals as the header says
+  -- as many literals of justice properties as their sizes come to, and as many fairness literals as
+  -- the header says
   pub liveness : length l.liveness ≡ sum l.sizes + h.fairness
   -- the literals of outputs, bad states and constraints are the graph's
   pub safety_literals : AreLiteralsOf g l.safety
@@ -245,7 +246,7 @@ names_keys : (count : ℕ) (es : List (ℕ × List ℕ)) → AllByRecursion (λ 
 names_keys count [] all = tt
 names_keys count (e ∷ es) all = (all.0, names_keys count es all.1)
 
--- names are below a count exactly where the keys are
+-- names are below a count if and only if the keys are
 pub below_where_keys : (result : Bool) (count : ℕ) (es : List (ℕ × List ℕ)) (names : List Symbol) → symbols_in es ≡ names → IsTrue result ↔ All (λ p. p < count) (keys_of es) → IsStrictlySortedBy nat_cmp (keys_of es)
     → IsTrue result ↔ AreNamesBelow count names
 below_where_keys result count es names seen both ordered = (

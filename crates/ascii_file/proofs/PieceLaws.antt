@@ -84,7 +84,7 @@ no_line (b ∷ part) clean =
 -- ---- a part of a line, and the part that ends it
 
 module _ (more : List ℕ) (rest : List (List ℕ)) where
-  -- what more bytes do where nothing stands before them
+  -- what more bytes do if nothing stands before them
   abbrev Alone : List ℕ → Type 0
   Alone last = (ended_lines more ≡ rest) × (open_line more ≡ last)
 

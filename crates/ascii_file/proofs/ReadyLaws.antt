@@ -79,7 +79,7 @@ top_is_first x (y ∷ ys) bound g some = elim (cases_eq g y.0) [
 pub Gains-none : (test : ℕ → Bool) (xs : List (Reverse ℕ)) → ((g : ℕ) → test g ≡ false) → Gains test xs xs
 Gains-none test xs fails = record { each = λ g. omega (arith, number-false (test g) (fails g)) }
 
--- a heap gains the same by a test that agrees everywhere
+-- a heap gains alike by a test that agrees everywhere
 pub Gains-same : (test other : ℕ → Bool) (old new : List (Reverse ℕ)) → ((g : ℕ) → other g ≡ test g) → Gains test old new → Gains other old new
 Gains-same test other old new same gains = record { each = λ g. gains.each g ∙ ap (λ (b : Bool). times_in_heap g old + number b) (sym (same g)) }
 
@@ -99,7 +99,7 @@ from-below : (c g : ℕ) (test : ℕ → Bool) → g < c → from c test g ≡ f
 from-below c g test below = and_left (nat_le c g) (test g) (lt-leb c g below)
 
 module _ (c r : ℕ) (test : ℕ → Bool) (within : c ≤ r) (gap : (g : ℕ) → c ≤ g → g < r → test g ≡ false) where
-  -- where the number past a gap doesn't pass, those that pass from the gap on are those past it
+  -- if the number past a gap doesn't pass, those that pass from the gap on are those past it
   pub from_skip : test r ≡ false → (g : ℕ) → from c test g ≡ from (r + 1) test g
   from_skip fails g = elim (cases_lt r g) [
     | inl above ↦ from-at c g test (omega arith) ∙ sym (from-at (r + 1) g test (omega arith))
@@ -112,7 +112,8 @@ module _ (c r : ℕ) (test : ℕ → Bool) (within : c ≤ r) (gap : (g : ℕ) �
     ]
   ]
 
-  -- where the number past a gap passes, it is one of those that pass from the gap on, and the others are past it
+  -- if the number past a gap passes, it is one of those that pass from the gap on, and the others
+  -- are past it
   pub from_push : test r ≡ true → (g : ℕ) → number (from c test g) ≡ number (from (r + 1) test g) + number (nat_eq g r)
   from_push passes g = elim (cases_eq g r) [
     | inl same ↦ omega (
@@ -176,7 +177,7 @@ before_push r test passes g = elim (cases_lt g r) [
   ]
 ]
 
--- where nothing passes from n on, all that pass are below n
+-- if nothing passes from n on, all that pass are below n
 pub before_all : (n : ℕ) (test : ℕ → Bool) → ((g : ℕ) → n ≤ g → test g ≡ false) → (g : ℕ) → test g ≡ before n test g
 before_all n test past g = elim (cases_lt g n) [
   | inl less ↦ sym (before-at n g test less)
@@ -228,7 +229,7 @@ released-none gates side marks p c last g = elim (cases_lt g c) [
   ])
 ]
 
--- a reader of the placed gate is released where all its fan-ins are marked
+-- a reader of the placed gate is released if all its fan-ins are marked
 pub released-at : (gates : List Reads) (side : Side) (marks : List Bool) (p r : ℕ) (reads : Reads) → read_by side gates r ≡ Some p → slice_get gates r ≡ Some reads
     → is_released gates side marks p r ≡ are_met (mark_of marks) (Some reads)
 unfolding is_released
@@ -257,7 +258,8 @@ mark_of-push marks placed g within same h = elim (cases_eq h g) [
     or_nothing true b e = refl
     or_nothing false b e = e
 
--- the gates that may follow, counted: a, b for the fan-ins that were met, u, v for those that are the new gate; p for placed, e for the new gate itself
+-- The gates that may follow, counted. a and b are for the fan-ins that were met, u and v for those
+-- that are the new gate. p is for placed, e for the new gate itself.
 balance : (a b u v p e : Bool) → (a ≡ true → u ≡ false) → (b ≡ true → v ≡ false) → (p ≡ true → (a && b) ≡ true) → (e ≡ true → ((a && b) && not p) ≡ true)
     → number (((a || u) && (b || v)) && not (p || e)) + number e ≡ number ((a && b) && not p) + number (u && ((a || u) && (b || v))) + number ((v && not u) && ((a || u) && (b || v)))
 balance true b true v p e hu hv hp he = absurd (both_ways true (hu refl) refl)
@@ -300,7 +302,7 @@ met_other : (placed : List ℕ) (g : ℕ) (o : Option ℕ) → has_gate placed g
 met_other placed g o fresh met = false_from_ne_true (is_gate o g) (λ e.
     both_ways (has_gate placed g) fresh (sym (ap (is_met (has_gate placed)) (is_gate-some o g e)) ∙ met))
 
--- the second fan-in, where it is another one
+-- the second fan-in, if it is another one
 second-is : (a b : Option ℕ) (g : ℕ) → is_gate (cond (option_eq nat_eq b a) None b) g ≡ (is_gate b g && not (is_gate a g))
 second-is None None g = refl
 second-is (Some j) None g = refl
@@ -428,13 +430,13 @@ state_then gates placed marks ready rest mid new x state moved first second heap
           omega (arith, equal, times-pop h x ready rest moved, state.each h, first.each h, second.each h);
     }
 
--- going on with the next gate, and where there is none
+-- going on with the next gate, and if there is none
 pub rest_then : (gates : List Reads) (placed : List ℕ) (more g : ℕ) → IsNextGate gates placed g → order_from gates placed (suc more) ≡ order_from gates (placed ++ g ∷ []) more
 rest_then gates placed more g next =
     let f = follows_where_true gates placed g next.follows in
     order_from-more gates placed more (Some g) (first_below_is (may_follow gates placed) (length gates) g (record { below = f.below; passes = next.follows; least = next.first }))
 
--- where the heap is empty and a gate is still wanted, there is no order
+-- if the heap is empty and a gate is still wanted, there is no order
 pub rest_none : (gates : List Reads) (placed : List ℕ) (marks : List Bool) (more : ℕ) → IsState gates placed marks [] → order_from gates placed (suc more) ≡ None
 rest_none gates placed marks more state =
     order_from-more gates placed more None (first_below_none (may_follow gates placed) (length gates) (λ h less.

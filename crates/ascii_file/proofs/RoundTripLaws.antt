@@ -1,4 +1,5 @@
--- The text of a circuit is a file of the raw circuit by its own literals, so it is read as that circuit.
+-- The text of a circuit is a file of the raw circuit by its own literals, so it is read as that
+-- circuit.
 use Rattle.std.proofs.Common.{ℕ, suc, zero, ◌+◌, ◌-◌, ◌*◌, ◌^◌, ◌<◌, ◌≤◌, ◌≡◌, ◌≢◌, inl, inr, List, [], ◌∷◌, ◌++◌, length, map, get_or, All, Some, None, Ok, Bool, true, false, cond, not, nat_eq, nat_le, ◌&&◌, refl, sym, ap, ◌∙◌, append-nil, arith, codes}
 use Rattle.std.specs.List.{AllByRecursion, list_all, sum}
 use Rattle.std.specs.Option.{option_and_then}
@@ -175,7 +176,8 @@ latch-small most latch low small (range, reset) = (omega (arith, range.0, small)
     by_case (inr (inl one)) = omega (arith, one)
     by_case (inr (inr own)) = omega (arith, own, range.0, small)
 
--- the items of a circuit within the limits have numbers that a line may have, and names without newline
+-- the items of a circuit within the limits have numbers that a line may have, and names without
+-- newline
 pub written-small : (c : Netlist) → IsGraph c.aig → IsNetlist c → IsWithinLimits c → AllByRecursion IsSmall (items_of (written c))
 written-small c graph netlist within =
     let raw = written c in

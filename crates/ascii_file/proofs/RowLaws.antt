@@ -34,7 +34,7 @@ continued-some v (b ∷ bytes) = by_digit (is_ascii_digit b) (continued-some (st
     by_digit true e = e
     by_digit false e = refl
 
--- where no number was begun, a piece is the number that its digits spell
+-- if no number was begun, a piece is the number that its digits spell
 pub continued-none : (p : List ℕ) → continued None p ≡ cond (is_number p) (Some (digits_value p)) None
 continued-none [] = refl
 continued-none (b ∷ bytes) =
@@ -144,7 +144,7 @@ pub at_other : (number : Option ℕ) (b : ℕ) (rest : List ℕ) → (b ≡ 32 �
 unfolding read_on
 at_other number b rest no_space no_digit = cond-false _ _ _ (ne_eqb b 32 no_space) ∙ cond-false _ _ _ no_digit
 
--- a number that ends, where there is room for it, or none
+-- a number that ends, if there is room for it, or none
 pub with_room : (ns : List ℕ) (n : ℕ) (more : Option (List ℕ)) → finished (ns ++ n ∷ []) more ≡ finished ns (in_front (Some n) more)
 with_room ns n None = refl
 with_room ns n (Some more) = ap up_to_nine (append_assoc ns (n ∷ []) more)
@@ -154,7 +154,7 @@ pub without_room : (ns : List ℕ) (n : ℕ) (more : Option (List ℕ)) → leng
 without_room ns n None full = refl
 without_room ns n (Some more) full = cond-false _ _ _ (lt-leb (length (ns ++ n ∷ more)) 9 (omega (arith, full, length-append ns (n ∷ more))))
 
--- where a number ends that wasn't begun, there are no numbers
+-- if a number ends that wasn't begun, there are no numbers
 pub no_number : (ns : List ℕ) (more : Option (List ℕ)) → finished ns (in_front None more) ≡ None
 no_number ns more = refl
 

@@ -69,7 +69,8 @@ pub record WasRead (h : Header) (raw : Raw) (ls : List (List ℕ)) (state : Stat
   -- the last lines end the items where the reading stands
   pub ends : Ends h (with_items raw items) last state
 
--- lines that are taken after the header spell items which follow, and then the file or its comment ends them
+-- lines that are taken after the header spell items which follow, and then the file or its comment
+-- ends them
 pub lines_were_read : (h : Header) (ls : List (List ℕ)) (raw : Raw) (at : ℕ) (state : State) → take_lines (InItems h raw at) ls ≡ Ok state → WasRead h raw ls state
 unfolding take_lines
 lines_were_read h [] raw at state e = record { items = []; middle = []; last = []; parts = refl; spelt = tt; follow = tt; ends = inl (refl, at, sym (same_ok (InItems h raw at) state e)) }

@@ -13,7 +13,8 @@ split_more sizes i rest others lits before after whole less is first back more =
     rw (more, first, back) (append_assoc before (take (get_or sizes i 0) rest ∷ []) (split_by (drop (i + 1) sizes) (drop (get_or sizes i 0) rest))
     ∙ ap (λ (ns : List ℕ). before ++ split_by ns rest) (sym (drop_more sizes i 0 less)) ∙ is)
 
--- where a list is long enough for the sizes left, it is so, without the next part, for the sizes after it
+-- if a list is long enough for the sizes left, it is so, without the next part, for the sizes after
+-- it
 pub sum_more : (sizes : List ℕ) (i : ℕ) (rest others : List ℕ) → i < length sizes → sum (drop i sizes) ≤ length rest → others ≡ drop (get_or sizes i 0) rest → sum (drop (i + 1) sizes) ≤ length others
 sum_more sizes i rest others less fits back =
     let split = sum_by-drop_more (λ (n : ℕ). n) sizes i 0 less in

@@ -53,7 +53,7 @@ abbrev from_latches : Header → Raw → Section
 from_latches h raw = cond (nat_lt (length raw.latches) h.latches) Latches (from_safety h raw)
 
 module _ (h : Header) (raw : Raw) where
-  -- where an input is missing, inputs come next
+  -- if an input is missing, inputs come next
   pub is_inputs : length raw.inputs < h.inputs → next_section h raw ≡ Inputs
   unfolding next_section
   is_inputs room = cond-true (nat_lt (length raw.inputs) h.inputs) Inputs (from_latches h raw) (lt-ltb (length raw.inputs) h.inputs room)
@@ -62,21 +62,22 @@ module _ (h : Header) (raw : Raw) where
   unfolding next_section
   past_inputs full = cond-false (nat_lt (length raw.inputs) h.inputs) Inputs (from_latches h raw) (le-ltb (length raw.inputs) h.inputs full)
 
-  -- where all inputs are there and a latch is missing, latches come next
+  -- if all inputs are there and a latch is missing, latches come next
   pub is_latches : h.inputs ≤ length raw.inputs → length raw.latches < h.latches → next_section h raw ≡ Latches
   is_latches full room = past_inputs full ∙ cond-true (nat_lt (length raw.latches) h.latches) Latches (from_safety h raw) (lt-ltb (length raw.latches) h.latches room)
 
   past_latches : h.inputs ≤ length raw.inputs → h.latches ≤ length raw.latches → next_section h raw ≡ from_safety h raw
   past_latches inputs full = past_inputs inputs ∙ cond-false (nat_lt (length raw.latches) h.latches) Latches (from_safety h raw) (le-ltb (length raw.latches) h.latches full)
 
-  -- where inputs and latches are full and an output, bad state or constraint is missing, these come next
+  -- if inputs and latches are full and an output, bad state or constraint is missing, these come
+  -- next
   pub is_safety : h.inputs ≤ length raw.inputs → h.latches ≤ length raw.latches → length raw.safety < safety_count h → next_section h raw ≡ Safety
   is_safety inputs latches room = past_latches inputs latches ∙ cond-true (nat_lt (length raw.safety) (safety_count h)) Safety (from_sizes h raw) (lt-ltb (length raw.safety) (safety_count h) room)
 
   past_safety : h.inputs ≤ length raw.inputs → h.latches ≤ length raw.latches → safety_count h ≤ length raw.safety → next_section h raw ≡ from_sizes h raw
   past_safety inputs latches full = past_latches inputs latches ∙ cond-false (nat_lt (length raw.safety) (safety_count h)) Safety (from_sizes h raw) (le-ltb (length raw.safety) (safety_count h) full)
 
-  -- where the sections before are full and a justice property is missing, sizes come next
+  -- if the sections before are full and a justice property is missing, sizes come next
   pub is_sizes : h.inputs ≤ length raw.inputs → h.latches ≤ length raw.latches → safety_count h ≤ length raw.safety → length raw.sizes < h.justice → next_section h raw ≡ Sizes
   is_sizes inputs latches safety room =
       past_safety inputs latches safety ∙ cond-true (nat_lt (length raw.sizes) h.justice) Sizes (from_liveness h raw) (lt-ltb (length raw.sizes) h.justice room)
@@ -85,7 +86,8 @@ module _ (h : Header) (raw : Raw) where
   past_sizes inputs latches safety full =
       past_safety inputs latches safety ∙ cond-false (nat_lt (length raw.sizes) h.justice) Sizes (from_liveness h raw) (le-ltb (length raw.sizes) h.justice full)
 
-  -- where the sections before are full and a literal of justice or fairness is missing, these come next
+  -- if the sections before are full and a literal of justice or fairness is missing, these come
+  -- next
   pub is_liveness : h.inputs ≤ length raw.inputs → h.latches ≤ length raw.latches → safety_count h ≤ length raw.safety → h.justice ≤ length raw.sizes → length raw.liveness < liveness_count h raw → next_section h raw ≡ Liveness
   is_liveness inputs latches safety sizes room =
       past_sizes inputs latches safety sizes ∙ cond-true (nat_lt (length raw.liveness) (liveness_count h raw)) Liveness (from_gates h raw) (lt-ltb (length raw.liveness) (liveness_count h raw) room)
@@ -94,12 +96,12 @@ module _ (h : Header) (raw : Raw) where
   past_liveness inputs latches safety sizes full =
       past_sizes inputs latches safety sizes ∙ cond-false (nat_lt (length raw.liveness) (liveness_count h raw)) Liveness (from_gates h raw) (le-ltb (length raw.liveness) (liveness_count h raw) full)
 
-  -- where the sections before are full and a gate is missing, gates come next
+  -- if the sections before are full and a gate is missing, gates come next
   pub is_gates : h.inputs ≤ length raw.inputs → h.latches ≤ length raw.latches → safety_count h ≤ length raw.safety → h.justice ≤ length raw.sizes → liveness_count h raw ≤ length raw.liveness → length raw.gates < h.gates → next_section h raw ≡ Gates
   is_gates inputs latches safety sizes liveness room =
       past_liveness inputs latches safety sizes liveness ∙ cond-true (nat_lt (length raw.gates) h.gates) Gates Symbols (lt-ltb (length raw.gates) h.gates room)
 
-  -- where all sections are full, symbols come next
+  -- if all sections are full, symbols come next
   pub is_symbols : h.inputs ≤ length raw.inputs → h.latches ≤ length raw.latches → safety_count h ≤ length raw.safety → h.justice ≤ length raw.sizes → liveness_count h raw ≤ length raw.liveness → h.gates ≤ length raw.gates → next_section h raw ≡ Symbols
   is_symbols inputs latches safety sizes liveness full =
       past_liveness inputs latches safety sizes liveness ∙ cond-false (nat_lt (length raw.gates) h.gates) Gates Symbols (le-ltb (length raw.gates) h.gates full)
@@ -151,7 +153,8 @@ module _ (h : Header) (inputs : List ℕ) (full_inputs : h.inputs ≤ length inp
     }
 
     module _ (safety : List ℕ) (full_safety : safety_count h ≤ length safety) where
-      -- the sizes of justice properties are a section, once the outputs, bad states and constraints are full
+      -- the sizes of justice properties are a section, once the outputs, bad states and constraints
+      -- are full
       pub sizes_section : IsSection h Sizes h.justice SizeItem (at_sizes inputs latches safety)
       sizes_section = record {
         here = λ xs room. is_sizes h (at_sizes inputs latches safety xs) full_inputs full_latches full_safety room;

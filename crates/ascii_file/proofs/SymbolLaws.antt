@@ -46,7 +46,7 @@ abbrev by_number : SymbolKind → List ℕ → Option ℕ → SymbolText
 by_number kind name None = Malformed
 by_number kind name (Some v) = Name kind (clamped v) name
 
--- what a cut gives, where a number was begun before it
+-- what a cut gives, if a number was begun before it
 abbrev by_cut : SymbolKind → Option ℕ → Option (List ℕ × List ℕ) → SymbolText
 by_cut kind number None = Malformed
 by_cut kind number (Some cut) = by_number kind cut.1 (continued number cut.0)

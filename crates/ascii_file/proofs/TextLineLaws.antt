@@ -170,7 +170,7 @@ pub flat_map-map : {X Y A : Type 0} (f : Y → List A) (g : X → Y) (xs : List 
 flat_map-map f g [] = refl
 flat_map-map f g (x ∷ xs) = ap (λ (more : List _). f (g x) ++ more) (flat_map-map f g xs)
 
--- the number of a latch's reset is left out where it is 0, and written where it isn't
+-- the number of a latch's reset is left out if it is 0, and written if it isn't
 pub reset-row : (v : ℕ) (reset : Reset) → 1 ≤ v → reset_numbers (reset_number v reset) ≡ reset_row v reset
 reset-row v Zero low = refl
 reset-row v One low = refl

@@ -5,7 +5,7 @@ use Rattle.std.specs.Option.{option_and_then}
 use Rattle.file_words.specs.Lines.{numbers_of}
 use Rattle.ascii_file.specs.declared.header.Header.{Header}
 
--- the number at a place of the header, 0 where it isn't given
+-- the number at a place of the header, 0 if it isn't given
 abbrev pub number_at : List ℕ → ℕ → ℕ
 number_at ns k = get_or ns k 0
 

@@ -14,13 +14,15 @@ use Rattle.ascii_file.specs.Files.{IsAsciiFile}
 use Rattle.ascii_file.specs.Meaning.{gate_reads, with_gates_at, circuit_of}
 use Rattle.ascii_file.specs.Reading.{read_bytes, IsFaultOf}
 
--- The circuit of a raw circuit. At each place stands the first gate of the file among those that stand at no place below and whose gate fan-ins all do.
+-- The circuit of a raw circuit. At each place stands the first gate of the file among those that
+-- stand at no place below and whose gate fan-ins all do.
 pub record IsCircuitOf (h : Header) (raw : Raw) (c : Netlist) : Type 0 where
   pub order : List ℕ
   pub is_order : IsOrder (gate_reads raw) order
   pub circuit : c ≡ circuit_of h (with_gates_at raw order)
 
--- reading gives a circuit exactly where the bytes are a file of a raw circuit, and then that one's; else a fault of the bytes
+-- Reading gives a circuit if and only if the bytes are a file of a raw circuit, and then that
+-- one's. Otherwise it gives a fault of the bytes.
 pub record ReadingLaw (bytes : List ℕ) : Type 0 where
   pub file : (h : Header) (raw : Raw) → IsAsciiFile bytes h raw → (c : Netlist) × IsCircuitOf h raw c × (read_bytes bytes ≡ Ok c)
   pub read : (c : Netlist) → read_bytes bytes ≡ Ok c → (h : Header) × (raw : Raw) × IsAsciiFile bytes h raw × IsCircuitOf h raw c

@@ -77,7 +77,7 @@ abbrev pub with_name : List Symbol → Symbol → List Symbol
 with_name [] symbol = symbol ∷ []
 with_name (first ∷ names) symbol = if nat_lt symbol.position first.position then symbol ∷ first ∷ names else first ∷ with_name names symbol
 
--- the names of a kind with one more, where that is of the kind
+-- the names of a kind with one more, if that is of the kind
 abbrev pub with_symbol : SymbolKind → List Symbol → RawSymbol → List Symbol
 with_symbol kind names symbol =
     if kind_number symbol.kind == kind_number kind then with_name names (record { position = symbol.position; name = symbol.name }) else names
@@ -100,7 +100,8 @@ symbols_of symbols = record {
 
 -- ---- the circuit
 
--- the circuit of a raw circuit whose gates are in order: inputs, latches and gates in this order, the larger fan-in first
+-- the circuit of a raw circuit whose gates are in order: inputs, latches and gates in this order,
+-- the larger fan-in first
 unfoldable pub circuit_of : Header → Raw → Netlist
 circuit_of h raw = let variables = defined raw in record {
   aig = record {

@@ -10,7 +10,7 @@ abbrev pub with_first : ℕ → List (List ℕ) → List (List ℕ)
 with_first b [] = []
 with_first b (line ∷ rest) = (b ∷ line) ∷ rest
 
--- a byte more in front of the open line, where no line is ended before it
+-- a byte more in front of the open line, if no line is ended before it
 abbrev pub with_open : ℕ → List (List ℕ) → List ℕ → List ℕ
 with_open b [] last = b ∷ last
 with_open b (line ∷ rest) last = last
@@ -24,7 +24,7 @@ unfoldable pub open_line : List ℕ → List ℕ
 open_line [] = []
 open_line (b ∷ bytes) = if b == 10 then open_line bytes else with_open b (ended_lines bytes) (open_line bytes)
 
--- where a reader stands after these bytes: only lines that are ended have been taken
+-- the state of a reader after these bytes: only lines that are ended have been taken
 unfoldable pub fed : List ℕ → Result State ReadError
 fed bytes = take_lines AtHeader (ended_lines bytes)
 

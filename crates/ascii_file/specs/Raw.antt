@@ -14,7 +14,8 @@ pub record RawSymbol : Type 0 where
   pub position : ℕ
   pub name : List ℕ
 
--- what the lines of each section say; safety has the literals of outputs, bad states and constraints, liveness those of all justice properties and of fairness
+-- what the lines of each section say; safety has the literals of outputs, bad states and
+-- constraints, liveness those of justice properties and of fairness
 pub record Raw : Type 0 where
   pub inputs : List ℕ
   pub latches : List RawLatch

@@ -1,4 +1,4 @@
--- The first fault of a file, item by item, and what is read where there is none.
+-- The first fault of a file, item by item, and what is read if there is none.
 use Rattle.std.specs.Prelude.{ℕ, ◌≡◌, ◌+◌, ◌-◌, ◌*◌, ◌^◌, ◌%◌, ◌==◌, ◌||◌, ◌&&◌, Bool, true, false, not, nat_le, nat_lt, List, [], ◌∷◌, ◌++◌, length, Option, Some, None, Result, Ok, Err, if◌then◌else◌}
 use Rattle.std.specs.List.{sum, list_any, list_all}
 use Rattle.aig_graph.specs.Marking.{has}
@@ -26,8 +26,9 @@ unless ((fails, fault) ∷ checks) value = if fails then Err fault else unless c
 
 -- ---- the header
 
--- what is asked of a header in this order, each with its fault: a greatest variable of at most 2^28
--- - 1, at most 2^24 of each kind of property, and variables for all inputs, latches and gates
+-- What is asked of a header in this order, each with its fault. The greatest variable is at most
+-- 2^28 - 1. There are at most 2^24 of each kind of property, and variables for all inputs, latches
+-- and gates.
 abbrev pub header_checks : Header → List (Bool × ReadError)
 header_checks h =
     (nat_lt (2 ^ 28 - 1) h.greatest, TooLarge 0)
@@ -94,7 +95,8 @@ with_item raw (LivenessItem lit) = record raw { liveness = raw.liveness ++ lit �
 with_item raw (GateItem gate) = record raw { gates = raw.gates ++ gate ∷ [] }
 with_item raw (SymbolItem symbol) = record raw { symbols = raw.symbols ++ symbol ∷ [] }
 
--- the fault of a line that isn't of its section's form: after the gates, Trailing where it doesn't begin as a symbol
+-- the fault of a line that isn't of its section's form: after the gates, Trailing if it doesn't
+-- begin as a symbol
 abbrev pub malformed_symbol : ℕ → Option SymbolKind → ReadError
 malformed_symbol at None = Trailing at
 malformed_symbol at (Some kind) = BadSymbol at
@@ -115,7 +117,7 @@ read_line h raw at line = take_item h raw at (malformed (next_section h raw) at 
 
 -- ---- the file
 
--- where a reader stands: before the header, at an offset after it, or in the comment
+-- the state of a reader: before the header, at an offset after it, or in the comment
 pub data State : Type 0 where
   AtHeader : State
   InItems : (h : Header) (raw : Raw) (at : ℕ) → State
@@ -150,7 +152,7 @@ is_known_among variables lit = (variable lit == 0) || has variables (variable li
 unfoldable pub is_resolved : Raw → Bool
 is_resolved raw = list_all (is_known_among (defined raw)) (read_literals raw)
 
--- the circuit, where its gates have an order
+-- the circuit, if its gates have an order
 abbrev pub circuit_in_order : Header → Option Raw → Result Netlist ReadError
 circuit_in_order h None = Err Cycle
 circuit_in_order h (Some raw) = Ok (circuit_of h raw)

@@ -1,7 +1,7 @@
 use crate::raw::SymbolKind;
 
-/// The numbers of a header: the greatest variable, and how many of each section there are. The last four may be left
-/// out of the file, and are 0 then.
+/// The numbers of a header: the greatest variable, and the number of items of each section. The
+/// last four may be left out of the file, and are then 0.
 #[derive(Clone, Copy)]
 pub struct Header {
     pub greatest: u32,
@@ -20,7 +20,7 @@ impl Header {
     ghost use Rattle.std.specs.Prelude.{◌≡◌};
     ghost use Rattle.ascii_file.specs.Raw.{count_of};
 
-    /// How many things of a kind a symbol may name.
+    /// Returns the number of things of this kind that the header counts, which symbols may name.
     pub fn count_of(&self, kind: SymbolKind) -> u32
         ensures { result ≡ count_of self.now kind }
     {

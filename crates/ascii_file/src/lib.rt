@@ -1,5 +1,6 @@
-//! What an ASCII circuit file is, after the AIGER 1.9 note: its lines and sections, the first fault of bytes that are no
-//! such file, and the circuit that a file stands for. The readers of both spellings meet these definitions, and are made of the parts here.
+//! An ASCII circuit file, after the AIGER 1.9 note: its lines and sections, its circuit, and the
+//! first fault of other bytes. The readers of both spellings keep to these definitions, and are
+//! made of the parts here.
 #![tactic(auto)]
 
 mod header;

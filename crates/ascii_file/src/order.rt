@@ -1,5 +1,6 @@
-//! Topological sorting (Kahn, 1962), with a heap of file places, so that of all gates that may follow the first
-//! one of the file does. A file that is in order already is recognised in one pass, and needs no heap.
+//! Topological sorting (Kahn, 1962), with a heap of file places: of the gates that may follow, the
+//! first one of the file does. A file that is in order already is recognised in one pass, and needs
+//! no heap.
 ghost use Rattle.std.specs.Prelude.{◌≡◌, ◌<◌, ◌↔◌, ◌^◌, [], length, IfOk, OnOk, IsTrue, MatchOption};
 ghost use Rattle.std.specs.BinaryHeap.{heap_items};
 ghost use Rattle.std.specs.List.{range_with_len};
@@ -22,7 +23,7 @@ use std::alloc::Global;
 use std::cmp::Reverse;
 use std::collections::BinaryHeap;
 
-/// Whether each gate reads only gates before it.
+/// Returns true if each gate reads only gates before it.
 fn is_in_order(gates: &[Reads]) -> bool
     ensures { IsTrue result ↔ IsInOrder gates.now }
 {
@@ -34,7 +35,7 @@ fn is_in_order(gates: &[Reads]) -> bool
     true
 }
 
-/// The places of the file, in order.
+/// Returns the places of the file, in order.
 fn file_order(alloc: Global, gates: usize) -> Result<Vec<u32>, NoMemory>
     requires { gates < 2 ^ 32 }
     ensures { IfOk result (λ order. order.items ≡ range_with_len 0 gates) }
@@ -46,7 +47,7 @@ fn file_order(alloc: Global, gates: usize) -> Result<Vec<u32>, NoMemory>
     Ok(order)
 }
 
-/// The gates that read no gate.
+/// Returns the gates that read no gate.
 fn ready_at_start(alloc: Global, gates: &[Reads]) -> Result<BinaryHeap<Reverse<u32>>, NoMemory>
     requires { length gates.now < 2 ^ 32 }
     ensures heap { IfOk result (λ ready. IsReadyHeap (heap_items ready)) }
@@ -61,7 +62,8 @@ fn ready_at_start(alloc: Global, gates: &[Reads]) -> Result<BinaryHeap<Reverse<u
     Ok(ready)
 }
 
-/// Puts the gates that read this place by this fan-in into the heap, where all of their fan-ins are marked.
+/// Puts the gates that read this place by this fan-in into the heap, if all their fan-ins are
+/// marked.
 fn release(
     gates: &[Reads],
     side: Side,
@@ -91,7 +93,7 @@ fn release(
     Ok(())
 }
 
-/// The order, with the gates that may follow in a heap.
+/// Returns the order, by a heap of the gates that may follow. Gives `None` for a cycle.
 fn sorted(alloc: Global, gates: &[Reads]) -> Result<Option<Vec<u32>>, NoMemory>
     requires few { length gates.now < 2 ^ 29 }
     requires in_file { AreReadsInFile gates.now }
@@ -115,22 +117,22 @@ fn sorted(alloc: Global, gates: &[Reads]) -> Result<Option<Vec<u32>>, NoMemory>
     Ok(Some(order))
 }
 
-/// Whether each gate reads only gates of the file.
+/// Returns true if each gate reads only gates of the file.
 pub fn are_in_file(gates: &[Reads]) -> bool
     ensures { IsTrue result ↔ AreReadsInFile gates.now }
 {
     gates.iter().all(|reads| reads.are_before(gates.len()))
 }
 
-/// The places in the file of its gates, in the order that they take in the circuit: at each place the first gate of the
-/// file among those that stand at no place below and whose gate fan-ins all do. `None` where gates read one another in a
-/// cycle, and only there.
+/// Returns the places in the file of its gates, in the order that they take in the circuit. At each
+/// place of the circuit stands the first gate of the file that isn't placed below and whose gate
+/// fan-ins all are. Gives `None` if and only if gates read one another in a cycle.
 ///
-/// Takes linear time where the gates are in order in the file, and else time in their number times its logarithm.
+/// Takes linear time if the gates are in order in the file, else n log n for n gates.
 ///
 /// # Errors
 ///
-/// `NoMemory` where memory is refused.
+/// `NoMemory` if memory is refused.
 pub fn gate_order(alloc: Global, gates: &[Reads]) -> Result<Option<Vec<u32>>, NoMemory>
     requires few { length gates.now < 2 ^ 29 }
     requires in_file { AreReadsInFile gates.now }

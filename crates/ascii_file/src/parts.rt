@@ -1,11 +1,13 @@
 //! What the readers of both spellings are made of.
 //!
-//! Lines come to a reader in pieces, and of a line only what is needed is held: numbers as far as 32 bits and nine of them go, so that a
-//! number with a million leading zeros costs nothing, and of bytes the names alone. Names by kind and position, and the
-//! literals of properties, are collected, and become parts of a circuit at the end of a file.
+//! Lines come to a reader in pieces, and of a line only what is needed is held. Numbers are held as
+//! far as 32 bits and nine of them go, so a number with a million leading zeros costs nothing. Of
+//! bytes only names are held. Names by kind and position, and the literals of properties, are
+//! collected. They become parts of a circuit at the end of a file.
 //!
-//! Variables of a file are mostly small and dense, so a table by variable serves nearly all of their places; one that is far
-//! above the number of variables so far is hashed, since no room is asked for by a number that a file states.
+//! Variables of a file are mostly small and dense, so a table by variable serves nearly all of
+//! their places. One that is far above the number of variables so far is hashed, since a number
+//! that a file states asks for no room.
 
 mod begun;
 mod by_kind;

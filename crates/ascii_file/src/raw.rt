@@ -27,8 +27,8 @@ pub enum SymbolKind {
     Fairness,
 }
 
-/// The sections of a file after its header, in their order. Sections whose lines have one form and the same checks are
-/// one: the header's numbers part them.
+/// The sections of a file after its header, in their order. Sections with lines that are alike, in
+/// form and in checks, are one: the header's numbers part them.
 #[derive(Clone, Copy, PartialEq, Eq)]
 pub enum Section {
     Inputs,

@@ -74,7 +74,8 @@ module _ (c d : Netlist) (kept : List ℕ) (p : SameStreams c d kept) (many : fr
             ∙ values-same d.aig x (chosen kept f) f t (property_literals d.props) (λ j h. ap f (place j (omega (arith, many, h))));
       }
 
--- where the check answers that c is a retiming of d, with as many free latches, of which each stays, the map turns around
+-- if the check answers that c is a retiming of d, with equal numbers of free latches, each of which
+-- stays, the map turns around
 turned-by : (c d m : Netlist) (kept : List ℕ) → IsAnswer d c m (Retiming kept) → free_latches d.aig ≡ free_latches c.aig → FreeStay d c m → IsMapBack c d m
 turned-by c d m kept answer many stay = record {
   streams = same_streams-back d c kept answer.1 (sym many);
@@ -82,7 +83,7 @@ turned-by c d m kept answer many stay = record {
   free = stay;
 }
 
--- the same of an answer that is one
+-- so for an answer that is one
 pub turned-answer : (c d m : Netlist) (answer : Answer) (kept : List ℕ) → answer ≡ Retiming kept → IsAnswer d c m answer → free_latches d.aig ≡ free_latches c.aig → FreeStay d c m → IsMapBack c d m
 turned-answer c d m answer kept is holds many stay = turned-by c d m kept (subst (λ (a : Answer). IsAnswer d c m a) is holds) many stay
 

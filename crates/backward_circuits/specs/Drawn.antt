@@ -7,7 +7,7 @@ use Rattle.aig_graph.specs.Laws.{all_free}
 use Rattle.state_maps.specs.MapCircuits.{FreeStay, IsMapCircuit}
 use Rattle.aig_graph.specs.Tables.{table}
 
--- all names but those of latches are the same
+-- all names but those of latches are equal
 abbrev pub HasOtherLatches : Netlist → Netlist → Type 0
 HasOtherLatches c d = d.symbols ≡ record c.symbols { latches = d.symbols.latches }
 

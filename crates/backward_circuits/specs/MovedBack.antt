@@ -17,11 +17,11 @@ pub record IsHeldAt (c d m : Netlist) (k place : ℕ) : Type 0 where
   pub output : slice_get m.props.outputs k ≡ Some (2 * (1 + place))
   pub reset : after.reset ≡ before.reset
 
--- the same of some latch of d
+-- it is so of some latch of d
 abbrev pub IsHeldBack : Netlist → Netlist → Netlist → ℕ → Type 0
 IsHeldBack c d m k = (place : ℕ) × IsHeldAt c d m k place
 
--- the same, where there is a latch k
+-- it is so, if there is a latch k
 abbrev pub IsHeldBackIn : Netlist → Netlist → Netlist → ℕ → Type 0
 IsHeldBackIn c d m k = k < length c.aig.latches → IsHeldBack c d m k
 
@@ -34,23 +34,25 @@ pub record AreHeldBack (held : List ℕ) (c d m : Netlist) : Type 0 where
   pub latches : All (IsHeldBackIn c d m) held
   pub names : All (λ s. Contains held s.position → IsNamedBack d m s) c.symbols.latches
 
--- where there is a bound, no way of d is longer than that, or than the longest of c
+-- if there is a bound, no path of d is longer than that, or than the longest of c
 abbrev pub IsWithin : Option ℕ → Netlist → Netlist → Type 0
 IsWithin None c d = Unit {0}
 IsWithin (Some bound) c d = levels d ≤ max bound (levels c)
 
--- a map of d's states to those of c, with each free latch of c, which is one of d as it is, and so the streams of c
+-- A map of d's states to those of c, with each free latch of c, which is one of d as it is. So d
+-- has the streams of c.
 pub record IsMapBack (c d m : Netlist) : Type 0 where
   pub streams : SameStreams c d (all_free c.aig)
   pub map : IsMapCircuit d c (all_free d.aig) m
   pub free : FreeStay d c m
 
--- no more latches, and held ones are where they were
+-- no more latches, and held ones have stayed
 pub record IsFit (c : Netlist) (held : List ℕ) (d m : Netlist) : Type 0 where
   pub fewer : length d.aig.latches ≤ length c.aig.latches
   pub held_back : AreHeldBack held c d m
 
--- d does what c does, by no more latches; m maps its states to those of c, and held latches are where they were
+-- d does what c does, by no more latches; m maps its states to those of c, and held latches have
+-- stayed
 pub record IsMovedBack (c : Netlist) (held : List ℕ) (bound : Option ℕ) (d m : Netlist) : Type 0 where
   pub turned : IsMapBack c d m
   pub fit : IsFit c held d m

@@ -1,4 +1,4 @@
-//! How long the longest way is, where there is a bound.
+//! The length of the longest path, if there is a bound.
 ghost use Rattle.std.specs.Prelude.{IfOk, IsTrue};
 ghost use Rattle.backward_circuits.specs.MovedBack.{IsWithin};
 
@@ -6,12 +6,13 @@ use aig_graph::{Circuit, NoMemory};
 use path_levels::levels;
 use std::alloc::Global;
 
-/// Whether no way of a circuit is longer than a bound, or than the longest of another circuit.
+/// Returns true if no way of a circuit is longer than a bound, or than the longest of the circuit
+/// before, or if there is no bound.
 ///
 /// # Errors
 ///
-/// `NoMemory` where a table is refused.
-pub(crate) fn is_within(
+/// `NoMemory` if a table is refused.
+pub fn is_within(
     alloc: Global,
     bound: Option<u32>,
     circuit: &Circuit,

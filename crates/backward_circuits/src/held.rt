@@ -1,11 +1,12 @@
-//! Whether held latches are where they were: each is a latch of the new circuit, with its reset and its name.
+//! Held latches, which have to stay: each is a latch of the new circuit, with its reset and its
+//! name.
 ghost use Rattle.std.specs.Prelude.{ℕ, ◌≡◌, ◌+◌, ◌*◌, IfSome, IsTrue, Contains, All, Some, slice_get};
 ghost use Rattle.backward_circuits.specs.MovedBack.{AreHeldBack, IsHeldAt, IsHeldBackIn, IsNamedBack};
 
 use crate::names::name_at;
 use aig_graph::{Circuit, Keep, Lit, Symbol};
 
-/// The place of the input that a literal of a map is.
+/// Returns the place of the input that a literal of a map is.
 fn input_place(output: Lit) -> Option<u32>
     ensures { IfSome result (λ place. output ≡ 2 * (1 + place)) }
 {
@@ -16,8 +17,8 @@ fn input_place(output: Lit) -> Option<u32>
     }
 }
 
-/// The place of the latch that an output of a map is.
-fn held_place(map: &Circuit, position: u32) -> Option<u32>
+/// Returns the place of the latch that an output of a map is.
+pub fn held_place(map: &Circuit, position: u32) -> Option<u32>
     ensures { IfSome result (λ place. slice_get map.now.props.outputs position
         ≡ Some (2 * (1 + place))) }
 {
@@ -25,8 +26,8 @@ fn held_place(map: &Circuit, position: u32) -> Option<u32>
     input_place(*output)
 }
 
-/// Whether a latch starts as one of another circuit does, and is an output of the map.
-fn starts_alike(
+/// Returns true if a latch starts as the one of another circuit does that an output of a map is.
+pub fn starts_alike(
     circuit: &Circuit,
     after: &Circuit,
     map: &Circuit,
@@ -45,7 +46,8 @@ fn starts_alike(
     }
 }
 
-/// Whether an output of the map is a latch that starts as one of the first circuit does. A position past the last latch holds nothing.
+/// Returns true if an output of the map is a latch that starts as one of the first circuit does. A
+/// position past the last latch holds nothing.
 fn is_held_back(circuit: &Circuit, after: &Circuit, map: &Circuit, position: u32) -> bool
     ensures { IsTrue result → IsHeldBackIn circuit.now after.now map.now position }
 {
@@ -58,20 +60,28 @@ fn is_held_back(circuit: &Circuit, after: &Circuit, map: &Circuit, position: u32
     }
 }
 
-/// Whether the output of the map at the position of a name is a latch with that name.
-fn is_named_back(after: &Circuit, map: &Circuit, symbol: &Symbol) -> bool
-    ensures { IsTrue result → IsNamedBack after.now map.now symbol.now }
+/// Returns true if a latch of a circuit has a name.
+pub fn is_named_at(circuit: &Circuit, place: u32, symbol: &Symbol) -> bool
+    ensures { IsTrue result → Contains circuit.now.symbols.latches
+        (record symbol.now { position = place }) }
 {
-    let Some(place) = held_place(map, symbol.position) else {
-        return false;
-    };
-    match name_at(after.symbols().latches.as_slice(), place) {
+    match name_at(circuit.symbols().latches.as_slice(), place) {
         Some(name) => name.position == place && name.name.as_slice() == symbol.name.as_slice(),
         None => false,
     }
 }
 
-/// The same, where a latch at that position is held.
+/// Whether the output of the map at the position of a name is a latch with that name.
+fn is_named_back(after: &Circuit, map: &Circuit, symbol: &Symbol) -> bool
+    ensures { IsTrue result → IsNamedBack after.now map.now symbol.now }
+{
+    match held_place(map, symbol.position) {
+        Some(place) => is_named_at(after, place, symbol),
+        None => false,
+    }
+}
+
+/// Returns [`is_named_back`] if a latch at that position is held, else true.
 fn is_named_if_held(after: &Circuit, map: &Circuit, keep: &Keep, symbol: &Symbol) -> bool
     ensures { IsTrue result → Contains keep.now symbol.now.position
         → IsNamedBack after.now map.now symbol.now }
@@ -83,7 +93,7 @@ fn is_named_if_held(after: &Circuit, map: &Circuit, keep: &Keep, symbol: &Symbol
     }
 }
 
-/// Whether each held latch starts as it did.
+/// Returns true if each held latch starts as it did.
 fn all_held_back(circuit: &Circuit, after: &Circuit, map: &Circuit, positions: &[u32]) -> bool
     ensures { IsTrue result → All (IsHeldBackIn circuit.now after.now map.now) positions.now }
 {
@@ -95,7 +105,7 @@ fn all_held_back(circuit: &Circuit, after: &Circuit, map: &Circuit, positions: &
     true
 }
 
-/// Whether each name of a held latch is there.
+/// Returns true if each name of a held latch is there.
 fn all_named_back(after: &Circuit, map: &Circuit, keep: &Keep, names: &[Symbol]) -> bool
     ensures { IsTrue result → All (λ s. Contains keep.now s.position
         → IsNamedBack after.now map.now s) names.now }
@@ -108,7 +118,7 @@ fn all_named_back(after: &Circuit, map: &Circuit, keep: &Keep, names: &[Symbol])
     true
 }
 
-/// Whether each held latch is a latch of the new circuit, with its reset and its name.
+/// Returns true if each held latch is a latch of the new circuit, with its reset and its name.
 pub(crate) fn are_held_back(circuit: &Circuit, after: &Circuit, map: &Circuit, keep: &Keep) -> bool
     ensures { IsTrue result → AreHeldBack keep.now circuit.now after.now map.now }
 {

@@ -11,14 +11,15 @@ use map_checks::{Answer, CheckError, check_map};
 use map_circuits::free_stay;
 use std::alloc::Global;
 
-/// Whether both have as many free latches.
+/// Returns true if both have equal numbers of free latches.
 fn have_same_free(circuit: &Circuit, after: &Circuit) -> bool
     ensures { IsTrue result → free_latches after.now.aig ≡ free_latches circuit.now.aig }
 {
     after.aig().free_latches() == circuit.aig().free_latches()
 }
 
-/// Whether both have the same free latches in the same order: the output of each is the input of one.
+/// Returns true if both have one list of free latches, in one order: the output of each is the
+/// input of one.
 fn keeps_free(
     alloc: Global,
     circuit: &Circuit,
@@ -37,7 +38,8 @@ fn keeps_free(
     }
 }
 
-/// Whether the map shows that the circuit of before is a retiming of the new one, with all of its free latches, each as it is.
+/// Returns true if the map shows that the circuit of before is a retiming of the new one. All of
+/// its free latches are there, each as it is.
 fn is_mapped(
     alloc: Global,
     circuit: &Circuit,
@@ -57,7 +59,7 @@ fn is_mapped(
     }
 }
 
-/// Whether the new circuit has no more latches, and held ones are where they were.
+/// Returns true if the new circuit has no more latches, and held ones have stayed.
 fn is_fit(circuit: &Circuit, after: &Circuit, map: &Circuit, keep: &Keep) -> bool
     ensures { IsTrue result → IsFit circuit.now keep.now after.now map.now }
 {
@@ -65,11 +67,11 @@ fn is_fit(circuit: &Circuit, after: &Circuit, map: &Circuit, keep: &Keep) -> boo
         && are_held_back(circuit, after, map, keep)
 }
 
-/// Whether the new circuit is what the first one may become.
+/// Returns true if the new circuit is what the first one may become.
 ///
 /// # Errors
 ///
-/// `NoMemory` where memory is refused.
+/// `NoMemory` if memory is refused.
 pub fn is_moved_back(
     alloc: Global,
     circuit: &Circuit,

@@ -8,7 +8,7 @@ use std::alloc::Global;
 /// How many names a table of bits could tell apart.
 const MOST_HALVES: u32 = 32;
 
-/// The name at a position, if it is found: names stand by rising position.
+/// Returns the name at a position, if it is found: names stand by rising position.
 pub fn name_at(names: &[Symbol], position: u32) -> Option<&Symbol>
     ensures { IfSome result (λ name. Contains names.now name.now) }
 {
@@ -31,7 +31,7 @@ pub fn name_at(names: &[Symbol], position: u32) -> Option<&Symbol>
     None
 }
 
-/// A copy of names.
+/// Returns a copy of names.
 fn copied_names(alloc: Global, names: &[Symbol]) -> Result<Sequence<Symbol>, NoMemory>
     ensures { IfOk result (λ copies. copies ≡ names.now) }
 {
@@ -42,7 +42,8 @@ fn copied_names(alloc: Global, names: &[Symbol]) -> Result<Sequence<Symbol>, NoM
     Ok(Sequence::from_vec(copies))
 }
 
-/// The names of a map: its inputs have those of some latches, and its outputs those of others.
+/// Returns the names of a map: its inputs have those of some latches, and its outputs those of
+/// others.
 pub fn names_of_map(
     alloc: Global,
     inputs: &[Symbol],

@@ -8,7 +8,7 @@ use crate::names::names_of_map;
 use aig_graph::{Aig, Circuit, Lit, NoMemory, Props};
 use std::alloc::Global;
 
-/// The literals of this many inputs.
+/// Returns the literals of `count` inputs.
 fn input_literals(alloc: Global, count: u32) -> Result<Vec<Lit>, NoMemory>
     requires { count < MAX_VARIABLES }
     ensures { IfOk result (λ literals. literals.items ≡ table 0 count (λ j. 2 * (1 + j))) }
@@ -20,11 +20,11 @@ fn input_literals(alloc: Global, count: u32) -> Result<Vec<Lit>, NoMemory>
     Ok(literals)
 }
 
-/// The map of a circuit's states to themselves.
+/// Returns the map of a circuit's states to themselves.
 ///
 /// # Errors
 ///
-/// `NoMemory` where memory is refused.
+/// `NoMemory` if memory is refused.
 pub fn wires(alloc: Global, circuit: &Circuit) -> Result<Circuit, NoMemory>
     ensures { IfOk result (IsWires circuit.now) }
 {

@@ -1,5 +1,5 @@
 //! The map of all frames, composed of the change of each. Latches and gates have names, by which a
-//! frame's map says what the latches that went are after it; it says nothing of those that stay.
+//! frame's map says what the latches that went are after it. It says nothing of those that stay.
 //! The last frame comes first, so that the gates of each are put once.
 
 use crate::copies::{set_literal, standing};

@@ -3,8 +3,8 @@
 
 use backward_sets::{DraftLatch, Literal, Wish};
 
-/// A copy of a variable: the one with the value 0 at step 0, the one with 1, or the only one if
-/// neither is wished.
+/// A copy of a variable. It is the one with the value 0 at step 0, the one with 1, or the only one
+/// if neither is wished.
 #[derive(Clone, Copy)]
 pub(crate) struct Version {
     place: u32,

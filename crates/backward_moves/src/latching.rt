@@ -33,8 +33,8 @@ pub(crate) struct Latching {
     pub names: u32,
 }
 
-/// Lets a latch that takes part serve for the copy of the variable that it reads, if that is in the
-/// border and no latch does yet. Returns the latch's fate.
+/// Lets a latch that takes part serve for the copy of the variable that it reads. That has to be in
+/// the border, without a latch that serves it. Returns the latch's fate.
 fn fate_of(set: &Bordered, wishes: &[Wish], latch: &DraftLatch, copies: &mut [Literal]) -> u32 {
     let var = latch.next.var();
     let version = Version::picked(wish_of(wishes, var), need_of(latch));

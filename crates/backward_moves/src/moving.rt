@@ -23,8 +23,8 @@ pub struct MoveOptions {
 
 /// A circuit as numbers, with the inputs of the first one: its latches and gates. `stands` has the
 /// literals of each latch and gate of the first that a property reads. With it comes the map of its
-/// states to those of the first: gates over its latches, and a literal for each latch of the first.
-/// There its latches have the variables from 1 on.
+/// states to those of the first. The map has gates over its latches, and a literal for each latch
+/// of the first. There its latches have the variables from 1 on.
 #[derive(Drop)]
 pub struct Drafted {
     pub latches: Vec<DraftLatch>,

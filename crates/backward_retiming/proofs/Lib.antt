@@ -1,4 +1,0 @@
-pub mod SealLaws
-pub mod NameLaws
-pub mod StandingLaws
-pub mod MapLaws

@@ -11,7 +11,7 @@ pub record IsDrawnOf (c : Netlist) (held : List ℕ) (bound : Option ℕ) (r : D
   pub moved : IsMovedBack c held bound r.circuit r.map
   pub names : HasOtherLatches c r.circuit
 
--- the same of an answer
+-- it is so of an answer
 pub record IsAnswerTo (c : Netlist) (held : List ℕ) (bound : Option ℕ) (r : MovedBack) : Type 0 where
   pub moved : IsMovedBack c held bound r.circuit r.map
   pub names : HasOtherLatches c r.circuit

@@ -3,14 +3,14 @@ ghost use Rattle.std.specs.Prelude.{ℕ, ◌≡◌, List, Option, IfOk, IfSome};
 ghost use Rattle.backward_circuits.specs.MovedBack.{IsMovedBack};
 ghost use Rattle.backward_retiming.specs.Answered.{IsDrawnOf, IsAnswerTo};
 
-use crate::drawing::{drawn_circuit, drawn_map};
-use crate::seals::SealError;
 use aig_graph::{Circuit, Keep, NoMemory};
 use backward_circuits::{is_moved_back, wires};
 use backward_moves::{Drafted, FrameCounts, MoveOptions, MoveWatcher, Moves, Staying, draft_moves};
+use sealed_drafts::{SealError, drawn_circuit, drawn_map};
 use std::alloc::Global;
 
-/// What a circuit becomes: the new circuit, the map of its states to those of the first one, and what each frame did.
+/// What a circuit becomes: the new circuit, the map of its states to those of the first one, and
+/// what each frame did.
 #[derive(Drop)]
 pub struct MovedBack {
     pub circuit: Circuit,
@@ -29,7 +29,7 @@ struct Drawing {
     map: Circuit,
 }
 
-/// The map of a draft, where the judge takes it.
+/// Returns the map of a draft, if the judge takes it.
 fn judged_map(
     alloc: Global,
     circuit: &Circuit,
@@ -40,7 +40,9 @@ fn judged_map(
 ) -> Result<Option<Circuit>, NoMemory>
     ensures { IfOk result (λ map. IfSome map (IsMovedBack circuit.now keep.now bound after.now)) }
 {
-    let map = match drawn_map(alloc, circuit, after, drafted) {
+    let gates = drafted.map_gates.as_slice();
+    let outputs = drafted.map_outputs.as_slice();
+    let map = match drawn_map(alloc, after, circuit, gates, outputs, &[]) {
         Ok(map) => map,
         Err(SealError::NoMemory) => return Err(NoMemory),
         Err(SealError::OutOfRange) => return Ok(None),
@@ -52,7 +54,7 @@ fn judged_map(
     }
 }
 
-/// The circuit and the map of a draft, where the judge takes them.
+/// Returns the circuit and the map of a draft, if the judge takes them.
 fn judged(
     alloc: Global,
     circuit: &Circuit,
@@ -62,7 +64,8 @@ fn judged(
 ) -> Result<Option<Drawing>, NoMemory>
     ensures { IfOk result (λ drawing. IfSome drawing (IsDrawnOf circuit.now keep.now bound)) }
 {
-    let after = match drawn_circuit(alloc, circuit, drafted) {
+    let (latches, gates) = (drafted.latches.as_slice(), drafted.gates.as_slice());
+    let after = match drawn_circuit(alloc, circuit, latches, gates, drafted.stands.as_slice()) {
         Ok(after) => after,
         Err(SealError::NoMemory) => return Err(NoMemory),
         Err(SealError::OutOfRange) => return Ok(None),
@@ -76,7 +79,7 @@ fn judged(
     }
 }
 
-/// The circuit itself.
+/// Returns the circuit itself.
 fn unmoved(
     alloc: Global,
     circuit: Circuit,
@@ -102,7 +105,7 @@ fn unmoved(
     }
 }
 
-/// A draft as it was drawn, with what its frames did.
+/// Returns a draft as it was drawn, with what its frames did.
 fn moved_by(drawing: Drawing, drafted: Drafted) -> MovedBack
     ensures circuit { result.circuit ≡ drawing.circuit }
     ensures map { result.map ≡ drawing.map }
@@ -118,11 +121,12 @@ fn moved_by(drawing: Drawing, drafted: Drafted) -> MovedBack
     }
 }
 
-/// The circuit of a draft, whoever made it, where the judge takes that, and else the circuit itself.
+/// Returns the circuit of a draft, whoever made it, if the judge takes that, and else the circuit
+/// itself.
 ///
 /// # Errors
 ///
-/// `NoMemory` where memory is refused.
+/// `NoMemory` if memory is refused.
 pub fn move_as_drafted(
     alloc: Global,
     circuit: Circuit,
@@ -150,13 +154,15 @@ pub fn move_as_drafted(
     }
 }
 
-/// Moves the latches of a circuit backward that aren't held, as far as that saves some and is shown. The streams are those of the circuit, the
-/// map is one of the new circuit's states to those of the circuit, there are no more latches, held latches stay with their resets and names, and
-/// no way is longer than the bound, if there is one, or than the circuit's longest. The watcher is notified of each frame, and of the check.
+/// Moves the latches of a circuit backward that aren't held, as far as that saves some and is
+/// shown. The streams are those of the circuit, and the map is one of the new circuit's states to
+/// those of the circuit. There are no more latches, and held latches stay with their resets and
+/// names. No path is longer than the bound, if there is one, or than the circuit's longest. The
+/// watcher is notified of each frame, and of the check.
 ///
 /// # Errors
 ///
-/// `NoMemory` where memory is refused.
+/// `NoMemory` if memory is refused.
 pub fn move_back<W: MoveWatcher>(
     alloc: Global,
     circuit: Circuit,

@@ -1,4 +1,5 @@
-//! Rows of latches: in a row each latch but the last is read by the next one alone, and all take part.
+//! Rows of latches: in a row each latch but the last is read by the next one alone, and all take
+//! part.
 
 use aig_graph::Memory;
 use backward_sets::{Draft, Literal, entry, has_mark, number, set_entry, set_mark};
@@ -12,7 +13,8 @@ const ELSEWHERE: u32 = u32::MAX;
 /// The place of no latch.
 const NOWHERE: u32 = u32::MAX;
 
-/// By place of a latch one more than the place of the only one that reads it, and whether it is the first of its row.
+/// By place of a latch, the place plus one of the only latch that reads it. Also whether it is the
+/// first of its row.
 #[derive(Drop)]
 pub(crate) struct Links {
     readers: Vec<u32>,
@@ -20,7 +22,7 @@ pub(crate) struct Links {
 }
 
 impl Links {
-    /// The rows of a draft.
+    /// Returns the rows of a draft.
     pub fn of(memory: &mut Memory, draft: &Draft) -> Links {
         let readers = memory.table(UNREAD, draft.latches.len());
         let firsts = memory.table(false, draft.latches.len());
@@ -63,12 +65,12 @@ impl Links {
         }
     }
 
-    /// Whether a latch is the first of its row.
+    /// Returns true if a latch is the first of its row.
     pub fn is_first(&self, place: u32) -> bool {
         has_mark(self.firsts.as_slice(), place)
     }
 
-    /// The place of the latch after another one in its row; none where that is the last.
+    /// Returns the place of the latch after another one in its row, or none if that is the last.
     pub fn next(&self, draft: &Draft, place: u32) -> u32 {
         let reader = entry(self.readers.as_slice(), place);
         let after = reader.wrapping_sub(1);
@@ -80,7 +82,7 @@ impl Links {
         if is_linked { after } else { NOWHERE }
     }
 
-    /// How many latches the row has that begins with this one.
+    /// Returns the number of latches in the row that begins with this one.
     pub fn length(&self, draft: &Draft, first: u32) -> u32 {
         let mut at = first;
         let mut length = 0u32;

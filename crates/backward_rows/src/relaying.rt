@@ -1,4 +1,5 @@
-//! A draft with some latches more or fewer. Latches stand by rising names again, so that their order doesn't depend on what was left out meanwhile.
+//! A draft with some latches more or fewer. Latches stand by rising names again, so their order
+//! doesn't depend on what was left out meanwhile.
 
 use aig_graph::Memory;
 use backward_sets::{
@@ -15,13 +16,13 @@ struct Relaying {
     before: u32,
     /// How many there are.
     after: u32,
-    /// Where the variables of the draft ended.
+    /// The end of the variables of the draft before.
     end: u32,
     /// By latch, those that come last, its new place.
     places: Vec<u32>,
 }
 
-/// A number by which latches are put in order: the name, and then the place.
+/// Returns a number by which latches are put in order: the name, and then the place.
 fn key(name: u32, place: u32) -> u64 {
     (u64::from(name) << 32) | u64::from(place)
 }
@@ -45,7 +46,7 @@ fn put_keys(draft: &Draft, back: &[DraftLatch], hides: &[bool], keys: &mut [u64]
     many
 }
 
-/// The keys of the latches that stay, and of those that come, rising.
+/// Returns the keys of the latches that stay, and of those that come, rising.
 fn keys_of(memory: &mut Memory, draft: &Draft, back: &[DraftLatch], hides: &[bool]) -> Vec<u64> {
     let all = draft.latches.len().saturating_add(back.len());
     let mut keys = memory.table(0u64, all);
@@ -55,7 +56,7 @@ fn keys_of(memory: &mut Memory, draft: &Draft, back: &[DraftLatch], hides: &[boo
     keys
 }
 
-/// The latch at a place, of which those that come are last.
+/// Returns the latch at a place; those that come are last.
 fn latch_at(draft: &Draft, back: &[DraftLatch], place: u32) -> DraftLatch {
     let own = place.wrapping_sub(draft.many_latches()) as usize;
     if place < draft.many_latches() {
@@ -67,13 +68,13 @@ fn latch_at(draft: &Draft, back: &[DraftLatch], place: u32) -> DraftLatch {
     }
 }
 
-/// The latch that has a key.
+/// Returns the latch that has a key.
 fn place_of(key: u64) -> u32 {
     (key & 0xffff_ffff) as u32
 }
 
 impl Relaying {
-    /// What becomes of the variables of a draft where its latches stand by these keys.
+    /// Returns what becomes of the variables of a draft if its latches stand by these keys.
     fn of(memory: &mut Memory, draft: &Draft, back: usize, keys: &[u64]) -> Relaying {
         let all = draft.latches.len().saturating_add(back);
         let mut places = memory.table(0u32, all);
@@ -89,7 +90,7 @@ impl Relaying {
         }
     }
 
-    /// What becomes of a variable.
+    /// Returns what becomes of a variable.
     fn var(&self, var: u32) -> u32 {
         let place = var.wrapping_sub(self.first);
         let late = var.wrapping_sub(self.end).wrapping_add(self.before);
@@ -104,7 +105,7 @@ impl Relaying {
         }
     }
 
-    /// What becomes of a literal.
+    /// Returns what becomes of a literal.
     fn literal(&self, lit: Literal) -> Literal {
         Literal::of(self.var(lit.var())).signed_as(lit)
     }
@@ -154,7 +155,8 @@ impl Relaying {
     }
 }
 
-/// Gives a draft latches that come back, whose variables so far come after all others, and leaves out those that `hides` marks.
+/// Gives a draft latches that come back, and leaves out those that `hides` marks. The variables of
+/// latches that come back so far come after all others.
 pub(crate) fn relay(
     memory: &mut Memory,
     draft: &mut Draft,

@@ -1,5 +1,6 @@
-//! What is left out of a draft: the middles of long rows. In a frame they stay as they are, so that a frame looks at their ends alone. From where
-//! latches go a row gives some back, and where new ones come it gets longer.
+//! The middles of long rows, which are left out of a draft. In a frame they stay as they are, so a
+//! frame looks at their ends alone. A row gives some back at the end from which latches go, and
+//! gets longer at the end at which new ones come.
 
 use crate::links::Links;
 use crate::relaying::relay;
@@ -10,10 +11,10 @@ use std::mem;
 /// How many latches stay at either end of a row of which some are left out.
 const NEAR: u32 = 16;
 
-/// Latches come back where fewer than these stand before them. The steps of a guide are as many.
+/// Latches come back if fewer than these stand before them. The steps of a guide are as many.
 const LEAST: u32 = 4;
 
-/// A row gets shorter that has so many latches in the draft.
+/// A row that has this number of latches in the draft gets shorter.
 const MOST: u32 = 48;
 
 /// A latch that is left out, and one more than the number of the next in its list; 0 at the end.
@@ -23,7 +24,8 @@ struct Hidden {
     after: u32,
 }
 
-/// The latches that are left out before another one, in their order: one more than the numbers of the first and the last.
+/// The latches that are left out before another one, in their order. It has the numbers of the
+/// first and the last, plus one.
 #[derive(Clone, Copy)]
 struct List {
     front: u32,
@@ -61,7 +63,7 @@ fn set_latch(latches: &mut [DraftLatch], place: u32, latch: DraftLatch) {
     }
 }
 
-/// What follows a hidden latch in its list.
+/// Sets what follows a hidden latch in its list.
 fn set_after(hidden: &mut [Hidden], number: u32, after: u32) {
     let place = number.wrapping_sub(1) as usize;
     if place < hidden.len() {
@@ -79,7 +81,7 @@ fn set_list(lists: &mut [List], number: u32, list: List) {
 }
 
 impl Rows {
-    /// No latch is left out.
+    /// Returns rows of which no latch is left out.
     pub fn none(memory: &mut Memory) -> Rows {
         Rows {
             hidden: memory.nothing(),
@@ -90,12 +92,12 @@ impl Rows {
         }
     }
 
-    /// How many latches are left out.
+    /// Returns the number of latches that are left out.
     pub fn many(&self) -> u32 {
         self.many
     }
 
-    /// The list with a number from 1 on, and none at 0.
+    /// Returns the list with a number from 1 on, and none at 0.
     fn list_at(&self, number: u32) -> List {
         let place = number.wrapping_sub(1) as usize;
         if place < self.lists.len() {
@@ -105,7 +107,7 @@ impl Rows {
         }
     }
 
-    /// The hidden latch with a number from 1 on.
+    /// Returns the hidden latch with a number from 1 on.
     fn hidden_at(&self, number: u32) -> Hidden {
         let place = number.wrapping_sub(1) as usize;
         if place < self.hidden.len() {
@@ -118,7 +120,7 @@ impl Rows {
         }
     }
 
-    /// A list with those of another one after it.
+    /// Returns a list with those of another one after it.
     fn joined(&mut self, list: List, other: List) -> List {
         if list.many == 0 {
             return other;
@@ -134,7 +136,8 @@ impl Rows {
         }
     }
 
-    /// A list with the latches that are left out before another one after it, and then that one.
+    /// Returns a list with the latches that are left out before another one after it, and then that
+    /// one.
     fn appended(&mut self, memory: &mut Memory, list: List, latch: DraftLatch) -> List {
         let before = self.list_at(latch.list);
         let list = self.joined(list, before);
@@ -149,7 +152,7 @@ impl Rows {
         self.joined(list, last)
     }
 
-    /// A latch has the list before it, and reads the one at a place for now.
+    /// Gives a latch the list before it, and has it read the one at a place for now.
     fn hold(&mut self, memory: &mut Memory, draft: &mut Draft, place: u32, list: List, from: u32) {
         let latch = draft.latch(place);
         let before = self.list_at(latch.list);
@@ -191,7 +194,8 @@ impl Rows {
         true
     }
 
-    /// Gives back some of the latches that are left out before the one at a place. Their variables come after all others for now.
+    /// Gives back some of the latches that are left out before the one at a place. Their variables
+    /// come after all others for now.
     fn give_back(&mut self, memory: &mut Memory, draft: &mut Draft, place: u32, most: u32) {
         let latch = draft.latch(place);
         let mut list = self.list_at(latch.list);
@@ -224,7 +228,8 @@ impl Rows {
         set_latch(draft.latches.as_mut_slice(), place, held);
     }
 
-    /// Gives latches back to the row that begins with a latch, where too few stand before those that are left out.
+    /// Gives latches back to the row that begins with a latch, if too few stand before those that
+    /// are left out.
     fn lengthen(&mut self, memory: &mut Memory, draft: &mut Draft, links: &Links, first: u32) {
         let mut at = first;
         for before in 0..LEAST {
@@ -248,7 +253,8 @@ impl Rows {
         any
     }
 
-    /// Gives latches back, or else leaves some out, where rows have changed. Marks are by variable of the draft.
+    /// Gives latches back, or else leaves some out, if rows have changed. Marks are by variable of
+    /// the draft.
     pub fn keep_up(&mut self, memory: &mut Memory, draft: &mut Draft, marks: &mut Vec<bool>) {
         let links = Links::of(memory, draft);
         let hides = memory.table(false, draft.latches.len());

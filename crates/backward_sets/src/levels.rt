@@ -1,6 +1,6 @@
 //! The number of gates that stand one above the other, and the gates that have to stay so that no
-//! way gets too long. Each gate that reads a member of a set is in the set. So the copies behind a
-//! latch before a gate reach the readers of the latches of before, and how far that is doesn't
+//! path gets too long. Each gate that reads a member of a set is in the set. So the copies behind a
+//! latch before a gate reach the readers of the latches of before. The length of that path doesn't
 //! depend on the set.
 
 use crate::drafts::Draft;

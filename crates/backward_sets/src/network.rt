@@ -1,4 +1,4 @@
-//! The network of a backward frame. A variable has a node before it and one after it; the arc
+//! The network of a backward frame. A variable has a node before it and one after it. The arc
 //! between them carries a unit for each latch that the variable would take. A unit for each next
 //! literal comes to before its variable. From after a gate that may move it goes on to before its
 //! fan-ins. From after such a fan-in it goes on to after each gate that reads it. From before a

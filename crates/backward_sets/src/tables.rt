@@ -1,6 +1,6 @@
 //! Tables by variable. Nothing stands past the end of a table.
 //!
-//! They are read and written by index behind a look at their length, which is far cheaper to prove
+//! They are read and written by index behind a look at their length. That is far cheaper to prove
 //! than a match on a result of `get`.
 
 /// Returns a number of entries in 32 bits, in which it fits: a graph has fewer.

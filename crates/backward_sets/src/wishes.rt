@@ -1,6 +1,7 @@
 //! The conditions at the border under which latches start as they do, handed down the set gate by
-//! gate. A gate that has to be 1 wishes that both fan-ins are 1, and one that has to be 0 that one
-//! of them is 0. It takes the fan-in that has the wish already, else the one that a guide has at 0.
+//! gate. A gate that has to be 1 wishes that both fan-ins are 1. One that has to be 0 wishes that
+//! one of them is 0. It takes the fan-in that has the wish already, else the one that a guide has
+//! at 0.
 
 use crate::border::Bordered;
 use crate::drafts::{Draft, Pair};

@@ -9,7 +9,8 @@ use Rattle.batch_pool.specs.Laws.{IsCount}
 use Rattle.batch_pool.proofs.WeightLaws.{total_same, weigh_ones, ones_below, once_below, none_below}
 use Rattle.batch_pool.proofs.StepLaws.{word_bound}
 
--- by the rule of the counter its word counts the draws, and the numbers below it were drawn once each, no others
+-- by the rule of the counter its word counts the draws, and the numbers below it were drawn once
+-- each, no others
 pub counted : (p : Plan) (s : State (Unit {0}) Hand) → IsGiven p s → IsCount p s
 counted p s r =
     let word : ℕ = slice_index s.words 0 in

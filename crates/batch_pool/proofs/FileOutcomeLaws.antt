@@ -38,7 +38,7 @@ no_answer bytes options (Retime (retiming.NoSuchName place)) old new before afte
 no_answer bytes options (Retime (retiming.NoSuchLatch place)) old new before after known why = record { circuit = why.spelt.circuit; read = why.spells.circuit.bytes bytes known; no_latch = why.stop.1 }
 no_answer bytes options (Write e) old new before after known why = tt
 
--- a text that was written where there was none is the text of the answer
+-- a text that was written if there was none is the text of the answer
 pub an_answer : (bytes text : List ℕ) (options : Options) (r : Retimed) (old : Input) (before after : Output) → old.bytes ≡ Some bytes → before.bytes ≡ Some [] → after.bytes ≡ Some text
     → IsAnswered old before after options r → IsDone bytes options text r.read_latches (length r.circuit.aig.latches) (length r.frames)
 an_answer bytes text options r old before after known empty full answered =

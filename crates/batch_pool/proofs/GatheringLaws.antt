@@ -22,7 +22,8 @@ pub total_none : {A : Type 0} (f : A → ℕ) (xs : List A) → length xs ≡ 0 
 total_none f [] none = refl
 total_none f (x ∷ xs) none = absurd (omega arith)
 
--- where each drawer drew one number that is no job, as many such numbers were drawn as there are drawers
+-- if each drawer drew one number that is no job, as many such numbers were drawn as there are
+-- drawers
 pub all_done : (jobs : ℕ) (ds : List Drawer) → All (λ d. past jobs (drawn d) ≡ 1) ds → total (λ d. past jobs (drawn d)) ds ≡ length ds
 all_done jobs [] h = refl
 all_done jobs (d ∷ ds) h = let one = h 0 d (omega arith) in let r = all_done jobs ds (λ k e lt. h (suc k) e (omega (arith, lt))) in omega (arith, one, r)

@@ -45,7 +45,7 @@ module _ {X : Type 0} where
       let l : times k (numbers left) ≡ times k (numbers rest ++ n.number ∷ []) = ap (times k) (ap numbers is ∙ numbers_snoc rest n) in
       let a = weigh_snoc (is_it k) (numbers rest) n.number in let z = is_it_else k n.number (λ same. apart (sym same)) in omega (arith, e, l, a, z, f, some_there))
 
--- within a list the element at a place is the same whatever stands for none
+-- within a list the element at a place doesn't depend on what stands for none
 pub same_at : {A : Type 0} (l : List A) (k : ℕ) (d e : A) → k < length l → get_or l k d ≡ get_or l k e
 same_at [] k d e lt = absurd (omega arith)
 same_at (x ∷ xs) zero d e lt = refl
@@ -88,7 +88,7 @@ module _ {X : Type 0} where
       (λ here. puts k (omega (arith, here)))
       (λ none. puts k (omega (arith, was k lt (omega (arith, m, t, e, none, some_there)))))
 
--- where each slot of a list counts as filled, all are filled
+-- if each slot of a list counts as filled, all are filled
 pub all_filled : {X : Type 0} (slots : List (Option X)) → ((k : ℕ) → k < length slots → 0 < filled slots k) → All IsFilled slots
 all_filled slots h k d lt = subst IsFilled (same_at slots k None d lt) (h k lt)
 

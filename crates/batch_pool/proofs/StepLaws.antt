@@ -30,7 +30,8 @@ fits_snoc : (jobs : ℕ) (views : List Hand) (w : Hand) → ((j : ℕ) (u : Hand
     → (j : ℕ) (u : Hand) → get_elem? (views ++ w ∷ []) j ≡ some u → Fits jobs u
 fits_snoc jobs views w each mine j u e = ⊎_elim (λ was. each j u was) (λ same. subst (Fits jobs) same mine) (at_snoc views w u j e)
 
--- a draw keeps the rule, for a seat with fewer numbers past the jobs than the drawers that it stands for
+-- a draw keeps the rule, for a seat with fewer numbers past the jobs than the drawers that it
+-- stands for
 pub draws : (p : Plan) (slots id : ℕ) (me : Me (Unit {0}) Hand) → p.jobs + p.drawers < 2 ^ 63 → past p.jobs me.0.drawn + 1 ≤ me.0.parts
     → Allows (IsGiven p) slots id me 0 (λ n. (n + 1) % 2 ^ 64) (Drew (step slots 0 1 0 none) me)
 draws p slots id me few room s r _ at _ =

@@ -32,12 +32,12 @@ module _ {A : Type 0} where
   total_snoc f [] w = omega arith
   total_snoc f (x ∷ xs) w = let r = total_snoc f xs w in omega (arith, r)
 
-  -- where no value is greater, the total isn't
+  -- if no value is greater, the total isn't
   pub total_le : (f g : A → ℕ) (l : List A) → ((i : ℕ) (v : A) → get_elem? l i ≡ some v → f v ≤ g v) → total f l ≤ total g l
   total_le f g [] h = omega arith
   total_le f g (x ∷ xs) h = let r = total_le f g xs (λ i v e. h (suc i) v e) in let a : f x ≤ g x = h zero x refl in omega (arith, r, a)
 
-  -- where f is 0 wherever g is, and g has the total 0, so has f
+  -- if f is 0 wherever g is, and g has the total 0, so has f
   pub total_zero : (f g : A → ℕ) (l : List A) → ((i : ℕ) (v : A) → get_elem? l i ≡ some v → g v ≡ 0 → f v ≡ 0) → total g l ≡ 0 → total f l ≡ 0
   total_zero f g [] h none = refl
   total_zero f g (x ∷ xs) h none = let a : f x ≡ 0 = h zero x refl (omega arith) in let r = total_zero f g xs (λ i v e. h (suc i) v e) (omega arith) in omega arith
@@ -48,7 +48,7 @@ module _ {A : Type 0} where
   total_has g (x ∷ xs) zero v e = let is : g x ≡ g v = ap g (some-injective x v e) in omega arith
   total_has g (x ∷ xs) (suc i) v e = let r = total_has g xs i v e in omega arith
 
-  -- where one has all of g, and f is nothing where g is, it has all of f
+  -- if one has all of g, and f is nothing if g is, it has all of f
   pub total_only : (f g : A → ℕ) (l : List A) (i : ℕ) (v : A) → ((j : ℕ) (w : A) → get_elem? l j ≡ some w → g w ≡ 0 → f w ≡ 0) → get_elem? l i ≡ some v → total g l ≡ g v → total f l ≡ f v
   total_only f g [] i v h e all = absurd (some-ne-none v (sym e))
   total_only f g (x ∷ xs) zero v h e all = let is : f x ≡ f v = ap f (some-injective x v e) in let is' : g x ≡ g v = ap g (some-injective x v e) in
@@ -93,11 +93,11 @@ once_below x (suc n) lt = dite (ℕ_discrete n x)
     (λ is. let r = none_below x n (omega (arith, is)) in let e : is_it x n ≡ 1 = ap (is_it x) is ∙ is_it_here x in omega (arith, r, e))
     (λ ne. let r = once_below x n (omega (arith, ne)) in let e = is_it_else x n ne in omega (arith, r, e))
 
--- what is below n, where no number of the list is from n on
+-- what is below n, if no number of the list is from n on
 not_past : (n x : ℕ) → is_past n x ≡ 0 → x < n
 not_past n x none = dite (dec_le n x) (λ le. let e = is_past_none n x le in absurd (omega (arith, e, none))) (λ no. let lt = lt_of_not-le no in lt)
 
--- where no number of a list is counted as past n, all are below n
+-- if no number of a list is counted as past n, all are below n
 pub all_below : (n : ℕ) (xs : List ℕ) → past n xs ≡ 0 → All (λ x. x < n) xs
 all_below n [] none k d lt = absurd (omega (arith, lt))
 all_below n (x ∷ xs) none zero d lt = not_past n x (omega (arith, none))

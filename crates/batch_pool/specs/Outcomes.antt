@@ -13,7 +13,8 @@ use Rattle.batch_pool.specs.declared.job.Job.{Job}
 use Rattle.batch_pool.specs.declared.job.Outcome.{Outcome}
 use Rattle.batch_pool.specs.declared.job.Outcome.TheVariants.{Done, Refused, NoMemory, NoSuchLatch, NoSuchName}
 
--- the bytes are those of a circuit in a spelling, and this is its text retimed, which is read as the retimed circuit
+-- the bytes are those of a circuit in a spelling, and this is its text retimed, which is read as
+-- the retimed circuit
 pub record IsDone (bytes : List ℕ) (options : Options) (text : List ℕ) (before after frames : ℕ) : Type 0 where
   pub spelt : SpeltCircuit
   pub circuit : read_any bytes ≡ Ok spelt.circuit
@@ -31,13 +32,15 @@ pub record IsRefused (bytes : List ℕ) (fault : ReadError) : Type 0 where
   pub read : read_any bytes ≡ Err fault
   pub of_bytes : is_fault_of_bytes fault ≡ true
 
--- the bytes are those of a circuit, and the name at this place is the first that is that of no latch
+-- the bytes are those of a circuit, and the name at this place is the first that is that of no
+-- latch
 pub record IsUnnamed (bytes : List ℕ) (options : Options) (place : ℕ) : Type 0 where
   pub circuit : Netlist
   pub read : read_any bytes ≡ Ok circuit
   pub missing : IsFirstMissingBy options circuit place
 
--- the bytes are those of a circuit, and the position at this place is the first that is that of no latch
+-- the bytes are those of a circuit, and the position at this place is the first that is that of no
+-- latch
 pub record IsUnplaced (bytes : List ℕ) (options : Options) (place : ℕ) : Type 0 where
   pub circuit : Netlist
   pub read : read_any bytes ≡ Ok circuit

@@ -1,4 +1,5 @@
--- The rule of the counter: its word is the number of draws, and the seats together hold the numbers below it, each once.
+-- The rule of the counter: its word is the number of draws, and the seats together hold the numbers
+-- below it, each once.
 use Rattle.std.specs.Prelude.{◌≡◌, ℕ, zero, suc, ◌+◌, ◌-◌, ◌≤◌, ◌==◌, ltb, cond, List, [], ◌∷◌, ◌++◌, length, slice_index}
 use mathlib.Core.Option.{some}
 use lib.ListN.{get_elem?}
@@ -41,12 +42,13 @@ is_past jobs y = cond (ltb y jobs) 0 1
 abbrev pub past : ℕ → List ℕ → ℕ
 past jobs xs = weigh (is_past jobs) xs
 
--- no more numbers that are no jobs than drawers, and a seat that stands for no drawer holds no number
+-- no more numbers that are no jobs than drawers, and a seat that stands for no drawer holds no
+-- number
 abbrev pub Fits : ℕ → Hand → Type 0
 Fits jobs v = (past jobs v.drawn ≤ v.parts) × (v.parts ≡ 0 → v.drawn ≡ [])
 
--- the rule of the counter: what all seats drew weighs, for every weight, as the numbers below the
--- word; a seat has at most its share of numbers that are no jobs
+-- The rule of the counter: what all seats drew weighs, for every weight, as the numbers below the
+-- word. A seat has at most its share of numbers that are no jobs.
 pub record IsGiven (p : Plan) (s : State (Unit {0}) Hand) : Type 0 where
   pub one_word : length s.words ≡ 1
   pub shares : total (λ v. v.parts) s.views ≡ p.drawers

@@ -11,14 +11,14 @@ module _ {X : Type 0} where
   abbrev pub numbers : List (Numbered X) → List ℕ
   numbers xs = map (λ (n : Numbered X). n.number) xs
 
-  -- 1 where the slot has an outcome
+  -- 1 if the slot has an outcome
   abbrev pub filled : List (Option X) → ℕ → ℕ
   filled slots k = cond (is_some (slice_index_or slots k None)) 1 0
 
   abbrev pub IsFilled : Option X → Type 0
   IsFilled slot = 0 < cond (is_some slot) 1 0
 
--- where `gives k x` says that x is an outcome of job k
+-- `gives k x` says that x is an outcome of job k
 module _ {X : Type 0} (gives : ℕ → X → Type 0) where
   -- the number is that of a job, and the outcome one of that job
   abbrev pub IsOutcome : ℕ → Numbered X → Type 0

@@ -10,15 +10,17 @@ use pulse::{Crew, PhaseGate};
 use std::alloc::Global;
 use std::thread::Threads;
 
-/// Retimes the bytes of each job by the options, and returns what became of them in the order of the jobs.
+/// Retimes the bytes of each job by the options, and returns the outcomes in the order of the jobs.
 ///
-/// The workers of the crew draw the jobs one at a time, and each runs its jobs on its own thread. Each worker passes phase 0 of the
-/// gate before its first draw and leaves it after its last; it passes phase `1 + k` before it runs job k, from 0, and leaves it
-/// after that. Phases are numbered modulo `2^32`.
+/// The workers of the crew draw the jobs one at a time, and each runs its jobs on its own thread.
+/// Each worker passes phase 0 of the gate before its first draw and leaves it after its last. It
+/// passes phase `1 + k` before it runs job k, from 0, and leaves it after that. Phases are numbered
+/// modulo `2^32`.
 ///
 /// # Errors
 ///
-/// `NoMemory` where memory for the list is refused; memory that is refused to a job is the outcome of that job alone.
+/// `NoMemory` if memory for the list is refused; memory that is refused to a job is the outcome of
+/// that job alone.
 pub fn run_batch<G: PhaseGate>(
     rt: &(impl Threads + Sync),
     alloc: Global,

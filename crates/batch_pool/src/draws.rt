@@ -28,7 +28,7 @@ pub struct Drawer {
 }
 
 impl Drawer {
-    /// Its place among the drawers, from 0.
+    /// Returns its place among the drawers, from 0.
     pub fn worker(&self) -> u32
         ensures { result ≡ self.now.worker }
     {
@@ -39,11 +39,11 @@ impl Drawer {
 impl Draws {
     ghost use Rattle.batch_pool.specs.Drawing.{AreInPlace, HasDrawn, IsDrawerOf, IsGoing, IsDone, drawn, times_drawn, jobs_of, drawers_of};
 
-    /// A counter at 0, and its drawers, which have drawn nothing.
+    /// Returns a counter at 0, and its drawers, which have drawn nothing.
     ///
     /// # Errors
     ///
-    /// Where memory is refused.
+    /// Memory is refused.
     pub fn new(alloc: Global, jobs: u64, drawers: u32) -> Result<(Draws, Vec<Drawer>), NoMemory>
         requires few { (jobs ≤ 2 ^ 62) × (0 < drawers) × (drawers ≤ 64) }
         ensures plan { IfOk result (λ r. (jobs_of r.0 ≡ jobs) × (drawers_of r.0 ≡ drawers)) }
@@ -71,8 +71,8 @@ impl Draws {
         ))
     }
 
-    /// Draws the next number by the drawer's own seat, by one atomic step, and returns it where it is a job. `None` says that each job
-    /// has been drawn, by this drawer or by another.
+    /// Draws the next number by the drawer's own seat, by one atomic step, and returns it if it is
+    /// a job. `None` says that each job has been drawn, by this drawer or by another.
     pub fn draw(&self, drawer: &mut Drawer) -> Option<u64>
         requires mine { IsDrawerOf self.now drawer.old }
         requires going { IsGoing self.now drawer.old }
@@ -93,7 +93,8 @@ impl Draws {
         }
     }
 
-    /// Takes all drawers back, in any order, each of which was told that no job is left. They drew each job once and left none out.
+    /// Takes all drawers back, in any order, each of which was told that no job is left. They drew
+    /// each job once and left none out.
     pub fn gather(&self, drawers: Vec<Drawer>)
         requires all { length drawers.items ≡ drawers_of self.now }
         requires mine { All (λ d. IsDrawerOf self.now d) drawers.items }

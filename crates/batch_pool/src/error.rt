@@ -12,7 +12,7 @@ pub enum BatchError {
 }
 
 impl BatchError {
-    /// The number of the error.
+    /// Returns the number of the error.
     pub fn code(self) -> u8
         ensures { result ≡ 1 }
     {

@@ -36,13 +36,15 @@ pub enum Outcome {
     Refused(ReadError),
     /// Memory for this file was refused.
     NoMemory,
-    /// The name at this place, from 0, of those whose latches are to be held is the first that no latch has.
+    /// Latches are to be held by name, and the name at this place, from 0, is the first that no
+    /// latch has.
     NoSuchName(usize),
-    /// The position at this place, from 0, of those whose latches are to be held is the first that is that of no latch.
+    /// Latches are to be held by position, and the one at this place, from 0, is the first that no
+    /// latch has.
     NoSuchLatch(usize),
 }
 
-/// The outcome of a circuit that was retimed, and its text.
+/// Returns the outcome of a circuit that was retimed, and its text.
 fn done(retimed: Retimed, bytes: Vec<u8>) -> Outcome
     requires { length retimed.frames < 2 ^ 32 }
     ensures { result ≡ Done bytes retimed.read_latches (length retimed.circuit.aig.latches)
@@ -60,7 +62,8 @@ fn done(retimed: Retimed, bytes: Vec<u8>) -> Outcome
     }
 }
 
-/// The outcome of bytes in memory that were not read as a circuit. Reads of them don't fail.
+/// Returns the outcome of bytes in memory that were not read as a circuit. Reads of them don't
+/// fail.
 fn of_fault(fault: ReadError) -> Outcome
     ensures { result ≡ of_fault fault }
 {
@@ -70,8 +73,8 @@ fn of_fault(fault: ReadError) -> Outcome
     }
 }
 
-/// The outcome of bytes in memory that were not retimed, or whose text was not written into memory: a write there fails only where
-/// memory is refused.
+/// Returns the outcome of bytes in memory that were not retimed, or whose text was not written into
+/// memory. A write there fails only if memory is refused.
 fn of_error(error: BytesError) -> Outcome
     ensures { result ≡ of_error error }
 {

@@ -11,14 +11,17 @@ use std::alloc::Global;
 use std::thread;
 use std::thread::Threads;
 
-/// Calls `run` once with the number of each job, from 0, by the workers of a crew, and returns the outcomes in the order of the jobs.
+/// Calls `run` once with the number of each job, from 0, by the workers of a crew. Returns the
+/// outcomes in the order of the jobs.
 ///
-/// Each worker passes phase 0 of the gate before its first draw and leaves it after its last; it passes phase `1 + k` before it
-/// runs job k and leaves it after that. Phases are numbered modulo `2^32`.
+/// Each worker passes phase 0 of the gate before its first draw and leaves it after its last. It
+/// passes phase `1 + k` before it runs job k and leaves it after that. Phases are numbered modulo
+/// `2^32`.
 ///
 /// # Errors
 ///
-/// Where memory for the list is refused: all outcomes are dropped then, and some jobs may not have been run.
+/// Memory for the list is refused: all outcomes are then dropped, and some jobs may not have been
+/// run.
 pub fn run_jobs<R: Threads + Sync, X: Send + Drop, F: Fn(u64) -> X + Sync, G: PhaseGate>(
     rt: &R,
     alloc: Global,
@@ -45,7 +48,7 @@ pub fn run_jobs<R: Threads + Sync, X: Send + Drop, F: Fn(u64) -> X + Sync, G: Ph
     outcomes
 }
 
-/// What the workers give back, each of which draws by one of the drawers.
+/// Returns what the workers give back. Each draws by one of the drawers.
 fn shares_of<R: Threads + Sync, X: Send + Drop, F: Fn(u64) -> X + Sync, G: PhaseGate>(
     rt: &R,
     alloc: Global,

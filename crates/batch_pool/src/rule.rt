@@ -1,4 +1,5 @@
-//! What the seats at the counter know, and what each step tells. Of these types only `Plan` has values.
+//! What the seats at the counter know, and what each step tells. Of these types only `Plan` has
+//! values.
 use atomic_table::{Join, Play, Split, TableRule};
 use std::collections::LinkedList;
 

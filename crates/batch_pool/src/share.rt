@@ -11,7 +11,7 @@ use std::alloc::Global;
 /// How many numbers of phases there are; after the last comes 0 again.
 const PHASES: u64 = 1 << 32;
 
-/// The phase in which a job is run.
+/// Returns the phase in which a job is run.
 fn phase_of(number: u64) -> u64
     ensures { result ≡ (number + 1) % 2 ^ 32 }
 {
@@ -59,7 +59,7 @@ fn drawn_out<X: Drop, F: Fn(u64) -> X, G: PhaseGate>(
     Ok(Share { drawer, done })
 }
 
-/// All that a worker does.
+/// Does all of a worker's part.
 pub fn worked<X: Drop, F: Fn(u64) -> X, G: PhaseGate>(
     alloc: Global,
     draws: &Draws,

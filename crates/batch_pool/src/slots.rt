@@ -10,7 +10,7 @@ use aig_graph::NoMemory;
 use std::alloc::Global;
 use std::mem;
 
-/// So many empty slots, one for each job.
+/// Returns `count` empty slots, one for each job.
 fn empty_slots<X: Drop>(alloc: Global, count: usize) -> Result<Vec<Option<X>>, NoMemory>
     ensures len { IfOk result (λ v. length v.items ≡ count) }
     ensures none { IfOk result (λ v. (k : ℕ) → slice_index_or v.items k None ≡ None) }
@@ -30,7 +30,8 @@ fn put_outcome<X: Drop>(slots: &mut Vec<Option<X>>, place: usize, outcome: X)
     drop(mem::replace(&mut slots[place], Some(outcome)));
 }
 
-/// Puts each outcome into the slot of its job. `run`, of whose calls they are, is named by the clauses alone.
+/// Puts each outcome into the slot of its job. The outcomes are those of calls of `run`, which the
+/// clauses alone name.
 fn put_outcomes<X: Drop, F: Fn(u64) -> X>(
     run: &F,
     slots: &mut Vec<Option<X>>,
@@ -50,7 +51,8 @@ fn put_outcomes<X: Drop, F: Fn(u64) -> X>(
     }
 }
 
-/// Puts all workers' outcomes into their slots, and takes the drawers back: no slot is left empty. `run` is named by the clauses alone.
+/// Puts all workers' outcomes into their slots, and takes the drawers back: no slot is left empty.
+/// `run` is named by the clauses alone.
 fn put_shares<X: Drop, F: Fn(u64) -> X>(
     alloc: Global,
     draws: &Draws,
@@ -77,7 +79,7 @@ fn put_shares<X: Drop, F: Fn(u64) -> X>(
     Ok(())
 }
 
-/// The outcomes in the order of their slots.
+/// Returns the outcomes in the order of their slots.
 fn unwrapped<X: Drop>(alloc: Global, slots: Vec<Option<X>>) -> Result<Vec<X>, NoMemory>
     requires { All IsFilled slots.items }
     ensures { IfOk result (λ v. map Some v.items ≡ slots.items) }
@@ -92,7 +94,8 @@ fn unwrapped<X: Drop>(alloc: Global, slots: Vec<Option<X>>) -> Result<Vec<X>, No
     Ok(values)
 }
 
-/// All workers' outcomes in the order of their jobs, so many, and the drawers taken back. `run` is named by the clauses alone.
+/// Returns all workers' outcomes in the order of the `jobs` jobs, and takes the drawers back. `run`
+/// is named by the clauses alone.
 pub fn in_order<X: Drop, F: Fn(u64) -> X>(
     alloc: Global,
     draws: &Draws,

@@ -83,7 +83,7 @@ netlist_is : (h : Header) (raw : Raw) → netlist_of_contents (contents_of h raw
 unfolding circuit_of
 netlist_is h raw = refl
 
--- what the end of the input gives where no item is missing
+-- what the end of the input gives if no item is missing
 pub ended : (c : Contents) (h : Header) (raw : Raw) (end : ℕ) → IsAt c h raw → section_to_fill c ≡ Symbols → Ok (netlist_of_contents c) ≡ circuit_at_end end h raw
 ended c h raw end is here =
     ap (λ (d : Contents). Ok (netlist_of_contents d)) is ∙ ap Ok (netlist_is h raw)

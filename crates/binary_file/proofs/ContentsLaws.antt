@@ -43,7 +43,7 @@ latches_have_room false false false true e is = absurd cc
 latches_have_room false false false false true is = absurd cc
 latches_have_room false false false false false is = absurd cc
 
--- of latches there are fewer than the header says where they come next
+-- of latches there are fewer than the header says if they come next
 pub latch_room : (c : Contents) → section_to_fill c ≡ Latches → length c.latches < c.header.latches
 latch_room c is = ltb-true _ _ (latches_have_room _ _ _ _ _ is)
 
@@ -66,7 +66,7 @@ gates_again false false true d e is again room = absurd cc
 gates_again false false false true e is again room = absurd cc
 gates_again false false false false e is again room = ap (λ (x : Bool). cond x Gates Symbols) room
 
--- gates still come next after a gate, where one is missing then
+-- gates still come next after a gate, if one is missing then
 pub gates_stay : (c : Contents) (gate : Gate) → section_to_fill c ≡ Gates → length (c.gates ++ gate ∷ []) < c.header.gates → section_to_fill (contents_with_gate c gate) ≡ Gates
 gates_stay c gate is room = gates_again _ _ _ _ _ is (nat_lt (length (c.gates ++ gate ∷ [])) c.header.gates) (lt-ltb (length (c.gates ++ gate ∷ [])) c.header.gates room)
 
@@ -78,7 +78,7 @@ none_has_room false false false true e is = absurd cc
 none_has_room false false false false true is = absurd cc
 none_has_room false false false false false is = (refl, refl, refl, refl, refl)
 
--- no section is short where symbols come next
+-- no section is short if symbols come next
 pub record AreFull (c : Contents) : Type 0 where
   -- there are all latches of the header
   pub latches : c.header.latches ≤ length c.latches
@@ -91,7 +91,7 @@ pub record AreFull (c : Contents) : Type 0 where
   -- there are all gates of the header
   pub gates : c.header.gates ≤ length c.gates
 
--- where symbols come next, all other sections are full
+-- if symbols come next, all other sections are full
 pub are_full : (c : Contents) → section_to_fill c ≡ Symbols → AreFull c
 are_full c is =
     let full = none_has_room _ _ _ _ _ is in

@@ -113,7 +113,7 @@ module _ (at : ℕ) (state : List ℕ → State) (end_delta : List ℕ → Resul
     omega (arith, length_push old b),
   )
 
-  -- a delta that the bytes begin with is taken where none has begun
+  -- a delta that the bytes begin with is taken if none has begun
   pub whole_taken : (piece left : List ℕ) (number : ℕ) → BeginsWithDelta piece number left → IsDeltaTaken state end_delta [] [] piece (Some number) left
   whole_taken piece left number begins = (
     begins.delta,
@@ -128,9 +128,9 @@ pub record Pushed (old new : List ℕ) (b : ℕ) (result : Result (Option ℕ) D
   pub few : length old ≤ 4
   -- a byte below 128 ends the delta, and gives its number
   pub last : b < 128 → (result ≡ Ok (Some (delta_value (old ++ b ∷ [])))) × (new ≡ [])
-  -- a byte with the top bit set is kept where fewer than four had come
+  -- a byte with the top bit set is kept if fewer than four had come
   pub more : 128 ≤ b → length old < 4 → (result ≡ Ok None) × (new ≡ old ++ b ∷ [])
-  -- a byte with the top bit set is a fault where four had come
+  -- a byte with the top bit set is a fault if four had come
   pub too_long : 128 ≤ b → length old ≡ 4 → (result ≡ Err TooLong) × (new ≡ old)
 
 -- what a byte makes of a delta without a fault is what reading makes of it

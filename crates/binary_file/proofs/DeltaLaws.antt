@@ -36,7 +36,8 @@ pub value-none : (xs : List ℕ) (last : ℕ) → length xs ≡ 0 → delta_valu
 value-none [] last e = value-last last
 value-none (x ∷ xs) last e = absurd (omega arith)
 
--- the first of some bytes before a last one spells its low seven bits, and 128 times what the rest do
+-- the first of some bytes before a last one spells its low seven bits, and 128 times what the rest
+-- do
 pub value-split : (xs rest : List ℕ) (byte last : ℕ) → IsFirstAndRest xs byte rest
     → delta_value (xs ++ last ∷ []) ≡ byte % 128 + 128 * delta_value (rest ++ last ∷ [])
 value-split xs rest byte last e = rw e.0 (value-next byte (rest ++ last ∷ []))
@@ -128,7 +129,8 @@ bytes-shortest (suc more) n (byte ∷ next ∷ bytes) ends spelled = elim (cases
       rw (bytes-high more n high) (omega arith))
 ]
 
--- the shortest delta of a number below 2^35 spells it, is a delta, and no delta that spells it is shorter
+-- the shortest delta of a number below 2^35 spells it, is a delta, and no delta that spells it is
+-- shorter
 pub delta_laws : (n : ℕ) → n < 2 ^ 35 → DeltaLaws n
 delta_laws n small = record {
   value = bytes-value 4 n (omega arith);
@@ -136,11 +138,11 @@ delta_laws n small = record {
   shortest = bytes-shortest 4 n;
 }
 
--- the same lists have the same first elements
+-- equal lists have equal first elements
 pub first-same : {a b : ℕ} {xs ys : List ℕ} → a ∷ xs ≡ b ∷ ys → a ≡ b
 first-same e = ap (λ l. get_or l 0 0) e
 
--- and the same rests
+-- and equal rests
 pub rest-same : {a b : ℕ} {xs ys : List ℕ} → a ∷ xs ≡ b ∷ ys → xs ≡ ys
 rest-same e = ap rest_of e
   where
@@ -148,7 +150,7 @@ rest-same e = ap rest_of e
     rest_of [] = []
     rest_of (x ∷ xs) = xs
 
--- two deltas that begin the same bytes are the same
+-- two deltas that begin one list of bytes are one
 pub ends_once : (first second rest other : List ℕ) → EndsOnce first second rest other
 ends_once [] second rest other ends1 ends2 e = absurd (let some = not-empty [] ends1 in omega arith)
 ends_once (a ∷ xs) [] rest other ends1 ends2 e = absurd (let some = not-empty [] ends2 in omega arith)
@@ -167,7 +169,7 @@ ends_once (a ∷ c ∷ xs) (b ∷ d ∷ ys) rest other ends1 ends2 e =
     ap₂ (λ x l. x ∷ l) (first-same e)
     (ends_once (c ∷ xs) (d ∷ ys) rest other (rest-delta a c xs ends1) (rest-delta b d ys ends2) (rest-same e))
 
--- so many bytes of a number stand, and what is left of it is spelt by those that follow
+-- n bytes of a number stand, and what is left of it is spelt by those that follow
 abbrev pub Spells : List ℕ → List ℕ → ℕ → ℕ → ℕ → Type 0
 Spells before items counter rest number =
     (length items ≡ length before + counter) × (rest < 128 ^ (5 - counter)) × (items ++ bytes_within (4 - counter) rest ≡ before ++ delta_of number)

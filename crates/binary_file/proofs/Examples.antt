@@ -33,7 +33,8 @@ two_latches = codes "aig 5 2 2 1 1\n2\n4\n10\n"
 abbrev one_gate : List ℕ
 one_gate = codes "aig 1 0 0 0 1\n"
 
--- a gate of two latches, with deltas of one byte and of two; all sections, symbols and a comment; a last line without its newline
+-- a gate of two latches, with deltas of one byte and of two; all sections, symbols and a comment; a
+-- last line without its newline
 accepted : AreRead (
     (two_latches ++ 2 ∷ 2 ∷ [], codes "aag 5 2 2 1 1\n2\n4\n6 2\n8 4\n10\n10 8 6\n")
     ∷ (two_latches ++ 130 ∷ 0 ∷ 2 ∷ [], codes "aag 5 2 2 1 1\n2\n4\n6 2\n8 4\n10\n10 8 6\n")

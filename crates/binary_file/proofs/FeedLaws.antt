@@ -61,7 +61,7 @@ fault_at_end e state piece left read fed fails = Fails-as e (read >>= λ s. feed
 pub none_left : (piece : List ℕ) → take (length piece - length piece) (drop (length piece) piece) ≡ []
 none_left piece = take_rest piece (length piece) ∙ drop_all (length piece) piece (omega arith)
 
--- where all of a piece was taken, nothing is left to read of it
+-- if all of a piece was taken, nothing is left to read of it
 pub all_taken : (new : Items) (end offset : ℕ) (state next : State) (piece left : List ℕ) → left ≡ [] → offset + length piece ≡ end → Stands new (offset + length piece) next → feed state piece ≡ feed next []
     → IsFed new end state piece left
 all_taken new end offset state next piece left none place stands fed =
@@ -170,7 +170,7 @@ module _ (at offset end after : ℕ) (states : List ℕ → State) (end_delta : 
       let same : after ≡ at + length t.0 = next (at + length t.0) here in
       record { delta = t.0; value = t.1; fed = ap (λ (s : State). feed s piece) is ∙ t.2; at_after = sym same; place = ap (λ (n : ℕ). n + length left) same ∙ here }
 
-  -- where a delta's last byte didn't come, all of the piece was taken
+  -- if a delta's last byte didn't come, all of the piece was taken
   pub delta_open : (more : Option ℕ) → more ≡ None → IsDeltaTaken states end_delta old new piece more left → (feed state piece ≡ feed (states new) left) × (at + length new + length left ≡ end)
   delta_open more is_none taken =
       let t = subst (λ (m : Option ℕ). IsDeltaTaken states end_delta old new piece m left) is_none taken in

@@ -1,4 +1,4 @@
--- Reading gives a raw circuit exactly where the bytes are a file of it.
+-- Reading gives a raw circuit if and only if the bytes are a file of it.
 use Rattle.std.proofs.Common.{ℕ, suc, zero, ◌+◌, ◌<◌, ◌≡◌, ◌≢◌, ◌⊎◌, inl, inr, List, [], ◌∷◌, length, Some, Result, Ok, Err, Bool, true, false, cond, ◌&&◌, refl, sym, ap, ap₂, subst, ◌∙◌, arith}
 use Rattle.std.proofs.lemmas.Bool.{and_parts, and_from, cond-true, cond-false}
 use Rattle.aig_graph.specs.Circuits.{Netlist}
@@ -58,7 +58,7 @@ no_header h e = cc
 
 -- ---- what is a file is read
 
--- where a line stands next, it is ended
+-- if a line stands next, it is ended
 line_first : (h : Header) (raw : Raw) (at end : ℕ) (bytes : List ℕ) → bytes ≢ [] → is_gates (next_section h raw) ≡ false
     → (feed (before_item h raw at) bytes >>= finish end) ≡ (end_line h raw at (first_line bytes) >>= λ s. feed s (after_line bytes) >>= finish end)
 line_first h raw at end bytes some other = ap (λ (s : State). feed s bytes >>= finish end) (before_line h raw at other) ∙ line_fed end h raw at bytes [] (not_empty bytes some)
@@ -231,7 +231,8 @@ circuit_was_read bytes c e =
     let found = bind_ok (read_raw bytes) (λ all. Ok (circuit_of all.0 all.1)) c e in
     (found.0.0, found.0.1, file_was_read bytes found.0 found.1, sym (same_ok (circuit_of found.0.0 found.0.1) c found.2))
 
--- bytes are read as a circuit exactly where they are a binary file of one, else there is a fault of the bytes
+-- bytes are read as a circuit if and only if they are a binary file of one, else there is a fault
+-- of the bytes
 pub the_reading_law : (bytes : List ℕ) → BinaryReadingLaw bytes
 the_reading_law bytes = record {
   file = circuit_read bytes;

@@ -18,7 +18,7 @@ use Rattle.binary_file.specs.Reading.{State, InLine, InFirst, InSecond, is_gates
 use Rattle.binary_file.specs.Files.{IsGate}
 use Rattle.binary_file.proofs.StepLaws.{delta_fed, delta_was_fed}
 
--- where the next section is that of gates, a reader stands before a gate's first delta
+-- if the next section is that of gates, a reader stands before a gate's first delta
 pub before_gate : (h : Header) (raw : Raw) (at : ℕ) → is_gates (next_section h raw) ≡ true → before_item h raw at ≡ InFirst h raw at []
 before_gate h raw at here = cond-true (is_gates (next_section h raw)) (InFirst h raw at []) (InLine h raw at []) here
 
@@ -125,7 +125,7 @@ second_open : (h : Header) (raw : Raw) (at rhs0 end : ℕ) (all : Header × Raw)
 second_open h raw at rhs0 end all [] e = absurd cc
 second_open h raw at rhs0 end all (b ∷ delta) e = absurd cc
 
--- what is read where gates are due begins with the deltas of a gate
+-- what is read if gates are due begins with the deltas of a gate
 pub gate_was_taken : (h : Header) (raw : Raw) (at end : ℕ) (all : Header × Raw) (bytes : List ℕ) → next_section h raw ≡ Gates → (feed (before_item h raw at) bytes >>= finish end) ≡ Ok all → GateRead h raw end bytes all
 gate_was_taken h raw at end all bytes here e =
     let first = delta_was_fed at (InFirst h raw at) (end_first h raw at) (λ delta b. refl) end all (first_open h raw at end all) bytes [] (omega arith)

@@ -94,7 +94,7 @@ module _ (bytes part : List ℕ) (reading : feed (AtHeader []) bytes ≡ Ok (AtH
 pub regrouped : (bytes part left piece : List ℕ) → piece ≡ part ++ 10 ∷ left → (bytes ++ (part ++ 10 ∷ [])) ++ left ≡ bytes ++ piece
 regrouped bytes part left piece parts = append_assoc bytes (part ++ 10 ∷ []) left ∙ ap (λ (list : List ℕ). bytes ++ list) (append_assoc part (10 ∷ []) left ∙ sym parts)
 
--- bytes regrouped at the end of a line, and what follows, end at the same offset
+-- bytes regrouped at the end of a line, and what follows, end at one offset
 pub regrouped_length : (bytes part left piece : List ℕ) (end : ℕ) → piece ≡ part ++ 10 ∷ left → length bytes + length piece ≡ end → length (bytes ++ (part ++ 10 ∷ [])) + length left ≡ end
 regrouped_length bytes part left piece end parts place = sym (length-append (bytes ++ (part ++ 10 ∷ [])) left) ∙ ap length (regrouped bytes part left piece parts) ∙ length-append bytes piece ∙ place
 

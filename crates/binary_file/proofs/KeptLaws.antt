@@ -47,7 +47,7 @@ gate_kept c gate room ordered below kept =
       named = record { symbols = kept.named.symbols; names = kept.named.names; below = kept.named.below; apart = kept.named.apart };
     }
 
--- the same with other names, which are those of symbols that name a thing of their own
+-- those contents with other names, which are those of symbols that name a thing of their own
 renamed : (c : Contents) (names : Symbols) → IsKept c → AreNamed (record c { names = names }) → IsKept (record c { names = names })
 renamed c names kept named = record {
   within = kept.within;

@@ -50,7 +50,7 @@ all_numbers line ns e = at_most_nine (numbers_of line) ns e
 -- ---- one number
 
 module _ (h : Header) (at : ℕ) (small : h.greatest < 2 ^ 28) where
-  -- a literal of the line, and what follows where it is in range
+  -- a literal of the line, and what follows if it is in range
   literal_step : (n : ℕ) (f : ℕ → Result Contents ReadError) (read : Result Raw ReadError) → (n ≤ 2 * h.greatest + 1 → Agrees h (f n) read)
       → Agrees h (literal_within h at (clamped n) >>= f) (cond (past_greatest h (n ∷ [])) (Err (MaxIndex at)) read)
   literal_step n f read later = elim (cases_lt (2 * h.greatest + 1) n) [
@@ -117,7 +117,7 @@ module _ (h : Header) (at : ℕ) (small : h.greatest < 2 ^ 28) where
         let own? = equals-clamped n current fits in
         cc
 
-    -- the reset, where it is one
+    -- the reset, if it is one
     reset_step : (latch : RawLatch)
         → Agrees h (latch_with (contents_of h raw) at latch.next (reset_in latch.current latch.reset)) (cond (is_bad_reset latch) (Err (BadReset at)) (Ok (with_item raw (LatchItem latch))))
     reset_step latch = by_tests (nat_eq latch.reset 0) (nat_eq latch.reset 1) (nat_eq latch.reset latch.current) refl refl
@@ -162,7 +162,7 @@ module _ (h : Header) (at : ℕ) (small : h.greatest < 2 ^ 28) where
 abbrev by_section : Header → Raw → ℕ → List ℕ → Section → Result Raw ReadError
 by_section h raw at line section = take_item h raw at (malformed section at line) (item_in h raw section line)
 
--- by the numbers of the line, where they are all there
+-- by the numbers of the line, if they are all there
 by_numbers : (h : Header) (raw : Raw) (at : ℕ) (line ns : List ℕ) (form : List ℕ → Option Item) (taken : Contents → ℕ → List ℕ → Result Contents ReadError)
     → row_of line ≡ Some ns → ((all : List ℕ) → Agrees h (taken (contents_of h raw) at (map clamped all)) (take_item h raw at (BadLine at) (form all)))
     → Agrees h (taken (contents_of h raw) at ns) (take_item h raw at (BadLine at) (option_and_then form (numbers_of line)))
@@ -254,7 +254,7 @@ module _ (h : Header) (raw : Raw) (at : ℕ) (line : List ℕ) where
   without_lines Gates a b d e f = refl
   without_lines Symbols a b d e f = absurd cc
 
-  -- where inputs or gates come next, any line is a fault
+  -- if inputs or gates come next, any line is a fault
   pub no_lines : (next_section h raw ≡ Latches → ⊥) → (next_section h raw ≡ Safety → ⊥) → (next_section h raw ≡ Sizes → ⊥) → (next_section h raw ≡ Liveness → ⊥) → is_symbols (next_section h raw) ≡ false
       → read_line h raw at line ≡ Err (BadLine at)
   unfolding read_line

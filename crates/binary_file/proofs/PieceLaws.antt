@@ -21,6 +21,7 @@ stays bytes more e was =
     ap (λ (r : Result State ReadError). (r >>= finish (length (bytes ++ more))) >>= λ all. Ok (circuit_of all.0 all.1))
     (feed-append bytes more (AtHeader []) ∙ ap (λ (r : Result State ReadError). r >>= λ s. feed s more) was)
 
--- feeding joined bytes is feeding them one after the other, and a fault of the first is that of the whole
+-- feeding joined bytes is feeding them one after the other, and a fault of the first is that of the
+-- whole
 pub the_pieces_law : (bytes more : List ℕ) → BinaryPiecesLaw bytes more
 the_pieces_law bytes more = record { joined = feed-append bytes more (AtHeader []); stays = stays bytes more }

@@ -152,7 +152,7 @@ module _ (at : ℕ) (state : List ℕ → State) (end_delta : List ℕ → Resul
       ∙ ap (λ (d : List ℕ). end_delta d >>= λ s. feed s rest) (append_assoc begun (b ∷ []) (c ∷ delta))
 
   module _ (end : ℕ) (all : Header × Raw) (unfinished : (delta : List ℕ) → finish end (state delta) ≡ Ok all → ⊥) where
-    -- what is read where a delta has begun begins with the rest of it
+    -- what is read if a delta has begun begins with the rest of it
     pub delta_was_fed : (bytes begun : List ℕ) → length begun ≤ 4 → (feed (state begun) bytes >>= finish end) ≡ Ok all → DeltaRead state end_delta end begun bytes all
     unfolding feed
     delta_was_fed [] begun few e = absurd (unfinished begun e)

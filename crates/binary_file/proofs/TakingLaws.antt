@@ -18,7 +18,8 @@ Agrees h (Err error) read = read ≡ Err error
 taken_fails : (h : Header) (error : ReadError) (taken : Result Contents ReadError) (read : Result Raw ReadError) → Fails NoMemory error taken → Agrees h taken read → Fails NoMemory error read
 taken_fails h error taken read fails agrees = Fails-where error taken read (λ is. subst (λ (t : Result Contents ReadError). Agrees h t read) is agrees) fails
 
--- a call that gives the contents with an item takes it as reading does, where the contents agree with reading
+-- a call that gives the contents with an item takes it as reading does, if the contents agree with
+-- reading
 pub given_takes : {X : Type 0} (h : Header) (new : Contents) (r : Result X ReadError) (taken : Result Contents ReadError) (read : Result Raw ReadError)
     → Gives NoMemory (λ _. new) r taken → Agrees h taken read → Takes h new r read
 given_takes h new (Ok x) taken read gives agrees = subst (λ (t : Result Contents ReadError). Agrees h t read) gives agrees

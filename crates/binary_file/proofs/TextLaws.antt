@@ -18,7 +18,7 @@ item_isnt line (Some (LivenessItem lit)) e = without_comment line e
 item_isnt line (Some (GateItem gate)) e = without_comment line e
 item_isnt line (Some (SymbolItem symbol)) e = absurd cc
 
--- a line is the comment's exactly where it begins as one
+-- a line is the comment's if and only if it begins as one
 pub comment_begins : (line : List ℕ) → text_of line ≡ Comment → begins_comment line ≡ true
 unfolding text_of
 comment_begins line e = by_test (begins_comment line) e

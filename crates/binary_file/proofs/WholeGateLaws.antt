@@ -84,7 +84,7 @@ gate_read h raw at c rhs0 rhs1 bytes rest is gate =
           ∙ ap (λ (r : Result State ReadError). r >>= λ s. feed s rest) (second_done h raw middle (middle + length two.0) second two.0 two.1 refl rhs0 agrees.0 agrees.1);
     }
 
--- one more whole gate is taken of the bytes that were left, and a gate comes next where one is missing
+-- one more whole gate is taken of the bytes that were left, and a gate comes next if one is missing
 pub gate_taken : (h : Header) (raw : Raw) (at : ℕ) (c new : Contents) (lhs : ℕ) (gate : WholeGate) (bytes left : List ℕ)
     → AreGatesTaken h raw at c bytes left → section_to_fill c ≡ Gates → lhs ≡ gate_literal c → IsWholeGate lhs left gate → gate.len ≤ length left → length left ≤ length bytes
     → ◌≡◌ {A = Result Contents ReadError} (Ok (contents_with_gate c (record { rhs0 = gate.rhs0; rhs1 = gate.rhs1 }))) (Ok new)
@@ -109,7 +109,7 @@ gate_taken h raw at c new lhs gate bytes left taken here same whole within fewer
     subst (λ (d : Contents). AreGatesTaken h raw at d bytes (take (length left - gate.len) (drop gate.len left)) × (length d.gates < d.header.gates → section_to_fill d ≡ Gates)) (same_ok (contents_with_gate c g) new e)
     (subst (λ (bs : List ℕ). AreGatesTaken h raw at (contents_with_gate c g) bytes bs) (sym (take_rest left gate.len)) after, λ room. gates_stay c g here room)
 
--- where no byte of a delta has come it is empty
+-- if no byte of a delta has come it is empty
 pub no_bytes : (delta : List ℕ) (test : Bool) → test ≡ nat_eq (length delta) 0 → test ≡ true → delta ≡ []
 no_bytes [] test is new = refl
 no_bytes (b ∷ delta) true is new = absurd (omega (arith, eqb-true (length (b ∷ delta)) 0 (sym is)))
@@ -135,7 +135,7 @@ module _ (sections new : Contents) (at offset : ℕ) (delta : List ℕ) (state :
             ∙ ap (λ (n : ℕ). feed (before_item is.h taken.more n) left) (sym same);
       }
 
-  -- where no gate was taken reading stands where it stood
+  -- if no gate was taken reading is in the state that it was in
   pub still_in_first : length left ≡ length piece → IsInFirst new at offset delta state
   still_in_first all = record {
     h = is.h;

@@ -57,7 +57,7 @@ latch_literal c = 2 * (c.header.inputs + 1 + length c.latches)
 abbrev pub gate_literal : Contents → ℕ
 gate_literal c = 2 * (c.header.inputs + c.header.latches + 1 + length c.gates)
 
--- the circuit of the contents, where all sections are full
+-- the circuit of the contents, if all sections are full
 abbrev pub netlist_of_contents : Contents → Netlist
 netlist_of_contents c = record {
   aig = record { inputs = c.header.inputs; latches = c.latches; gates = c.gates };

@@ -14,7 +14,7 @@ pub record BeginsWithDelta (bytes : List ℕ) (number : ℕ) (rest : List ℕ) :
   pub few : length delta ≤ 5
   pub value : number ≡ delta_value delta
 
--- they begin with a delta of so many bytes
+-- they begin with a delta of n bytes
 abbrev pub IsWholeDelta : List ℕ → ℕ → ℕ → Type 0
 IsWholeDelta bytes number len = (0 < len) × (len ≤ 5) × BeginsWithDelta bytes number (drop len bytes)
 
@@ -29,7 +29,7 @@ pub record BeginsWithGate (lhs rhs0 rhs1 : ℕ) (bytes rest : List ℕ) : Type 0
   pub below : rhs0 + first ≡ lhs
   pub ordered : rhs1 + second ≡ rhs0
 
--- they begin with a gate of so many bytes
+-- they begin with a gate of n bytes
 abbrev pub IsWholeGate : ℕ → List ℕ → WholeGate → Type 0
 IsWholeGate lhs bytes gate = (0 < gate.len) × (gate.len ≤ 10) × BeginsWithGate lhs gate.rhs0 gate.rhs1 bytes (drop gate.len bytes)
 

@@ -12,7 +12,7 @@ is_delta [] = false
 is_delta (byte ∷ []) = nat_lt byte 128
 is_delta (byte ∷ next ∷ bytes) = nat_lt 127 byte && is_delta (next ∷ bytes)
 
--- the bytes of a number, where at most so many follow the first; the last one holds what is left
+-- the bytes of a number, if at most n follow the first; the last one holds what is left
 unfoldable pub bytes_within : ℕ → ℕ → List ℕ
 bytes_within zero n = n ∷ []
 bytes_within (suc more) n = if nat_lt n 128 then n ∷ [] else (n % 128 + 128) ∷ bytes_within more (n / 128)

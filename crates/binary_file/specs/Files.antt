@@ -55,7 +55,8 @@ abbrev pub IsItem : Header → Raw → Item → List ℕ → List ℕ → Type 0
 IsItem h raw (GateItem gate) bytes rest = IsGate h raw gate bytes rest
 IsItem h raw item bytes rest = IsLine h raw item bytes rest
 
--- the bytes are the items that are missing, one after the other, each of the first section that isn't full, and then nothing or a comment
+-- the bytes are the missing items, one after the other, each of the first section that isn't full,
+-- and then nothing or a comment
 abbrev pub AreItems : Header → Raw → List Item → List ℕ → Type 0
 AreItems h raw [] bytes = (next_section h raw ≡ Symbols) × ((bytes ≡ []) ⊎ (begins_comment (first_line bytes) ≡ true))
 AreItems h raw (item ∷ items) bytes = (rest : List ℕ) × IsItem h raw item bytes rest × AreItems h (with_item raw item) items rest

@@ -7,8 +7,9 @@ use Rattle.binary_file.specs.Reading.{State, AtHeader, feed}
 use Rattle.binary_file.specs.declared.reader.AigReader.{AigReader}
 use Rattle.binary_file.specs.Stages.{HoldsStage, failure}
 
--- these bytes were fed, in whatever pieces, and the reader stands where reading does after them, or has failed with their fault, or memory ran out;
--- unless it has failed, its offset is that of their end
+-- These bytes were fed, in whatever pieces. The reader is in the state of reading after them, or
+-- has failed with their fault, or memory ran out. Unless it has failed, its offset is that of their
+-- end.
 pub record HasBeenFed (reader : AigReader) (bytes : List ℕ) : Type 0 where
   pub count : failure reader.stage ≡ None → length bytes ≡ reader.offset
   pub stage : HoldsStage reader.stage bytes

@@ -1,4 +1,5 @@
--- The items of a binary file. Inputs aren't listed, and latches and gates have their variables by their positions.
+-- The items of a binary file. Inputs aren't listed, and latches and gates have their variables by
+-- their positions.
 use Rattle.std.specs.Prelude.{ℕ, ◌+◌, ◌*◌, ◌==◌, List, [], ◌∷◌, length, Option, Some, None, if◌then◌else◌}
 use Rattle.std.specs.Option.{option_and_then}
 use Rattle.file_words.specs.Lines.{numbers_of}
@@ -21,7 +22,7 @@ next_latch h raw = 2 * (h.inputs + 1 + length raw.latches)
 abbrev pub next_gate : Header → Raw → ℕ
 next_gate h raw = 2 * (h.inputs + h.latches + 1 + length raw.gates)
 
--- a latch's line: the next literal, and the reset, which is 0 where it is left out
+-- a latch's line: the next literal, and the reset, which is 0 if it is left out
 abbrev pub latch_in : ℕ → List ℕ → Option Item
 latch_in current (next ∷ []) = Some (LatchItem (record { current = current; next = next; reset = 0 }))
 latch_in current (next ∷ reset ∷ []) = Some (LatchItem (record { current = current; next = next; reset = reset }))

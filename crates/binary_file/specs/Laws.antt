@@ -10,14 +10,16 @@ use Rattle.binary_file.specs.Files.{IsBinaryFile}
 use Rattle.binary_file.specs.Reading.{AtHeader, feed, circuit_of, read_binary, IsBinaryFaultOf}
 use Rattle.binary_file.specs.Deltas.{delta_value, is_delta, delta_of}
 
--- reading gives a circuit exactly where the bytes are a file of a raw circuit, and then that one's; else a fault of the bytes
+-- Reading gives a circuit if and only if the bytes are a file of a raw circuit, and then that
+-- one's. Otherwise it gives a fault of the bytes.
 pub record BinaryReadingLaw (bytes : List ℕ) : Type 0 where
   pub file : (h : Header) (raw : Raw) → IsBinaryFile bytes h raw → read_binary bytes ≡ Ok (circuit_of h raw)
   pub read : (c : Netlist) → read_binary bytes ≡ Ok c → (h : Header) × (raw : Raw) × IsBinaryFile bytes h raw × (c ≡ circuit_of h raw)
   pub one : (h h' : Header) (raw raw' : Raw) → IsBinaryFile bytes h raw → IsBinaryFile bytes h' raw' → (h ≡ h') × (raw ≡ raw')
   pub fault : (e : ReadError) → read_binary bytes ≡ Err e → IsBinaryFaultOf bytes e
 
--- feeding joined bytes is feeding them one after the other; a fault of what was fed is that of the whole
+-- feeding joined bytes is feeding them one after the other; a fault of what was fed is that of the
+-- whole
 pub record BinaryPiecesLaw (bytes more : List ℕ) : Type 0 where
   pub joined : feed (AtHeader []) (bytes ++ more) ≡ (feed (AtHeader []) bytes >>= λ state. feed state more)
   pub stays : (e : ReadError) → feed (AtHeader []) bytes ≡ Err e → read_binary (bytes ++ more) ≡ Err e
@@ -32,7 +34,7 @@ pub record DeltaLaws (n : ℕ) : Type 0 where
   pub form : IsTrue (is_delta (delta_of n))
   pub shortest : (bytes : List ℕ) → IsTrue (is_delta bytes) → delta_value bytes ≡ n → length (delta_of n) ≤ length bytes
 
--- where one delta ends, none of another length ends
+-- if one delta ends here, none of another length does
 abbrev pub EndsOnce : List ℕ → List ℕ → List ℕ → List ℕ → Type 0
 EndsOnce first second rest other =
     IsTrue (is_delta first) → IsTrue (is_delta second) → first ++ rest ≡ second ++ other → first ≡ second

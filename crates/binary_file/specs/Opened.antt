@@ -1,4 +1,5 @@
--- The item that has begun, beside where reading stands: what was read before it, its offset, and how many bytes have come.
+-- The item that has begun, beside the state of reading: what was read before it, its offset, and
+-- the number of its bytes so far.
 use Rattle.std.specs.Prelude.{ℕ, ◌≡◌, ◌+◌, ◌<◌, Bool, true, false, List, ◌++◌, length, Result, Ok, Err}
 use Rattle.file_words.specs.declared.fault.ReadError.{ReadError}
 use Rattle.file_words.specs.declared.fault.ReadError.TheVariants.{NoMemory}

@@ -37,7 +37,7 @@ abbrev pub only_number : ℕ → List ℕ → Result ℕ ReadError
 only_number at (number ∷ []) = Ok number
 only_number at _ = Err (BadLine at)
 
--- the literal, where it is within the range of the header
+-- the literal, if it is within the range of the header
 abbrev pub literal_within : Header → ℕ → ℕ → Result ℕ ReadError
 literal_within h at lit = if nat_lt (2 * h.greatest + 1) lit then Err (MaxIndex at) else Ok lit
 

@@ -1,4 +1,4 @@
--- The first fault of a binary file, byte by byte, and what is read where there is none.
+-- The first fault of a binary file, byte by byte, and what is read if there is none.
 use Rattle.std.specs.Prelude.{ℕ, ◌≡◌, ◌+◌, ◌-◌, ◌==◌, ◌||◌, ◌&&◌, Bool, true, false, nat_lt, List, [], ◌∷◌, ◌++◌, length, map, Option, Some, None, Result, Ok, Err, if◌then◌else◌}
 use Rattle.aig_graph.specs.Circuits.{Netlist}
 use Rattle.file_words.specs.declared.fault.ReadError.{ReadError}
@@ -16,7 +16,8 @@ use Rattle.ascii_file.specs.Reading.{unless, past_greatest, is_bad_reset, checks
 use Rattle.binary_file.specs.Headers.{header_of, binary_header_checks}
 use Rattle.binary_file.specs.Items.{next_section, next_gate, item_in}
 
--- where a reader stands. After the header: the raw circuit so far, the offset of the item that has begun, and its bytes
+-- The state of a reader. After the header it is the raw circuit so far, the offset of the item that
+-- has begun, and its bytes.
 pub data State : Type 0 where
   AtHeader : (line : List ℕ) → State
   InLine : (h : Header) (raw : Raw) (at : ℕ) (line : List ℕ) → State
@@ -77,7 +78,8 @@ end_second h raw at rhs0 delta =
     unless ((nat_lt rhs0 (delta_value delta), BadDelta at) ∷ [])
     (Ok (before_item h (with_item raw (GateItem (record { lhs = next_gate h raw; rhs0 = rhs0; rhs1 = rhs0 - delta_value delta }))) (at + length delta)))
 
--- one byte more of the delta at an offset: its last one, or one with the top bit set, which the fifth may not be
+-- one byte more of the delta at an offset: its last one, or one with the top bit set, which the
+-- fifth may not be
 abbrev pub delta_step : ℕ → List ℕ → ℕ → State → (List ℕ → Result State ReadError) → Result State ReadError
 delta_step at delta b more end =
     if nat_lt b 128 then end (delta ++ b ∷ []) else (if length delta == 4 then Err (BadDelta at) else Ok more)
@@ -99,7 +101,7 @@ feed state (b ∷ bytes) = step state b >>= λ next. feed next bytes
 
 -- ---- the end
 
--- all that was read, where no item is missing, of an input of this length
+-- all that was read of an input of this length, if no item is missing
 abbrev pub complete : ℕ → State → Result (Header × Raw) ReadError
 complete end (InLine h raw at line) = if is_symbols (next_section h raw) then Ok (h, raw) else Err (Truncated end)
 complete end (InComment h raw) = Ok (h, raw)

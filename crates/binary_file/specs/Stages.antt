@@ -16,7 +16,7 @@ pub record HoldsHeader (line : HeaderLine) (bytes : List ℕ) : Type 0 where
   pub reading : feed (AtHeader []) bytes ≡ Ok (AtHeader bytes)
   pub line_is : (rest : List ℕ) → header_with line rest ≡ header_row (codes "aig ") (bytes ++ rest)
 
--- after the bytes reading stands where the items do
+-- the items are in the state of reading after the bytes
 pub record HoldsItems (items : Items) (bytes : List ℕ) : Type 0 where
   pub state : State
   pub reading : feed (AtHeader []) bytes ≡ Ok state
@@ -28,7 +28,7 @@ HoldsOpen (stage.Header line) bytes = HoldsHeader line bytes
 HoldsOpen (stage.Items items) bytes = HoldsItems items bytes
 HoldsOpen (stage.Failed fault) bytes = ⊥
 
--- the same, or the fault of the bytes, unless memory ran out
+-- it holds the bytes, or their fault, unless memory ran out
 abbrev pub HoldsStage : Stage → List ℕ → Type 0
 HoldsStage (stage.Failed fault) bytes = Fails NoMemory fault (feed (AtHeader []) bytes)
 HoldsStage sound bytes = HoldsOpen sound bytes

@@ -13,7 +13,8 @@ use Rattle.binary_file.specs.Items.{next_section, next_gate}
 use Rattle.binary_file.specs.Reading.{InFirst, before_item, feed, circuit_of}
 use Rattle.binary_file.specs.Contents.{Contents, IsAt}
 
--- After Ok the contents are those of the raw circuit that reading gives; an error is the fault of reading, unless memory ran out.
+-- After Ok the contents are those of the raw circuit that reading gives; an error is the fault of
+-- reading, unless memory ran out.
 abbrev pub Takes : {X : Type 0} → Header → Contents → Result X ReadError → Result Raw ReadError → Type 0
 Takes h new (Ok x) read = (raw : Raw) × (read ≡ Ok raw) × IsAt new h raw
 Takes h new (Err error) read = Fails NoMemory error read
@@ -27,12 +28,12 @@ abbrev pub read_second_delta : Header → Raw → ℕ → ℕ → ℕ → Result
 read_second_delta h raw at rhs0 delta =
     unless ((nat_lt rhs0 delta, BadDelta at) ∷ []) (Ok (with_item raw (GateItem (record { lhs = next_gate h raw; rhs0 = rhs0; rhs1 = rhs0 - delta }))))
 
--- what an input of this length gives, where it ends after these items
+-- what an input of this length gives, if it ends after these items
 abbrev pub circuit_at_end : ℕ → Header → Raw → Result Netlist ReadError
 circuit_at_end end h raw = if is_symbols (next_section h raw) then Ok (circuit_of h raw) else Err (Truncated end)
 
--- Gates were taken of bytes with which a gate begins at an offset: reading the bytes is reading what is left, which is all of them
--- where no gate was taken.
+-- Gates were taken of bytes with which a gate begins at an offset. Reading the bytes is reading
+-- what is left, which is all of them if no gate was taken.
 pub record AreGatesTaken (h : Header) (raw : Raw) (at : ℕ) (new : Contents) (bytes left : List ℕ) : Type 0 where
   pub more : Raw
   pub after : ℕ

@@ -1,4 +1,5 @@
-//! A delta out of a piece: of those that a piece may cut in two a byte, of a gate that is whole in it both at once.
+//! A delta out of a piece. One that a piece may cut in two is taken byte by byte. Those of a gate
+//! that is whole in the piece are taken at once.
 ghost use Rattle.std.specs.Prelude.{ℕ, List, ◌≡◌, ◌<◌, ◌≤◌, ◌%◌, length, IfOk, OnErr, Err, MatchOption, Result};
 ghost use Rattle.file_words.specs.declared.fault.ReadError.{ReadError};
 ghost use Rattle.file_words.specs.declared.fault.ReadError.TheVariants.{BadDelta};
@@ -20,8 +21,8 @@ pub(crate) struct WholeGate {
     pub(crate) len: usize,
 }
 
-/// Takes the first byte of a piece: the number of the delta, where that is its last byte. What is left of the piece is the
-/// answer too.
+/// Takes the first byte of a piece. Returns the number of the delta if that is its last byte, and
+/// what is left of the piece.
 pub(crate) fn take_delta<'a>(
     reader: &mut DeltaReader,
     piece: &'a [u8],
@@ -42,7 +43,7 @@ pub(crate) fn take_delta<'a>(
     }
 }
 
-/// The gate with this literal that the bytes begin with; none where it has a fault.
+/// Returns the gate with this literal that the bytes begin with, or none if it has a fault.
 pub(crate) fn whole_gate(lhs: u32, bytes: &[u8]) -> Option<WholeGate>
     requires { 10 ≤ length bytes.now }
     ensures { MatchOption result (Unit {0}) (λ gate. IsWholeGate lhs bytes.now gate) }
@@ -63,7 +64,8 @@ pub(crate) fn whole_gate(lhs: u32, bytes: &[u8]) -> Option<WholeGate>
     })
 }
 
-/// The number of the delta that the bytes begin with, and how many bytes it has; none where it has more than five.
+/// Returns the number of the delta that the bytes begin with, and the number of its bytes. Gives
+/// none if it has more than five.
 fn whole_delta(bytes: &[u8]) -> Option<(u64, usize)>
     requires { 5 ≤ length bytes.now }
     ensures { MatchOption result (Unit {0}) (λ found. IsWholeDelta bytes.now found.0 found.1) }
@@ -94,7 +96,7 @@ fn whole_delta(bytes: &[u8]) -> Option<(u64, usize)>
     None
 }
 
-/// The seven bits of the number that a byte of a delta has.
+/// Returns the seven bits of the number that a byte of a delta has.
 fn group(byte: u8) -> u64
     ensures { result ≡ byte % 128 }
 {

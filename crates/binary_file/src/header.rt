@@ -9,7 +9,7 @@ ghost use Rattle.binary_file.specs.Header.{is_miscounted};
 use ascii_file::{Header, HeaderLine};
 use file_words::ReadError;
 
-/// The header of a binary file that the line spells, of which all bytes have come.
+/// Returns the header of a binary file that the line spells. All its bytes have come.
 pub(crate) fn binary_header(line: &mut HeaderLine) -> Result<Header, ReadError>
     ensures header { (bytes : List ℕ) → header_with line.old [] ≡ header_row (codes "aig ") bytes
         → result ≡ reading.read_header bytes }
@@ -21,7 +21,7 @@ pub(crate) fn binary_header(line: &mut HeaderLine) -> Result<Header, ReadError>
     }
 }
 
-/// The header, where it counts as many variables as its greatest.
+/// Returns the header if it counts as many variables as its greatest.
 fn with_all_variables(header: Header) -> Result<Header, ReadError>
     ensures { result ≡ unless ((is_miscounted header, MaxIndex 0) ∷ []) (Ok header) }
 {

@@ -1,10 +1,11 @@
-//! What is held between two pieces of a binary file: the whole items so far, and how far the open one has come.
+//! The state between two pieces of a binary file: the whole items so far, and the open one.
 //!
-//!     Numbers ──newline──► next item                First ──last byte──► Second ──last byte──► next item
-//!     Symbol  ──newline──► next line, or Comment    Comment stays
+//!     Numbers ──newline──► next item          First ──last byte──► Second ──last byte──► next item
+//!     Symbol  ──newline──► next line, or Comment               Comment stays
 //!
-//! The open item is taken out by value while a piece is fed, and `Comment` stands in its place, since it owns nothing and
-//! dropping it takes no step. Where the piece has a fault, the items are dropped, and nobody looks at the stand-in.
+//! The open item is taken out by value while a piece is fed. `Comment` stands in its place until
+//! then, since it owns nothing and dropping it takes no step. If the piece has a fault, the items
+//! are dropped, and nobody looks at the stand-in.
 ghost use Rattle.std.specs.Prelude.{ℕ, ◌≡◌, ◌+◌, length};
 ghost use Rattle.file_words.specs.declared.fault.ReadError.TheVariants.{NoMemory};
 ghost use Rattle.file_words.specs.Answering.{Gives};
@@ -46,7 +47,8 @@ impl Items {
     ghost use Rattle.binary_file.specs.Opened.{IsInNumbers, IsInSymbol, IsInFirst, IsInSecond};
     ghost use Rattle.binary_file.specs.Standing.{Stands, StandsAfterReading, Feeds, circuit_at};
 
-    /// Nothing has come after the header, which ends at the offset. Takes no memory.
+    /// Returns the items of a file of which nothing has come after the header, which ends at offset
+    /// `at`. Takes no memory.
     pub(crate) fn new(alloc: Global, header: Header, at: u64) -> Items
         requires { IsHeaderWithin header }
         ensures { Stands result at (before_item header nothing_yet at) }
@@ -191,7 +193,7 @@ impl Items {
         }
     }
 
-    /// Takes whole gates where the first delta of one hasn't begun, and else a byte of it.
+    /// Takes whole gates if the first delta of one hasn't begun, and otherwise a byte of it.
     fn feed_gates<'a>(
         &mut self,
         alloc: Global,
@@ -281,7 +283,8 @@ impl Items {
         }
     }
 
-    /// Takes bytes of a piece that isn't empty and ends at the offset; what is left of it is the answer.
+    /// Takes bytes of a piece that isn't empty and ends at offset `end`. Returns what is left of
+    /// it.
     fn feed_some<'a>(
         &mut self,
         alloc: Global,
@@ -314,7 +317,7 @@ impl Items {
         Ok(())
     }
 
-    /// The circuit of an input that ends here, at the offset.
+    /// Returns the circuit of an input that ends here, at offset `end`.
     pub(crate) fn finish(self, alloc: Global, end: u64) -> Result<Circuit, ReadError>
         ensures { (state : State) → Stands self end state
             → Gives NoMemory (λ c. c) result (circuit_at end state) }
@@ -340,7 +343,7 @@ impl Items {
     }
 }
 
-/// The circuit of an input that ends in a line of numbers, or before it.
+/// Returns the circuit of an input that ends in a line of numbers, or before it.
 fn finish_numbers(
     sections: Sections,
     alloc: Global,
@@ -364,7 +367,7 @@ fn finish_numbers(
     }
 }
 
-/// The circuit of an input that ends in a line after the gates, or before it.
+/// Returns the circuit of an input that ends in a line after the gates, or before it.
 fn finish_symbol(
     sections: Sections,
     alloc: Global,
@@ -389,7 +392,7 @@ fn finish_symbol(
     }
 }
 
-/// The offset at which what is left of a piece begins, which ends at an offset.
+/// Returns the offset at which the rest of a piece begins, by the offset of its end.
 pub(crate) fn offset_of(left: &[u8], end: u64) -> u64
     ensures { (offset : ℕ) → offset + length left.now ≡ end → result ≡ offset }
 {

@@ -1,9 +1,9 @@
-//! What a binary circuit file is, after the AIGER 1.9 note: its lines, its deltas, the first fault of bytes that are no
-//! such file, and the circuit that a file stands for. What it has in common with an ASCII file is that of `ascii_file`.
+//! What a binary circuit file is, after the AIGER 1.9 note: its lines, deltas and circuit, and the
+//! first fault of other bytes. What it has in common with an ASCII file is that of `ascii_file`.
 //! Readers and writers share the code of deltas.
 //!
-//! The reader takes its bytes in pieces, and the items one after another; a file's literals are its circuit's own, so what is read is kept as the
-//! circuit keeps it: 8 bytes a gate, 8 a latch.
+//! The reader takes its bytes in pieces, and the items one after another. A file's literals are its
+//! circuit's own, so items are kept as the circuit keeps them: 8 bytes a gate, 8 a latch.
 #![tactic(auto)]
 
 mod delta;

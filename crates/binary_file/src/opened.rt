@@ -31,7 +31,7 @@ pub(crate) enum Opened {
 }
 
 impl Opened {
-    /// The next item of a section, of which no byte has come.
+    /// Returns the next item of a section, of which no byte has come.
     pub(crate) fn new(alloc: Global, section: Section) -> Opened
         ensures { (c : Contents) (h : Header) (raw : Raw) (at : ℕ) → IsAt c h raw
             → section ≡ next_section h raw → IsOpened c at at result (before_item h raw at) }
@@ -58,7 +58,8 @@ pub(crate) fn take_numbers(
     sections.take_numbers(at, line.numbers())
 }
 
-/// Takes a line after the gates that begins at the offset, all of whose bytes have come: whether it isn't that of a comment.
+/// Takes a line after the gates that begins at offset `at`; all its bytes have come. Returns false
+/// if it is the line of a comment.
 pub(crate) fn take_text(
     sections: &mut Sections,
     at: u64,

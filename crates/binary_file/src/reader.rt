@@ -15,8 +15,9 @@ use file_words::ReadError;
 use std::alloc::Global;
 use std::mem;
 
-/// Reads a binary file, whose bytes come in pieces, cut anywhere. Of the bytes nothing is kept but what they stand for, so
-/// room grows with what was read, never by the header's numbers, and the time is linear in the bytes.
+/// Reads a binary file. Its bytes come in pieces, cut anywhere. Only the items are kept and none of
+/// the bytes, so room grows with what was read, never by the header's numbers. The time is linear
+/// in the bytes.
 pub struct AigReader {
     alloc: Global,
     stage: Stage,
@@ -43,7 +44,7 @@ impl AigReader {
     ghost use Rattle.binary_file.specs.Reading.{read_binary};
     ghost use Rattle.binary_file.specs.Holding.{HasBeenFed, Answers, reader_fault};
 
-    /// A reader to which nothing was fed. Takes no memory.
+    /// Returns a reader to which nothing was fed. Takes no memory.
     pub fn new(alloc: Global) -> AigReader
         ensures holds { HasBeenFed result [] }
         ensures sound { reader_fault result ≡ None }
@@ -59,8 +60,9 @@ impl AigReader {
     ///
     /// # Errors
     ///
-    /// The first fault of the bytes so far, as soon as its last byte has come, with its offset from the first piece on; or
-    /// `NoMemory`, also where the pieces come to `2^64` bytes, since no offset is that great. Every later call answers the same.
+    /// The first fault of the bytes so far, as soon as its last byte has come, with its offset from
+    /// the first piece on. `NoMemory` if memory is refused, and if the pieces come to `2^64` bytes,
+    /// since no offset is that great. Every later call answers that error.
     pub fn feed(&mut self, piece: &[u8]) -> Result<(), ReadError>
         ensures held { (bytes : List ℕ) → HasBeenFed self.old bytes → HasBeenFed self.new (bytes ++ piece.now)
             × Answers result (bytes ++ piece.now) }
@@ -86,11 +88,12 @@ impl AigReader {
         }
     }
 
-    /// The circuit of the file, all of whose bytes were fed. Every later call answers `BadHeader` at 0.
+    /// Returns the circuit of the file, all of whose bytes were fed. Every later call answers
+    /// `BadHeader` at 0.
     ///
     /// # Errors
     ///
-    /// The first fault of the file; `NoMemory`. Every later call answers the same.
+    /// The first fault of the file; `NoMemory`. Every later call answers that error.
     pub fn finish(&mut self) -> Result<Circuit, ReadError>
         ensures circuit { (bytes : List ℕ) → HasBeenFed self.old bytes
             → Gives NoMemory (λ c. c) result (read_binary bytes) }
@@ -116,7 +119,7 @@ impl AigReader {
     }
 }
 
-/// The circuit of a binary file, all of whose bytes are there.
+/// Reads the circuit of a binary file, all of whose bytes are there.
 ///
 /// # Errors
 ///
@@ -130,7 +133,7 @@ pub fn read_aig(alloc: Global, bytes: &[u8]) -> Result<Circuit, ReadError>
     circuit
 }
 
-/// The circuit of a file that ends with these bytes.
+/// Returns the circuit of a file that ends with these bytes.
 fn read_rest(reader: &mut AigReader, bytes: &[u8]) -> Result<Circuit, ReadError>
     ensures { (before : List ℕ) → HasBeenFed reader.old before
         → Gives NoMemory (λ c. c) result (read_binary (before ++ bytes.now)) }

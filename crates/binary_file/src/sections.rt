@@ -1,5 +1,5 @@
-//! What is read of a file, and which section comes next. That is kept nowhere: it is the first section with fewer items than the
-//! header says, so it can't disagree with the items.
+//! The items of a file that were read. The section that comes next is kept nowhere, so it can't
+//! disagree with the items. It is the first one with fewer items than the header says.
 ghost use Rattle.std.specs.Prelude.{◌≡◌};
 ghost use Rattle.ascii_file.specs.Raw.{safety_count};
 
@@ -14,8 +14,8 @@ use ascii_file::{Header, Names, PropertyLists, Section};
 use std::alloc::Global;
 use std::marker::Model;
 
-/// What is read of a binary file after its header, item by item. Room grows with what was read, never by the header's
-/// numbers.
+/// What is read of a binary file after its header, item by item. Room grows with what was read,
+/// never by the header's numbers.
 pub struct Sections {
     pub(crate) header: Header,
     pub(crate) latches: Vec<Latch>,
@@ -57,7 +57,7 @@ impl Sections {
     ghost use Rattle.binary_file.specs.Items.{next_section};
     ghost use Rattle.binary_file.specs.Contents.{IsAt, section_to_fill};
 
-    /// Nothing is read but the header. Takes no memory.
+    /// Returns sections of which nothing is read but the header. Takes no memory.
     pub fn new(alloc: Global, header: Header) -> Sections
         requires { IsHeaderWithin header }
         ensures { IsAt result header nothing_yet }
@@ -71,7 +71,8 @@ impl Sections {
         }
     }
 
-    /// The section of the next item: the first one that isn't full. That of inputs has no items.
+    /// Returns the section of the next item: the first one that isn't full. That of inputs has no
+    /// items.
     pub fn section(&self) -> Section
         ensures here { result ≡ section_to_fill self.now }
         ensures next { (h : Header) (raw : Raw) → IsAt self.now h raw
@@ -103,7 +104,7 @@ impl Sections {
     }
 }
 
-/// How many literals outputs, bad states and constraints have.
+/// Returns the number of literals of outputs, bad states and constraints.
 fn safety_count(header: &Header) -> usize
     ensures { result ≡ safety_count header.now }
 {

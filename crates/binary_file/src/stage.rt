@@ -1,5 +1,5 @@
-//! The stages of a reader of binary files; `reader` has the chart. A stage is taken by value, and the next one is the answer:
-//! what a fault leaves of it is dropped here.
+//! The stages of a reader of binary files; `reader` has the chart. A stage is taken by value, and
+//! the next one is the answer: what a fault leaves of it is dropped here.
 ghost use Rattle.std.specs.Prelude.{ℕ, List, ◌≡◌, ◌+◌, ◌++◌, [], length, Ok};
 ghost use Rattle.ascii_file.specs.Raw.{nothing_yet};
 ghost use Rattle.file_words.specs.declared.fault.ReadError.TheVariants.{NoMemory};
@@ -52,7 +52,7 @@ impl Stage {
         }
     }
 
-    /// The circuit of an input that ends here, at the offset.
+    /// Returns the circuit of an input that ends here, at offset `end`.
     pub(crate) fn finish(self, alloc: Global, end: u64) -> Result<Circuit, ReadError>
         ensures circuit { (bytes : List ℕ) → HoldsStage self bytes
             → (failure self ≡ None → length bytes ≡ end)
@@ -66,7 +66,7 @@ impl Stage {
         }
     }
 
-    /// Why a piece is refused whose end has no offset.
+    /// Returns the error for a piece whose end has no offset.
     pub(crate) fn refusal(&self) -> ReadError
         ensures held { (bytes more : List ℕ) → HoldsStage self.now bytes
             → Fails NoMemory result (reading.feed (reading.AtHeader []) (bytes ++ more)) }
@@ -132,7 +132,7 @@ fn feed_header(alloc: Global, line: HeaderLine, end: u64, piece: &[u8]) -> Resul
     }
 }
 
-/// The circuit of an input that ends in the first line.
+/// Returns the circuit of an input that ends in the first line.
 fn finish_header(alloc: Global, line: HeaderLine, end: u64) -> Result<Circuit, ReadError>
     ensures { (bytes : List ℕ) → HoldsHeader line bytes → length bytes ≡ end
         → Gives NoMemory (λ c. c) result (read_binary bytes) }

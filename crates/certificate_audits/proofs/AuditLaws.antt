@@ -38,14 +38,14 @@ audits-within bound _ _ _ _ _ (certified_end held c block none) = omega arith
 audits-within bound _ _ _ _ _ (past_end held c block rest none follows) = omega arith
 audits-within bound _ _ _ _ _ (goes_on held now c d block rest n end taken follows next more) = omega (arith, audits-within bound now d rest n end more)
 
--- the blocks below k are confirmed and saved latches, and this is the circuit of the k-th one, with these latches held; where there are blocks,
--- there is a k-th
+-- The blocks below k are confirmed and saved latches. This is the circuit of the k-th one, with
+-- these latches held. If there are blocks, there is a k-th.
 pub record LeadsTo (bound : Option ℕ) (held : List ℕ) (first : Netlist) (blocks : List Certificate) (k : ℕ) (now : List ℕ) (circuit : Netlist) : Type 0 where
   -- the audit of the blocks from k on is, with k more confirmed, that of all blocks
   pub onward : (n : ℕ) (end : End) → Audits bound now circuit (drop k blocks) n end → Audits bound held first blocks (k + n) end
   -- the held latches are among the circuit's
   pub in_range : All (λ j. j < length circuit.aig.latches) now
-  -- where there are blocks, there is one at place k
+  -- if there are blocks, there is one at place k
   pub another : 0 < length blocks → k < length blocks
   -- what the blocks from k on end in, all blocks end in
   pub makes : (e : Netlist) → EndIn bound now circuit (drop k blocks) e → EndIn bound held first blocks e
@@ -87,7 +87,7 @@ pub ends-at : (bound : Option ℕ) (held now : List ℕ) (first circuit : Netlis
 ends-at bound held now first circuit blocks k block n end within there audits leads =
     leads.onward n end (subst (λ (bs : List Certificate). Audits bound now circuit bs n end) (sym (here blocks k block within there)) audits)
 
--- the loop ends by itself only where there is no block
+-- the loop ends by itself only if there is no block
 pub none-left : (bound : Option ℕ) (held now : List ℕ) (first circuit : Netlist) (blocks : List Certificate) (k : ℕ) → length blocks ≤ k → LeadsTo bound held first blocks k now circuit → Audits bound held first blocks 0 NoBlocks
 none-left bound held now first circuit [] k past leads = no_blocks held first
 none-left bound held now first circuit (block ∷ rest) k past leads = absurd (omega (arith, past, leads.another (omega arith)))
@@ -118,7 +118,7 @@ ends-last bound held c block rest n BlocksFollow None p is = is
 ends-last bound held c block rest n (Objected objection) (Some d) p is = absurd is
 ends-last bound held c block rest n (Objected objection) None p is = is
 
--- what the blocks from k on end in, all blocks end in, where nothing speaks against one
+-- what the blocks from k on end in, all blocks end in, if nothing speaks against one
 all-last : (bound : Option ℕ) (held now : List ℕ) (first circuit : Netlist) (blocks : List Certificate) (k : ℕ) (block : Certificate) (end : End) (made : Option Netlist) → k < length blocks
     → block ≡ get_or blocks k block → LeadsTo bound held first blocks k now circuit → IsLast bound now circuit (block ∷ drop (k + 1) blocks) end made → IsLast bound held first blocks end made
 all-last bound held now first circuit blocks k block end None within there leads is = is
@@ -138,7 +138,7 @@ replays-at bound held now first circuit blocks k block n end replay within there
       last = subst (λ (a : Audit). IsLast bound held first blocks a.end replay.last) (sym found) is;
     }
 
--- the same of one that was made, unless memory was wanting
+-- the replay of one that was made, unless memory was wanting
 pub replayed-at : {E : Type 0} (bound : Option ℕ) (held now : List ℕ) (first circuit : Netlist) (blocks : List Certificate) (k : ℕ) (block : Certificate) (n : ℕ) (end : End) (result : Result Replay E) → k < length blocks
     → block ≡ get_or blocks k block → EndsWith bound now circuit block (drop (k + 1) blocks) n end → LeadsTo bound held first blocks k now circuit
     → IfOk result (λ replay. replay.audit ≡ record { confirmed = k + n; end = end }) → IfOk result (λ replay. IsLastOf now circuit block end replay.last)
@@ -146,7 +146,7 @@ pub replayed-at : {E : Type 0} (bound : Option ℕ) (held now : List ℕ) (first
 replayed-at bound held now first circuit blocks k block n end (Ok replay) within there ends leads found made = replays-at bound held now first circuit blocks k block n end replay within there ends leads found made
 replayed-at bound held now first circuit blocks k block n end (Err error) within there ends leads found made = tt
 
--- where there is no block, they end in the circuit
+-- if there is no block, they end in the circuit
 pub replays-none : (bound : Option ℕ) (held now : List ℕ) (first circuit : Netlist) (blocks : List Certificate) (k : ℕ) (made : Netlist) → made ≡ circuit → length blocks ≤ k → LeadsTo bound held first blocks k now circuit
     → Replays bound held first blocks (record { audit = record { confirmed = 0; end = NoBlocks }; last = Some made })
 replays-none bound held now first circuit blocks k made same past leads = record {
@@ -155,7 +155,7 @@ replays-none bound held now first circuit blocks k made same past leads = record
       (leads.makes circuit (subst (λ (bs : List Certificate). EndIn bound now circuit bs circuit) (sym (drop_all k blocks past)) (no_more now circuit)));
 }
 
--- where the audit is open, the block that ended it saves latches
+-- if the audit is open, the block that ended it saves latches
 pub still-saves : (bound : Option ℕ) (held : List ℕ) (c : Netlist) (block : Certificate) (rest : List Certificate) (n : ℕ) (end : End) → EndsWith bound held c block rest n end → end ≡ Open → Saves bound held c block
 still-saves bound held c block rest n end ends is_open = let is : EndsWith bound held c block rest n Open = subst (λ (e : End). EndsWith bound held c block rest n e) is_open ends in is.1.saves
 
@@ -199,7 +199,8 @@ certified bound _ _ _ _ _ (goes_on held now c d block rest n end taken follows n
     let shown = least-in bound held c block taken.saves.confirmed.passes in
     (ap suc after.0, move held now c shown.0 d block rest shown.1 taken.saves.fewer taken.keeps next after.1)
 
--- an audit that ends certified has confirmed all blocks, each with a least set, of which the last saves no latch
+-- an audit that ends certified has confirmed all blocks, each with a least set, of which the last
+-- saves no latch
 pub certified-law : (bound : Option ℕ) (held : List ℕ) (c : Netlist) (blocks : List Certificate) (audit : Audit) → IsAudit bound held c blocks audit → audit.end ≡ Certified → IsCertified bound held c blocks audit
 certified-law bound held c blocks audit is e =
     let shown = certified bound is.now is.first blocks audit.confirmed audit.end is.audits e in

@@ -66,7 +66,7 @@ replay-levels None held c blocks replay graph netlist is = unbounded c replay.la
 replay-levels (Some most) held c blocks replay graph netlist is =
     replay-bounded most held c c blocks replay (record { circuit = record { graph = graph; netlist = netlist }; kept = omega arith }) is
 
--- and so where latches were merged first
+-- and so if latches were merged first
 pub merged-replay-levels : (bound : Option ℕ) (held : List ℕ) (c : Netlist) (blocks : List Certificate) → MergedReplayLevelLaw bound held c blocks
 merged-replay-levels None held c blocks replay graph netlist is = unbounded c replay.last
 merged-replay-levels (Some most) held c blocks replay graph netlist is =

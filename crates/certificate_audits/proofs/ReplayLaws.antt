@@ -65,7 +65,7 @@ pub replay-streams : (bound : Option ℕ) (held : List ℕ) (c : Netlist) (block
 replay-streams bound held c blocks replay graph netlist is =
     replay-from bound held c c blocks replay (record { circuit = record { graph = graph; netlist = netlist }; streams = (all_free c.aig, same_streams-reflexive c) }) is
 
--- and so where latches were merged first
+-- and so if latches were merged first
 pub merged-replay-streams : (bound : Option ℕ) (held : List ℕ) (c : Netlist) (blocks : List Certificate) → MergedReplayLaw bound held c blocks
 merged-replay-streams bound held c blocks replay graph netlist is =
     let clean : Netlist = is.merges.clean in

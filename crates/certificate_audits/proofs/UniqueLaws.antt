@@ -193,7 +193,7 @@ audits-one bound [] held c n m e f p q = let one = viewed bound held c [] n e p 
 audits-one bound (block ∷ rest) held c n m e f p q =
     found-one bound held c block rest n m e f (λ now d i j a b before after. audits-one bound rest now d i j a b before after) (viewed bound held c (block ∷ rest) n e p) (viewed bound held c (block ∷ rest) m f q)
 
--- two audits of the same blocks for one circuit are the same
+-- two audits of one list of blocks for one circuit are one
 pub audit-one : (bound : Option ℕ) (held : List ℕ) (c : Netlist) (blocks : List Certificate) (a b : Audit) → IsAudit bound held c blocks a → IsAudit bound held c blocks b → a ≡ b
 audit-one bound held c blocks a b p q =
     let same = cleaned-one held c p.first q.first p.kept q.kept p.now q.now blocks blocks p.cleaned q.cleaned refl in

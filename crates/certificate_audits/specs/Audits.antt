@@ -25,8 +25,8 @@ pub record FailsWithin (bound : ℕ) (held : List ℕ) (c : Netlist) (block : Ce
   pub other : Objection
   pub bounded_too : IsVerdict (bounded bound held c) held block (No other)
 
--- the verdict on a block for c: it passes where it does for c or, under a bound, for c bounded;
--- what speaks against it is what does so for c
+-- The verdict on a block for c. It passes if it does for c or, under a bound, for c bounded. What
+-- speaks against it is what does so for c.
 abbrev pub IsVerdictBy : Option ℕ → List ℕ → Netlist → Certificate → Verdict → Type 0
 IsVerdictBy None held c block verdict = IsVerdict c held block verdict
 IsVerdictBy (Some bound) held c block Yes = PassesWithin bound held c block
@@ -79,8 +79,8 @@ pub record IsNext (held : List ℕ) (c : Netlist) (block : Certificate) (d : Net
   pub kept : List ℕ
   pub cleaned : CleansTo (held_over held c block.gates) (moved_over held c block.gates) d kept now
 
--- how many of the blocks, the first of which is for this circuit with these latches held, are
--- confirmed one after another, and how that ends
+-- the number of blocks that are confirmed one after another, and how that ends; the first block is
+-- for this circuit with these latches held
 pub data Audits (bound : Option ℕ) : List ℕ → Netlist → List Certificate → ℕ → End → Type 0 where
   no_blocks : (held : List ℕ) (c : Netlist) → Audits bound held c [] 0 NoBlocks
   objected : (held : List ℕ) (c : Netlist) (block : Certificate) (rest : List Certificate) (objection : BlockObjection) → Objects bound held c block objection
@@ -91,7 +91,7 @@ pub data Audits (bound : Option ℕ) : List ℕ → Netlist → List Certificate
   goes_on : (held now : List ℕ) (c d : Netlist) (block : Certificate) (rest : List Certificate) (n : ℕ) (end : End) → IsMoveTaken bound held c block → rest ≢ []
       → IsNext held c block d now → Audits bound now d rest n end → Audits bound held c (block ∷ rest) (suc n) end
 
--- the audit of blocks, the first of which is for c cleaned, where these latches are held
+-- the audit of blocks; the first is for c cleaned, with these latches held
 pub record IsAudit (bound : Option ℕ) (held : List ℕ) (c : Netlist) (blocks : List Certificate) (audit : Audit) : Type 0 where
   pub first : Netlist
   pub kept : List ℕ

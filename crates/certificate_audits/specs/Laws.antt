@@ -33,8 +33,8 @@ pub record IsLeastIn (bound : Option ℕ) (held : List ℕ) (c d : Netlist) (blo
 abbrev pub NoneSmallerIn : List ℕ → Netlist → Netlist → Type 0
 NoneSmallerIn held c d = (s : List ℕ) → IsClosedSet d.aig held s → known_latches c.aig ≤ border_size (move_of d held s)
 
--- c's latches move over the blocks' sets, one after another; each is least, saves latches and keeps
--- the bound, but for the last one: there, none saves latches
+-- c's latches move over the blocks' sets, one after another. Each is least, saves latches and keeps
+-- the bound, but for the last one: there, none saves latches.
 pub data AreLeast (bound : Option ℕ) : List ℕ → Netlist → List Certificate → Type 0 where
   last : (held : List ℕ) (c d : Netlist) (block : Certificate) → IsLeastIn bound held c d block → NoneSmallerIn held c d → AreLeast bound held c (block ∷ [])
   move : (held now : List ℕ) (c d e : Netlist) (block : Certificate) (rest : List Certificate) → IsLeastIn bound held c d block → block.count < known_latches c.aig → MoveKeepsBound bound held c block → IsNext held c block e now
@@ -57,7 +57,7 @@ CertifiedLaw bound held c blocks = (audit : Audit) → IsAudit bound held c bloc
 abbrev pub AuditLaw : Option ℕ → List ℕ → Netlist → List Certificate → Type 0
 AuditLaw bound held c blocks = (a b : Audit) → IsAudit bound held c blocks a → IsAudit bound held c blocks b → a ≡ b
 
--- where it ends certified, so does that of what c is merged to
+-- if it ends certified, so does that of what c is merged to
 abbrev pub MergedCertifiedLaw : Option ℕ → List ℕ → Netlist → List Certificate → Type 0
 MergedCertifiedLaw bound held c blocks = (replay : Replay) (is : IsMergedReplay bound held c blocks replay) → replay.audit.end ≡ Certified → IsCertified bound is.start_held is.start blocks replay.audit
 
@@ -73,7 +73,7 @@ HasStreamsOf c d = (kept : List ℕ) × SameStreams c d kept
 abbrev pub ReplayLaw : Option ℕ → List ℕ → Netlist → List Certificate → Type 0
 ReplayLaw bound held c blocks = (replay : Replay) → IsGraph c.aig → IsNetlist c → IsReplay bound held c blocks replay → IfSome replay.last (HasStreamsOf c)
 
--- also where latches were merged first
+-- also if latches were merged first
 abbrev pub MergedReplayLaw : Option ℕ → List ℕ → Netlist → List Certificate → Type 0
 MergedReplayLaw bound held c blocks = (replay : Replay) → IsGraph c.aig → IsNetlist c → IsMergedReplay bound held c blocks replay → IfSome replay.last (HasStreamsOf c)
 
@@ -81,6 +81,6 @@ MergedReplayLaw bound held c blocks = (replay : Replay) → IsGraph c.aig → Is
 abbrev pub ReplayLevelLaw : Option ℕ → List ℕ → Netlist → List Certificate → Type 0
 ReplayLevelLaw bound held c blocks = (replay : Replay) → IsGraph c.aig → IsNetlist c → IsReplay bound held c blocks replay → IfSome replay.last (KeepsLevels bound c)
 
--- also where latches were merged first
+-- also if latches were merged first
 abbrev pub MergedReplayLevelLaw : Option ℕ → List ℕ → Netlist → List Certificate → Type 0
 MergedReplayLevelLaw bound held c blocks = (replay : Replay) → IsGraph c.aig → IsNetlist c → IsMergedReplay bound held c blocks replay → IfSome replay.last (KeepsLevels bound c)

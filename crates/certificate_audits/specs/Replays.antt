@@ -10,16 +10,16 @@ use Rattle.certificate_audits.specs.declared.outcome.Replay.{Replay}
 use Rattle.certificate_audits.specs.Audits.{Audits, IsNext, IsMoveTaken, SavesNone}
 use Rattle.certificate_audits.specs.Ends.{is_accepted}
 
--- d is what c becomes by the blocks, one after another: the latches move over the set of a block
--- that saves latches and keeps the bound, and the circuit is cleaned; a last block that saves none
--- moves nothing
+-- d is what c becomes by the blocks, one after another. The latches move over the set of a block
+-- that saves latches and keeps the bound, and the circuit is cleaned. A last block that saves none
+-- moves nothing.
 pub data EndIn (bound : Option ℕ) : List ℕ → Netlist → List Certificate → Netlist → Type 0 where
   no_more : (held : List ℕ) (c : Netlist) → EndIn bound held c [] c
   at_end : (held : List ℕ) (c : Netlist) (block : Certificate) → SavesNone bound held c block → EndIn bound held c (block ∷ []) c
   after_move : (held now : List ℕ) (c d e : Netlist) (block : Certificate) (rest : List Certificate) → IsMoveTaken bound held c block → IsNext held c block d now → EndIn bound now d rest e
       → EndIn bound held c (block ∷ rest) e
 
--- the circuit that the blocks end in is there exactly where nothing speaks against a block
+-- the circuit that the blocks end in exists if and only if nothing speaks against a block
 abbrev pub IsLast : Option ℕ → List ℕ → Netlist → List Certificate → End → Option Netlist → Type 0
 IsLast bound held c blocks end last = MatchOption last (is_accepted end ≡ false) (EndIn bound held c blocks)
 

@@ -33,7 +33,7 @@ pub fn merged_audit_laws()
 /// States that the circuit that blocks end in behaves as the circuit that they begin with, whoever
 /// made the blocks.
 ///
-/// It has the same values of all properties at every step, for all inputs and all values of free
+/// Both have equal values of all properties at every step, for all inputs and all values of free
 /// latches at the start. Under a bound no path is longer than the bound, but for those that the
 /// circuit has. Both hold too if latches are merged first.
 pub fn replay_laws()

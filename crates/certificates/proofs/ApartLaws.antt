@@ -6,7 +6,8 @@ use Rattle.aig_graph.specs.Counting.{count_below}
 use Rattle.aig_graph.proofs.PlacesLaws.{count-pass, count-fail, one_at_most}
 use Rattle.aig_graph.proofs.ListLaws.{count_by-cons}
 
--- where what passes one test passes one of two others, it counts at most as many numbers as these two together
+-- if what passes one test passes one of two others, it counts at most as many numbers as these two
+-- together
 pub count-le : (p q r : ℕ → Bool) → ((v : ℕ) → cond {A = ℕ} (p v) 1 0 ≤ cond (q v) 1 0 + cond (r v) 1 0) → (xs : List ℕ) → count_by p xs ≤ count_by q xs + count_by r xs
 count-le p q r h [] = omega arith
 count-le p q r h (x ∷ xs) = omega (arith, h x, count-le p q r h xs, count_by-cons p x xs, count_by-cons q x xs, count_by-cons r x xs)

@@ -25,7 +25,7 @@ distinct-push (y ∷ xs) x d absent =
     let parts = or_parts (y == x) (has xs x) absent in
     (all-push (λ v. (y == v) ≡ false) xs x d.0 parts.0, distinct-push xs x d.1 parts.1)
 
--- where a number comes again that stands before, the numbers of a list aren't all different
+-- if a number comes again that stands before, the numbers of a list aren't all different
 pub distinct-not : (xs ys : List ℕ) (x : ℕ) → has xs x ≡ true → IsDistinct (λ v w. v == w) (xs ++ x ∷ ys) → ⊥
 unfolding IsDistinct
 distinct-not [] ys x h d = absurd (cc)
@@ -52,12 +52,13 @@ module _ (points : List Point) (k : ℕ) (d : Point) (within : k < length points
   abbrev var : ℕ
   var = (slice_index_or points k d).var
 
-  -- where the first k points passed a variable that the next one passes, not all variables that are passed are different
+  -- if the first k points passed a variable that the next one passes, not all variables that are
+  -- passed are different
   pub distinct-seen : has (passed (take k points)) var ≡ true → IsDistinct (λ v w. v == w) (passed points) → ⊥
   distinct-seen seen all =
       distinct-not (passed (take k points)) (passed (drop (suc k) points)) var seen (subst (λ (xs : List ℕ). IsDistinct (λ v w. v == w) xs) (passed-split points k d within behind) all)
 
-  -- where they didn't, and what they passed are different variables, so are those with one more
+  -- if they didn't, and what they passed are different variables, so are those with one more
   pub distinct-more : IsDistinct (λ v w. v == w) (passed (take k points)) → has (passed (take k points)) var ≡ false → IsDistinct (λ v w. v == w) (passed (take (k + 1) points))
   distinct-more all absent =
       subst (λ (xs : List ℕ). IsDistinct (λ v w. v == w) xs) (sym (passed-more points k d within behind)) (distinct-push (passed (take k points)) var all absent)

@@ -41,7 +41,8 @@ shared_gate : all_passed ((after 3 ∷ before 5 ∷ after 5 ∷ []) ∷ (after 4
 unfolding all_passed passed
 shared_gate = refl
 
--- four latches, and the gates 9 to 12, of which 10 and 11 read 9, and 12 reads 10 and 11; latches 5 and 6 and gates 9 and 12 are outputs
+-- Four latches, and the gates 9 to 12. Gates 10 and 11 read 9, and 12 reads 10 and 11. Latches 5
+-- and 6 and gates 9 and 12 are outputs.
 abbrev four : Netlist
 four = record {
   aig = record {

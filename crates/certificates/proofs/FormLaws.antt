@@ -74,7 +74,7 @@ routed-gate at (Some []) = refl
 routed-gate at (Some (v ∷ [])) = refl
 routed-gate at (Some (v ∷ w ∷ ns)) = refl
 
--- where a block's first line is due, a line that doesn't begin with its word is a fault
+-- if a block's first line is due, a line that doesn't begin with its word is a fault
 pub framed_other : (at : ℕ) (line : List ℕ) → ((rest : List ℕ) → line ≡ codes "frame " ++ rest → ⊥) → framed at (saying_of line) ≡ Err (BadLine at)
 framed_other at line never =
     ap (framed at) (said_by line ∙ ap (λ (b : Bool). said b (begins_with (codes "g ") line) (begins_with (codes "r ") line) line) (begins_not (codes "frame ") line never))
@@ -85,7 +85,7 @@ framed_other at line never =
     by_tests false true = framed-route at (pieces (drop 2 line))
     by_tests false false = refl
 
--- where a gate is due, a line that doesn't begin with its letter is a fault
+-- if a gate is due, a line that doesn't begin with its letter is a fault
 pub gated_other : (at : ℕ) (line : List ℕ) → ((rest : List ℕ) → line ≡ codes "g " ++ rest → ⊥) → gated at (saying_of line) ≡ Err (BadLine at)
 gated_other at line never =
     ap (gated at) (said_by line ∙ ap (λ (b : Bool). said (begins_with (codes "frame ") line) b (begins_with (codes "r ") line) line) (begins_not (codes "g ") line never))
@@ -96,7 +96,7 @@ gated_other at line never =
     by_tests false true = gated-route at (pieces (drop 2 line))
     by_tests false false = refl
 
--- where a route is due, a line that doesn't begin with its letter is a fault
+-- if a route is due, a line that doesn't begin with its letter is a fault
 pub routed_other : (at : ℕ) (line : List ℕ) → ((rest : List ℕ) → line ≡ codes "r " ++ rest → ⊥) → routed at (saying_of line) ≡ Err (BadLine at)
 routed_other at line never =
     ap (routed at) (said_by line ∙ ap (λ (b : Bool). said (begins_with (codes "frame ") line) (begins_with (codes "g ") line) b line) (begins_not (codes "r ") line never))
@@ -124,7 +124,7 @@ saying-route line rest is = ap saying_of is
 
 -- ---- numbers cut to 32 bits
 
--- a cut number is small where the number is, and then it is that number
+-- a cut number is small if the number is, and then it is that number
 pub small_same : (n : ℕ) → is_small (clamped n) ≡ is_small n
 small_same n = by_test (is_small n) refl
   where

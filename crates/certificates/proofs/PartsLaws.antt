@@ -11,7 +11,7 @@ pub parts-none : (from : ℕ) (ps : List Point) → parts from [] ps ≡ []
 unfolding parts
 parts-none from ps = refl
 
--- where no list has ended, all points end where the first list would begin
+-- if no list has ended, all points end where the first list would begin
 pub ends-none : (from all : ℕ) → from ≡ all → AreEnds from [] all
 unfolding AreEnds
 ends-none from all e = e

@@ -49,7 +49,7 @@ pub passed-none : passed [] ≡ []
 unfolding passed
 passed-none = refl
 
--- where there is no route, no variable is passed
+-- if there is no route, no variable is passed
 pub all-none : all_passed [] ≡ []
 unfolding all_passed
 all-none = refl

@@ -29,7 +29,7 @@ use Rattle.certificates.proofs.ApartLaws.{count-le, count-none, count-distinct, 
 abbrev pub Four : (a b c d : Bool) → Type 0
 Four a b c d = (a ≡ true) × (b ≡ true) × (c ≡ true) × (d ≡ true)
 
--- where a conjunction of four holds, each of the four does
+-- if a conjunction of four holds, each of the four does
 pub four_parts : (a b c d : Bool) → (a && b && c && d) ≡ true → Four a b c d
 four_parts a b c d e =
     let x = and_parts (a && b && c) d e in
@@ -203,7 +203,8 @@ module _ (c : Netlist) (held t : List ℕ) (set : IsClosedSet c.aig held t) wher
       in_range v true h = omega (arith, cond-true {A = ℕ} (true && nat_lt v (variables_end c.aig)) 1 0 (and_from true (nat_lt v (variables_end c.aig)) refl (lt-ltb v (variables_end c.aig) (h refl))))
       in_range v false h = omega arith
 
--- a closed set is least where as many routes, apart from one another, are right as its border has variables
+-- a closed set is least if as many routes, apart from one another, are right as its border has
+-- variables
 pub least-law : LeastLaw
 least-law c held gates routes shows = record {
   closed = shows.closed;

@@ -29,7 +29,7 @@ one_line : (at end : ℕ) (p : Progress) (line : List ℕ) (rest : List (List �
 unfolding read_blocks
 one_line at end p line rest = refl
 
--- where the next line begins doesn't matter where there is none
+-- the offset of the next line doesn't matter if there is none
 pub same_start : (a end : ℕ) (more : List ℕ) (p : Progress) → (more ≡ []) ⊎ (a ≡ end - length more) → read_blocks a end p (lines more) ≡ read_rest end more p
 same_start a end more p (inl none) = rw none (no_more a (end - 0) end p)
 same_start a end more p (inr here) = ap (λ (n : ℕ). read_blocks n end p (lines more)) here
@@ -56,17 +56,17 @@ read_nothing : (end : ℕ) (p : Progress) → read_rest end [] p ≡ blocks_at_e
 unfolding read_blocks lines
 read_nothing end p = refl
 
--- where no block is open at the end of the text, the blocks have been read
+-- if no block is open at the end of the text, the blocks have been read
 pub ends_closed : (end : ℕ) (rest : List ℕ) (blocks : List Certificate) → rest ≡ [] → read_rest end rest (ended_blocks blocks) ≡ Ok blocks
 ends_closed end rest blocks none = ap (λ (bytes : List ℕ). read_rest end bytes (ended_blocks blocks)) none ∙ read_nothing end (ended_blocks blocks)
 
--- a text that ends where gates are lacking is truncated
+-- a text that ends if gates are lacking is truncated
 pub ends_in_gates : (end : ℕ) (rest : List ℕ) (blocks : List Certificate) (block : Certificate) (gates routes : ℕ) → rest ≡ []
     → read_rest end rest (settled blocks block (suc gates) routes) ≡ Err (Truncated end)
 ends_in_gates end rest blocks block gates routes none =
     ap (λ (bytes : List ℕ). read_rest end bytes (settled blocks block (suc gates) routes)) none ∙ read_nothing end (settled blocks block (suc gates) routes)
 
--- a text that ends where routes are lacking is truncated
+-- a text that ends if routes are lacking is truncated
 pub ends_in_routes : (end : ℕ) (rest : List ℕ) (blocks : List Certificate) (block : Certificate) (routes : ℕ) → rest ≡ []
     → read_rest end rest (settled blocks block 0 (suc routes)) ≡ Err (Truncated end)
 ends_in_routes end rest blocks block routes none =
@@ -82,7 +82,7 @@ sized_next : {A : Type 0} (small : Bool) (x : A) (next : A → Progress) (fault 
 sized_next true x next fault = refl
 sized_next false x next fault = refl
 
--- where gates are lacking, a line has to be that of one, which the block then has
+-- if gates are lacking, a line has to be that of one, which the block then has
 pub gate_next : (at : ℕ) (blocks : List Certificate) (block : Certificate) (gates routes : ℕ) (said : Option Saying)
     → taken at (settled blocks block (suc gates) routes) said ≡ next_by (λ v. settled blocks (block_with_gate block v) gates routes) (gated at said)
 gate_next at blocks block gates routes None = refl
@@ -90,7 +90,7 @@ gate_next at blocks block gates routes (Some (Frame a b c)) = refl
 gate_next at blocks block gates routes (Some (Gate v)) = sized_next (is_small v) v (λ w. settled blocks (block_with_gate block w) gates routes) (TooLarge at)
 gate_next at blocks block gates routes (Some (Route points)) = refl
 
--- where routes alone are lacking, a line has to be that of one, which the block then has
+-- if routes alone are lacking, a line has to be that of one, which the block then has
 pub route_next : (at : ℕ) (blocks : List Certificate) (block : Certificate) (routes : ℕ) (said : Option Saying)
     → taken at (settled blocks block 0 (suc routes)) said ≡ next_by (λ points. settled blocks (with_route block points) 0 routes) (routed at said)
 route_next at blocks block routes None = refl
@@ -101,7 +101,7 @@ route_next at blocks block routes (Some (Route points)) =
     ap (λ (n : ℕ). cond (are_small points) (Ok (settled blocks (with_route block points) 0 n)) (Err (TooLarge at))) one_less
     ∙ sized_next (are_small points) points (λ ps. settled blocks (with_route block ps) 0 routes) (TooLarge at)
 
--- where no block is open, a line has to be the first one of a block
+-- if no block is open, a line has to be the first one of a block
 pub frame_next : (at : ℕ) (blocks : List Certificate) (said : Option Saying)
     → taken at (ended_blocks blocks) said ≡ next_by (λ (f : FrameLine). settled blocks (certificate_block f.count [] []) f.gates f.routes) (framed at said)
 frame_next at blocks None = refl

@@ -16,7 +16,8 @@ use Rattle.certificates.proofs.FormLaws.{small_same, small_is}
 
 -- ---- words
 
--- where the first space cuts a text, its first word is before it, and the other words are those after it
+-- if the first space cuts a text, its first word is before it, and the other words are those after
+-- it
 pub pieces_cut : (text word rest : List ℕ) → Cuts 32 text word rest → pieces text ≡ word ∷ pieces rest
 pieces_cut text word rest cuts = ap pieces cuts.whole ∙ pieces-at_space word rest cuts.clean
 
@@ -126,7 +127,7 @@ routed_sized at ws = by_test (list_all is_point ws)
     by_test true = by_size (are_small (map point_of_word ws)) refl
         ∙ ap (λ (s : Bool). cond s (Ok (map cut_point ws)) (Err (TooLarge at))) (sym (small_cut ws))
 
--- a route whose words all spell points is these, where their numbers are small
+-- a route whose words all spell points is these, if their numbers are small
 pub routed_points : (at : ℕ) (ws : List (List ℕ)) (points : List Point) → spelt_at at ws ≡ Ok points → routed at (route_of ws) ≡ sized_points at points
 routed_points at ws points is = routed_sized at ws ∙ ap (sized at) is
 

@@ -19,7 +19,7 @@ name_of (TooLarge at) = codes "TooLarge"
 name_of (Truncated at) = codes "Truncated"
 name_of NoMemory = codes "NoMemory"
 
--- the offset of what is at fault, where it has one
+-- the offset of what is at fault, if it has one
 abbrev pub offset_of : CertError → Option ℕ
 offset_of (BadHeader at) = Some at
 offset_of (BadLine at) = Some at

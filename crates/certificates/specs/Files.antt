@@ -13,7 +13,8 @@ use Rattle.certificates.specs.declared.file.CertFile.{CertFile}
 
 -- ---- the lines of a block
 
--- a word that is a point: a number, and then + for the point after the variable or - for the one before it
+-- a word that is a point: a number, and then + for the point after the variable or - for the one
+-- before it
 abbrev pub sign_of : List ℕ → ℕ
 sign_of word = slice_index_or word (length word - 1) 0
 
@@ -63,7 +64,8 @@ has_small_numbers (Route points) = list_all (λ p. is_small p.var) points
 
 -- ---- line after line
 
--- the blocks that have ended, and the one that has begun: what it has so far, and how many gates and routes it lacks
+-- the blocks that have ended, and the one that has begun: what it has so far, and the gates and
+-- routes that it lacks
 pub record Progress : Type 0 where
   pub blocks : List Certificate
   pub begun : Option Certificate
@@ -75,7 +77,7 @@ abbrev pub settled : List Certificate → Certificate → ℕ → ℕ → Progre
 settled blocks block zero zero = record { blocks = blocks ++ block ∷ []; begun = None; gates = 0; routes = 0 }
 settled blocks block gates routes = record { blocks = blocks; begun = Some block; gates = gates; routes = routes }
 
--- what follows a saying; none where another one comes next
+-- what follows a saying; none if another one comes next
 abbrev pub progress_after : Progress → Option Certificate → ℕ → Saying → Option Progress
 progress_after p None lacks (Frame count gates routes) = Some (settled p.blocks (record { count = count; gates = []; routes = [] }) gates routes)
 progress_after p (Some block) (suc lacks) (Gate v) = Some (settled p.blocks (record block { gates = block.gates ++ v ∷ [] }) lacks p.routes)
@@ -90,7 +92,7 @@ abbrev pub taken : ℕ → Progress → Option Saying → Result Progress CertEr
 taken at p None = Err (BadLine at)
 taken at p (Some saying) = sized at saying (progress_after p p.begun p.gates saying)
 
--- the blocks, where none is left open at the end
+-- the blocks, if none is left open at the end
 abbrev pub blocks_at_end : ℕ → Progress → Result (List Certificate) CertError
 blocks_at_end end p = ended_by p.begun
   where

@@ -1,4 +1,4 @@
--- What a line says, where a line of a certain form comes next: the form is looked at before the sizes.
+-- What a line says, by the form of line that comes next. The form is looked at before the sizes.
 use Rattle.std.specs.Prelude.{ℕ, ◌==◌, ◌&&◌, Bool, true, false, List, ◌++◌, map, Option, Some, None, Result, Ok, Err, if◌then◌else◌}
 use Rattle.std.specs.List.{list_all}
 use Rattle.file_words.specs.Lines.{is_number, digits_value}
@@ -41,7 +41,7 @@ clamped_point p = record { var = clamped p.var; behind = p.behind }
 abbrev pub spelt_point : List ℕ → Option Point
 spelt_point word = if is_point word then Some (clamped_point (point_of_word word)) else None
 
--- the points that words spell, where each of them is one
+-- the points that words spell, if each of them is one
 abbrev pub spelt_at : ℕ → List (List ℕ) → Result (List Point) CertError
 spelt_at at words = if list_all is_point words then Ok (map (λ w. clamped_point (point_of_word w)) words) else Err (BadLine at)
 
@@ -50,6 +50,6 @@ abbrev pub onto : List Point → Result (List Point) CertError → Result (List 
 onto points (Ok more) = Ok (points ++ more)
 onto points (Err fault) = Err fault
 
--- points, where their numbers are small
+-- points, if their numbers are small
 abbrev pub sized_points : ℕ → List Point → Result (List Point) CertError
 sized_points at points = if are_small points then Ok points else Err (TooLarge at)

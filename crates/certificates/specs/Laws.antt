@@ -11,7 +11,8 @@ use Rattle.certificates.specs.Texts.{file_text}
 abbrev pub is_writable_route : List Point → Bool
 is_writable_route points = not (length points == 0) && list_all (λ p. is_small p.var) points
 
--- neither the count nor how many gates and routes there are is above the greatest number, and no number of a gate or a point is
+-- neither the count nor the numbers of gates and routes are above the greatest number, and no
+-- number of a gate or a point is
 abbrev pub is_writable_block : Certificate → Bool
 is_writable_block block =
     is_small block.count && (is_small (length block.gates) && (is_small (length block.routes) && (list_all is_small block.gates && list_all is_writable_route block.routes)))

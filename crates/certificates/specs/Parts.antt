@@ -1,4 +1,4 @@
--- Lists of points that stand one after another in one list, by where each of them ends.
+-- Lists of points that stand one after another in one list, by the ends of each.
 use Rattle.std.specs.Prelude.{ℕ, ◌-◌, ◌≤◌, ◌≡◌, List, [], ◌∷◌, take, drop}
 use Rattle.frame_net.specs.declared.net.Point.{Point}
 
@@ -7,7 +7,7 @@ unfoldable pub parts : ℕ → List ℕ → List Point → List (List Point)
 parts from [] points = []
 parts from (end ∷ ends) points = take (end - from) (drop from points) ∷ parts end ends points
 
--- from a place on the ends don't fall, and the last of them is where all points end
+-- from a place on the ends don't fall, and the last of them is the end of all points
 unfoldable pub AreEnds : ℕ → List ℕ → ℕ → Type 0
 AreEnds from [] all = from ≡ all
 AreEnds from (end ∷ ends) all = (from ≤ end) × AreEnds end ends all

@@ -1,4 +1,5 @@
--- Routes: walks over the points of a circuit, from a known latch to where something other than a passable gate reads.
+-- Routes: walks over the points of a circuit, from a known latch to a point that something other
+-- than a passable gate reads.
 use Rattle.std.specs.Prelude.{ℕ, ◌==◌, ◌&&◌, ◌||◌, Bool, not, false, is_some, List, [], ◌∷◌, ◌++◌, if◌then◌else◌}
 use Rattle.aig_graph.specs.Graph.{Graph, latch_at, gate_at, is_known}
 use Rattle.aig_graph.specs.Circuits.{Netlist}
@@ -29,7 +30,8 @@ may_step g held p q = passes g held p q || (enters g held p q || returns_to g he
 abbrev pub is_on : Graph → ℕ → Bool
 is_on g v = is_known (latch_at g v) || is_some (gate_at g v)
 
--- whether the rest of a route may follow a point: it ends after a variable that is held, or read from outside the passable gates
+-- whether the rest of a route may follow a point: it ends after a variable that is held, or read
+-- from outside the passable gates
 unfoldable pub goes_on : Netlist → List ℕ → Point → List Point → Bool
 goes_on c held p [] = p.behind && is_observed c.aig c.props held p.var
 goes_on c held p (q ∷ rest) = may_step c.aig held p q && goes_on c held q rest

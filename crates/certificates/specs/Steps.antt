@@ -21,6 +21,6 @@ block_with_gate block v = record block { gates = block.gates ++ v ∷ [] }
 abbrev pub with_route : Certificate → List Point → Certificate
 with_route block points = record block { routes = block.routes ++ points ∷ [] }
 
--- blocks that have ended, where none has begun
+-- blocks that have ended, if none has begun
 abbrev pub ended_blocks : List Certificate → Progress
 ended_blocks blocks = record { blocks = blocks; begun = None; gates = 0; routes = 0 }

@@ -7,7 +7,8 @@ ghost use Rattle.certificates.specs.Routes.{passed};
 use aig_graph::{mark_at, mark_variable};
 use frame_net::Point;
 
-/// Whether no two of the points are after one variable, by a table of marks that covers these variables, none of which is set.
+/// Returns true if no two of the points are after one variable. The table of marks covers these
+/// variables, and none of them is set.
 pub(crate) fn are_distinct(marks: &mut [bool], first: u32, points: &[Point]) -> bool
     requires none { (v : ℕ) → mark_at first marks.old v ≡ false }
     requires covered { All (λ v. (first ≤ v) × (v < first + length marks.old)) (passed points.now) }

@@ -1,5 +1,5 @@
-//! The blocks of a file of certificates. The line that begins a block says how many lines are to come; room is taken as they
-//! come.
+//! The blocks of a file of certificates. The line that begins a block says the number of lines to
+//! come; room is taken as they come.
 ghost use Rattle.std.specs.Prelude.{ℕ, List, [], ◌≡◌, ◌<◌, ◌≤◌, suc, length, OnOk};
 ghost use Rattle.certificates.specs.declared.certificate.Certificate.{Certificate as Block};
 ghost use Rattle.certificates.specs.declared.fault.CertError.TheVariants.{NoMemory};
@@ -44,7 +44,7 @@ fn next_route(alloc: Global, lines: &mut Lines<'_>) -> Result<Sequence<Point>, C
     route_line(alloc, &line)
 }
 
-/// Takes the line that begins a block, where there is a line.
+/// Takes the line that begins a block, if there is a line.
 fn next_frame(lines: &mut Lines<'_>) -> Result<FrameLine, CertError>
     ensures end { lines.new.end ≡ lines.old.end }
     ensures shorter { OnOk result (length lines.new.rest.now < length lines.old.rest.now) }
@@ -135,7 +135,7 @@ fn read_routes(alloc: Global, lines: &mut Lines<'_>, count: u32) -> Result<Route
     }
 }
 
-/// Takes the lines of a block, where there is a line.
+/// Takes the lines of a block, if there is a line.
 fn next_block(alloc: Global, lines: &mut Lines<'_>) -> Result<Certificate, CertError>
     ensures end { lines.new.end ≡ lines.old.end }
     ensures shorter { OnOk result (length lines.new.rest.now < length lines.old.rest.now) }
@@ -154,7 +154,7 @@ fn next_block(alloc: Global, lines: &mut Lines<'_>) -> Result<Certificate, CertE
     })
 }
 
-/// The blocks up to the end of the text.
+/// Returns the blocks up to the end of the text.
 pub(crate) fn read_blocks(
     alloc: Global,
     lines: &mut Lines<'_>,

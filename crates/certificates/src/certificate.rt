@@ -1,8 +1,8 @@
 use crate::routes::Routes;
 use aig_graph::Sequence;
 
-/// A set of gates, what its border is said to hold, and routes that are said to show that no closed set has a smaller one. It is
-/// whatever its maker put in: `check` judges it.
+/// A set of gates, the claimed size of its border, and routes that are to show that no closed set
+/// has a smaller one. Its maker may put in anything: `check` judges it.
 #[derive(Drop)]
 pub struct Certificate {
     /// The size of the set's border, as it is stated.

@@ -1,4 +1,4 @@
-//! Why a file of certificates is refused: its name, its number, where in the file, and what is said of it.
+//! Why a file of certificates is refused: the fault's name, number, offset in the file, and text.
 ghost use Rattle.std.specs.Prelude.{◌≡◌};
 
 use std::alloc::AllocFailed;
@@ -6,7 +6,8 @@ use std::error::Error;
 use std::fmt;
 use std::fmt::{Display, Formatter};
 
-/// Why a certificate file is refused, with the offset of the line's first byte; a line that is missing would begin at the end.
+/// Why a certificate file is refused, with the offset of the line's first byte. A missing line has
+/// the offset of the end.
 #[derive(Clone, Copy, Debug, PartialEq, Eq)]
 pub enum CertError {
     /// The first line is none of a certificate file.
@@ -24,7 +25,7 @@ pub enum CertError {
 impl CertError {
     ghost use Rattle.certificates.specs.Codes.{code_of, name_of, offset_of};
 
-    /// The number of the kind of fault, from 1 on.
+    /// Returns the number of the kind of fault, from 1 on.
     pub fn code(self) -> u8
         ensures { result ≡ code_of self }
     {
@@ -37,7 +38,7 @@ impl CertError {
         }
     }
 
-    /// The name, as messages and reports have it.
+    /// Returns the name that messages and reports have for it.
     pub fn name(self) -> &'static str
         ensures { result.now ≡ name_of self }
     {
@@ -50,7 +51,7 @@ impl CertError {
         }
     }
 
-    /// The offset of the first byte of the line at fault, where it has one.
+    /// Returns the offset of the first byte of the line at fault, if it has one.
     pub fn offset(self) -> Option<u64>
         ensures { result ≡ offset_of self }
     {
@@ -63,7 +64,7 @@ impl CertError {
         }
     }
 
-    /// What its text begins with: the name, or words where memory was refused.
+    /// Returns the beginning of its text: the name, or words if memory was refused.
     fn title(self) -> &'static str {
         match self {
             CertError::NoMemory => "out of memory",
@@ -72,7 +73,7 @@ impl CertError {
     }
 }
 
-/// Its name, and where it has one its offset.
+/// Its name, and its offset if it has one.
 impl Display for CertError {
     fn fmt<W: fmt::Write>(&self, f: &mut Formatter<W>) -> fmt::Result {
         f.write_str(self.title())?;

@@ -1,5 +1,5 @@
-//! Lines of certificates in a place of fixed size, so that a whole line is put at once. A line is filled from its end on: each number is
-//! written where it stands, and nothing is moved.
+//! Lines of certificates in a buffer of fixed size, so a whole line is put at once. A line is
+//! filled from its end on: each number is written in its final place, and nothing is moved.
 ghost use Rattle.std.specs.Prelude.{◌≡◌, ◌+◌, ◌*◌, ◌<◌, ◌≤◌, ◌∷◌, ◌++◌, IfSome, decimal, drop, length};
 ghost use Rattle.std.specs.List.{flat_map};
 ghost use Rattle.certificates.specs.Texts.{sign_code, point_text, route_text, gate_text};
@@ -10,7 +10,8 @@ use itoa::write_digits;
 /// The most points of a route that fills a line.
 const MOST_POINTS: usize = 40;
 
-/// Room for a route of so many points: a space, ten digits and a sign each, and two bytes more.
+/// Room for a route of `MOST_POINTS` points: a space, ten digits and a sign each, and two bytes
+/// more.
 const LINE_BYTES: usize = 482;
 
 /// The place of a line.
@@ -37,7 +38,8 @@ fn fill_byte(line: &mut [u8], end: usize, byte: u8) -> usize
     end - 1
 }
 
-/// Fills a number, in decimal and without leading zeros, up to `end`, and answers where it begins.
+/// Fills a number, in decimal and without leading zeros, up to `end`. Returns the index of its
+/// first byte.
 fn fill_number(line: &mut [u8], end: usize, number: u32) -> usize
     requires room { 10 ≤ end }
     requires within { end ≤ length line.old }
@@ -49,7 +51,7 @@ fn fill_number(line: &mut [u8], end: usize, number: u32) -> usize
     write_digits(u64::from(number), line, end)
 }
 
-/// Fills a space and a point up to `end`, and answers where they begin.
+/// Fills a space and a point up to `end`. Returns the index of their first byte.
 fn fill_point(line: &mut [u8], end: usize, point: &Point) -> usize
     requires room { 12 ≤ end }
     requires within { end ≤ length line.old }
@@ -63,7 +65,7 @@ fn fill_point(line: &mut [u8], end: usize, point: &Point) -> usize
     fill_byte(line, digits_at, b' ')
 }
 
-/// Fills the points up to `end`, with a space before each, and answers where they begin.
+/// Fills the points up to `end`, with a space before each. Returns the index of their first byte.
 fn fill_points(line: &mut [u8], end: usize, points: &[Point]) -> usize
     requires room { 12 * length points.now < end }
     requires within { end ≤ length line.old }
@@ -81,7 +83,7 @@ fn fill_points(line: &mut [u8], end: usize, points: &[Point]) -> usize
     start
 }
 
-/// Fills the end of a line with that of a route, and answers where it begins.
+/// Fills the end of a line with that of a route. Returns the index of its first byte.
 fn fill_route(line: &mut [u8], points: &[Point]) -> usize
     requires { 12 * length points.now + 2 ≤ length line.old }
     ensures start { result ≤ length line.new }
@@ -92,7 +94,7 @@ fn fill_route(line: &mut [u8], points: &[Point]) -> usize
     fill_byte(line, points_at, b'r')
 }
 
-/// Fills the end of a line with that of a gate, and answers where it begins.
+/// Fills the end of a line with that of a gate. Returns the index of its first byte.
 fn fill_gate(line: &mut [u8], gate: u32) -> usize
     requires { 13 ≤ length line.old }
     ensures start { result ≤ length line.new }
@@ -111,7 +113,7 @@ impl Line {
         }
     }
 
-    /// The line of a route, where its points aren't too many for the place.
+    /// Returns the line of a route, if its points aren't too many for the buffer.
     pub(crate) fn route(&mut self, points: &[Point]) -> Option<&[u8]>
         ensures { IfSome result (λ text. text.now ≡ route_text points.now) }
     {
@@ -122,7 +124,7 @@ impl Line {
         Some(&self.bytes[start..])
     }
 
-    /// The line of a gate.
+    /// Returns the line of a gate.
     pub(crate) fn gate(&mut self, gate: u32) -> &[u8]
         ensures { result.now ≡ gate_text gate }
     {

@@ -1,5 +1,5 @@
-//! Lines with nothing but numbers after their first word. Form comes before size: a line of another form is `BadLine`, however
-//! great its numbers.
+//! Lines with nothing but numbers after their first word. Form comes before size: a line of another
+//! form is `BadLine`, however great its numbers.
 ghost use Rattle.std.specs.Prelude.{◌≡◌, ◌++◌, List, ℕ, Some, MatchOption};
 ghost use Rattle.certificates.specs.Files.{frame_saying, gate_saying, is_small, saying_of};
 ghost use Rattle.certificates.specs.Forms.{framed, gated};
@@ -27,7 +27,7 @@ pub(crate) fn is_small(number: u32) -> bool
     number <= MAX_NUMBER
 }
 
-/// What follows the letters that a line begins with.
+/// Returns what follows the letters that a line begins with.
 pub(crate) fn after_letters<'a>(text: &'a [u8], letters: &[u8]) -> Option<&'a [u8]>
     ensures { MatchOption result ((rest : List ℕ) → text.now ≡ letters.now ++ rest
         → ⊥) (λ rest. text.now ≡ letters.now ++ rest.now) }
@@ -53,7 +53,7 @@ fn frame(at: u64, numbers: &[u32]) -> Result<FrameLine, CertError>
     }
 }
 
-/// The line as one that begins a block.
+/// Reads the line as one that begins a block.
 pub(crate) fn frame_line(line: &Line<'_>) -> Result<FrameLine, CertError>
     ensures { result ≡ framed line.now.at (saying_of line.now.text.now) }
 {
@@ -82,7 +82,7 @@ fn gate(at: u64, numbers: &[u32]) -> Result<u32, CertError>
     }
 }
 
-/// The line as one of a gate.
+/// Reads the line as one of a gate.
 pub(crate) fn gate_line(line: &Line<'_>) -> Result<u32, CertError>
     ensures { result ≡ gated line.now.at (saying_of line.now.text.now) }
 {

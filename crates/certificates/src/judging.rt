@@ -1,5 +1,6 @@
-//! The tests of a certificate, in their order. Where all pass, the set is least by weak duality: no border is smaller than the
-//! number of routes that are apart, and this one is as small as that. Nothing is asked of where the set or the routes come from.
+//! The tests of a certificate, in their order. If all pass, the set is least by weak duality. No
+//! border is smaller than the number of routes that are apart, and this one has that size. The
+//! maker of set and routes need not be known.
 ghost use Rattle.std.specs.Prelude.{◌≡◌, ◌↔◌, IfOk, IsTrue, MatchOption};
 ghost use Rattle.aig_graph.specs.Tables.{table};
 ghost use Rattle.aig_graph.specs.Graph.{first_latch, latches_and_gates};
@@ -17,7 +18,7 @@ use aig_graph::{Circuit, ClosedSet, Keep, NoMemory, count, is_closed};
 use frame_net::{PassSet, leaving_marks, passable};
 use std::alloc::Global;
 
-/// The gates as a closed set of the circuit, where they are one.
+/// Returns the gates as a closed set of the circuit, if they are one.
 fn closed_set(
     alloc: Global,
     circuit: &Circuit,
@@ -36,7 +37,8 @@ fn closed_set(
     }
 }
 
-/// Whether each list of points is a route, by the passable gates and by marks of what is read from outside them.
+/// Returns true if each list of points is a route, by the passable gates and by marks of what is
+/// read from outside them.
 fn all_routes(
     circuit: &Circuit,
     keep: &Keep,
@@ -58,7 +60,7 @@ fn all_routes(
     true
 }
 
-/// Whether routes of the circuit are apart from one another.
+/// Returns true if the routes are routes of the circuit, and apart from one another.
 fn are_apart(
     alloc: Global,
     circuit: &Circuit,
@@ -74,12 +76,13 @@ fn are_apart(
     Ok(are_distinct(marks.as_mut_slice(), aig.first_latch(), routes.points()))
 }
 
-/// What a certificate of a closed set is worth, by the circuit's passable gates and by marks of what is read from outside them: `Yes`, or the
-/// first test of the routes and the counts that it fails. Linear in the circuit and in the points of the routes.
+/// Judges a certificate of a closed set, by the circuit's passable gates and by marks of what is
+/// read from outside them. Answers `Yes`, or the first test of the routes and the counts that it
+/// fails. Linear in the circuit and in the points of the routes.
 ///
 /// # Errors
 ///
-/// `NoMemory` where a table is refused.
+/// `NoMemory` if a table is refused.
 pub fn check_closed(
     alloc: Global,
     circuit: &Circuit,
@@ -112,7 +115,7 @@ pub fn check_closed(
     }
 }
 
-/// What a certificate of a closed set is worth.
+/// Judges a certificate of a closed set.
 fn verdict_of(
     alloc: Global,
     circuit: &Circuit,
@@ -138,12 +141,12 @@ fn verdict_of(
     )
 }
 
-/// What a certificate is worth for a circuit with these latches held: `Yes`, or the first test that it fails. Linear in the circuit and
-/// in the points of the routes.
+/// Judges a certificate for a circuit with these latches held. Answers `Yes`, or the first test
+/// that it fails. Linear in the circuit and in the points of the routes.
 ///
 /// # Errors
 ///
-/// `NoMemory` where a table is refused.
+/// `NoMemory` if a table is refused.
 pub fn check(
     alloc: Global,
     circuit: &Circuit,

@@ -1,8 +1,10 @@
-//! Judges sets of gates by routes: where as many routes as the border of a closed set has variables go from known latches to what reads
-//! from outside, and no two of them pass after one variable, each closed set has a border variable of its own on each route. So
-//! none has a smaller border, whoever found set and routes.
+//! Judges sets of gates by routes, which go from known latches to what reads from outside the set.
+//! If as many routes as a closed set's border has variables are apart, no two of them pass after
+//! one variable. Each closed set then has a border variable of its own on each route. So none has a
+//! smaller border, whoever found set and routes.
 //!
-//! A file of certificates has the set of each frame, the size of its border, and the routes that show it to be least.
+//! A file of certificates has the set of each frame, the size of its border, and the routes that
+//! show it to be least.
 #![tactic(auto)]
 
 ghost use Rattle.certificates.specs.Verdicts.{LeastLaw, YesLaw};
@@ -35,12 +37,14 @@ pub use routes::Routes;
 pub use verdict::{Objection, Verdict};
 pub use writing::write_cert;
 
-/// A closed set whose border has as many variables as there are routes apart from one another is least.
+/// A closed set whose border has as many variables as there are routes apart from one another is
+/// least.
 pub fn least_law()
     ensures { LeastLaw }
 {}
 
-/// The set of a certificate that passes all tests is least, and its count is the size of the set's border.
+/// The set of a certificate that passes all tests is least, and its count is the size of the set's
+/// border.
 pub fn yes_law()
     ensures { YesLaw }
 {}

@@ -9,7 +9,7 @@ use file_words::{Line, Lines};
 ///
 /// # Errors
 ///
-/// `Truncated` at the end of the text where there is none.
+/// `Truncated` at the end of the text, if there is none.
 pub(crate) fn next_line<'a>(lines: &mut Lines<'a>) -> Result<Line<'a>, CertError>
     ensures end { lines.new.end ≡ lines.old.end }
     ensures within { length lines.old.rest.now ≤ lines.old.end }

@@ -1,5 +1,6 @@
-//! The versions of a file of certificates differ before the first block alone: the first has no line of the choice, and its sets
-//! are the greatest. So the blocks of both are read by one function.
+//! The versions of a file of certificates differ before the first block alone. The first version
+//! has no line of the choice, and its sets are the greatest. So the blocks of both are read by one
+//! function.
 ghost use Rattle.std.specs.Prelude.{ℕ, [], ◌≡◌, ◌⊎◌, ◌-◌, length, IfOk, IfErr, Ok, Err};
 ghost use Rattle.file_words.specs.Lines as format;
 ghost use Rattle.certificates.specs.declared.fault.CertError.TheVariants.{NoMemory};
@@ -70,10 +71,12 @@ fn read(alloc: Global, bytes: &[u8]) -> Result<CertFile, CertError>
     Ok(CertFile { choice, blocks })
 }
 
-/// Reads the certificates of a file of either version; the first one names no choice, and its sets are the greatest.
+/// Reads the certificates of a file of either version; the first one names no choice, and its sets
+/// are the greatest.
 ///
-/// Goes over the bytes once and doesn't copy them; room is taken for what was read, whatever a line says is to come. What
-/// is read is no more than a file: whether a certificate is right is judged by `crate::check`.
+/// Goes over the bytes once and doesn't copy them; room is taken for what was read, whatever a line
+/// says is to come. What is read is no more than a file: whether a certificate is right is judged
+/// by `crate::check`.
 ///
 /// # Errors
 ///

@@ -1,5 +1,5 @@
-//! Routes one after another in one table of points. A certificate has many that are short, and a list of its own for each would take
-//! more memory than its points.
+//! Routes one after another in one table of points. A certificate has many that are short, and a
+//! list of its own for each would take more memory than its points.
 ghost use Rattle.std.specs.Prelude.{◌≡◌, ◌≤◌, ◌<◌, ◌∷◌, ◌-◌, List, take, drop, length, slice_index_or};
 ghost use Rattle.certificates.specs.Parts.{parts, AreEnds};
 
@@ -8,7 +8,8 @@ use frame_net::Point;
 use std::alloc::Global;
 use std::marker::Model;
 
-/// Routes, in their order. Each is a list of points, from after a known latch to after a variable that is read from outside.
+/// Routes, in their order. Each is a list of points, from after a known latch to after a variable
+/// that is read from outside.
 pub struct Routes {
     points: Vec<Point>,
     /// By route, how many points there are up to its end.
@@ -37,7 +38,7 @@ impl Model for Routes {
     ghost invariant = { λ r. AreEnds 0 r.ends.items (length r.points.items) };
 }
 
-/// Where a route begins: where the one before it ends.
+/// Returns the index of a route's first point, which is the end of the route before it.
 fn start_of(ends: &[usize], number: usize) -> usize
     requires { number < length ends.now }
     ensures { result ≡ slice_index_or (0 ∷ ends.now) number 0 }
@@ -45,7 +46,7 @@ fn start_of(ends: &[usize], number: usize) -> usize
     if number == 0 { 0 } else { ends[number - 1] }
 }
 
-/// The points from a place up to another.
+/// Returns the points from one index up to another.
 fn between(points: &[Point], from: usize, to: usize) -> &[Point]
     requires rising { from ≤ to }
     requires within { to ≤ length points.now }
@@ -54,7 +55,7 @@ fn between(points: &[Point], from: usize, to: usize) -> &[Point]
     &points[from..to]
 }
 
-/// The points of a route, by where the routes end.
+/// Returns the points of a route, by the ends of the routes.
 fn route_at<'a>(points: &'a [Point], ends: &[usize], number: usize) -> &'a [Point]
     requires ends { AreEnds 0 ends.now (length points.now) }
     requires number { number < length ends.now }
@@ -69,7 +70,7 @@ impl Routes {
     ghost use Rattle.frame_net.specs.declared.net.Point.{Point};
     ghost use Rattle.certificates.specs.Routes.{passed, all_passed};
 
-    /// No routes. Takes no memory.
+    /// Returns a list of no routes. Takes no memory.
     pub fn none(alloc: Global) -> Routes
         ensures { result ≡ [] }
     {
@@ -79,7 +80,7 @@ impl Routes {
         }
     }
 
-    /// No routes, with room for so many of one point each.
+    /// Returns a list of no routes, with room for `routes` routes of one point each.
     pub fn with_room(alloc: Global, routes: usize) -> Result<Routes, NoMemory>
         ensures { IfOk result (λ none. none ≡ []) }
     {
@@ -88,14 +89,14 @@ impl Routes {
         Ok(Routes { points, ends })
     }
 
-    /// The number of routes.
+    /// Returns the number of routes.
     pub fn len(&self) -> usize
         ensures { result ≡ length self.now }
     {
         self.ends.len()
     }
 
-    /// The points of a route, by its number.
+    /// Returns the points of a route, by its number.
     pub fn route(&self, number: usize) -> &[Point]
         requires { number < length self.now }
         ensures { (d : List Point) → result.now ≡ slice_index_or self.now number d }
@@ -103,7 +104,7 @@ impl Routes {
         route_at(self.points.as_slice(), self.ends.as_slice(), number)
     }
 
-    /// The points of all routes, route by route.
+    /// Returns the points of all routes, route by route.
     pub(crate) fn points(&self) -> &[Point]
         ensures { passed result.now ≡ all_passed self.now }
     {

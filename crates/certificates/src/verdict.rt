@@ -13,7 +13,8 @@ pub enum Verdict {
 /// Why a certificate doesn't show that its set is least, in the order of the tests.
 #[derive(Clone, Copy, PartialEq, Eq)]
 pub enum Objection {
-    /// The gates don't rise, one isn't a passable gate, or a fan-in of one is neither a latch nor among them.
+    /// The gates don't rise, one isn't a passable gate, or a fan-in of one is neither a latch nor
+    /// among them.
     NotClosed,
     /// A route isn't one of the circuit.
     BadRoute,
@@ -24,7 +25,7 @@ pub enum Objection {
 }
 
 impl Objection {
-    /// The number of the objection, from 1, in the order of the tests.
+    /// Returns the number of the objection, from 1, in the order of the tests.
     pub fn code(self) -> u8
         ensures { result ≡ code_of self }
     {
@@ -36,7 +37,7 @@ impl Objection {
         }
     }
 
-    /// Its name, as reports print it.
+    /// Returns its name, as reports print it.
     pub fn name(self) -> &'static str
         ensures { result.now ≡ objection_name self }
     {

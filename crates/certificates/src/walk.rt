@@ -1,6 +1,7 @@
-//! Whether points are a route of a circuit: a walk from after a known latch, up through passable gates and back down to what they read,
-//! to after a variable that something outside reads. On each route lies a border variable of each closed set (weak duality; Menger,
-//! 1927): so the number of routes that are apart from one another is a lower bound on every border.
+//! Routes of a circuit. A route begins after a known latch. It goes up through passable gates and
+//! back down to their fan-ins, and ends after a variable that something outside reads. On each
+//! route lies a border variable of each closed set (weak duality; Menger, 1927). So the number of
+//! routes that are apart from one another is a lower bound on every border.
 ghost use Rattle.std.specs.Prelude.{◌≡◌, ◌&&◌, ℕ, List, true};
 ghost use Rattle.aig_graph.specs.Marking.{mark_at};
 ghost use Rattle.aig_graph.specs.Tables.{table};
@@ -12,7 +13,7 @@ ghost use Rattle.certificates.specs.Routes.{begins_at, passes, enters, returns_t
 use aig_graph::{Aig, Circuit, Keep, mark_at};
 use frame_net::{PassSet, Point};
 
-/// Whether the gate at a variable reads another.
+/// Returns true if the gate at a variable reads another.
 fn gate_reads(aig: &Aig, gate: u32, var: u32) -> bool
     ensures { result ≡ gate_reads var (gate_at aig.now gate) }
 {
@@ -22,7 +23,7 @@ fn gate_reads(aig: &Aig, gate: u32, var: u32) -> bool
     }
 }
 
-/// Whether a route may begin at the point.
+/// Returns true if a route may begin at the point.
 fn begins_at(aig: &Aig, point: Point) -> bool
     ensures { result ≡ begins_at aig.now point }
 {
@@ -61,7 +62,7 @@ fn returns_to(aig: &Aig, pass: &PassSet, from: Point, to: Point) -> bool
         && gate_reads(aig, from.var, to.var)
 }
 
-/// Whether a route may step from one point to the next.
+/// Returns true if a route may step from one point to the next.
 #[tactic(auto, unfolding(crate::specs::Routes::may_step))]
 fn may_step(aig: &Aig, pass: &PassSet, from: Point, to: Point) -> bool
     ensures { (held : List ℕ) → IsPassSet aig.now held pass.now
@@ -70,14 +71,15 @@ fn may_step(aig: &Aig, pass: &PassSet, from: Point, to: Point) -> bool
     passes(pass, from, to) || enters(aig, pass, from, to) || returns_to(aig, pass, from, to)
 }
 
-/// Whether a route may end at the point: after a variable that is held, or read from outside the passable gates.
+/// Returns true if a route may end at the point: after a variable that is held, or read from
+/// outside the passable gates.
 fn ends_at(leaving: &[bool], first: u32, point: Point) -> bool
     ensures { result ≡ (point.behind && mark_at first leaving.now point.var) }
 {
     point.behind && mark_at(leaving, first, point.var)
 }
 
-/// Whether the rest of a route may follow its first point.
+/// Returns true if the rest of a route may follow its first point.
 fn goes_on(
     circuit: &Circuit,
     keep: &Keep,
@@ -104,7 +106,7 @@ fn goes_on(
     ends_at(leaving, aig.first_latch(), at)
 }
 
-/// Whether the points are a route of the circuit.
+/// Returns true if the points are a route of the circuit.
 pub(crate) fn is_route(
     circuit: &Circuit,
     keep: &Keep,

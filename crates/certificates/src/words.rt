@@ -1,5 +1,5 @@
-//! The points of a route. A number that is too great is read as `u32::MAX` at first, since the form of the whole line is looked
-//! at before the size of any number.
+//! The points of a route. A number that is too great is read as `u32::MAX` at first. The form of
+//! the whole line is looked at before the size of any number.
 ghost use Rattle.std.specs.Prelude.{◌≡◌, ◌∷◌, List, ℕ};
 ghost use Rattle.file_words.specs.Lines.{pieces};
 ghost use Rattle.certificates.specs.declared.fault.CertError.TheVariants.{NoMemory};
@@ -14,7 +14,7 @@ use file_words::{Line, cut, number};
 use frame_net::Point;
 use std::alloc::Global;
 
-/// The number that decimal digits spell, where `u32::MAX` stands for each greater one.
+/// Returns the number that decimal digits spell. `u32::MAX` stands for each greater one too.
 fn small_number(digits: &[u8]) -> Option<u32>
     ensures { result ≡ number_of digits.now }
 {
@@ -24,7 +24,7 @@ fn small_number(digits: &[u8]) -> Option<u32>
     }
 }
 
-/// Whether the sign stands for the point after the variable.
+/// Returns true for the sign of the point after a variable, false for that of the point before it.
 fn side(sign: u8) -> Option<bool>
     ensures { result ≡ side_of sign }
 {
@@ -55,7 +55,8 @@ fn push_point(points: &mut Vec<Point>, at: u64, word: &[u8]) -> Result<(), CertE
     Ok(())
 }
 
-/// The points that are spelt with one space between, where `u32::MAX` stands for each greater number.
+/// Returns the points that are spelt with one space between. `u32::MAX` stands for each greater
+/// number too.
 fn spelt_points(alloc: Global, at: u64, words: &[u8]) -> Result<Vec<Point>, CertError>
     ensures { Gives NoMemory (λ points. points.items) result (spelt_at at (pieces words.now)) }
 {
@@ -85,7 +86,7 @@ fn sized(at: u64, points: Vec<Point>) -> Result<Sequence<Point>, CertError>
     }
 }
 
-/// The line as one of a route.
+/// Reads the line as one of a route.
 pub(crate) fn route_line(alloc: Global, line: &Line<'_>) -> Result<Sequence<Point>, CertError>
     ensures { Gives NoMemory (λ points. points) result (routed line.now.at (saying_of line.now.text.now)) }
 {

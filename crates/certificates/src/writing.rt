@@ -1,5 +1,5 @@
-//! A function for each part of the text, as the definition of the text has them. None of them can fail: the buffer keeps the
-//! failure of a write, and `write_cert` reports it at the end.
+//! A function for each part of the text, as the definition of the text has them. None of them can
+//! fail: the buffer keeps the failure of a write, and `write_cert` reports it at the end.
 ghost use Rattle.std.specs.Prelude.{◌≡◌};
 ghost use Rattle.std.specs.List.{flat_map};
 ghost use Rattle.counted_io.specs.Buffered.{Puts};
@@ -118,12 +118,14 @@ fn put_file<W: CountedWrite>(out: &mut Buffered<'_, W>, file: &CertFile)
 
 /// Writes the certificates: the second version, which names the choice.
 ///
-/// Takes no memory, and calls the writer about once for each 8 KiB of text. What was written is read again as the same
-/// certificates, where `round_trip_law` says so: no route is empty, and no number or length is above 2^28 - 1.
+/// Takes no memory, and calls the writer about once for each 8 KiB of text. The text is read again
+/// as these certificates if no route is empty and no number or length is above 2^28 - 1
+/// (`round_trip_law`).
 ///
 /// # Errors
 ///
-/// `Device` where a write failed: a beginning of the text was written then, and the writer isn't called again.
+/// `Device` if a write failed: a beginning of the text was written then, and the writer isn't
+/// called again.
 pub fn write_cert<W: CountedWrite>(file: &CertFile, writer: &mut W) -> Result<(), WriteError>
     ensures { Writes (W.output writer.old) (W.output writer.new) result (file_text file.now) }
 {

@@ -11,7 +11,7 @@ pub record Certifies (c : Netlist) (held set : List ℕ) (cert : Certificate) : 
   pub gates : cert.gates ≡ set
   pub passes : IsVerdict c held cert Yes
 
--- a certificate of the set is added where certificates are wanted, else none
+-- a certificate of the set is added if certificates are wanted, else none
 pub record AddsOne (c : Netlist) (held : List ℕ) (old new : Records) (set : List ℕ) : Type 0 where
   pub certify : new.certify ≡ old.certify
   pub added : old.certify ≡ true → (cert : Certificate) × Certifies c held set cert × (new.certificates.items ≡ old.certificates.items ++ cert ∷ [])
@@ -22,7 +22,7 @@ pub record AddsNone (old new : Records) : Type 0 where
   pub certify : new.certify ≡ old.certify
   pub certificates : new.certificates.items ≡ old.certificates.items
 
--- of the certificates the last one is gone, where certificates are wanted
+-- of the certificates the last one is gone, if certificates are wanted
 pub record ForgetsLast (old new : Records) : Type 0 where
   pub certify : new.certify ≡ old.certify
   pub others : old.certify ≡ true → (certs : List Certificate) (last : Certificate) → old.certificates.items ≡ certs ++ last ∷ [] → new.certificates.items ≡ certs

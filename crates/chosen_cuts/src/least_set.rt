@@ -3,40 +3,17 @@
 //! If a flow of units shows the set, the ways of its units are the routes of a certificate.
 ghost use Rattle.std.specs.Prelude.{IfOk, IfSome, MatchOption, ◌≡◌};
 ghost use Rattle.aig_graph.specs.Closed.{IsClosedSet};
-ghost use Rattle.aig_graph.specs.Border.{IsLeast};
 ghost use Rattle.chosen_cuts.specs.Certified.{AddsOne, AddsNone};
-ghost use Rattle.cut_cert.specs.Shown.{AreLeastRoutes};
 ghost use Rattle.aig_graph.specs.Chosen.{IsChosen};
 
 use crate::records::Records;
 use aig_graph::{Choice, Circuit, ClosedSet, Keep, NoMemory};
-use certificates::Routes;
-use cut_cert::{certificate_of, chosen_of_network};
+use cut_cert::{certificate_of, chosen_of_network, shown_by_network};
 use pulse::{Crew, PhaseGate};
 use std::alloc::Global;
 use std::thread::Threads;
 use unit_components::chosen_least_in_parts;
 use unit_routes::certificate_by_units;
-
-/// Adds the certificate of a least set by routes that show it, if certificates are wanted.
-fn certify_by_routes(
-    alloc: Global,
-    circuit: &Circuit,
-    keep: &Keep,
-    set: &ClosedSet,
-    routes: Routes,
-    records: &mut Records,
-) -> Result<(), NoMemory>
-    requires least { IsLeast circuit.now keep.now set.now }
-    requires routes { AreLeastRoutes circuit.now keep.now routes }
-    ensures { IfOk result (λ _. AddsOne circuit.now keep.now records.old records.new set.now) }
-{
-    if records.certify {
-        let certificate = certificate_of(alloc, circuit, keep, set, routes)?;
-        records.add(certificate)?;
-    }
-    Ok(())
-}
 
 /// Returns the set, after adding its certificate by the routes of the records' units if
 /// certificates are wanted.
@@ -91,7 +68,8 @@ fn by_units<G: PhaseGate>(
     }
 }
 
-/// Returns the chosen least set, by the circuit's network, and adds its certificate.
+/// Returns the chosen least set, by the circuit's network, and adds its certificate if certificates
+/// are wanted. Otherwise no route is looked for.
 fn by_network<G: PhaseGate>(
     rt: &(impl Threads + Sync),
     alloc: Global,
@@ -104,12 +82,16 @@ fn by_network<G: PhaseGate>(
     ensures set { IfOk result (IsChosen choice circuit.now keep.now) }
     ensures certificate { IfOk result (AddsOne circuit.now keep.now records.old records.new) }
 {
-    let (set, routes) = chosen_of_network(rt, alloc, circuit, keep, choice, crew)?;
-    certify_by_routes(alloc, circuit, keep, &set, routes, records)?;
+    if !records.certify {
+        return chosen_of_network(rt, alloc, circuit, keep, choice, crew);
+    }
+    let (set, routes) = shown_by_network(rt, alloc, circuit, keep, choice, crew)?;
+    let certificate = certificate_of(alloc, circuit, keep, &set, routes)?;
+    records.add(certificate)?;
     Ok(set)
 }
 
-/// Finds the chosen least set of a circuit whose held latches stay where they are.
+/// Finds the chosen least set of a circuit whose held latches stay.
 ///
 /// The search starts from the records' flows, and leaves there what its own flow did at the
 /// circuit's gates. Flows are hints: the set doesn't depend on them. If the records want

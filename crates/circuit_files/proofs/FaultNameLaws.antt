@@ -63,7 +63,7 @@ found_by name fault has =
     ⊎_elim (λ named. inl ((bytes_eq-Decides (name_of fault) name).0 named)) (λ words. inr ((bytes_eq-Decides (said_of fault) name).0 words))
     (or_cases (bytes_eq (name_of fault) name) (bytes_eq (said_of fault) name) has)
 
--- what was found among all faults is called so, and where none was found no fault is
+-- what was found among all faults is called so, and if none was found no fault is
 pub named_of : (name : List ℕ) (found : Option Fault) → MatchOption found (HaveOtherNames all_faults name) (λ fault. has_name name fault ≡ true)
     → MatchOption found (IsNoName name) (IsCalled name)
 named_of name None others = λ fault called.

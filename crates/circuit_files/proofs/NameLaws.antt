@@ -63,6 +63,6 @@ module _ (failure : Failure) (path : Bor (List ℕ)) where
   pub of_device : failure ≡ fails.Device path → IsAbout path.now failure
   of_device is = subst (IsAbout path.now) (sym is) refl
 
--- the same file by another name of it
+-- that file by another name of it
 pub named_so : {T : Type 0} (result : Result T Failure) (name path : List ℕ) → name ≡ path → IfErr result (IsAbout name) → IfErr result (IsAbout path)
 named_so result name path same named = subst (λ (file : List ℕ). IfErr result (IsAbout file)) same named

@@ -8,6 +8,6 @@ use Rattle.circuit_files.specs.declared.entry.Entry.{Entry}
 abbrev pub paths : Entry → Paths
 paths entry = record { input = entry.input.now; output = entry.output.now }
 
--- the bytes, where they are UTF-8
+-- the bytes, if they are UTF-8
 abbrev pub text_of : List ℕ → Option (List ℕ)
 text_of bytes = if is_utf8 bytes then Some bytes else None

@@ -15,7 +15,7 @@ name_of (BadLine at) = codes "BadLine"
 name_of (TooLarge at) = codes "TooLarge"
 name_of NoMemory = codes "NoMemory"
 
--- the offset of what is at fault, where it has one
+-- the offset of what is at fault, if it has one
 abbrev pub offset_of : ListError → Option ℕ
 offset_of (BadLine at) = Some at
 offset_of (TooLarge at) = Some at

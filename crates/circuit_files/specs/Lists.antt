@@ -22,11 +22,12 @@ abbrev pub paths_around : List ℕ → Option ℕ → Option Paths
 paths_around line None = None
 paths_around line (Some at) = paths_apart (take at line) (drop (at + 1) line)
 
--- the paths of a line, where it is two with a tab between
+-- the paths of a line, if it is two with a tab between
 abbrev pub paths_of : List ℕ → Option Paths
 paths_of line = paths_around line (position (λ b. b == 9) line)
 
--- the files after one more line with these paths, or its fault: it has none, or there are 2^20 lines before it
+-- the files after one more line with these paths, or its fault: it has none, or there are 2^20
+-- lines before it
 abbrev pub with_line : ℕ → List Paths → Option Paths → Result (List Paths) ListError
 with_line at files None = Err (BadLine at)
 with_line at files (Some paths) = if length files == 2 ^ 20 then Err (TooLarge at) else Ok (files ++ paths ∷ [])

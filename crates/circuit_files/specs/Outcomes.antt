@@ -82,6 +82,7 @@ abbrev pub failure_of_witness : WitnessError → Bor (List ℕ) → Failure
 failure_of_witness witnesses.NoMemory path = fails.Memory
 failure_of_witness fault path = fails.RefusedWitness path fault
 
--- nothing is printed, unless all was done, circuits were compared, certificates were checked, or a device failed
+-- nothing is printed, unless all was done, circuits were compared, certificates were checked, or a
+-- device failed
 abbrev pub IsQuiet : Outcome → Output → Output → Type 0
 IsQuiet outcome old new = (outcome ≡ ends.Done) ⊎ (outcome ≡ ends.ShapesDiffer) ⊎ (outcome ≡ ends.Differ) ⊎ (outcome ≡ ends.Unconfirmed) ⊎ (outcome ≡ ends.Device) ⊎ (new ≡ old)

@@ -1,4 +1,4 @@
--- What the bytes of a file are read as, and the failure that it is where they can't be.
+-- What the bytes of a file are read as, and the failure if they can't be.
 use Rattle.std.specs.Prelude.{ℕ, ◌≡◌, ◌⊎◌, List, Result, Ok, Err, codes}
 use Rattle.std.specs.Borrow.{Bor}
 use Rattle.aig_graph.specs.Graph.{Graph, free_latches}
@@ -33,7 +33,8 @@ IsCircuitFailure old new path failure = (error : ReadError) × IsReadError old n
 abbrev pub IsBytesFailure : Input → Input → Bor (List ℕ) → Failure → Type 0
 IsBytesFailure old new path failure = ((failure ≡ fails.Device path) × (new.failures ≡ one_more old.failures)) ⊎ ((failure ≡ fails.Memory) × (new.failures ≡ old.failures))
 
--- the stimulus of the bytes with the widths of a circuit, or the failure that their fault is; memory may run out
+-- the stimulus of the bytes with the widths of a circuit, or the failure that their fault is;
+-- memory may run out
 abbrev pub IsStimulusOf : Graph → List ℕ → Bor (List ℕ) → Result (List InputSequence) Failure → Type 0
 IsStimulusOf g bytes path (Ok stimulus) = read_text g.inputs (free_latches g) bytes ≡ Ok stimulus
 IsStimulusOf g bytes path (Err fails.Memory) = Unit {0}

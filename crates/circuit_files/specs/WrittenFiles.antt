@@ -28,12 +28,14 @@ module _ {F : Type 0} (contents : F → Option (List ℕ)) (IsMade : F → List 
   pub record IsFileGiven (IsLetGo : F → Type 0) (path text : List ℕ) : Type 0 where
     pub whole : text ≢ [] → ∥ IsWholeFile IsLetGo path text ∥₁
 
--- what a writer is known to hold: the path of its file, with its length before it, and then what the file was given. So whoever lends it to
--- a function that writes to any writer knows that it comes back with its path
+-- What a writer is known to hold: the path of its file, with its length before it, and then what
+-- the file was given. So whoever lends it to a function that writes to any writer knows that it
+-- comes back with its path.
 abbrev pub account : List ℕ → List ℕ → List ℕ
 account path given = length path ∷ path ++ given
 
--- all of this text was written, by what it means that a file was given one: to standard output, or to a file, which leaves standard output as it was
+-- All of this text was written, by what it means that a file was given one. It went to standard
+-- output, or to a file, which leaves standard output as it was.
 abbrev pub IsTargetGiven : (List ℕ → List ℕ → Type 0) → Target → Output → Output → List ℕ → Type 0
 IsTargetGiven FileGiven targets.Stdout old new text = WritesAll old new text
 IsTargetGiven FileGiven (targets.File path) old new text = (new ≡ old) × FileGiven path.now text

@@ -14,7 +14,7 @@ pub struct Entry<'a> {
     pub output: &'a str,
 }
 
-/// The entry of a line, without its newline.
+/// Returns the entry of a line, without its newline.
 pub(crate) fn entry_of(line: &[u8]) -> Option<Entry<'_>>
     ensures { option_map paths result ≡ lists.paths_of line.now }
 {
@@ -24,7 +24,7 @@ pub(crate) fn entry_of(line: &[u8]) -> Option<Entry<'_>>
     }
 }
 
-/// The entry of the bytes before the first tab of a line, and after it.
+/// Returns the entry of the bytes before the first tab of a line, and after it.
 fn entry_around<'a>(input: &'a [u8], output: &'a [u8]) -> Option<Entry<'a>>
     ensures { option_map paths result ≡ lists.paths_apart input.now output.now }
 {
@@ -37,7 +37,7 @@ fn entry_around<'a>(input: &'a [u8], output: &'a [u8]) -> Option<Entry<'a>>
     }
 }
 
-/// Where the first tab stands.
+/// Returns the index of the first tab.
 fn tab_at(bytes: &[u8]) -> Option<usize>
     ensures { result ≡ position (λ b. b == 9) bytes.now }
 {
@@ -50,7 +50,7 @@ fn has_tab(bytes: &[u8]) -> bool
     bytes.iter().any(|byte| *byte == b'\t')
 }
 
-/// The text of the bytes, where they are UTF-8.
+/// Returns the text of the bytes, if they are UTF-8.
 fn as_text(bytes: &[u8]) -> Option<&str>
     ensures { option_map (λ text. text.now) result ≡ text_of bytes.now }
 {

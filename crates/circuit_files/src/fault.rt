@@ -20,7 +20,7 @@ pub enum ListError {
 impl ListError {
     ghost use Rattle.circuit_files.specs.ListCodes.{code_of, name_of, offset_of};
 
-    /// The number of the kind of fault.
+    /// Returns the number of the kind of fault.
     pub fn code(self) -> u8
         ensures { result ≡ code_of self }
     {
@@ -31,7 +31,7 @@ impl ListError {
         }
     }
 
-    /// The name, as messages and reports have it.
+    /// Returns the name that messages and reports have for it.
     pub fn name(self) -> &'static str
         ensures { result.now ≡ name_of self }
     {
@@ -42,7 +42,7 @@ impl ListError {
         }
     }
 
-    /// The offset of the first byte of the line at fault, where it has one.
+    /// Returns the offset of the first byte of the line at fault, if it has one.
     pub fn offset(self) -> Option<u64>
         ensures { result ≡ offset_of self }
     {

@@ -19,7 +19,7 @@ use std::fs::File;
 use std::rt::Files;
 use witnesses::{Widths, Witness, read_witness};
 
-/// The circuit of a reader's bytes, by a reader of circuits that has been fed nothing yet.
+/// Reads the circuit of a reader's bytes, by a reader of circuits that has been fed nothing yet.
 fn circuit_by<R: CountedRead, C: CircuitReader + Drop>(
     reader: &mut R,
     mut circuits: C,
@@ -31,7 +31,7 @@ fn circuit_by<R: CountedRead, C: CircuitReader + Drop>(
     read_circuit(reader, &mut circuits)
 }
 
-/// The circuit of a reader's bytes, of either spelling; `path` names where they are from.
+/// Reads the circuit of a reader's bytes, of either spelling; `path` names their file.
 fn circuit_of<'a, R: CountedRead>(
     alloc: Global,
     reader: &mut R,
@@ -48,7 +48,7 @@ fn circuit_of<'a, R: CountedRead>(
     }
 }
 
-/// The file with this path, to be read.
+/// Opens the file with this path, to be read.
 pub fn opened<'a, R: Files>(rt: &R, path: &'a str) -> Result<R::File, Failure<'a>>
     ensures { IfErr result (λ failure. failure ≡ fails.Device path.entry) }
 {
@@ -58,7 +58,7 @@ pub fn opened<'a, R: Files>(rt: &R, path: &'a str) -> Result<R::File, Failure<'a
     }
 }
 
-/// The circuit of the file with this path.
+/// Reads the circuit of the file with this path.
 fn circuit_of_file<'a, R: Files>(
     rt: &R,
     alloc: Global,
@@ -70,7 +70,8 @@ fn circuit_of_file<'a, R: Files>(
     circuit_of(alloc, &mut Counted::new(input), path)
 }
 
-/// The circuit of a file or of standard input, which is read to its end in pieces, also after a fault, and its spelling.
+/// Reads the circuit of a file or of standard input, and its spelling. It is read to its end in
+/// pieces, also after a fault.
 pub fn circuit_at<'a, R: Files, I: CountedRead>(
     rt: &R,
     alloc: Global,
@@ -88,7 +89,7 @@ pub fn circuit_at<'a, R: Files, I: CountedRead>(
     }
 }
 
-/// All bytes of a reader; `path` names where they are from.
+/// Reads all bytes of a reader; `path` names their file.
 fn bytes_of<'a, R: CountedRead>(
     alloc: Global,
     reader: &mut R,
@@ -106,7 +107,7 @@ fn bytes_of<'a, R: CountedRead>(
     }
 }
 
-/// All bytes of the file with this path.
+/// Reads all bytes of the file with this path.
 pub fn bytes_of_file<'a, R: Files>(
     rt: &R,
     alloc: Global,
@@ -118,7 +119,7 @@ pub fn bytes_of_file<'a, R: Files>(
     bytes_of(alloc, &mut Counted::new(input), path)
 }
 
-/// All bytes of a file or of standard input.
+/// Reads all bytes of a file or of standard input.
 pub fn bytes_at<'a, R: Files, I: CountedRead>(
     rt: &R,
     alloc: Global,
@@ -137,7 +138,7 @@ pub fn bytes_at<'a, R: Files, I: CountedRead>(
     }
 }
 
-/// The stimulus of the bytes of a file, with the widths of the circuit.
+/// Reads the stimulus of the bytes of a file, with the widths of the circuit.
 fn stimulus_of<'a>(
     alloc: Global,
     bytes: &[u8],
@@ -155,7 +156,7 @@ fn stimulus_of<'a>(
     }
 }
 
-/// The stimulus of a file or of standard input, with the widths of the circuit.
+/// Reads the stimulus of a file or of standard input, with the widths of the circuit.
 pub fn stimulus_at<'a, R: Files, I: CountedRead>(
     rt: &R,
     alloc: Global,
@@ -172,7 +173,7 @@ pub fn stimulus_at<'a, R: Files, I: CountedRead>(
     stimulus_of(alloc, bytes.as_slice(), source.name(), circuit)
 }
 
-/// The certificates of the bytes of a file.
+/// Reads the certificates of the bytes of a file.
 fn certificates_of<'a>(alloc: Global, bytes: &[u8], path: &'a str) -> Result<CertFile, Failure<'a>>
     ensures reads { AreCertificatesOf bytes.now path.entry result }
     ensures named { IfErr result (IsAbout path.now) }
@@ -183,7 +184,7 @@ fn certificates_of<'a>(alloc: Global, bytes: &[u8], path: &'a str) -> Result<Cer
     }
 }
 
-/// The certificates of a file or of standard input.
+/// Reads the certificates of a file or of standard input.
 pub fn certificates_at<'a, R: Files, I: CountedRead>(
     rt: &R,
     alloc: Global,
@@ -199,7 +200,7 @@ pub fn certificates_at<'a, R: Files, I: CountedRead>(
     certificates_of(alloc, bytes.as_slice(), source.name())
 }
 
-/// The witness of the bytes of a file, for the circuit.
+/// Reads the witness of the bytes of a file, for the circuit.
 fn witness_of<'a>(
     alloc: Global,
     bytes: &[u8],
@@ -215,7 +216,7 @@ fn witness_of<'a>(
     }
 }
 
-/// The witness of a file or of standard input, for the circuit.
+/// Reads the witness of a file or of standard input, for the circuit.
 pub fn witness_at<'a, R: Files, I: CountedRead>(
     rt: &R,
     alloc: Global,

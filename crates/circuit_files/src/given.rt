@@ -11,8 +11,8 @@ pub(crate) struct Taken<'a> {
     pub bytes: &'a [u8],
 }
 
-/// All bytes that a file has taken, in clauses: the value itself takes no room. By itself it says nothing, since a proof by hand may
-/// give it any bytes: who has one ties it to the file.
+/// All bytes that a file has taken, in clauses; the value itself takes no room. By itself it says
+/// nothing, since a proof by hand may give it any bytes. Who has one ties it to the file.
 #[derive(Drop)]
 pub(crate) struct Given {
     pub ghost bytes: { List ℕ } by { coded_list coded_ℕ },

@@ -1,4 +1,5 @@
-//! Files that are written. Each of a command's files is opened and closed here, so that one clause says what it was given.
+//! Files that are written. Each of a command's files is opened and closed here, so that one clause
+//! says what it was given.
 ghost use Rattle.std.specs.Prelude.{◌≡◌, [], Some};
 ghost use Rattle.std.specs.Io.{WritesAtMost};
 ghost use Rattle.std.specs.Io.KnownBytes.{WriteAppends};
@@ -11,8 +12,8 @@ use counted_io::Counted;
 use std::io;
 use std::io::Write;
 
-/// A file that is made, or emptied where it is there, at the first byte written: until then a file with this path stays
-/// as it was.
+/// A file that is made, or emptied if it exists, at the first byte written. Until then a file with
+/// this path stays as it was.
 #[derive(Drop)]
 pub struct LazyFile<'a, R: OutputFiles> {
     files: &'a R,
@@ -36,7 +37,7 @@ impl<'a, R: OutputFiles> LazyFile<'a, R> {
         }
     }
 
-    /// Lets the file go, where one was made.
+    /// Closes the file, if one was made.
     fn close(self)
         ensures { IsFileGiven R.Output.contents R.is_made R.is_let_go self.entry.path.now
             self.entry.given.bytes }

@@ -1,5 +1,6 @@
-//! Files as a command reads and writes them: circuits, stimuli, certificates, witnesses and lists of files; what a file was given, how a run
-//! over files ends, and what a user reads of one that is refused.
+//! Files as a command reads and writes them: circuits, stimuli, certificates, witnesses and lists
+//! of files. Tells what a file was given, how a run over files ends, and what a user reads of one
+//! that is refused.
 #![tactic(auto)]
 
 mod entry;

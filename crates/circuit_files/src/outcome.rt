@@ -1,5 +1,5 @@
-//! How runs end, and why commands fail: all errors of the libraries come down to the few that a user tells apart by the exit
-//! status, each with the path of its file.
+//! The ends of runs, and the failures of commands. All errors of the libraries come down to the few
+//! that a user tells apart by the exit status. Each has the path of its file.
 ghost use Rattle.std.specs.Prelude.{◌≡◌};
 ghost use Rattle.circuit_files.specs.Outcomes.{outcome_of, failure_of_bytes, failure_of_certificates, failure_of_list, failure_of_reading, failure_of_stimulus, failure_of_witness};
 
@@ -36,7 +36,7 @@ pub enum Outcome {
 impl Outcome {
     ghost use Rattle.circuit_files.specs.Codes.{status_of};
 
-    /// The exit status.
+    /// Returns the exit status.
     pub fn status(self) -> u8
         ensures { result ≡ status_of self }
     {
@@ -51,8 +51,8 @@ impl Outcome {
     }
 }
 
-/// Why a command failed, with the path of the file, or `stdin` or `stdout`. Its `Display` is the message on standard error,
-/// without a newline.
+/// Why a command failed, with the path of the file, or `stdin` or `stdout`. Its `Display` is the
+/// message on standard error, without a newline.
 #[derive(Clone, Copy)]
 pub enum Failure<'a> {
     /// The circuit has a fault.
@@ -75,7 +75,8 @@ pub enum Failure<'a> {
     TooManySteps(&'a str),
     /// The circuit of a map has a latch, a bad state, a justice property or a fairness constraint.
     NotAMap(&'a str),
-    /// A name of a witness circuit says a literal that its circuit hasn't, or one that another name says.
+    /// A name of a witness circuit says a literal that its circuit hasn't, or one that another name
+    /// says.
     NoSuchLiteral(&'a str),
     /// The file couldn't be opened, created, read or written.
     Device(&'a str),
@@ -84,7 +85,7 @@ pub enum Failure<'a> {
 }
 
 impl<'a> Failure<'a> {
-    /// The failure that an error of reading a circuit is, with the file's path.
+    /// Returns the failure of an error of reading a circuit, with the file's path.
     pub fn of_reading(error: ReadError, path: &'a str) -> Failure<'a>
         ensures { result ≡ failure_of_reading error path.entry }
     {
@@ -95,7 +96,7 @@ impl<'a> Failure<'a> {
         }
     }
 
-    /// The failure that an error of reading a stimulus is, with the file's path.
+    /// Returns the failure of an error of reading a stimulus, with the file's path.
     pub fn of_stimulus(error: StimError, path: &'a str) -> Failure<'a>
         ensures { result ≡ failure_of_stimulus error path.entry }
     {
@@ -105,7 +106,7 @@ impl<'a> Failure<'a> {
         }
     }
 
-    /// The failure that an error of reading a list of files is, with the list's path.
+    /// Returns the failure of an error of reading a list of files, with the list's path.
     pub fn of_list(error: ListError, path: &'a str) -> Failure<'a>
         ensures { result ≡ failure_of_list error path.entry }
     {
@@ -115,7 +116,7 @@ impl<'a> Failure<'a> {
         }
     }
 
-    /// The failure that an error of reading certificates is, with the file's path.
+    /// Returns the failure of an error of reading certificates, with the file's path.
     pub fn of_certificates(error: CertError, path: &'a str) -> Failure<'a>
         ensures { result ≡ failure_of_certificates error path.entry }
     {
@@ -125,7 +126,7 @@ impl<'a> Failure<'a> {
         }
     }
 
-    /// The failure that an error of reading a witness is, with the file's path.
+    /// Returns the failure of an error of reading a witness, with the file's path.
     pub fn of_witness(error: WitnessError, path: &'a str) -> Failure<'a>
         ensures { result ≡ failure_of_witness error path.entry }
     {
@@ -135,7 +136,7 @@ impl<'a> Failure<'a> {
         }
     }
 
-    /// The failure that an error of reading all bytes is, with the file's path.
+    /// Returns the failure of an error of reading all bytes, with the file's path.
     pub fn of_bytes(error: ReadAllError, path: &'a str) -> Failure<'a>
         ensures { result ≡ failure_of_bytes error path.entry }
     {
@@ -145,7 +146,7 @@ impl<'a> Failure<'a> {
         }
     }
 
-    /// How a run with this failure ends.
+    /// Returns the outcome of a run with this failure.
     pub fn outcome(self) -> Outcome
         ensures { result ≡ outcome_of self.entry }
     {
@@ -166,7 +167,7 @@ impl<'a> Failure<'a> {
         }
     }
 
-    /// The path of the file; none where memory was refused.
+    /// Returns the path of the file; none if memory was refused.
     fn path(self) -> Option<&'a str> {
         match self {
             Failure::Refused(path, _)
@@ -185,7 +186,7 @@ impl<'a> Failure<'a> {
         }
     }
 
-    /// What is wrong, as far as that is the same of each file.
+    /// Returns what is wrong, as far as it doesn't depend on the file.
     fn title(self) -> &'static str {
         match self {
             Failure::NoSuchName(_, _) => "NoSuchName ",

@@ -5,19 +5,20 @@ use std::fs::File;
 use std::io;
 use std::io::Write;
 
-/// Makes files, and lets them go. Both are relations that each implementation chooses. So a function that takes any can say that a file
-/// was made at a path only of one that it had made there, and that it was let go only of one that can't be written any more.
+/// Makes files, and closes them. Both are relations that each implementation chooses. So a function
+/// that takes any can say that a file was made at a path only of one that it had made there. It can
+/// say that a file was closed only of one that can't be written any more.
 pub trait OutputFiles {
     /// A file that is written.
     type Output: Write + Drop;
 
-    /// The file was made at this path, or emptied where it was there, and is as it was then.
+    /// The file was made at this path, or emptied if it existed, and is as it was then.
     ghost is_made: { Self.Output → List ℕ → Type 0 };
 
     /// The file was let go like this.
     ghost is_let_go: { Self.Output → Type 0 };
 
-    /// Makes the file with this path, or empties it where it is there.
+    /// Makes the file with this path, or empties it if it exists.
     fn make(&self, path: &str) -> io::Result<Self::Output>
         ensures { IfOk result (λ file. is_made file path.now) };
 

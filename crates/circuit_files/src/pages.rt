@@ -28,7 +28,7 @@ pub use showing::{printable, shown_line};
 pub use spelling::tell_spelling;
 
 impl Fault {
-    /// What a user is told of it.
+    /// Returns the page that a user is shown of it.
     pub fn page(self) -> Page
         ensures meaning { result.meaning.now ≡ meaning_of self }
         ensures rule { result.rule.now ≡ rule_of self }
@@ -38,7 +38,7 @@ impl Fault {
     }
 }
 
-/// The page as it stands among the constants.
+/// Returns the page among the constants.
 fn page_of(fault: Fault) -> &'static Page
     ensures meaning { result.now.meaning.now ≡ meaning_of fault }
     ensures rule { result.now.rule.now ≡ rule_of fault }

@@ -12,12 +12,14 @@ use std::alloc::Global;
 /// The lines that a list may have.
 const MAX_LINES: usize = 1 << 20;
 
-/// Reads a list: lines of the path of a file to read, a tab, and the path of the file to write, both in UTF-8. Either may be empty.
+/// Reads a list. A line has the path of a file to read, a tab, and the path of the file to write,
+/// both in UTF-8. Either may be empty.
 ///
 /// # Errors
 ///
-/// That of the first line with a fault: `BadLine` for another number of tabs than one, as an empty line has, or for bytes that are
-/// no UTF-8; else `TooLarge` for line number 2^20, from 0. `NoMemory` may come before it. The time is linear in the bytes.
+/// That of the first line with a fault. It is `BadLine` for another number of tabs than one, as an
+/// empty line has, or for bytes that are no UTF-8. Otherwise it is `TooLarge` for line number 2^20,
+/// from 0. `NoMemory` may come before it. The time is linear in the bytes.
 pub fn read_list(alloc: Global, bytes: &[u8]) -> Result<Vec<Entry<'_>>, ListError>
     ensures { Gives NoMemory (λ entries. map paths entries.items) result (lists.read_list bytes.now) }
 {

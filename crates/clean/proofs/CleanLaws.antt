@@ -79,9 +79,10 @@ lookup-none test (e0 ∷ es) gate v e = elim (cases_Bool (test e0.0)) [
       (cond-false (test e0.0) (Some e0.1) (lookup test es) fails ∙ rest.0, rest.1))
 ]
 
--- where each latch stands for itself, none that isn't held is constant or a duplicate of an earlier one
+-- if each latch stands for itself, none that isn't held is constant or a duplicate of an earlier
+-- one
 module _ (g : Graph) (held : List ℕ) (own : (j : ℕ) (latch : Latch) → slice_get g.latches j ≡ Some latch → latch_substitute g held j (Some latch) ≡ 2 * (first_latch g + j)) where
-  -- where each latch stands for itself, none is constant
+  -- if each latch stands for itself, none is constant
   pub latches-moving : (j : ℕ) (latch : Latch) → slice_get g.latches j ≡ Some latch → is_constant_latch g held j latch ≡ false
   latches-moving j latch e = elim (stands_for g held j latch) [
     | by_constant constant_latch there ↦ absurd (omega (arith, own j latch e, there, constant-even latch.reset))
@@ -89,7 +90,7 @@ module _ (g : Graph) (held : List ℕ) (own : (j : ℕ) (latch : Latch) → slic
     | by_earlier i less first duplicate known apart there ↦ absurd (omega (arith, own j latch e, there, less))
   ]
 
-  -- where each latch stands for itself, a known latch that duplicates an earlier one is held
+  -- if each latch stands for itself, a known latch that duplicates an earlier one is held
   pub latches-single : (i j : ℕ) (latch : Latch) → i < j → slice_get g.latches i ≡ Some latch → slice_get g.latches j ≡ Some latch → is_free latch ≡ false → has held j ≡ true
   latches-single i j latch less e f known = elim (cases_Bool (has held j)) [
     | inl held_is ↦ held_is
@@ -115,7 +116,7 @@ module _ (g : Graph) (held : List ℕ) (valid : IsGraph g) where
     kept : (k : ℕ) (gate : Gate) → slice_get g.gates k ≡ Some gate → first_gate g + k < length m.substitutes → lookup (same_fan_ins gate) m.kept ≡ None → ⊥
     pairs : (i k : ℕ) (gate : Gate) → slice_get g.gates i ≡ Some gate → slice_get g.gates k ≡ Some gate → i < k → first_gate g + k < length m.substitutes → ⊥
 
-  -- so it is where all entries so far are their own
+  -- so it is if all entries so far are their own
   record IsPlainWhereOwn (m : Merging) : Type 0 where
     below : IsBelow m
     facts : ((v : ℕ) → v < length m.substitutes → get_or m.substitutes v 0 ≡ 2 * v) → ArePlainSoFar m
@@ -202,11 +203,11 @@ module _ (g : Graph) (held : List ℕ) (valid : IsGraph g) where
     unfolding substitutes_of
     within k gate e = omega (arith, slice_get_within g.gates k gate e, length-substitutes_of g held)
 
-    -- where each variable stands for itself, each gate is plain
+    -- if each variable stands for itself, each gate is plain
     pub own-plain : (k : ℕ) (gate : Gate) → slice_get g.gates k ≡ Some gate → IsPlain gate
     own-plain k gate e = facts.plain k gate e (within k gate e)
 
-    -- where each variable stands for itself, no two gates have the same literals
+    -- if each variable is its own substitute, no two gates have equal literals
     pub own-pairs : (i k : ℕ) (gate : Gate) → slice_get g.gates i ≡ Some gate → slice_get g.gates k ≡ Some gate → i ≡ k
     own-pairs i k gate e f = elim (cases_lt i k) [
       | inl less ↦ absurd (facts.pairs i k gate e f less (within k gate f))
@@ -216,7 +217,7 @@ module _ (g : Graph) (held : List ℕ) (valid : IsGraph g) where
       ]
     ]
 
-    -- where each variable stands for itself, so does each latch
+    -- if each variable stands for itself, so does each latch
     pub substitute-own : (j : ℕ) (latch : Latch) → slice_get g.latches j ≡ Some latch → latch_substitute g held j (Some latch) ≡ 2 * (first_latch g + j)
     substitute-own j latch e =
         let low : j < length g.latches = slice_get_within g.latches j latch e in

@@ -46,7 +46,8 @@ composed-then first second third below =
         ap (λ (n : ℕ). n ∷ map (λ place. get_or first (get_or second place 0) 0) xs) (All-head (λ (place : ℕ). get_or first (get_or second place 0) 0 ≡ get_or (composed first second) place 0) x xs all)
         ∙ ap (λ (ys : List ℕ). get_or (composed first second) x 0 ∷ ys) (alike xs (All-tail (λ (place : ℕ). get_or first (get_or second place 0) 0 ≡ get_or (composed first second) place 0) x xs all))
 
--- a pass that leaves as many latches and gates leaves the circuit, and the positions of held latches
+-- a pass that leaves as many latches and gates leaves the circuit, and the positions of held
+-- latches
 module _ (held : List ℕ) (c d : Netlist) (kept still : List ℕ) (valid : IsCircuit c) (in_range : All (λ j. j < length c.aig.latches) held) (pass : IsPass held c d kept still)
     (many : latches_and_gates c.aig ≤ latches_and_gates d.aig) where
   abbrev merged : Netlist
@@ -105,7 +106,8 @@ module _ (held : List ℕ) (c d : Netlist) (kept still : List ℕ) (valid : IsCi
   held-unchanged : HeldAfter d still held c
   held-unchanged = held_unchanged held c kept pass-same circuit-same positions-same
 
--- what is left of a circuit after some passes, of which the last had so many latches and gates before it
+-- what is left of a circuit after some passes; before the last one there were `before` latches and
+-- gates
 pub record Passed (held : List ℕ) (c : Netlist) (before : ℕ) (d : Netlist) (kept still : List ℕ) : Type 0 where
   -- the circuit before the last pass
   pub from : Netlist
@@ -121,7 +123,7 @@ pub record Passed (held : List ℕ) (c : Netlist) (before : ℕ) (d : Netlist) (
   pub in_range : All (λ j. j < length from.aig.latches) from_held
   -- the last pass made d of it
   pub pass : IsPass from_held from d first still
-  -- it had so many latches and gates
+  -- it had this number of latches and gates
   pub size : before ≡ latches_and_gates from.aig
   -- the places of d's free latches among those of c
   pub is : kept ≡ composed from_kept first
@@ -223,7 +225,7 @@ read-from ys (x ∷ xs) =
 composed-range : (xs : List ℕ) → composed xs (range_with_len 0 (length xs)) ≡ xs
 composed-range xs = read-from [] xs
 
--- where each latch stands for itself, one more pass changes nothing
+-- if each latch stands for itself, one more pass changes nothing
 settled-next : (held : List ℕ) (c : Netlist) (before : ℕ) (d : Netlist) (kept still : List ℕ) → Passed held c before d kept still → AreOwnLatches d.aig still → latches_and_gates d.aig < before
     → Passed held c (latches_and_gates d.aig) d (composed kept (all_free d.aig)) still
 settled-next held c before d kept still passed own less =
@@ -233,7 +235,7 @@ settled-next held c before d kept still passed own less =
     let same : IsPass still d d (all_free d.aig) still = normalised-pass still d valid in_range normalised in
     passed-more held c before d kept still passed d (all_free d.aig) (composed kept (all_free d.aig)) still less same refl
 
--- what a pass left is what is left of the circuit, where each latch stands for itself
+-- what a pass left is what is left of the circuit, if each latch is its own substitute
 pub settled-end : (held : List ℕ) (c : Netlist) (before : ℕ) (d : Netlist) (kept still : List ℕ) → Passed held c before d kept still → AreOwnLatches d.aig still → Cleans d held c kept
 settled-end held c before d kept still passed own = elim (cases_lt (latches_and_gates d.aig) before) [
   | inr many ↦ passed-end held c before d kept still passed many
@@ -243,7 +245,7 @@ settled-end held c before d kept still passed own = elim (cases_lt (latches_and_
       subst (λ (xs : List ℕ). Cleans d held c xs) places (passed-end held c (latches_and_gates d.aig) d (composed kept (all_free d.aig)) still next (omega arith)))
 ]
 
--- so it is where the last pass took nothing away, or each latch stands for itself
+-- so it is if the last pass took nothing away, or each latch is its own substitute
 pub passed-done : (held : List ℕ) (c : Netlist) (before : ℕ) (d : Netlist) (kept still : List ℕ) → Passed held c before d kept still → (before ≤ latches_and_gates d.aig) ⊎ AreOwnLatches d.aig still → Cleans d held c kept
 passed-done held c before d kept still passed (inl many) = passed-end held c before d kept still passed many
 passed-done held c before d kept still passed (inr own) = settled-end held c before d kept still passed own

@@ -155,7 +155,8 @@ module _ (g : Graph) (held : List ℕ) where
           ∙ ap (λ (o : Option ℕ). or_else o (cond (same_latch latch own) (Some (2 * (first_latch g + n))) None)) (firsts.each latch known) ∙ sym (more-own latch);
     }
 
-    -- a known latch that isn't constant adds an entry where it is the first of its next literal and reset
+    -- a known latch that isn't constant adds an entry if it is the first of its next literal and
+    -- reset
     pub firsts-more : (after : List (Latch × ℕ)) → after ≡ entries_after entries (2 * (first_latch g + n)) own (lookup (same_latch own) entries) → AreFirsts g held (n + 1) after
     firsts-more after e = go (lookup (same_latch own) entries) refl
       where

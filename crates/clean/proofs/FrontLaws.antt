@@ -41,14 +41,14 @@ pub sweep-latch : (r : Front) (v : ℕ) → v < r.first + r.latches → reach_in
 unfolding reach_in_sweep
 sweep-latch r v h = cond-false (nat_le (r.first + r.latches) v) (mark r v) (reach r v) (lt-leb (r.first + r.latches) v h)
 
--- a variable from the first one on is marked where its entry is
+-- a variable from the first one on is marked if its entry is
 pub mark-entry : (r : Front) (v : ℕ) → r.first ≤ v → is_marked r v ≡ get_or r.marks (v - r.first) false
 unfolding mark_at
 mark-entry r v h = ap (λ (b : Bool). b && get_or r.marks (v - r.first) false) (le-leb r.first v h)
 
 -- the variables that have entries stay
 pub record SameReach (r s : Front) : Type 0 where
-  -- the entries begin at the same variable
+  -- the entries begin at one variable
   pub first : s.first ≡ r.first
   -- there are as many entries
   pub long : length s.marks ≡ length r.marks
@@ -204,6 +204,6 @@ room-all (lit ∷ lits) r within =
     all-since reach reach-same (lit ∷ []) lits r s (sym (all-one reach r lit)) (All-tail (λ (l : ℕ). variable l < front_end r) lit lits within) in
     omega (arith, one, room-all lits s rest, ap (λ (t : Front). room t) (all-cons reach r lit lits))
 
--- where one that waits is taken and read, less is left
+-- if one that waits is taken and read, less is left
 pub room-turn : (r s t : Front) (v : ℕ) (lits : List ℕ) → r ≡ with_next s v → All (λ lit. variable lit < front_end s) lits → t ≡ reach_all reach s lits → room t < room r
 room-turn r s t v lits taken within is = omega (arith, ap (λ (u : Front). room u) taken, ap (λ (u : Front). room u) is, room-all lits s within)

@@ -169,7 +169,7 @@ module _ (m : Move) (valid : IsGraph m.circuit.aig) (set : IsClosedSet m.circuit
         (omega (arith, high.second.place, copy_variable-is m y, copies_start-is m, moved-first_gate m))
         (λ same. absurd (omega (arith, plain.apart, copy-one x y high.first.member high.second.member (sym high.first.place ∙ same ∙ high.second.place)))))
 
-    -- each gate of a moved normalised circuit is plain, where the low copies are normalised
+    -- each gate of a moved normalised circuit is plain, if the low copies are normalised
     pub moved-plain : (k : ℕ) (gate : Gate) → slice_get (moved_graph m).gates k ≡ Some gate → IsPlain gate
     moved-plain k gate there = elim (gate_source m set k gate there) [
       | from_outside v ranks at ↦ subst (λ (g : Gate). IsPlain g) (sym at) (outer-plain v (outer v ranks.below ranks.passes))
@@ -205,7 +205,8 @@ module _ (m : Move) (valid : IsGraph m.circuit.aig) (set : IsClosedSet m.circuit
         normalised.pairs (v - first_gate m.circuit.aig) (w - first_gate m.circuit.aig) own.gate own.there (other.there ∙ ap (λ (g : Gate). Some g) (sym one)) in
         omega (arith, places, own.from, other.from)
 
-    -- no two gates of a moved normalised circuit have the same literals, where the low copies are normalised
+    -- no two gates of a moved normalised circuit have equal literals, if the low copies are
+    -- normalised
     pub moved-pairs : (i k : ℕ) (gate : Gate) → slice_get (moved_graph m).gates i ≡ Some gate → slice_get (moved_graph m).gates k ≡ Some gate → i ≡ k
     moved-pairs i k gate e f = elim (gate_source m set i gate e) [
       | from_outside v ranks at ↦ elim (gate_source m set k gate f) [

@@ -84,7 +84,7 @@ gathered-more copies start n gate pairs there low_here plain new so_far = record
     last : (k : ℕ) (other : Gate) → k ≡ n → slice_get copies k ≡ Some other → gate ≡ other
     last k other same e = same_Some gate other (sym there ∙ ap (slice_get copies) (sym same) ∙ e)
 
--- where the first n gates have none of the pairs, nor has the next one, the first n + 1 have none
+-- if the first n gates have none of the pairs, nor has the next one, the first n + 1 have none
 pub new-more : (gates : List Gate) (pairs : List (Gate × ℕ)) (n : ℕ) (gate : Gate) → slice_get gates n ≡ Some gate → lookup (same_fan_ins gate) pairs ≡ None → AreNew gates pairs n → AreNew gates pairs (n + 1)
 new-more gates pairs n gate there new so_far k other h e = elim (cases_eq k n) [
   | inl same ↦ (
@@ -100,7 +100,8 @@ dropped (y ∷ ys) (suc n) k x e =
     let place : suc n + k ≡ suc (n + k) = omega arith in
     dropped ys n k x (ap (slice_get (y ∷ ys)) (sym place) ∙ e)
 
--- where all low copies were gathered, and no gate before the copies has one of their pairs, the low copies are normalised
+-- if all low copies were gathered, and no gate before the copies has one of their pairs, the low
+-- copies are normalised
 pub normalised-where : (g : Graph) (first start : ℕ) (pairs : List (Gate × ℕ)) → start ≡ first_gate g + first
     → AreGathered (drop first g.gates) start (length (drop first g.gates)) pairs → AreNew (take first g.gates) pairs (length (take first g.gates)) → AreLowNormalised g first
 normalised-where g first start pairs starts copies outside = record {
@@ -130,7 +131,7 @@ normalised-where g first start pairs starts copies outside = record {
         let here : slice_get (drop first g.gates) (k - first) ≡ Some gate = dropped g.gates first (k - first) gate (ap (slice_get g.gates) place ∙ e) in
         (here, slice_get_within (drop first g.gates) (k - first) gate here)
 
--- the same over the parts of a slice of the gates
+-- normalised, over the parts of a slice of the gates
 pub normalised-sliced : (g : Graph) (gates : List Gate) (first start : ℕ) (pairs : List (Gate × ℕ)) → gates ≡ g.gates → start ≡ first_gate g + first
     → AreGathered (take (length gates - first) (drop first gates)) start (length (take (length gates - first) (drop first gates))) pairs
     → AreNew (take first gates) pairs (length (take first gates)) → AreLowNormalised g first
@@ -179,14 +180,14 @@ shared g first start pairs starts copies share normalised = go (lookup (same_fan
         let other = take_place g.gates first share.place share.gate share.there in
         omega (arith, other.0, normalised.pairs share.place (first + low.place) share.gate (omega arith) other.1 (undropped g.gates first low.place share.gate low.there) (omega (arith, low.low, starts)))
 
--- where a low copy isn't plain, or two have the same literals, the low copies aren't normalised
+-- if a low copy isn't plain, or two have equal literals, the low copies aren't normalised
 pub spoilt-sliced : (g : Graph) (gates : List Gate) (first start : ℕ) → gates ≡ g.gates → start ≡ first_gate g + first → IsSpoilt (take (length gates - first) (drop first gates)) start → AreLowNormalised g first → ⊥
 spoilt-sliced g gates first start same starts copies =
     let whole : take (length gates - first) (drop first gates) ≡ drop first gates = take_all (length gates - first) (drop first gates) (omega (arith, length-drop first gates)) in
     let P : List Gate → Type 0 = λ xs. IsSpoilt xs start in
     spoilt g first start starts (subst P (whole ∙ ap (drop first) same) copies)
 
--- where a gate before the copies has the pair of a low one, the low copies aren't normalised
+-- if a gate before the copies has the pair of a low one, the low copies aren't normalised
 pub shared-sliced : (g : Graph) (gates : List Gate) (first start : ℕ) (pairs : List (Gate × ℕ)) → gates ≡ g.gates → start ≡ first_gate g + first
     → AreGathered (take (length gates - first) (drop first gates)) start (length (take (length gates - first) (drop first gates))) pairs
     → IsShared (take first gates) pairs → AreLowNormalised g first → ⊥
@@ -218,7 +219,7 @@ marked-within marks v e =
       here,
     )
 
--- where the second variable of a pair is marked too, all pairs with that one are marked
+-- if the second variable of a pair is marked too, all pairs with that one are marked
 pub marked-more : (pairs : List (Gate × ℕ)) (marks new : List Bool) (gate : Gate) (var : ℕ) → var ≡ variable gate.rhs1 → var < length marks → Marks 0 marks new (λ v. nat_eq var v)
     → AreMarked pairs marks → AreMarked (pairs ++ (gate, 0) ∷ []) new
 marked-more pairs marks new gate var is within more so_far other w e = elim (lookup_push (same_fan_ins other) pairs gate 0 w e) [

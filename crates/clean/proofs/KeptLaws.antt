@@ -20,7 +20,7 @@ or_else-assoc : (a b c : Option ℕ) → or_else (or_else a b) c ≡ or_else a (
 or_else-assoc None b c = refl
 or_else-assoc (Some n) b c = refl
 
--- where neither answers, the second doesn't
+-- if neither answers, the second doesn't
 or_else-second : (a b : Option ℕ) → or_else a b ≡ None → b ≡ None
 or_else-second None b e = e
 or_else-second (Some n) b e = absurd (cc)
@@ -37,7 +37,7 @@ lookup-push test ((k, v) ∷ entries) key value = elim (cases_Bool (test k)) [
       ∙ sym (ap (λ (o : Option ℕ). or_else o (cond (test key) (Some value) None)) (cond-false (test k) (Some v) (lookup test entries) other))
 ]
 
--- tables whose first entries are the same
+-- tables whose first entries are equal
 module _ (gates others : List Gate) (before links : List ℕ) (own : ℕ) where
   abbrev SameBelow : ℕ → Type 0
   SameBelow n = (i : ℕ) → i < n → (get_or others i no_gate ≡ get_or gates i no_gate) × (get_or links i 0 ≡ get_or before i 0)
@@ -45,7 +45,7 @@ module _ (gates others : List Gate) (before links : List ℕ) (own : ℕ) where
   fewer : (n : ℕ) → SameBelow (suc n) → SameBelow n
   fewer n same i less = same i (omega (arith, less))
 
-  -- a list over them is the same
+  -- a list over them is one list
   pub on_list-same : (gate : Gate) (n link : ℕ) → SameBelow n → on_list others links own gate n link ≡ on_list gates before own gate n link
   unfolding on_list
   on_list-same gate zero link same = refl
@@ -148,7 +148,8 @@ module _ (k : Kept) (kept : AreKept k) where
     pub back-read : get_or k.before (link - 2) 0 ≡ get_or k.before (link - 2) (get_or k.before (link - 2) 0)
     back-read = sym (get_or_default k.before (link - 2) (get_or k.before (link - 2) 0) 0 (omega (arith, some, few)))
 
-    -- a list gives the gate's literal where it begins with it, and else what the list behind that gives
+    -- a list gives the gate's literal if it begins with it, and else what the list behind that
+    -- gives
     pub list-next : (gate x : Gate) (b lit : ℕ) → x ≡ get_or k.gates (link - 2) x → b ≡ get_or k.before (link - 2) b → lit ≡ 2 * (k.own + (link - 2))
         → walk k.gates k.before k.own gate link ≡ cond (same_fan_ins gate x) (Some lit) (walk k.gates k.before k.own gate b)
     list-next gate x b lit read_gate read_link own =
@@ -207,7 +208,7 @@ module _ (k : Kept) (kept : AreKept k) (gate : Gate) where
   same-entries : SameBelow k.gates (put_at k.gates (length k.before) gate) k.before k.before k.own (length k.before)
   same-entries i less = (put-below k.gates (length k.before) gate kept.room i less, refl)
 
-  -- the kept gates are the same
+  -- the kept gates stay
   pub pairs-put : pairs with_gate ≡ pairs k
   pairs-put = kept_pairs-same k.gates (put_at k.gates (length k.before) gate) k.before k.before k.own (length k.before) same-entries
 
@@ -240,7 +241,7 @@ module _ (k : Kept) (kept : AreKept k) (gate : Gate) (link : ℕ) (there : get_o
   linked : get_or more (length k.before) 0 ≡ link
   linked = get_or-append_seam k.before link [] 0
 
-  -- the kept gates, with this one where it is kept
+  -- the kept gates, with this one if it is kept
   pub pairs-more : kept_pairs k.gates more k.own (length more) ≡ cond (nat_lt 0 link) (pairs k ++ (gate, 2 * next_variable k) ∷ []) (pairs k)
   unfolding kept_pairs
   pairs-more =
@@ -495,7 +496,7 @@ module _ (k : Kept) (kept : AreKept k) (lists : List ℕ) (same : SameLists k.li
   unfolding last_of
   same-last v = ap (λ (l : ℕ). cond (nat_lt v k.first) 0 l) (same (v - k.first))
 
-  -- a wider table has the same gates on its lists
+  -- a wider table has these gates on its lists
   pub AreKept-wider : AreKept wider
   AreKept-wider = record {
     few = kept.few;
@@ -519,6 +520,6 @@ SameLists-push lists place = elim (cases_lt place (length lists)) [
       ])
 ]
 
--- lists that stay the same twice are the same
+-- lists that stay twice stay
 pub SameLists-then : (first second third : List ℕ) → SameLists first second → SameLists second third → SameLists first third
 SameLists-then first second third before after place = after place ∙ before place

@@ -1,4 +1,5 @@
--- The latches of a moved circuit are neither constant nor duplicates of earlier ones, where those of the circuit aren't.
+-- The latches of a moved circuit are neither constant nor duplicates of earlier ones, if those of
+-- the circuit aren't.
 use Rattle.std.proofs.Common.{ℕ, ◌+◌, ◌-◌, ◌*◌, ◌<◌, ◌≤◌, ◌≡◌, ◌⊎◌, inl, inr, List, map, Bool, true, false, not, ◌||◌, ◌&&◌, nat_eq, Some, None, slice_get, arith, ap, sym, ◌∙◌, subst, Option}
 use Rattle.std.proofs.lemmas.Bool.{cases_lt, cases_eq, and_parts, and_from, or_cases, or_left, or_right, eqb-true, eq-eqb, both_ways, not-true, false_from_ne_true}
 use Rattle.std.proofs.lemmas.List.{length-map, get_or-map}
@@ -30,7 +31,8 @@ pub record ConstantLatchParts (g : Graph) (held : List ℕ) (j : ℕ) (latch : L
   -- it reads itself or the constant of its reset
   pub next : (latch.next ≡ 2 * (first_latch g + j)) ⊎ (latch.next ≡ constant_of latch.reset)
 
--- a latch that is constant by the test is known, not held, and reads itself or the constant of its reset
+-- a latch that is constant by the test is known, not held, and reads itself or the constant of its
+-- reset
 pub constant_latch-parts : (g : Graph) (held : List ℕ) (j : ℕ) (latch : Latch) → is_constant_latch g held j latch ≡ true → ConstantLatchParts g held j latch
 constant_latch-parts g held j latch e =
     let parts = and_parts (not (is_free latch) && not (has held j)) (nat_eq latch.next (2 * (first_latch g + j)) || nat_eq latch.next (constant_of latch.reset)) e in
@@ -44,7 +46,8 @@ constant_latch-parts g held j latch e =
       ];
     }
 
--- a known latch that isn't held and reads itself or the constant of its reset is constant by the test
+-- a known latch that isn't held and reads itself or the constant of its reset is constant by the
+-- test
 pub constant_latch-from : (g : Graph) (held : List ℕ) (j : ℕ) (latch : Latch) → ConstantLatchParts g held j latch → is_constant_latch g held j latch ≡ true
 constant_latch-from g held j latch parts =
     let own : Bool = nat_eq latch.next (2 * (first_latch g + j)) in
@@ -98,7 +101,7 @@ module _ (m : Move) (valid : IsGraph m.circuit.aig) (set : IsClosedSet m.circuit
   stays-low k v latch s =
       omega (arith, s.next, variable-signed_as_twice s.old.next (new_variable m (variable s.old.next)), spot-below m set (variable s.old.next) s.spot)
 
-  -- its next literal is its own, or a constant, only where that was so before
+  -- its next literal is its own, or a constant, only if that was so before
   own-before : (k v : ℕ) (latch : Latch) (s : Stays k v latch) → v < variables_end m.circuit.aig → is_latched m v ≡ true → count_below (is_latched m) v ≡ k
       → latch.next ≡ 2 * (first_latch (moved_graph m) + k) → s.old.next ≡ 2 * (first_latch m.circuit.aig + (v - first_latch m.circuit.aig))
   own-before k v latch s within kept rank own =

@@ -15,7 +15,7 @@ use Rattle.aig_graph.proofs.PropsLaws.{of_literals, literals_within}
 use Rattle.cleaned_circuits.proofs.OwnLaws.{leaf-latch, substitutes-leaf}
 use Rattle.cleaned_circuits.proofs.SubstituteLaws.{length-substitutes_of}
 
--- a graph of equal inputs, latches and gates is the same
+-- graphs of equal inputs, latches and gates are one
 pub graph-is : (inputs : ℕ) (latches other_latches : List Latch) (gates other_gates : List Gate) (n : ℕ) → n ≡ inputs → latches ≡ other_latches → gates ≡ other_gates
     → ◌≡◌ {A = Graph} (record { inputs = n; latches = latches; gates = gates }) (record { inputs = inputs; latches = other_latches; gates = other_gates })
 graph-is inputs latches other_latches gates other_gates n one two three =

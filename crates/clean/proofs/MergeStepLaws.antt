@@ -12,7 +12,7 @@ merge-one : (gate : Gate) (gates : List Gate) (m : Merging) → merge_gates (gat
 unfolding merge_gates
 merge-one gate gates m = refl
 
--- with one more gate merged, merging the others gives the same as before
+-- with one more gate merged, merging the others gives what it gave before
 pub merge-more : (gates : List Gate) (i : ℕ) (gate : Gate) (m n whole : Merging) → i < length gates → gate ≡ get_or gates i gate
     → merge_gates (drop i gates) m ≡ whole → n ≡ merge_gate m gate → merge_gates (drop (i + 1) gates) n ≡ whole
 merge-more gates i gate m n whole h read told step =

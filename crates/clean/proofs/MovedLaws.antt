@@ -5,7 +5,7 @@ use Rattle.clean.proofs.GateLaws.{moved-pairs, moved-plain}
 use Rattle.clean.proofs.LatchLaws.{moved-moving, moved-single}
 use Rattle.clean.proofs.WaveLaws.{all_reached}
 
--- a normalised circuit is normalised after a move over a closed set, where the low copies are
+-- a normalised circuit is normalised after a move over a closed set, if the low copies are
 pub moved_normalised : (m : Move) → MovedIsNormalised m
 moved_normalised m valid netlist in_range set normalised lows = record {
   reached = all_reached m valid netlist in_range set normalised;

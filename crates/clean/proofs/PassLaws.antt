@@ -26,14 +26,14 @@ use Rattle.clean.proofs.OwnLaws.{normalised-own}
 abbrev pub is_inner : Graph → ℕ → Bool
 is_inner g v = nat_le (first_latch g) v && nat_lt v (variables_end g)
 
--- where all latches and gates are reached, each variable stays
+-- if all latches and gates are reached, each variable stays
 pub inner-stays : (g : Graph) (v : ℕ) → v < variables_end g → stays g (is_inner g) v ≡ true
 inner-stays g v h = elim (cases_lt v (first_latch g)) [
   | inl low ↦ stays-low g (is_inner g) v low
   | inr past ↦ stays-reached g (is_inner g) v (and_from (nat_le (first_latch g) v) (nat_lt v (variables_end g)) (le-leb (first_latch g) v past) (lt-ltb v (variables_end g) h))
 ]
 
--- where all is reached, the free latches that stay are all
+-- if all is reached, the free latches that stay are all
 pub kept-all : (c : Netlist) (s : ℕ → Bool) → trimmed_of c s ≡ c → kept_free c.aig s ≡ all_free c.aig
 kept-all c s same =
     let kept : AreKept c (trimmed_of c s) (kept_free c.aig s) = are_kept c s in

@@ -18,7 +18,7 @@ use Rattle.clean.specs.Sweep.{Front, is_marked}
 abbrev netlist_of : Graph → Props → Symbols → Netlist
 netlist_of g p names = record { aig = g; props = p; symbols = names }
 
--- equal graphs, symbols and marks give the same trimmed circuit
+-- equal graphs, symbols and marks give one trimmed circuit
 pub same-trimmed : (g h : Graph) (p : Props) (old new : Symbols) (r t : Front) → g ≡ h → old ≡ new → r ≡ t
     → trimmed_of (record { aig = g; props = p; symbols = old }) (is_marked r) ≡ trimmed_of (record { aig = h; props = p; symbols = new }) (is_marked t)
 same-trimmed g h p old new r t one two three =
@@ -26,7 +26,7 @@ same-trimmed g h p old new r t one two three =
     ∙ ap (λ (n : Symbols). trimmed_of (record { aig = h; props = p; symbols = n }) (is_marked r)) two
     ∙ ap (λ (f : Front). trimmed_of (record { aig = h; props = p; symbols = new }) (is_marked f)) three
 
--- equal graphs and marks give the same trimmed graph
+-- equal graphs and marks give one trimmed graph
 pub same-graph : (g h : Graph) (r t : Front) → g ≡ h → r ≡ t → trimmed_graph g (is_marked r) ≡ trimmed_graph h (is_marked t)
 same-graph g h r t one two = ap (λ (a : Graph). trimmed_graph a (is_marked r)) one ∙ ap (λ (f : Front). trimmed_graph h (is_marked f)) two
 

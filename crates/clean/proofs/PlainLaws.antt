@@ -29,7 +29,8 @@ module _ (g : Graph) (held : List ℕ) (valid : IsGraph g) where
     -- the entry is the gate's own literal
     pub own : get_or substitutes (first_gate g + k) 0 ≡ 2 * (first_gate g + k)
 
-  -- the gates so far that stand for themselves are plain after replacement, each with a pair of its own, and are found among the kept ones
+  -- The gates so far that are their own substitutes are plain after replacement. Each has a pair of
+  -- its own, and is found among the kept ones.
   record ArePlainWhereOwn (m : Merging) : Type 0 where
     below : IsBelow m
     plain : (k : ℕ) (gate : Gate) → slice_get g.gates k ≡ Some gate → IsOwn m.substitutes k → IsPlain (replaced_gate m.substitutes gate)
@@ -79,7 +80,7 @@ module _ (g : Graph) (held : List ℕ) (valid : IsGraph g) where
       below : (o : Option ℕ) → known_substitute m.kept pair ≡ o → IsBelow (with_substitute m pair o)
       below o e = subst (λ p. IsBelow (with_substitute m pair p)) e (below-merge_gate m so_far.below gate first second)
 
-      -- where a literal stands for it, it doesn't stand for itself
+      -- if a literal stands for it, it doesn't stand for itself
       replaced-last : (substitute k : ℕ) → known_substitute m.kept pair ≡ Some substitute → IsOwn (m.substitutes ++ substitute ∷ []) k → first_gate g + k ≡ length m.substitutes → ⊥
       replaced-last substitute k some own last =
           let here : substitute ≡ 2 * (first_gate g + k) = sym (get_or_push m.substitutes substitute 0 (first_gate g + k) (sym last)) ∙ own.own in

@@ -1,4 +1,4 @@
--- All of a moved circuit is reached, where all of the circuit is.
+-- All of a moved circuit is reached, if all of the circuit is.
 use Rattle.std.proofs.Common.{ℕ, ◌+◌, ◌≡◌, ◌⊎◌, inl, inr, suc, zero, List, [], ◌∷◌, Bool, true, false, not, ◌||◌, ◌&&◌, Some, slice_get, refl, arith, ap, sym, ◌∙◌}
 use Rattle.std.specs.List.{list_any, enumerate_from}
 use Rattle.std.proofs.lemmas.Bool.{cases_Bool, and_parts, or_cases, eqb-true, not-true}

@@ -1,4 +1,4 @@
--- What a pass leaves is normalised, where each latch stands for itself.
+-- What a pass leaves is normalised, if each latch is its own substitute.
 use Rattle.std.proofs.Common.{ℕ, ◌+◌, ◌-◌, ◌*◌, ◌<◌, ◌≤◌, ◌≡◌, inl, inr, List, length, map, Bool, true, ◌&&◌, Some, slice_get, get_or, arith, ap, sym, ◌∙◌, subst}
 use Rattle.std.specs.List.{All}
 use Rattle.std.proofs.lemmas.Bool.{cases_lt, and_from, and_parts}
@@ -200,7 +200,7 @@ module _ (held : List ℕ) (c : Netlist) (valid : IsCircuit c) (in_range : All (
         ]
       ]
 
--- what a pass leaves is normalised, where each of its latches stands for itself
+-- what a pass leaves is normalised, if each of its latches is its own substitute
 pub settled-normalised : (held : List ℕ) (c d : Netlist) (kept still : List ℕ) → IsCircuit c → All (λ j. j < length c.aig.latches) held → IsPass held c d kept still → AreOwnLatches d.aig still → IsNormalised still d
 settled-normalised held c d kept still valid in_range pass own = record {
   reached = λ r holds v past less.

@@ -17,7 +17,7 @@ use Rattle.rebuild.proofs.BorderLaws.{closed-passable, latched-latch, latched-me
 use Rattle.rebuild.proofs.MovedLaws.{copies_start-is, gates_start-is}
 use Rattle.clean.specs.Normalised.{IsPlain}
 
--- two numbers that pass and have the same rank are the same
+-- two numbers that pass and have one rank are one
 pub same-rank : (p : ℕ → Bool) (v w : ℕ) → p v ≡ true → p w ≡ true → count_below p v ≡ count_below p w → v ≡ w
 same-rank p v w pv pw same = elim (cases_lt v w) [
   | inl less ↦ absurd (omega (arith, same, count-lt p v w less pv))
@@ -27,7 +27,7 @@ same-rank p v w pv pw same = elim (cases_lt v w) [
   ]
 ]
 
--- two pairs of literals make one gate only if they are the same two
+-- two pairs of literals make one gate only if they have equal members
 pub pair-cases : (x y u v : ℕ) → gate_of x y ≡ gate_of u v → ((x ≡ u) × (y ≡ v)) ⊎ ((x ≡ v) × (y ≡ u))
 pair-cases x y u v same =
     let high : (gate_of x y).rhs0 ≡ (gate_of u v).rhs0 = ap (λ (g : Gate). g.rhs0) same in
@@ -49,7 +49,7 @@ gate-is a b first second =
     let two : ℕ → Gate = λ n. record { rhs0 = b.rhs0; rhs1 = n } in
     ap one first ∙ ap two second
 
--- f gives two gates the same pair only if they are one
+-- f gives two gates one pair only if they are one
 pub pair-one : (f : ℕ → ℕ) (a b : Gate) → a.rhs1 ≤ a.rhs0 → b.rhs1 ≤ b.rhs0
     → (f a.rhs0 ≡ f b.rhs0 → a.rhs0 ≡ b.rhs0) → (f a.rhs1 ≡ f b.rhs1 → a.rhs1 ≡ b.rhs1)
     → (f a.rhs0 ≡ f b.rhs1 → a.rhs0 ≡ b.rhs1) → (f a.rhs1 ≡ f b.rhs0 → a.rhs1 ≡ b.rhs0)
@@ -86,7 +86,8 @@ module _ (m : Move) (set : IsClosedSet m.circuit.aig m.held m.set) where
   pub latched-spot : (v : ℕ) → v < variables_end m.circuit.aig → is_latched m v ≡ true → Spot v
   latched-spot v within kept = at_latch within kept (new_variable-latched m (closed-passable m set.closed) v kept)
 
-  -- a variable that is read from outside the set is read in the moved circuit as itself, its latch or its gate
+  -- a variable that is read from outside the set is read in the moved circuit as itself, its latch
+  -- or its gate
   pub read-spot : (v : ℕ) → v < variables_end m.circuit.aig → is_read m.circuit m.set v ≡ true → Spot v
   read-spot v within read = elim (kind_of m.circuit.aig v within) [
     | is_constant same ↦ at_leaf (omega arith) (new_variable-leaf m (closed-passable m set.closed) v (omega arith))
@@ -127,7 +128,7 @@ module _ (m : Move) (set : IsClosedSet m.circuit.aig m.held m.set) where
   spot-below v (at_latch within kept here) = omega (arith, here, copies_start-is m, gates_start-is m, count-lt (is_latched m) v (variables_end m.circuit.aig) within kept)
   spot-below v (at_gate within outer here) = omega (arith, here, copies_start-is m, count-lt (is_outside m) v (variables_end m.circuit.aig) within outer)
 
-  -- literals that are read as the same literal of the moved circuit are the same
+  -- literals that are read as one literal of the moved circuit are one
   pub literal-one : (a b : ℕ) → Spot (variable a) → Spot (variable b) → moved_literal m a ≡ moved_literal m b → a ≡ b
   literal-one a b sa sb same =
       let vars : new_variable m (variable a) ≡ new_variable m (variable b) = omega (arith, same) in

@@ -58,6 +58,6 @@ replaced-from first lit base v literals same h read within =
     let here : get_or (from_first first literals) (variable lit) 0 ≡ get_or literals (v - first) 0 = ap (λ (w : ℕ). get_or (from_first first literals) w 0) (sym same) ∙ substitute-from first v literals h in
     ap (signed_as lit) (entry ∙ sym here)
 
--- the same, of a table that has these entries
+-- that substitution, of a table that has these entries
 pub long-is : (first : ℕ) (literals table : List ℕ) → from_first first literals ≡ table → length table ≡ first + length literals
 long-is first literals table is = ap (λ (xs : List ℕ). length xs) (sym is) ∙ length-from_first first literals

@@ -215,7 +215,7 @@ module _ (g : Graph) (p : Props) (held : List ℕ) where
   sweep-all-goes n few lits r sweep owed below =
       all-goes (IsGateBelow g n) reach_in_sweep (λ lit. IsOwed g p held lit × (variable lit < n)) (λ s lit sweeps fits. sweep-goes n few s lit sweeps fits.0 fits.1) lits r sweep (λ k d h. (owed k d h, below k d h))
 
-  -- what is read later may change, where marked variables of the kind are of the new one, or were read
+  -- what is read later may change, if marked variables of the kind are of the new one, or were read
   pub sweeps-to : (IsReadLater IsNow : ℕ → Type 0) (r : Front) → ((v : ℕ) → is_marked r v ≡ true → IsReadLater v → IsNow v ⊎ ReadsMarked g r v) → Sweeps g p held IsReadLater r → Sweeps g p held IsNow r
   sweeps-to IsReadLater IsNow r change sweep = record {
     first = sweep.first;
@@ -320,7 +320,7 @@ module _ (g : Graph) (p : Props) (held : List ℕ) where
       (λ gate e. ((λ t holds. (holds.gates v gate e (mine t holds)).0), (λ t holds. (holds.gates v gate e (mine t holds)).1)))
       (λ latch e. (λ t holds. holds.latches v latch e (mine t holds)))
 
-  -- where all that a variable reads is marked, its reads are
+  -- if all that a variable reads is marked, its reads are
   to-marked : (v : ℕ) (s : Front) → All (λ lit. stays g (is_marked s) (variable lit) ≡ true) (reads_of g v) → ReadsMarked g s v
   to-marked v s all =
       let P : ℕ → Type 0 = λ lit. stays g (is_marked s) (variable lit) ≡ true in
@@ -407,7 +407,7 @@ module _ (g : Graph) (p : Props) (held : List ℕ) where
       sweeping-grows IsNothing IsNothing (with_next s v) t before (record { marks = whole.0.grows.marks })
       (sweeps-to Now IsNothing t (λ u e later. inr (subst (λ (w : ℕ). ReadsMarked g t w) (sym later) reads)) whole.0.sweeps)
 
-  -- where none waits, the marks are of what is reached
+  -- if none waits, the marks are of what is reached
   pub sweeping-end : (r : Front) → Sweeping IsNothing r → r.waiting ≡ [] → AreReached g p held (is_marked r)
   sweeping-end r sweep none = record {
     holds = record {

@@ -110,7 +110,7 @@ module _ (g : Graph) (s : ℕ → Bool) where
   new-more v lit old new before pushed is =
       entry 0 v (λ w. 2 * new_variable g s w) old new lit before pushed (is ∙ ap (λ (w : ℕ). 2 * new_variable g s w) (sym (zero-add v)))
 
-  -- the next new variable is one more where this variable stays
+  -- the next new variable is one more if this variable stays
   pub new-next : (v next one : ℕ) (b : Bool) → first_latch g ≤ v → next ≡ new_variable g s v → b ≡ s v → one ≡ cond b 1 0 → next + one ≡ new_variable g s (v + 1)
   new-next v next one b from is mark step =
       let counts : new_variable g s (v + 1) ≡ new_variable g s v + cond (s v) 1 0 =

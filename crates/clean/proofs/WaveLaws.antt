@@ -1,4 +1,4 @@
--- All of a moved circuit is reached, where all of the circuit is.
+-- All of a moved circuit is reached, if all of the circuit is.
 use Rattle.std.proofs.Common.{ℕ, ◌+◌, ◌-◌, ◌*◌, ◌<◌, ◌≤◌, ◌≡◌, inl, inr, List, length, map, Bool, true, false, not, ◌||◌, cond, Option, Some, None, is_some, get_or, refl, arith, ap, sym, ◌∙◌, subst}
 use Rattle.std.specs.List.{All, Contains}
 use Rattle.std.proofs.lemmas.Bool.{cases_Bool, cases_lt, and_parts, and_from, or_cases, or_left, or_right, both_ways, not-true, cond-true, cond-false, leb-true}
@@ -109,7 +109,8 @@ module _ (m : Move) (valid : IsGraph m.circuit.aig) (netlist : IsNetlist m.circu
   wave_at v None = cond (has m.set v) (r (copy_variable m v)) (lives (new_variable m v))
   wave_at v (Some latch) = cond (is_free latch) (lives (new_variable m v)) (lives (new_variable m (variable latch.next)))
 
-  -- what is reached in the moved circuit for a variable: a free latch and a gate outside the set, the next literal of a known latch, the copy of a member
+  -- What is reached in the moved circuit for a variable. It is a free latch and a gate outside the
+  -- set, the next literal of a known latch, the copy of a member.
   abbrev wave : ℕ → Bool
   wave v = wave_at v (latch_at m.circuit.aig v)
 
@@ -138,7 +139,8 @@ module _ (m : Move) (valid : IsGraph m.circuit.aig) (netlist : IsNetlist m.circu
   next-new : (v : ℕ) → latch_at m.circuit.aig v ≡ None → variable (latch_for m v).next ≡ copy_variable m v
   next-new v none = ap (λ (o : Option Latch). variable (latch_from m v o).next) none ∙ omega arith
 
-  -- what is read in the moved circuit in the place of a variable, hands on to what the variable stands for
+  -- what is read in the moved circuit in the place of a variable, hands on to what the variable
+  -- stands for
   hand_on : (w : ℕ) → w < variables_end m.circuit.aig → is_read m.circuit m.set w ≡ true → lives (new_variable m w) ≡ true → stays m.circuit.aig wave w ≡ true
   hand_on w within read e = elim (kind_of m.circuit.aig w within) [
     | is_constant same ↦ stays-low m.circuit.aig wave w (omega arith)

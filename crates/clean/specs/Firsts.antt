@@ -15,7 +15,7 @@ first_literal g held latch n =
 pub record AreFirsts (g : Graph) (held : List ℕ) (n : ℕ) (entries : List (Latch × ℕ)) : Type 0 where
   pub each : (latch : Latch) → is_free latch ≡ false → lookup (same_latch latch) entries ≡ first_literal g held latch n
 
--- the entries, and this latch where it duplicates none
+-- the entries, and this latch if it duplicates none
 abbrev pub entries_after : List (Latch × ℕ) → ℕ → Latch → Option ℕ → List (Latch × ℕ)
 entries_after entries own latch None = entries ++ (latch, own) ∷ []
 entries_after entries own latch (Some literal) = entries

@@ -18,8 +18,8 @@ pub record IsLowCopy (copies : List Gate) (start n : ℕ) (gate : Gate) : Type 0
   pub there : slice_get copies place ≡ Some gate
   pub low : variable gate.rhs1 < start
 
--- among the first n of these copies the low ones, which read a variable below start, are plain, and
--- each is the only one of its pair; their pairs are gathered
+-- Among the first n of these copies the low ones read a variable below start. They are plain, and
+-- each is the only one of its pair; their pairs are gathered.
 pub record AreGathered (copies : List Gate) (start n : ℕ) (pairs : List (Gate × ℕ)) : Type 0 where
   pub plain : (k : ℕ) (gate : Gate) → k < n → slice_get copies k ≡ Some gate → variable gate.rhs1 < start → IsPlain gate
   pub found : (k : ℕ) (gate : Gate) → k < n → slice_get copies k ≡ Some gate → variable gate.rhs1 < start → lookup (same_fan_ins gate) pairs ≡ None → ⊥

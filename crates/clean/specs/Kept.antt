@@ -5,9 +5,9 @@ use Rattle.aig_graph.specs.declared.graph.Gate.{Gate}
 use Rattle.aig_graph.specs.Graph.{variable}
 use Rattle.cleaned_circuits.specs.Merged.{same_fan_ins}
 
--- the variables of entries begin with own; each entry has a gate, and others may follow; by entry 0
--- where its gate isn't kept, else the link to the one before it; by variable, from the first latch
--- on, the link to the last gate of its list; and those that stand in the hash table
+-- The variables of entries begin with own; each entry has a gate, and others may follow. Links are
+-- by entry 0 if its gate isn't kept, else the link to the one before it. Lists are by variable,
+-- from the first latch on, the link to the last gate. Others stand in the hash table.
 pub record Kept : Type 0 where
   pub first : ℕ
   pub own : ℕ
@@ -70,7 +70,7 @@ pub record IsListOf (k : Kept) (v place : ℕ) : Type 0 where
 abbrev pub SameLists : List ℕ → List ℕ → Type 0
 SameLists before after = (place : ℕ) → get_or after place 0 ≡ get_or before place 0
 
--- the link of a kept gate to the one that its list's link led to: 1 where that led to none
+-- the link of a kept gate to the one that its list's link led to: 1 if that led to none
 abbrev pub link_before : ℕ → ℕ
 link_before zero = 1
 link_before (suc n) = suc n

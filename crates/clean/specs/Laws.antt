@@ -28,7 +28,7 @@ abbrev pub CleanedIsNormalised : List ℕ → Netlist → List ℕ → Type 0
 CleanedIsNormalised held c kept = IsGraph c.aig → IsNetlist c → All (λ j. j < length c.aig.latches) held → IsPass held c c kept held → IsNormalised held c
 
 -- nothing is to clean: the circuit is what it is cleaned to, with all its free latches, and the
--- held latches stand where they stood
+-- held latches keep their positions
 pub record IsCleanedAlready (held : List ℕ) (c : Netlist) : Type 0 where
   pub cleans : Cleans c held c (all_free c.aig)
   pub held_after : HeldAfter c held held c
@@ -42,7 +42,7 @@ NothingToClean held c d now s first = let m = move_of d now s in
     → variables_end (moved_graph m) ≤ MAX_VARIABLES → first + length s ≡ length (moved_graph m).gates → AreLowNormalised (moved_graph m) first
     → IsCleanedAlready (moved_held m) (moved_of m)
 
--- the low copies of a normalised circuit are normalised, whichever gates are called copies: so a
--- moved circuit is normalised only if its low copies are
+-- The low copies of a normalised circuit are normalised, whichever gates are called copies. So a
+-- moved circuit is normalised only if its low copies are.
 abbrev pub NormalisedHasNormalisedCopies : List ℕ → Netlist → ℕ → Type 0
 NormalisedHasNormalisedCopies held c first = IsNormalised held c → AreLowNormalised c.aig first

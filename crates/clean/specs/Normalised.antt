@@ -15,8 +15,8 @@ pub record IsPlain (gate : Gate) : Type 0 where
   pub constant : 2 ≤ gate.rhs1
   pub apart : variable gate.rhs1 < variable gate.rhs0
 
--- each latch and gate is reached, no known latch that isn't held is constant or a duplicate of an
--- earlier one, and each gate has a pair of its own
+-- Each latch and gate is reached. No known latch that isn't held is constant or a duplicate of an
+-- earlier one. Each gate has a pair of its own.
 pub record IsNormalised (held : List ℕ) (c : Netlist) : Type 0 where
   pub reached : (r : ℕ → Bool) → HoldsReads c.aig c.props held r → (v : ℕ) → first_latch c.aig ≤ v → v < variables_end c.aig → r v ≡ true
   pub moving : (j : ℕ) (latch : Latch) → slice_get c.aig.latches j ≡ Some latch → is_constant_latch c.aig held j latch ≡ false

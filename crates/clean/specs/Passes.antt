@@ -4,8 +4,8 @@ use Rattle.aig_graph.specs.Circuits.{Netlist}
 use Rattle.aig_graph.specs.Laws.{composed}
 use Rattle.cleaned_circuits.specs.Cleaned.{IsPass}
 
--- e is d after a pass; where kept has the places of d's free latches in an earlier circuit, both
--- has those of e's in the same
+-- e is d after a pass; if kept has the places of d's free latches in an earlier circuit, both has
+-- those of e's there
 pub record IsPassAfter (held : List ℕ) (d e : Netlist) (kept both still_held : List ℕ) : Type 0 where
   pub second : List ℕ
   pub pass : IsPass held d e second still_held

@@ -4,7 +4,7 @@ use Rattle.aig_graph.specs.declared.graph.Latch.{Latch}
 use Rattle.aig_graph.specs.Graph.{Graph, first_latch}
 use Rattle.cleaned_circuits.specs.Latches.{latch_substitute}
 
--- each latch stands for itself: none is constant, and none has the next literal and the known reset
--- of an earlier one, where it isn't held
+-- each latch is its own substitute: none that isn't held is constant, or has the next literal and
+-- the known reset of an earlier one
 abbrev pub AreOwnLatches : Graph → List ℕ → Type 0
 AreOwnLatches g held = (j : ℕ) (latch : Latch) → slice_get g.latches j ≡ Some latch → latch_substitute g held j (Some latch) ≡ 2 * (first_latch g + j)

@@ -38,8 +38,8 @@ with_next r v = record { first = r.first; latches = r.latches; marks = r.marks; 
 unfoldable pub reach : Front → ℕ → Front
 reach r v = if nat_lt v r.first || is_marked r v then r else with_next (mark r v) v
 
--- the same before a sweep has come to the variable: it reads each gate that is marked then, so that
--- no gate has to wait
+-- reaching before a sweep has come to the variable: the sweep reads each gate that is marked then,
+-- so no gate has to wait
 unfoldable pub reach_in_sweep : Front → ℕ → Front
 reach_in_sweep r v = if nat_le (r.first + r.latches) v then mark r v else reach r v
 

@@ -1,8 +1,8 @@
-//! Cleaning, pass after pass. A pass adds nothing, and what it replaces is read no more and goes:
-//! so one that leaves as many latches and gates as there were has changed nothing, and is the last.
-//! After a pass all gates differ and all is reached, so the next one changes something only where a
-//! latch doesn't stand for itself: where each does, it isn't made. What a caller is told of places,
-//! among the free latches and among the gates, is composed over all passes.
+//! Cleaning, pass after pass. A pass adds nothing, and what it replaces is read no more and goes.
+//! So a pass that leaves as many latches and gates as there were has changed nothing, and is the
+//! last. After a pass all gates differ and all are reached. The next pass then changes something
+//! only if a latch isn't its own substitute; otherwise it isn't made. The places that a caller is
+//! told, of the free latches and of the gates, are composed over all passes.
 ghost use Rattle.std.specs.Prelude.{◌≡◌, ◌<◌, ◌≤◌, ◌⊎◌, All, IfOk, false, length, map, slice_index, true};
 ghost use Rattle.std.specs.List.Sorted.{IsStrictlyIncreasing};
 ghost use Rattle.aig_graph.specs.Graph.{free_latches, latches_and_gates};
@@ -30,18 +30,18 @@ pub struct Cleaned {
     /// Of each free latch that stays, its place, from 0, among the free latches of the circuit that
     /// was cleaned.
     pub kept_free: Sequence<u32>,
-    /// By variable from the first latch on, whether a latch or gate of the circuit that was cleaned
-    /// stays; empty where all do. A hint: no clause speaks of it.
+    /// By variable from the first latch on, true if a latch or gate of the circuit that was cleaned
+    /// stays. Empty if all do. A hint: no clause speaks of it.
     pub kept: Vec<bool>,
 }
 
-/// The entries of a first list at the places that a second list names. Where the lists have the
-/// places of the free latches that stay, from one circuit to the next and from that one to a third,
-/// the result has those from the first to the third.
+/// Returns the entries of a first list at the places that a second list names. The lists may have
+/// the places of the free latches that stay, from one circuit to the next and from that one to a
+/// third. The result then has those from the first to the third.
 ///
 /// # Errors
 ///
-/// `NoMemory` where the list is refused.
+/// `NoMemory` if the list is refused.
 pub fn composed(alloc: Global, first: &[u32], second: &[u32]) -> Result<Vec<u32>, NoMemory>
     requires { All (λ place. place < length first.now) second.now }
     ensures { IfOk result (λ places. places.items ≡ composed first.now second.now) }
@@ -53,12 +53,12 @@ pub fn composed(alloc: Global, first: &[u32], second: &[u32]) -> Result<Vec<u32>
     Ok(places)
 }
 
-/// Whether each latch and gate stays over two passes, by the marks of the first pass and by those
-/// of the second, which has one for each that the first keeps. A hint: no clause speaks of it.
+/// Returns the marks of the latches and gates that stay over two passes. The marks of the second
+/// pass are one for each variable that the first keeps. A hint: no clause speaks of it.
 ///
 /// # Errors
 ///
-/// `NoMemory` where the list is refused.
+/// `NoMemory` if the list is refused.
 pub fn kept_twice(alloc: Global, first: &[bool], second: &[bool]) -> Result<Vec<bool>, NoMemory> {
     let mut next = 0usize;
     let mut kept = Vec::with_capacity(alloc, first.len())?;
@@ -70,8 +70,8 @@ pub fn kept_twice(alloc: Global, first: &[bool], second: &[bool]) -> Result<Vec<
     Ok(kept)
 }
 
-/// The pass after a pass. Where the places of the last pass are counted among the free latches of
-/// an earlier circuit, so are those of this one.
+/// Runs the pass after a pass. The places of the last pass may be counted among the free latches of
+/// an earlier circuit; those of this one are then too.
 fn pass_after(alloc: Global, last: &Pass, spare: &mut Substitution) -> Result<Pass, NoMemory>
     requires in_range { All (λ j. j < length last.now.circuit.aig.latches) last.now.held.items }
     requires places { length last.now.kept_free.items ≡ free_latches last.now.circuit.aig }
@@ -84,7 +84,7 @@ fn pass_after(alloc: Global, last: &Pass, spare: &mut Substitution) -> Result<Pa
     Ok(next)
 }
 
-/// The pass after a pass that isn't needed any more.
+/// Runs the pass after a pass, and drops that one.
 fn next_pass(alloc: Global, last: Pass, spare: &mut Substitution) -> Result<Pass, NoMemory>
     requires in_range { All (λ j. j < length last.circuit.aig.latches) last.held.items }
     requires places { length last.kept_free.items ≡ free_latches last.circuit.aig }
@@ -94,7 +94,7 @@ fn next_pass(alloc: Global, last: Pass, spare: &mut Substitution) -> Result<Pass
     pass_after(alloc, &last, spare)
 }
 
-/// Whether each latch of a circuit stands for itself.
+/// Returns true if each latch of a circuit is its own substitute.
 fn is_settled(alloc: Global, circuit: &Circuit, held: &[u32]) -> Result<bool, NoMemory>
     requires { All (λ j. j < length circuit.now.aig.latches) held.now }
     ensures { IfOk result (λ yes. yes ≡ true → AreOwnLatches circuit.now.aig held.now) }
@@ -104,9 +104,9 @@ fn is_settled(alloc: Global, circuit: &Circuit, held: &[u32]) -> Result<bool, No
     are_own_latches(alloc, aig, &held)
 }
 
-/// Whether another pass is to be made of what the last one left, with the latches at these
-/// positions held, before which there were so many latches and gates. One that is made in vain
-/// changes nothing, so where memory for a look at the latches is refused, it is made.
+/// Returns true if another pass is to be made of what the last one left, with the latches at these
+/// positions held. `before` is the number of latches and gates before the last pass. A needless
+/// pass changes nothing, so if memory for a look at the latches is refused, it is made.
 pub fn has_more(alloc: Global, circuit: &Circuit, held: &[u32], before: usize) -> bool
     requires { All (λ j. j < length circuit.now.aig.latches) held.now }
     ensures fewer { result ≡ true → latches_and_gates circuit.now.aig < before }
@@ -122,7 +122,7 @@ pub fn has_more(alloc: Global, circuit: &Circuit, held: &[u32], before: usize) -
     }
 }
 
-/// The same of a pass.
+/// Returns [`has_more`] of a pass.
 fn goes_on(alloc: Global, last: &Pass, before: usize) -> bool
     requires { All (λ j. j < length last.now.circuit.aig.latches) last.now.held.items }
     ensures fewer { result ≡ true → latches_and_gates last.now.circuit.aig < before }
@@ -132,7 +132,7 @@ fn goes_on(alloc: Global, last: &Pass, before: usize) -> bool
     has_more(alloc, &last.circuit, last.held.as_slice(), before)
 }
 
-/// What the last pass leaves.
+/// Returns what the last pass leaves.
 fn cleaned_by(last: Pass) -> Cleaned
     requires { IsStrictlyIncreasing last.held.items }
     ensures circuit { result.circuit ≡ last.circuit }
@@ -153,15 +153,14 @@ fn cleaned_by(last: Pass) -> Cleaned
     }
 }
 
-/// A circuit without its redundant latches and gates, cleaned pass after pass until one would
-/// change nothing.
+/// Cleans a circuit of redundant latches and gates, pass after pass until one would change nothing.
 ///
-/// In a pass a latch that never leaves its reset becomes that constant, and a latch with the next
+/// In a pass a latch that never leaves its reset becomes that constant. A latch with the next
 /// literal and the known reset of an earlier one becomes that one. Gates come down to constants, to
-/// one of their literals, or to an earlier gate of the same literals. What no property and no held
-/// latch rests on goes, and numbers close up. Inputs and properties always stay, and so do the
-/// latches that are held, whose new positions it returns; free latches are never replaced. A latch
-/// that stays keeps its name.
+/// one of their literals, or to an earlier gate of their literals. What no property and no held
+/// latch depends on goes, and numbers close up. Inputs and properties always stay, and so do held
+/// latches, whose new positions it returns. Free latches are never replaced. A latch that stays
+/// keeps its name.
 ///
 /// A pass is linear in the latches, gates, properties and names, but for the hash table of gates. A
 /// circuit of inputs alone takes kilobytes, however many they are.

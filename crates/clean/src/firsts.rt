@@ -34,7 +34,7 @@ impl Model for FirstLatches {
 }
 
 impl FirstLatches {
-    /// No latches.
+    /// Returns a table of no latches.
     pub(crate) fn new(alloc: Global) -> FirstLatches
         ensures { result ≡ [] }
     {
@@ -43,7 +43,7 @@ impl FirstLatches {
         }
     }
 
-    /// The literal of the latch of this next literal and reset.
+    /// Returns the literal of the latch of this next literal and reset.
     fn find(&self, latch: &Latch) -> Option<Lit>
         ensures { result ≡ lookup (same_latch latch.now) self.now }
     {
@@ -59,7 +59,7 @@ impl FirstLatches {
         Ok(())
     }
 
-    /// The literal of the first latch that this one duplicates, which is this one where there is
+    /// Returns the literal of the first latch that this one duplicates, or its own if there is
     /// none.
     pub(crate) fn first_duplicate(&mut self, latch: Latch, own: Lit) -> Result<Lit, NoMemory>
         ensures literal { IfOk result (λ lit. lit ≡ substitute_or_own own

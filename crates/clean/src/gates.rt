@@ -1,7 +1,8 @@
-//! Structural hashing: a gate whose fan-ins, after replacement, say nothing new comes down to a
-//! literal, and one with the fan-ins of a kept gate to that gate's. Fan-ins stand with the larger
-//! literal first, so equal pairs are equal keys. A gate's pair takes the place of what it read in
-//! one table, and only after that was read: its fan-ins come before it, so nothing reads it again.
+//! Structural hashing. A gate whose fan-ins, after replacement, make it redundant comes down to a
+//! literal. One with the fan-ins of a kept gate comes down to that gate's. Fan-ins stand with the
+//! larger literal first, so equal pairs are equal keys. A gate's pair takes the place of its old
+//! fan-ins in one table, after these were read. Fan-ins come before their gate, so nothing reads
+//! the old ones again.
 ghost use Rattle.std.specs.Prelude.{ℕ, ◌≡◌, ◌+◌, ◌*◌, ◌++◌, ◌∷◌, ◌<◌, ◌≤◌, ◌^◌, [], None, Some, OnOk, IfOk, length, map, slice_get};
 ghost use Rattle.std.specs.Map.{lookup};
 ghost use Rattle.aig_graph.specs.Graph.{IsGateAt, variable, first_gate};
@@ -13,7 +14,7 @@ use crate::substitution::Substitution;
 use aig_graph::{Aig, Gate, Lit, NoMemory};
 use std::alloc::Global;
 
-/// The literal that a gate comes down to, where the kept gates are these.
+/// Returns the literal that a gate comes down to, beside these kept gates.
 pub fn known_substitute(kept: &KeptGates, gate: &Gate) -> Option<Lit>
     ensures { result ≡ known_substitute (pairs kept.now) gate.now }
 {
@@ -30,7 +31,8 @@ pub fn known_substitute(kept: &KeptGates, gate: &Gate) -> Option<Lit>
     }
 }
 
-/// What stands for a gate, which gets the next entry and is kept where it comes down to no literal.
+/// Returns the substitute of a gate, which gets the next entry, and is kept if it comes down to no
+/// literal.
 fn substitute_for_gate(kept: &mut KeptGates, gate: Gate) -> Result<Lit, NoMemory>
     requires { next_variable kept.old < 2 ^ 28 }
     ensures literal { IfOk result (λ lit. lit ≡ substitute_or_own (2 * next_variable kept.old)
@@ -48,7 +50,7 @@ fn substitute_for_gate(kept: &mut KeptGates, gate: Gate) -> Result<Lit, NoMemory
     }
 }
 
-/// One more gate, which comes down to a literal or is kept. Its entry is what stands for its
+/// Adds a gate, which comes down to a literal or is kept. Its entry has the substitutes of its
 /// literals.
 fn merge_gate(
     kept: &mut KeptGates,
@@ -70,8 +72,8 @@ fn merge_gate(
     Ok(())
 }
 
-/// What stands for each variable, where `substitutes` has the variables before the gates, and none
-/// of these has an entry yet. What stands for a gate's literals takes their place.
+/// Adds the substitutes of all gates, none of which has an entry yet; `substitutes` has those of
+/// the variables before them. Each gate's entry takes the substitutes of its literals.
 fn merge_all(kept: &mut KeptGates, substitutes: &mut Substitution) -> Result<(), NoMemory>
     requires none { pairs kept.old ≡ [] }
     requires before { kept.old.before ≡ [] }
@@ -94,7 +96,7 @@ fn merge_all(kept: &mut KeptGates, substitutes: &mut Substitution) -> Result<(),
     Ok(())
 }
 
-/// A copy of the gates.
+/// Returns a copy of the gates.
 fn copied_gates(alloc: Global, aig: &Aig) -> Result<Vec<Gate>, NoMemory>
     ensures { IfOk result (λ gates. gates.items ≡ aig.now.gates) }
 {
@@ -103,8 +105,8 @@ fn copied_gates(alloc: Global, aig: &Aig) -> Result<Vec<Gate>, NoMemory>
     Ok(gates)
 }
 
-/// What stands for each variable, where `substitutes` has the variables before the gates. Returns
-/// each gate with what stands for its literals.
+/// Adds the substitutes of all gates to those of the variables before them. Returns each gate with
+/// the substitutes of its literals.
 pub(crate) fn merged_gates(
     alloc: Global,
     aig: &Aig,
@@ -125,7 +127,7 @@ pub(crate) fn merged_gates(
     Ok(kept.into_gates())
 }
 
-/// What stands for each variable, where `substitutes` has the variables before the gates.
+/// Adds the substitutes of all gates to those of the variables before them.
 pub fn merge_gates(alloc: Global, aig: &Aig, substitutes: &mut Substitution) -> Result<(), NoMemory>
     requires { length substitutes.old ≡ first_gate aig.now }
     ensures { OnOk result (substitutes.new ≡

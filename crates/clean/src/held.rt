@@ -14,7 +14,7 @@ pub struct Held<'a> {
 }
 
 impl<'a> Held<'a> {
-    /// The held latches at these positions, among so many latches.
+    /// Marks the held latches at these positions, in a table of `latches` latches.
     pub fn new(alloc: Global, positions: &'a [u32], latches: usize) -> Result<Held<'a>, NoMemory>
         ensures positions { IfOk result (λ held. held.positions.now ≡ positions.now) }
         ensures long { IfOk result (λ held. length held.marks.items ≡ latches) }
@@ -23,7 +23,7 @@ impl<'a> Held<'a> {
         Ok(Held { positions, marks })
     }
 
-    /// Whether the latch at a position is held.
+    /// Returns true if the latch at a position is held.
     pub fn has(&self, position: usize) -> bool
         requires { position < length self.now.marks.items }
         ensures { result ≡ has self.now.positions.now position }

@@ -1,9 +1,9 @@
-//! Gates with an entry each, of which some are kept, by linked lists of the kept ones that have one
-//! larger fan-in: in circuits these are few, so a look at one or two gates takes the place of a
-//! hash. A list takes `LONGEST` gates at most; what would make it longer, and gates that read
-//! inputs alone, stand in a hash table. Which of the two a gate stands in is for speed alone: a
-//! gate is looked for in both. Entries are written over a table of gates from its first place on,
-//! so what a circuit reads gives way to what it comes to read.
+//! Gates with an entry each, some of which are kept, by linked lists of the kept ones that have one
+//! larger fan-in. In circuits these are few, so a look at one or two gates takes the place of a
+//! hash. A list takes `LONGEST` gates at most. Gates that would make it longer, and gates that read
+//! inputs alone, stand in a hash table. The place of a gate is for speed alone: it is looked for in
+//! both. Entries are written over a table of gates from its first place on, so new fan-ins take the
+//! places of old ones.
 ghost use Rattle.std.specs.Prelude.{◌≡◌, ◌+◌, ◌*◌, ◌<◌, ◌≤◌, ◌^◌, ◌++◌, ◌∷◌, [], None, IfOk, IfSome, OnErr, OnOk, get_or, length};
 ghost use Rattle.std.specs.Map.{lookup};
 ghost use Rattle.cleaned_circuits.specs.Merged.{same_fan_ins};
@@ -28,11 +28,11 @@ pub struct KeptGates {
     own: u32,
     /// By entry its gate. Gates that have no entry yet may follow.
     gates: Vec<Gate>,
-    /// By entry 0 where the gate isn't kept, else the link to the kept gate before it in its list.
-    /// A link is two more than an entry's number.
+    /// By entry 0 if the gate isn't kept, else the link to the kept gate before it in its list. A
+    /// link is an entry's number plus two.
     before: Vec<u32>,
     /// By variable from the first latch on, the link to the last gate that has it as its larger
-    /// fan-in, and 0 where there is none.
+    /// fan-in. 0 if there is none.
     lists: Vec<u32>,
     rest: IndexMap<Gate, Lit>,
 }
@@ -85,7 +85,7 @@ fn insert_new(rest: &mut IndexMap<Gate, Lit>, gate: Gate, lit: Lit) -> Result<()
     Ok(())
 }
 
-/// Adds empty lists until there are so many.
+/// Adds empty lists until there are `count`.
 fn widen(lists: &mut Vec<u32>, count: usize) -> Result<(), NoMemory>
     ensures { SameLists lists.old.items lists.new.items }
 {
@@ -95,7 +95,7 @@ fn widen(lists: &mut Vec<u32>, count: usize) -> Result<(), NoMemory>
     Ok(())
 }
 
-/// The link of a kept gate, by what its list's link was.
+/// Returns the link of a kept gate, by the former link of its list.
 fn link_before(last: u32) -> u32
     ensures { result ≡ link_before last }
 {
@@ -116,8 +116,8 @@ fn put(gates: &mut Vec<Gate>, place: usize, gate: Gate) -> Result<(), NoMemory>
 }
 
 impl KeptGates {
-    /// No entries yet, of a circuit with such variables, over a table of gates. The first entry is
-    /// to have the variable `own`.
+    /// Returns gates without an entry, of a circuit with this graph's variables, over a table of
+    /// gates. The first entry is to have the variable `own`.
     pub fn over(alloc: Global, aig: &Aig, own: u32, gates: Vec<Gate>) -> Result<KeptGates, NoMemory>
         requires { own ≤ 2 ^ 28 }
         ensures pairs { IfOk result (λ kept. pairs kept ≡ []) }
@@ -138,7 +138,7 @@ impl KeptGates {
         })
     }
 
-    /// The gates, of those that have an entry and of those that have none.
+    /// Returns the gates, both those that have an entry and those that have none.
     pub(crate) fn into_gates(self) -> Vec<Gate>
         ensures { result.items ≡ self.gates }
     {
@@ -153,14 +153,14 @@ impl KeptGates {
         gates
     }
 
-    /// How many gates there are, with those that have no entry yet.
+    /// Returns the number of gates, with those that have no entry yet.
     pub(crate) fn len(&self) -> usize
         ensures { result ≡ length self.now.gates }
     {
         self.gates.len()
     }
 
-    /// The gate at a place.
+    /// Returns the gate at a place.
     pub(crate) fn gate(&self, place: usize) -> Gate
         requires { place < length self.now.gates }
         ensures { result ≡ get_or self.now.gates place no_gate }
@@ -168,7 +168,7 @@ impl KeptGates {
         self.gates[place]
     }
 
-    /// The variable of the next entry.
+    /// Returns the variable of the next entry.
     pub fn next_variable(&self) -> u32
         ensures value { result ≡ next_variable self.now }
         ensures few { result ≤ 2 ^ 28 }
@@ -176,7 +176,7 @@ impl KeptGates {
         self.own + self.before.len() as u32
     }
 
-    /// The link to the last gate of a variable's list.
+    /// Returns the link to the last gate of a variable's list.
     #[tactic(auto, unfolding(crate::specs::Kept::last_of))]
     fn last_of(&self, var: u32) -> u32
         ensures { result ≡ last_of self.now var }
@@ -189,7 +189,7 @@ impl KeptGates {
         }
     }
 
-    /// The literal of the gate of these literals on the list of its larger fan-in.
+    /// Returns the literal of the gate of these literals on the list of its larger fan-in.
     fn listed(&self, gate: Gate) -> Option<Lit>
         ensures { result ≡ listed self.now gate }
     {
@@ -204,7 +204,7 @@ impl KeptGates {
         None
     }
 
-    /// The literal of the kept gate of these literals.
+    /// Returns the literal of the kept gate of these literals.
     pub fn find(&self, gate: Gate) -> Option<Lit>
         ensures { result ≡ lookup (same_fan_ins gate) (pairs self.now) }
     {
@@ -214,7 +214,7 @@ impl KeptGates {
         }
     }
 
-    /// The place of a variable among the lists, where its list takes one more gate.
+    /// Returns the index of a variable's list, if that takes one more gate.
     fn room_of(&self, var: u32) -> Option<usize>
         ensures { IfSome result (λ place. IsListOf self.now var place) }
     {
@@ -232,7 +232,7 @@ impl KeptGates {
         }
     }
 
-    /// Whether the list that a link begins takes one more gate.
+    /// Returns true if the list that a link begins takes one more gate.
     fn is_short(&self, last: u32) -> bool {
         let mut link = last;
         for _ in 0..LONGEST {
@@ -248,7 +248,7 @@ impl KeptGates {
         link <= END
     }
 
-    /// Gives a variable a list, where it comes after those of the circuit.
+    /// Gives a variable a list, if it comes after those of the circuit.
     pub fn cover(&mut self, var: u32) -> Result<(), NoMemory>
         ensures pairs { pairs self.new ≡ pairs self.old }
         ensures next { next_variable self.new ≡ next_variable self.old }

@@ -1,6 +1,7 @@
-//! What stands for a latch: its reset's constant, where it never leaves that; else the first latch
-//! with its next literal and its known reset; else itself. Two free latches are never one, since
-//! they may begin with different values. A held latch stands for itself, and others may become it.
+//! The substitute of a latch: its reset's constant, if it never leaves that. Otherwise it is the
+//! first latch with its next literal and its known reset, or the latch itself. Two free latches are
+//! never one, since they may begin with different values. A held latch is its own substitute, and
+//! others may become it.
 ghost use Rattle.std.specs.Prelude.{◌≡◌, ◌<◌, ◌+◌, ◌*◌, ◌&&◌, ◌||◌, ◌==◌, not, slice_get, length, true, Some, OnOk, IfOk};
 ghost use Rattle.aig_graph.specs.Graph.{first_latch, first_gate, is_free};
 ghost use Rattle.aig_graph.specs.Tables.{table};
@@ -15,7 +16,7 @@ use crate::substitution::Substitution;
 use aig_graph::{Aig, Latch, Lit, NoMemory, Reset};
 use std::alloc::Global;
 
-/// The constant of a known reset.
+/// Returns the constant of a known reset.
 pub fn constant_of(reset: Reset) -> Lit
     ensures { result ≡ constant_of reset }
 {
@@ -26,7 +27,7 @@ pub fn constant_of(reset: Reset) -> Lit
     }
 }
 
-/// Whether the latch is known, isn't held, and reads itself or the constant of its reset.
+/// Returns true if the latch is known, isn't held, and reads itself or the constant of its reset.
 fn is_constant_latch(latch: Latch, own: Lit, is_held: bool) -> bool
     ensures { result ≡ (not (is_free latch) && not is_held &&
         (latch.next == own || latch.next == constant_of latch.reset)) }
@@ -35,7 +36,7 @@ fn is_constant_latch(latch: Latch, own: Lit, is_held: bool) -> bool
     (latch.reset != Reset::Free) & !is_held & stays
 }
 
-/// The literal of the latch at a place.
+/// Returns the literal of the latch at a place.
 pub fn own_literal(aig: &Aig, place: usize) -> Lit
     requires { place < length aig.now.latches }
     ensures { result ≡ 2 * (first_latch aig.now + place) }
@@ -43,7 +44,7 @@ pub fn own_literal(aig: &Aig, place: usize) -> Lit
     Lit::new(aig.first_latch() + place as u32, false)
 }
 
-/// What stands for the latch at a place, where the first latches before it are these.
+/// Returns the substitute of the latch at a place, beside the first latches before it.
 pub(crate) fn substitute_for_latch(
     firsts: &mut FirstLatches,
     aig: &Aig,
@@ -71,7 +72,7 @@ pub(crate) fn substitute_for_latch(
     if is_held { Ok(own) } else { Ok(first) }
 }
 
-/// What stands for each latch, where `substitutes` has the variables before them.
+/// Adds the substitute of each latch to those of the variables before them.
 pub(crate) fn latch_substitutes(
     alloc: Global,
     aig: &Aig,
@@ -91,7 +92,7 @@ pub(crate) fn latch_substitutes(
     Ok(())
 }
 
-/// Whether each latch stands for itself.
+/// Returns true if each latch is its own substitute.
 pub(crate) fn are_own_latches(alloc: Global, aig: &Aig, held: &Held<'_>) -> Result<bool, NoMemory>
     requires held { length held.now.marks.items ≡ length aig.now.latches }
     ensures { IfOk result (λ yes. yes ≡ true → AreOwnLatches aig.now held.now.positions.now) }

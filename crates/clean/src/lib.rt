@@ -1,7 +1,6 @@
-//! Structural cleaning of circuits: constant and duplicate latches, gates that say nothing new, and
-//! what no property rests on. What a pass is made of is lent to whatever merges latches by another
-//! rule. A circuit is normalised where nothing is left to clean; laws say when a moved circuit is
-//! one.
+//! Structural cleaning of circuits: constant and duplicate latches, redundant gates, and what no
+//! property depends on. The parts of a pass are lent to whatever merges latches by another rule. A
+//! circuit is normalised if nothing is left to clean; laws say when a moved circuit is.
 #![tactic(auto)]
 
 mod cleaning;

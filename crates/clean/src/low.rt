@@ -1,7 +1,7 @@
-//! Whether the low copies of a moved circuit are normalised. Low copies are those that read a
-//! variable below all copies: only such a one can be equal to another gate, or come down to less.
-//! So these alone are put in a table, in which the gates outside are looked up, where a mark says
-//! that the smaller variable of a gate is one of a pair's.
+//! Low copies of a moved circuit, which are to be normalised. They are those that read a variable
+//! below all copies. Only such a copy can be equal to another gate, or come down to less. So these
+//! alone are put in a table, in which the gates outside are looked up. A gate is looked up only if
+//! a mark says that its smaller variable is one of a pair's.
 ghost use Rattle.std.specs.Prelude.{◌≡◌, ◌-◌, ◌≤◌, ◌↔◌, true, false, [], IfOk, IsTrue, is_some, length};
 ghost use Rattle.std.specs.Map.{lookup};
 ghost use Rattle.aig_graph.specs.Graph.{first_gate};
@@ -13,15 +13,15 @@ use crate::pairs::Pairs;
 use aig_graph::{Aig, Gate, NoMemory, mark_at, mark_variable};
 use std::alloc::Global;
 
-/// Whether a gate reads two variables, and neither is the constant.
+/// Returns true if a gate reads two variables, and neither is the constant.
 fn is_plain(gate: &Gate) -> bool
     ensures { result ≡ is_plain gate.now }
 {
     gate.rhs1.code() >= 2 && gate.rhs1.var() < gate.rhs0.var()
 }
 
-/// Gathers the pairs of the copies that read a variable below `start`; false where one isn't plain
-/// or isn't the only one of its pair. Marks the smaller variable of each pair.
+/// Gathers the pairs of the copies that read a variable below `start`, and marks the smaller
+/// variable of each pair. Returns false if one isn't plain or isn't the only one of its pair.
 fn gather(
     pairs: &mut Pairs,
     marks: &mut [bool],
@@ -47,7 +47,7 @@ fn gather(
     Ok(true)
 }
 
-/// Whether the gate has one of the pairs. The table is asked only where the mark is set.
+/// Returns true if the gate has one of the pairs. The table is asked only if the mark is set.
 fn is_among(pairs: &Pairs, marks: &[bool], gate: &Gate) -> bool
     requires { AreMarked pairs.now marks.now }
     ensures { result ≡ is_some (lookup (same_fan_ins gate.now) pairs.now) }
@@ -59,7 +59,7 @@ fn is_among(pairs: &Pairs, marks: &[bool], gate: &Gate) -> bool
     }
 }
 
-/// Whether none of the gates has one of the pairs.
+/// Returns true if none of the gates has one of the pairs.
 fn are_new(pairs: &Pairs, marks: &[bool], gates: &[Gate]) -> bool
     requires { AreMarked pairs.now marks.now }
     ensures yes { result ≡ true → AreNew gates.now pairs.now (length gates.now) }
@@ -73,7 +73,8 @@ fn are_new(pairs: &Pairs, marks: &[bool], gates: &[Gate]) -> bool
     true
 }
 
-/// Whether each low copy is plain and has a pair of its own. The last `copies` gates are copies.
+/// Returns true if each low copy is plain and has a pair of its own. The last `copies` gates are
+/// copies.
 pub fn are_low_normalised(alloc: Global, aig: &Aig, copies: usize) -> Result<bool, NoMemory>
     requires { copies ≤ length aig.now.gates }
     ensures { IfOk result (λ yes. IsTrue yes ↔ AreLowNormalised aig.now (length aig.now.gates - copies)) }

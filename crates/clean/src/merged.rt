@@ -58,7 +58,7 @@ fn replaced_gates(
     Ok(gates)
 }
 
-/// The graph, reading what stands for what it reads, as its gates do already.
+/// Returns the graph whose latches read substitutes, as its gates do already.
 fn replaced_aig(
     alloc: Global,
     aig: &Aig,
@@ -74,11 +74,11 @@ fn replaced_aig(
     Ok(Aig::from_parts(aig.inputs(), latches, gates))
 }
 
-/// The circuit, reading what stands for what it reads. Nothing goes, and names stay.
+/// Returns the circuit in which substitutes are read. Nothing goes, and names stay.
 ///
 /// # Errors
 ///
-/// `NoMemory` where memory is refused.
+/// `NoMemory` if memory is refused.
 pub fn replaced_circuit(
     alloc: Global,
     circuit: &Circuit,
@@ -96,8 +96,8 @@ pub fn replaced_circuit(
     Ok(Circuit::new(aig, props, symbols))
 }
 
-/// The circuit, reading what stands for what it reads, as its gates do already: for each variable
-/// what a pass with these latches held puts in its place.
+/// Returns the circuit in which substitutes are read, as its gates do already. They are those of a
+/// pass with these latches held.
 pub(crate) fn merged_by(
     alloc: Global,
     circuit: &Circuit,

@@ -1,4 +1,4 @@
-//! Cleaning where latches are held by their names.
+//! Cleaning with latches held by their names.
 ghost use Rattle.std.specs.Prelude.{IfOk};
 ghost use Rattle.aig_graph.specs.Keep.{NoneMissing, held_in, names_of};
 ghost use Rattle.aig_graph.specs.Streams.{SameStreams};
@@ -8,8 +8,8 @@ use crate::cleaning::{Cleaned, clean};
 use aig_graph::{Circuit, NoMemory, keep_by_names};
 use std::alloc::Global;
 
-/// A circuit, cleaned as by [`clean`], where the latches stay that the names hold; it has latches
-/// of all names.
+/// Cleans a circuit as [`clean`] does, with the latches of these names held. The circuit has
+/// latches of all of them.
 pub fn clean_by_names(
     alloc: Global,
     circuit: &Circuit,

@@ -7,7 +7,7 @@ use crate::trim::Trim;
 use aig_graph::{NoMemory, Sequence, Symbol, Symbols};
 use std::alloc::Global;
 
-/// The names of the latches that stay, at the new positions of these.
+/// Returns the names of the latches that stay, at the new positions of these.
 fn latch_names(
     alloc: Global,
     trim: &Trim<'_>,
@@ -28,7 +28,7 @@ fn latch_names(
     Ok(Sequence::from_vec(copies))
 }
 
-/// The names of what stays.
+/// Returns the names of what stays.
 pub(crate) fn trimmed_symbols(
     alloc: Global,
     trim: &Trim<'_>,
@@ -42,7 +42,7 @@ pub(crate) fn trimmed_symbols(
     symbols.with_latches(alloc, latches)
 }
 
-/// A copy of the names.
+/// Returns a copy of the names.
 pub(crate) fn copied_symbols(alloc: Global, symbols: &Symbols) -> Result<Symbols, NoMemory>
     ensures { IfOk result (λ copy. copy ≡ symbols.now) }
 {

@@ -23,7 +23,7 @@ impl Model for Pairs {
 }
 
 impl Pairs {
-    /// No pairs.
+    /// Returns a table of no pairs.
     pub(crate) fn new(alloc: Global) -> Pairs
         ensures { result ≡ [] }
     {
@@ -32,7 +32,7 @@ impl Pairs {
         }
     }
 
-    /// The literal beside the pair.
+    /// Returns the literal beside the pair.
     pub(crate) fn find(&self, gate: Gate) -> Option<Lit>
         ensures { result ≡ lookup (same_fan_ins gate) self.now }
     {

@@ -30,8 +30,8 @@ pub(crate) struct Pass {
     pub(crate) held: Vec<u32>,
 }
 
-/// The merged circuit, without what isn't reached. The new literals take the place of what the
-/// table held.
+/// Returns the merged circuit, without what isn't reached. The new literals take the place of what
+/// the table held.
 pub(crate) fn trimmed(
     alloc: Global,
     circuit: &Circuit,
@@ -63,8 +63,8 @@ pub(crate) fn trimmed(
     })
 }
 
-/// One pass over a circuit, with the latches at these positions held. What literals are replaced
-/// by, in both of its halves, takes the place of what the table held.
+/// Runs one pass over a circuit, with the latches at these positions held. The substitutes, in both
+/// of its halves, take the place of what the table held.
 pub(crate) fn run_pass(
     alloc: Global,
     circuit: &Circuit,

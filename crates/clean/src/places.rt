@@ -4,7 +4,7 @@ ghost use Rattle.aig_graph.specs.Laws.{all_free};
 use aig_graph::{Aig, NoMemory, Sequence};
 use std::alloc::Global;
 
-/// The place of each free latch among the free latches, where all stay.
+/// Returns the place of each free latch among the free latches, if all stay.
 pub fn all_places(alloc: Global, aig: &Aig) -> Result<Sequence<u32>, NoMemory>
     ensures { IfOk result (λ places. places ≡ all_free aig.now) }
 {

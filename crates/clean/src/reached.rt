@@ -1,8 +1,8 @@
-//! What the properties and the held latches rest on: a sweep over the gates from the last to the
-//! first, and a walk over what it leaves. Fan-ins come before their gates, so a gate that a
-//! property or a later gate reads is marked when the sweep comes to it, and needn't wait; latches
-//! do. The walk reads what waits, the last one first: the gates behind a latch's next literal lie
-//! close together.
+//! The latches and gates that the properties and the held latches depend on. They are found by a
+//! sweep over the gates from the last to the first, and a walk. Fan-ins come before their gates. So
+//! a gate that a property or a later gate reads is marked when the sweep comes to it. It needn't
+//! wait; latches do. The walk reads the waiting variables, the last one first: the gates behind a
+//! latch's next literal lie close together.
 ghost use Rattle.std.specs.Prelude.{◌≡◌, ◌+◌, ◌*◌, ◌<◌, ◌≤◌, ◌∷◌, All, IfOk, OnOk, MatchOption, [], length, map};
 ghost use Rattle.std.specs.List.{flat_map};
 ghost use Rattle.aig_graph.specs.Graph.{variable, first_latch, variables_end, IsLiteralOf, latch_at};
@@ -15,9 +15,9 @@ use aig_graph::{Aig, Gate, Lit, NoMemory, Props, Sequence, mark_at};
 use std::alloc::Global;
 use std::marker::Model;
 
-/// The latches and gates that are reached: a mark for each variable from the first latch on, and
-/// the marked variables that wait to be read, the next one last. A variable waits once at most, so
-/// a walk that reads what waits is linear.
+/// The latches and gates that are reached. There is a mark for each variable from the first latch
+/// on. The marked variables that wait to be read are in a list, the next one last. A variable waits
+/// once at most, so the walk is linear.
 pub(crate) struct Reached {
     first: u32,
     latches: usize,
@@ -54,7 +54,7 @@ impl Model for Reached {
 }
 
 impl Reached {
-    /// None of a graph's latches and gates.
+    /// Returns marks of none of a graph's latches and gates.
     fn none(alloc: Global, aig: &Aig) -> Result<Reached, NoMemory>
         ensures { IfOk result (λ r. r ≡ no_front aig.now) }
     {
@@ -69,8 +69,7 @@ impl Reached {
         })
     }
 
-    /// Marks the literal's variable and lets it wait, where it is a latch or a gate and isn't
-    /// marked.
+    /// Marks the literal's variable and lets it wait, if it is a latch or a gate and isn't marked.
     fn reach(&mut self, lit: Lit) -> Result<(), NoMemory>
         requires { variable lit < front_end self.old }
         ensures { OnOk result (self.new ≡ reach self.old (variable lit)) }
@@ -87,7 +86,8 @@ impl Reached {
         Ok(())
     }
 
-    /// The same before the sweep has come to the variable: a gate is marked alone.
+    /// Marks the literal's variable before the sweep has come to it: a latch waits, a gate is
+    /// marked alone.
     fn reach_in_sweep(&mut self, lit: Lit) -> Result<(), NoMemory>
         requires { variable lit < front_end self.old }
         ensures { OnOk result (self.new ≡ reach_in_sweep self.old (variable lit)) }
@@ -152,7 +152,7 @@ impl Reached {
         Ok(())
     }
 
-    /// Whether the gate at a place among the gates is reached.
+    /// Returns true if the gate at a place among the gates is reached.
     fn has_gate(&self, place: usize) -> bool
         requires { self.now.latches + place < length self.now.marks }
         ensures { result ≡ is_marked self.now (self.now.first + self.now.latches + place) }
@@ -194,14 +194,14 @@ impl Reached {
         self.waiting.pop()
     }
 
-    /// By variable from the first latch on, whether it is reached.
+    /// Returns the marks of what is reached, by variable from the first latch on.
     pub(crate) fn copied_marks(&self, alloc: Global) -> Result<Vec<bool>, NoMemory> {
         let mut marks = Vec::new(alloc);
         marks.extend_from_slice(self.marks.as_slice())?;
         Ok(marks)
     }
 
-    /// Whether the latch or the gate at a variable is reached.
+    /// Returns true if the latch or the gate at a variable is reached.
     pub(crate) fn has(&self, var: u32) -> bool
         ensures { result ≡ is_marked self.now var }
     {
@@ -209,7 +209,7 @@ impl Reached {
     }
 }
 
-/// What the held latches and the properties rest on.
+/// Returns what the held latches and the properties depend on.
 pub(crate) fn reach_everything(
     alloc: Global,
     aig: &Aig,

@@ -11,10 +11,9 @@ use crate::substitution::Substitution;
 use aig_graph::{Aig, Gate, NoMemory};
 use std::alloc::Global;
 
-/// What stands for each variable: for a constant latch its constant, for a latch or a gate the
-/// first one that it duplicates, and for a gate that says nothing new the literal that it comes
-/// down to. They take the place of what the table held. Returns each gate with what stands for its
-/// literals.
+/// Fills the table with the substitute of each variable. A constant latch has its constant, and a
+/// duplicate latch or gate the first one of its kind. A redundant gate has the literal that it
+/// comes down to. Returns each gate with the substitutes of its literals.
 fn fill_substitutes(
     alloc: Global,
     aig: &Aig,
@@ -32,7 +31,7 @@ fn fill_substitutes(
     merged_gates(alloc, aig, substitutes)
 }
 
-/// The same, where the latches at these positions are held.
+/// Fills the table as [`fill_substitutes`] does, with the latches at these positions held.
 pub(crate) fn put_substitutes(
     alloc: Global,
     aig: &Aig,

@@ -1,6 +1,6 @@
-//! What each variable is replaced by, in both steps of a pass: the literals that stand for others
-//! after merging, and the new numbers of what is kept. A table grows as the graph is walked, so a
-//! gate's fan-ins have their entries before the gate is met.
+//! The substitute of each variable, in both steps of a pass: the literals after merging, and the
+//! new numbers of what is kept. A table grows as the graph is walked, so a gate's fan-ins have
+//! their entries before the gate is met.
 ghost use Rattle.std.specs.Prelude.{◌≡◌, ◌+◌, ◌<◌, ◌≤◌, ◌^◌, ◌++◌, ◌∷◌, [], IfOk, OnOk, length};
 ghost use Rattle.aig_graph.specs.Graph.{variable};
 ghost use Rattle.cleaned_circuits.specs.Merged.{replaced, replaced_gate, replaced_latch};
@@ -11,7 +11,7 @@ use std::alloc::Global;
 use std::marker::Model;
 
 /// A literal for each variable. The variables before the first latch, the constant and the inputs,
-/// stand for themselves and take no room: a circuit may have 2^28 - 1 inputs and nothing else.
+/// are their own substitutes and take no room. A circuit may have 2^28 - 1 inputs and nothing else.
 pub struct Substitution {
     first: u32,
     literals: Vec<Lit>,
@@ -39,7 +39,7 @@ impl Model for Substitution {
 }
 
 impl Substitution {
-    /// The variables before `first`, with room for `room` more.
+    /// Returns a table of the variables before `first`, with room for `room` more.
     pub fn new(alloc: Global, first: u32, room: usize) -> Result<Substitution, NoMemory>
         requires { first ≤ 2 ^ 28 }
         ensures { IfOk result (λ s. s ≡ own_literals first) }
@@ -48,7 +48,7 @@ impl Substitution {
         Ok(Substitution { first, literals })
     }
 
-    /// No variable.
+    /// Returns a table of no variable.
     pub(crate) fn none(alloc: Global) -> Substitution {
         Substitution {
             first: 0,
@@ -56,8 +56,8 @@ impl Substitution {
         }
     }
 
-    /// The variables before `first`, with room for `room` more, in place of what the table held and
-    /// in its memory.
+    /// Begins the table anew with the variables before `first` and room for `room` more, in its own
+    /// memory.
     pub(crate) fn renew(&mut self, first: u32, room: usize) -> Result<(), NoMemory>
         requires { first ≤ 2 ^ 28 }
         ensures { OnOk result (self.new ≡ own_literals first) }
@@ -68,7 +68,7 @@ impl Substitution {
         Ok(())
     }
 
-    /// The number of variables.
+    /// Returns the number of variables.
     pub(crate) fn len(&self) -> u32
         ensures long { result ≡ length self.now }
         ensures few { result ≤ 2 ^ 28 }
@@ -76,7 +76,7 @@ impl Substitution {
         self.first + self.literals.len() as u32
     }
 
-    /// A literal for the next variable.
+    /// Adds a literal for the next variable.
     pub fn push(&mut self, lit: Lit) -> Result<(), NoMemory>
         requires { length self.old < 2 ^ 28 }
         ensures { OnOk result (self.new ≡ self.old ++ lit ∷ []) }
@@ -85,7 +85,7 @@ impl Substitution {
         Ok(())
     }
 
-    /// What stands for a literal.
+    /// Returns the substitute of a literal.
     pub fn literal(&self, lit: Lit) -> Lit
         requires { variable lit < length self.now }
         ensures { result ≡ replaced self.now lit }
@@ -97,7 +97,7 @@ impl Substitution {
         self.literals[(var - self.first) as usize].signed_as(lit)
     }
 
-    /// The latch that reads what stands for its next literal.
+    /// Returns the latch with the substitute of its next literal.
     pub(crate) fn latch(&self, latch: Latch) -> Latch
         requires { variable latch.next < length self.now }
         ensures { result ≡ replaced_latch self.now latch }
@@ -108,7 +108,7 @@ impl Substitution {
         }
     }
 
-    /// The gate of what stands for a gate's literals.
+    /// Returns the gate with the substitutes of its literals.
     pub(crate) fn gate(&self, gate: Gate) -> Gate
         requires first { variable gate.rhs0 < length self.now }
         requires second { variable gate.rhs1 < length self.now }

@@ -1,4 +1,4 @@
-//! A pass that tells what became of each latch, so that what a later circuit's latches hold can be
+//! A pass that tells what became of each latch. So the values of a later circuit's latches can be
 //! told by those of an earlier one.
 ghost use Rattle.std.specs.Prelude.{◌≡◌, ◌<◌, ◌+◌, All, IfOk, length, slice_get};
 ghost use Rattle.aig_graph.specs.Graph.{first_latch};
@@ -36,7 +36,7 @@ pub struct TracedPass {
     pub kept: Vec<bool>,
 }
 
-/// What stands for each latch, by what stands for each variable.
+/// Returns the substitute of each latch, by those of all variables.
 fn latch_literals(
     alloc: Global,
     aig: &Aig,
@@ -55,7 +55,7 @@ fn latch_literals(
     Ok(literals)
 }
 
-/// Whether each latch is reached.
+/// Returns the marks of the latches that are reached.
 fn stays_of(alloc: Global, aig: &Aig, reached: &Reached) -> Result<Vec<bool>, NoMemory>
     ensures { IfOk result (λ stays. stays.items ≡ table 0 (length aig.now.latches)
         (λ j. is_marked reached.now (first_latch aig.now + j))) }
@@ -68,9 +68,9 @@ fn stays_of(alloc: Global, aig: &Aig, reached: &Reached) -> Result<Vec<bool>, No
     Ok(stays)
 }
 
-/// One pass of cleaning, with the latches at these positions held: the constants and latches that
-/// stand for latches, and what is dropped since nothing rests on it. [`clean`](crate::clean) makes
-/// as many as change something. Linear, as a pass of that.
+/// Runs one pass of cleaning, with the latches at these positions held. Tells the substitutes of
+/// latches, and the latches that are dropped since nothing depends on them. [`clean`](crate::clean)
+/// makes passes while they change something. Linear, as a pass of that.
 pub fn traced_pass(alloc: Global, circuit: &Circuit, held: &[u32]) -> Result<TracedPass, NoMemory>
     requires { All (λ j. j < length circuit.now.aig.latches) held.now }
     ensures { IfOk result (IsTraced held.now circuit.now) }

@@ -43,7 +43,7 @@ pub(crate) fn put_new_literals(
     Ok(())
 }
 
-/// 1 where the latch is free, else 0.
+/// Returns 1 if the latch is free, else 0.
 fn one_if_free(latch: Latch) -> u32
     ensures value { result ≡ (if is_free latch then 1 else 0) }
     ensures small { result ≤ 1 }
@@ -52,7 +52,7 @@ fn one_if_free(latch: Latch) -> u32
 }
 
 impl<'a> Trim<'a> {
-    /// The graph without what isn't reached, by its new literals.
+    /// Returns the graph without what isn't reached, by its new literals.
     pub(crate) fn new(aig: &'a Aig, reached: &'a Reached, literals: &'a Substitution) -> Trim<'a>
         requires { literals.now ≡ new_literals aig.now (is_marked reached.now) }
         ensures aig { result.aig.now ≡ aig.now }
@@ -65,7 +65,7 @@ impl<'a> Trim<'a> {
         }
     }
 
-    /// Whether the latch at a place stays.
+    /// Returns true if the latch at a place stays.
     pub(crate) fn keeps_latch(&self, place: u32) -> bool
         requires { place < length self.now.aig.now.latches }
         ensures { result ≡ is_marked self.now.reached.now (first_latch self.now.aig.now + place) }
@@ -73,7 +73,7 @@ impl<'a> Trim<'a> {
         self.reached.has(self.aig.first_latch() + place)
     }
 
-    /// The new position of a latch.
+    /// Returns the new position of a latch.
     pub(crate) fn new_position(&self, position: u32) -> u32
         requires { position < length self.now.aig.now.latches }
         ensures { result ≡ new_position self.now.aig.now (is_marked self.now.reached.now) position }
@@ -85,7 +85,7 @@ impl<'a> Trim<'a> {
             - first
     }
 
-    /// The latches that stay.
+    /// Returns the latches that stay.
     fn latches(&self, alloc: Global) -> Result<Vec<Latch>, NoMemory>
         ensures { IfOk result (λ latches. latches.items ≡
             map (renumbered_latch self.now.aig.now (is_marked self.now.reached.now))
@@ -101,7 +101,7 @@ impl<'a> Trim<'a> {
         Ok(latches)
     }
 
-    /// The gates that stay.
+    /// Returns the gates that stay.
     fn gates(&self, alloc: Global) -> Result<Vec<Gate>, NoMemory>
         ensures { IfOk result (λ gates. gates.items ≡
             map (renumbered_gate self.now.aig.now (is_marked self.now.reached.now))
@@ -118,7 +118,7 @@ impl<'a> Trim<'a> {
         Ok(gates)
     }
 
-    /// The graph of what stays.
+    /// Returns the graph of what stays.
     fn graph(&self, alloc: Global) -> Result<Aig, NoMemory>
         requires { IsGraph (trimmed_graph self.now.aig.now (is_marked self.now.reached.now)) }
         ensures { IfOk result (λ aig. aig ≡ trimmed_graph self.now.aig.now
@@ -129,7 +129,7 @@ impl<'a> Trim<'a> {
         Ok(Aig::from_parts(self.aig.inputs(), latches, gates))
     }
 
-    /// The circuit of what stays.
+    /// Returns the circuit of what stays.
     pub(crate) fn circuit(
         &self,
         alloc: Global,
@@ -153,7 +153,7 @@ impl<'a> Trim<'a> {
         Ok(Circuit::new(aig, props, symbols))
     }
 
-    /// The new positions of these latches, which stay.
+    /// Returns the new positions of these latches, which stay.
     pub(crate) fn new_positions(
         &self,
         alloc: Global,
@@ -170,7 +170,7 @@ impl<'a> Trim<'a> {
         Ok(new)
     }
 
-    /// Whether the latch at a place is free and stays.
+    /// Returns true if the latch at a place is free and stays.
     fn keeps_free(&self, place: u32, latch: Latch) -> bool
         requires { slice_get self.now.aig.now.latches place ≡ Some latch }
         ensures { result ≡ is_kept_free self.now.aig.now (is_marked self.now.reached.now) place }
@@ -178,7 +178,7 @@ impl<'a> Trim<'a> {
         latch.reset == Reset::Free && self.keeps_latch(place)
     }
 
-    /// Of each free latch that stays, its place among the free latches.
+    /// Returns for each free latch that stays its place among the free latches.
     pub(crate) fn kept_free(&self, alloc: Global) -> Result<Vec<u32>, NoMemory>
         ensures { IfOk result (λ kept. kept.items ≡ kept_free self.now.aig.now
             (is_marked self.now.reached.now)) }

@@ -10,14 +10,14 @@ use Rattle.aig_graph.proofs.StreamLaws.{funext}
 
 -- what a pass makes is one
 pub record SamePass (d e : Netlist) (first second one_held other_held : List ℕ) : Type 0 where
-  -- the circuits are the same
+  -- the circuits are equal
   pub circuit : d ≡ e
-  -- the places of kept free latches are the same
+  -- the places of kept free latches are equal
   pub free : first ≡ second
-  -- the positions of held latches are the same
+  -- the positions of held latches are equal
   pub positions : one_held ≡ other_held
 
--- two passes over one circuit make the same of it
+-- two passes over one circuit give one result
 pub pass-one : (held : List ℕ) (c d e : Netlist) (first second one_held other_held : List ℕ) → IsPass held c d first one_held → IsPass held c e second other_held
     → SamePass d e first second one_held other_held
 pass-one held c d e first second one_held other_held p q =

@@ -82,13 +82,13 @@ toggle_stays = refl
 twins : List ℕ → Netlist
 twins outputs = with_outputs (record { inputs = 1; latches = record { next = 2; reset = One } ∷ record { next = 2; reset = One } ∷ []; gates = [] }) outputs
 
--- the second becomes the first, also where the first is held
+-- the second becomes the first, also if the first is held
 twin_becomes_held : trimmed_of (merged_of (0 ∷ []) (twins (4 ∷ 6 ∷ []))) (has (2 ∷ []))
     ≡ with_outputs (record { inputs = 1; latches = record { next = 2; reset = One } ∷ []; gates = [] }) (4 ∷ 4 ∷ [])
 unfolding leaf_substitute first_where places table count_below merge_gates substitutes_of replaced_graph mapped_props picked trimmed_graph trimmed_symbols twins
 twin_becomes_held = refl
 
--- but not where the second is held
+-- but not if the second is held
 held_twin_stays : trimmed_of (merged_of (1 ∷ []) (twins (4 ∷ 6 ∷ []))) (has (2 ∷ 3 ∷ [])) ≡ twins (4 ∷ 6 ∷ [])
 unfolding leaf_substitute first_where places table count_below merge_gates substitutes_of replaced_graph mapped_props picked trimmed_graph trimmed_symbols twins
 held_twin_stays = refl

@@ -126,7 +126,8 @@ module _ (g : Graph) (s : ℕ → Bool) where
       free-rank (length g.latches) (length (trimmed_graph g s).latches) (omega arith)
       (omega (arith, trimmed-first_gate g s, trimmed-first_latch g s, ap (new_variable g s) place))
 
--- the kept free latches of a trimmed circuit have rising places among those of the circuit, one for each
+-- the kept free latches of a trimmed circuit have rising places among those of the circuit, one for
+-- each
 pub are_kept : (c : Netlist) (s : ℕ → Bool) → AreKept c (trimmed_of c s) (kept_free c.aig s)
 are_kept c s = record {
   rising = kept_free-rising c.aig s;

@@ -15,7 +15,7 @@ use Rattle.aig_graph.proofs.PlacesLaws.{Ranks, rank_at, at_rank, count-lt}
 use Rattle.aig_graph.proofs.KindLaws.{element}
 use Rattle.cleaned_circuits.specs.Latches.{constant_of, is_constant_latch, same_reset, same_latch, is_duplicate, first_where, first_duplicate, latch_substitute, leaf_substitute}
 
--- the first number that passes, where there is one
+-- the first number that passes, if there is one
 pub first_where-cases : (p : ℕ → Bool) (n : ℕ) → (first_where p n ≡ n) ⊎ ((first_where p n < n) × (p (first_where p n) ≡ true))
 unfolding first_where
 first_where-cases p n = go (places p n) refl
@@ -66,7 +66,7 @@ constant_latch_where g held j latch e =
       ];
     }
 
--- resets that are the same by the test are the same
+-- resets that are equal by the test are equal
 pub same_reset-is : (r s : Reset) → same_reset r s ≡ true → r ≡ s
 same_reset-is Zero Zero e = refl
 same_reset-is One One e = refl
@@ -91,7 +91,8 @@ pub record Duplicate (g : Graph) (held : List ℕ) (latch : Latch) (i : ℕ) : T
   -- it has the reset of the latch
   pub reset : other.reset ≡ latch.reset
 
--- a latch at a place that another duplicates by the test isn't constant, and has its next literal and reset
+-- a latch at a place that another duplicates by the test isn't constant, and has its next literal
+-- and reset
 pub duplicate_where : (g : Graph) (held : List ℕ) (latch : Latch) (i : ℕ) → is_duplicate g held latch i (slice_get g.latches i) ≡ true → Duplicate g held latch i
 duplicate_where g held latch i e = go (slice_get g.latches i) refl
   where

@@ -1,4 +1,4 @@
--- A circuit that reads what stands for what it read has the same values.
+-- A circuit that reads the substitutes of what it read has equal values.
 use Rattle.std.proofs.Common.{ℕ, ◌+◌, ◌*◌, ◌<◌, ◌≤◌, ◌≡◌, suc, zero, List, length, map, Bool, ◌&&◌, Some, slice_get, refl, arith, ap, sym, ◌∙◌, subst, add-one}
 use Rattle.std.proofs.lemmas.List.{length-map}
 use Rattle.std.proofs.lemmas.Option.{slice_get_within}
@@ -81,7 +81,7 @@ abbrev pub SubstitutesRight : Graph → List ℕ → Type 0
 SubstitutesRight g substitutes = (x : Inputs) (f : Choice) (t lit : ℕ) → variable lit < variables_end g → value g x f t (replaced substitutes lit) ≡ value g x f t lit
 
 module _ (g : Graph) (substitutes : List ℕ) (valid : IsGraph g) (within_each : SubstitutesWithin g substitutes) where
-  -- where no literal is replaced by one of a later variable, the replaced graph is one
+  -- if no literal is replaced by one of a later variable, the replaced graph is one
   pub IsGraph-replaced : IsGraph (replaced_graph substitutes g)
   IsGraph-replaced = record {
     small = omega (arith, replaced-end substitutes g, valid.small);
@@ -124,7 +124,7 @@ module _ (g : Graph) (substitutes : List ℕ) (valid : IsGraph g) (within_each :
     signed-same : (t lit : ℕ) → after t (2 * variable lit) ≡ before t (2 * variable lit) → after t lit ≡ before t lit
     signed-same t lit same = value_signed (after t) (after-laws.negation t) lit ∙ ap (signed lit) same ∙ sym (value_signed (before t) (before-laws.negation t) lit)
 
-    -- a replaced literal has the value of the literal, where the variable that it reads has its value
+    -- a replaced literal has the value of the literal, if the variable that it reads has its value
     replaced-same : (t lit : ℕ) → variable lit < variables_end g → after t (2 * variable (replaced substitutes lit)) ≡ before t (2 * variable (replaced substitutes lit)) → after t (replaced substitutes lit) ≡ before t lit
     replaced-same t lit within same = signed-same t (replaced substitutes lit) same ∙ right x f t lit within
 
@@ -193,7 +193,7 @@ module _ (substitutes : List ℕ) (c : Netlist) (valid : IsGraph c.aig) (netlist
   names_as_many : (n m : ℕ) (names : List Symbol) → m ≡ n → AreNamesBelow n names → AreNamesBelow m names
   names_as_many n m names same below = let P : ℕ → Type 0 = λ k. AreNamesBelow k names in subst P (sym same) below
 
-  -- where no literal is replaced by one of a later variable, the replaced circuit is one
+  -- if no literal is replaced by one of a later variable, the replaced circuit is one
   pub IsNetlist-replaced : IsNetlist (replaced_circuit substitutes c)
   unfolding mapped_props
   IsNetlist-replaced =
@@ -220,7 +220,8 @@ pub IsGraph-merged : (g : Graph) (held : List ℕ) → IsGraph g → IsGraph (re
 IsGraph-merged g held valid = IsGraph-replaced g (substitutes_of g held) valid (replaced-within g held valid)
 
 module _ (held : List ℕ) (c : Netlist) (valid : IsGraph c.aig) (netlist : IsNetlist c) where
-  -- in a pass of cleaning the merged circuit's properties have the values that they had, step by step
+  -- in a pass of cleaning the merged circuit's properties have the values that they had, step by
+  -- step
   pub merged-properties : (x : Inputs) (f : Choice) (t : ℕ) → map (value (merged_of held c).aig x f t) (property_literals (merged_of held c).props) ≡ map (value c.aig x f t) (property_literals c.props)
   merged-properties = replaced-properties (substitutes_of c.aig held) c valid netlist (replaced-within c.aig held valid) (replaced_literal-value c.aig held valid)
 

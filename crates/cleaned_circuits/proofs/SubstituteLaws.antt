@@ -17,7 +17,7 @@ use Rattle.cleaned_circuits.specs.Latches.{leaf_substitute}
 use Rattle.cleaned_circuits.specs.Merged.{Merging, replaced, replaced_gate, same_fan_ins, known_substitute, with_substitute, merge_gate, merge_gates, merging_from, merging_start, substitutes_after, substitutes_of}
 use Rattle.cleaned_circuits.proofs.LatchLaws.{leaf_substitute-value, leaf_substitute-below}
 
--- an entry after others is found where it passes and none before it does
+-- an entry after others is found if it passes and none before it does
 pub lookup_push : (test : Gate → Bool) (es : List (Gate × ℕ)) (gate : Gate) (v w : ℕ) → lookup test (es ++ (gate, v) ∷ []) ≡ Some w
     → (lookup test es ≡ Some w) ⊎ ((test gate ≡ true) × (v ≡ w))
 lookup_push test [] gate v w e = elim (cases_Bool (test gate)) [
@@ -32,7 +32,7 @@ lookup_push test (e0 ∷ es) gate v w e = elim (cases_Bool (test e0.0)) [
   ]
 ]
 
--- gates that are the same by the test are the same
+-- gates that are equal by the test are equal
 pub same_fan_ins-is : (gate other : Gate) → same_fan_ins gate other ≡ true → gate ≡ other
 same_fan_ins-is gate other e =
     let parts = and_parts (nat_eq gate.rhs0 other.rhs0) (nat_eq gate.rhs1 other.rhs1) e in
@@ -52,7 +52,8 @@ pub data GateSubstitutes (kept : List (Gate × ℕ)) (gate : Gate) (o : Option �
   with_opposite : (gate.rhs0 ≡ gate.rhs1 → ⊥) → variable gate.rhs0 ≡ variable gate.rhs1 → o ≡ Some 0 → GateSubstitutes kept gate o
   with_earlier : o ≡ lookup (same_fan_ins gate) kept → GateSubstitutes kept gate o
 
--- a gate comes down to 0, to one of its fan-ins, or to what a kept gate of its fan-ins has, if there is one
+-- a gate comes down to 0, to one of its fan-ins, or to what a kept gate of its fan-ins has, if
+-- there is one
 pub gate_substitutes : (kept : List (Gate × ℕ)) (gate : Gate) → GateSubstitutes kept gate (known_substitute kept gate)
 gate_substitutes kept gate =
     let found : Option ℕ = lookup (same_fan_ins gate) kept in
@@ -80,7 +81,7 @@ gate_substitutes kept gate =
           ])
     ]
 
--- where nothing stands for a gate, no kept gate has its literals
+-- if nothing stands for a gate, no kept gate has its literals
 pub none-kept : (kept : List (Gate × ℕ)) (gate : Gate) → known_substitute kept gate ≡ None → lookup (same_fan_ins gate) kept ≡ None
 none-kept kept gate none = elim (gate_substitutes kept gate) [
   | with_false a e ↦ absurd (none-some 0 (sym none ∙ e))
@@ -165,12 +166,12 @@ module _ (vals : ℕ → Bool) (negated : (v : ℕ) → vals (2 * v + 1) ≡ not
     -- the literal of a kept gate has the AND of its fan-ins' values
     pub kept : (gate : Gate) (w : ℕ) → lookup (same_fan_ins gate) m.kept ≡ Some w → vals w ≡ (vals gate.rhs0 && vals gate.rhs1)
 
-  -- where what stands for a literal's variable has its value, the replaced literal has the literal's
+  -- if what stands for a literal's variable has its value, the replaced literal has the literal's
   pub replaced-value : (substitutes : List ℕ) (lit : ℕ) → vals (get_or substitutes (variable lit) 0) ≡ vals (2 * variable lit) → vals (replaced substitutes lit) ≡ vals lit
   replaced-value substitutes lit same =
       value_signed_as vals negated lit (get_or substitutes (variable lit) 0) ∙ ap (signed lit) same ∙ sym (value_signed vals negated lit)
 
-  -- where both replaced fan-ins have their values, the replaced gate has the gate's
+  -- if both replaced fan-ins have their values, the replaced gate has the gate's
   pub pair-value : (substitutes : List ℕ) (gate : Gate) → vals (replaced substitutes gate.rhs0) ≡ vals gate.rhs0 → vals (replaced substitutes gate.rhs1) ≡ vals gate.rhs1
       → (vals (replaced_gate substitutes gate).rhs0 && vals (replaced_gate substitutes gate).rhs1) ≡ (vals gate.rhs0 && vals gate.rhs1)
   pair-value substitutes gate first second =
@@ -227,7 +228,7 @@ module _ (vals : ℕ → Bool) (negated : (v : ℕ) → vals (2 * v + 1) ≡ not
         ];
       }
 
--- what holds after all gates, where each step keeps it
+-- what holds after all gates, if each step keeps it
 pub merge-all : (P : Merging → Type 0) (Q : ℕ → Gate → Type 0) → ((m : Merging) (gate : Gate) → P m → Q (length m.substitutes) gate → P (merge_gate m gate))
     → (gates : List Gate) (m : Merging) → ((i : ℕ) (gate : Gate) → slice_get gates i ≡ Some gate → Q (length m.substitutes + i) gate) → P m → P (merge_gates gates m)
 unfolding merge_gates
@@ -302,7 +303,8 @@ module _ (g : Graph) (leaves : List ℕ) (begun : AreLeaves g leaves) where
     pub after-within : (lit : ℕ) → variable lit < variables_end g → variable (replaced (substitutes_after g leaves) lit) ≤ variable lit
     after-within lit h = omega (arith, replaced-variable (substitutes_after g leaves) lit, after-below (variable lit) h)
 
-    -- where what stands for each variable before the gates has its value in a step, what stands for any has
+    -- if what stands for each variable before the gates has its value in a step, what stands for
+    -- any has
     module _ (x : Inputs) (f : Choice) (t : ℕ) (right : (v : ℕ) → v < first_gate g → value g x f t (get_or leaves v 0) ≡ value g x f t (2 * v)) where
       laws : ValueLaws g x f
       laws = value_laws g valid x f

@@ -17,7 +17,7 @@ use Rattle.aig_graph.proofs.ListLaws.{slice_get-map_some, from_map}
 use Rattle.cleaned_circuits.proofs.PickedLaws.{count-all, length-picked, picked-at, WasAt, was_at}
 
 module _ (g : Graph) (s : ℕ → Bool) where
-  -- from the first latch on a variable stays where it is in the set
+  -- from the first latch on a variable stays if it is in the set
   pub stays-past : (v : ℕ) → first_latch g ≤ v → stays g s v ≡ s v
   stays-past v h = ap (λ (b : Bool). b || s v) (le-ltb v (first_latch g) h)
 

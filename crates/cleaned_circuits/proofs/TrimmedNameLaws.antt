@@ -71,7 +71,8 @@ module _ (c : Netlist) (held : List ℕ) (s : ℕ → Bool) (valid : IsGraph c.a
   names_as_many : (n m : ℕ) (names : List Symbol) → m ≡ n → AreNamesBelow n names → AreNamesBelow m names
   names_as_many n m names same below = let P : ℕ → Type 0 = λ k. AreNamesBelow k names in subst P (sym same) below
 
-  -- trimmed to a set that holds what it reads, a circuit has properties in range and symbols by rising position
+  -- trimmed to a set that holds what it reads, a circuit has properties in range and symbols by
+  -- rising position
   pub IsNetlist-trimmed : IsNetlist (trimmed_of c s)
   unfolding mapped_props trimmed_symbols
   IsNetlist-trimmed =

@@ -30,7 +30,7 @@ use Rattle.cleaned_circuits.proofs.OwnLaws.{substitutes-own, substitutes-low, su
 use Rattle.cleaned_circuits.proofs.MergedLaws.{replaced-first_latch, replaced-end, from_latch, from_gate}
 use Rattle.cleaned_circuits.proofs.TrimmedLaws.{trimmed-end, trimmed-first_latch, stays-past, stays-low, stays-reached}
 
--- where the count is full, each passes
+-- if the count is full, each passes
 pub count-full : (p : ℕ → Bool) (n : ℕ) → count_below p n ≡ n → (v : ℕ) → v < n → p v ≡ true
 count-full p zero full v h = absurd (omega arith)
 count-full p (suc n) full v h = elim (cases_Bool (p n)) [
@@ -79,7 +79,7 @@ gate-ordered gate h =
 pub twice : (lit v : ℕ) → v ≡ variable lit → signed_as lit (2 * v) ≡ lit
 twice lit v e = omega arith
 
--- where each variable stays, nothing is trimmed
+-- if each variable stays, nothing is trimmed
 module _ (c : Netlist) (s : ℕ → Bool) (valid : IsCircuit c) (full : (v : ℕ) → v < variables_end c.aig → stays c.aig s v ≡ true) where
   new-same : (v : ℕ) → v ≤ variables_end c.aig → new_variable c.aig s v ≡ v
   new-same v h = count-all (stays c.aig s) v (λ w less. full w (omega arith))
@@ -128,7 +128,7 @@ module _ (c : Netlist) (s : ℕ → Bool) (valid : IsCircuit c) (full : (v : ℕ
       ∙ ap (λ (ys : List Symbol). new_name c.aig s name ∷ ys) (names-same names (All-tail (λ (n : Symbol). n.position < length c.aig.latches) name names below))
       ∙ ap (λ (n : ℕ). at n ∷ names) place
 
-  -- where each variable stays, the trimmed circuit is the circuit
+  -- if each variable stays, the trimmed circuit is the circuit
   pub trimmed-same : trimmed_of c s ≡ c
   unfolding trimmed_symbols
   trimmed-same =
@@ -139,12 +139,12 @@ module _ (c : Netlist) (s : ℕ → Bool) (valid : IsCircuit c) (full : (v : ℕ
       ∙ ap by_props (props-fixed (renumbered c.aig s) (λ lit. IsLiteralOf c.aig lit) c.props renumbered-same (literals_within c.aig c.props valid.netlist.props))
       ∙ ap with_names (names-same c.symbols.latches valid.netlist.symbols.latches.below)
 
--- where each variable stands for itself, nothing is replaced
+-- if each variable stands for itself, nothing is replaced
 module _ (substitutes : List ℕ) (c : Netlist) (valid : IsCircuit c) (own : (v : ℕ) → v < variables_end c.aig → get_or substitutes v 0 ≡ 2 * v) where
   replaced-same : (lit : ℕ) → IsLiteralOf c.aig lit → replaced substitutes lit ≡ lit
   replaced-same lit within = ap (signed_as lit) (own (variable lit) within) ∙ twice lit (variable lit) refl
 
-  -- where each variable stands for itself, the replaced circuit is the circuit
+  -- if each variable stands for itself, the replaced circuit is the circuit
   pub replaced_circuit-same : replaced_circuit substitutes c ≡ c
   unfolding replaced_graph
   replaced_circuit-same =

@@ -6,7 +6,8 @@ use Rattle.cleaned_circuits.specs.Merged.{merged_of}
 use Rattle.cleaned_circuits.specs.Reached.{AreReached}
 use Rattle.cleaned_circuits.specs.Trimmed.{trimmed_of, kept_free, new_position}
 
--- d is c after a pass; of the latches that stay, kept has the places of the free ones among c's, and still_held the new positions of the held ones
+-- d is c after a pass. Of the latches that stay, kept has the places of the free ones among c's,
+-- and still_held the new positions of the held ones.
 pub record IsPass (held : List ℕ) (c d : Netlist) (kept still_held : List ℕ) : Type 0 where
   pub reached : ℕ → Bool
   pub are_reached : AreReached (merged_of held c).aig (merged_of held c).props held reached

@@ -1,4 +1,4 @@
--- Where the held latches of a circuit stand in what it is cleaned to.
+-- The positions of the held latches of a circuit in what it is cleaned to.
 use Rattle.std.specs.Prelude.{ℕ, ◌≡◌, ◌≢◌, List}
 use Rattle.aig_graph.specs.Circuits.{Netlist}
 use Rattle.cleaned_circuits.specs.Cleaned.{IsPass}

@@ -42,7 +42,8 @@ first_where p n = slice_index_or (places p n) 0 n
 abbrev pub first_duplicate : Graph → List ℕ → ℕ → Latch → ℕ
 first_duplicate g held j latch = first_where (λ i. is_duplicate g held latch i (slice_get g.latches i)) j
 
--- the literal that stands for latch j: its constant where it is constant, its own where it is free or held, else that of the first latch that it duplicates
+-- The substitute of latch j: its constant if it is constant, its own literal if it is free or held.
+-- Otherwise it is that of the first latch that it duplicates.
 abbrev pub latch_substitute : Graph → List ℕ → ℕ → Option Latch → ℕ
 latch_substitute g held j None = 2 * (first_latch g + j)
 latch_substitute g held j (Some latch) =

@@ -12,7 +12,8 @@ use Rattle.aig_graph.specs.Mapped.{mapped_props}
 use Rattle.aig_graph.specs.Tables.{table}
 use Rattle.cleaned_circuits.specs.Latches.{leaf_substitute}
 
--- what is known after some gates: by variable the literal that stands for it, and the gates that are kept, each with its literal
+-- what is known after some gates: the substitute of each variable, and the gates that are kept,
+-- each with its literal
 pub record Merging : Type 0 where
   pub substitutes : List ℕ
   pub kept : List (Gate × ℕ)
@@ -24,12 +25,13 @@ replaced substitutes lit = signed_as lit (slice_index_or substitutes (variable l
 abbrev pub replaced_gate : List ℕ → Gate → Gate
 replaced_gate substitutes gate = gate_of (replaced substitutes gate.rhs0) (replaced substitutes gate.rhs1)
 
--- whether two gates have the same fan-ins
+-- whether two gates have equal fan-ins
 abbrev pub same_fan_ins : Gate → Gate → Bool
 same_fan_ins gate other = gate.rhs0 == other.rhs0 && gate.rhs1 == other.rhs1
 
--- the literal that a gate comes down to, whose larger literal is first: 0 for a 0, the other for a 1 and for an equal one, 0 for
--- opposite ones, else that of the kept gate of the same literals; None where there is none
+-- The literal that a gate comes down to, whose larger literal is first. It is 0 for a 0, the other
+-- for a 1 and for an equal one, 0 for opposite ones. Otherwise it is that of the kept gate of these
+-- literals, or None if there is none.
 abbrev pub known_substitute : List (Gate × ℕ) → Gate → Option ℕ
 known_substitute kept gate =
     if gate.rhs1 == 0 then Some 0
@@ -43,7 +45,7 @@ abbrev pub substitute_or_own : ℕ → Option ℕ → ℕ
 substitute_or_own own None = own
 substitute_or_own own (Some substitute) = substitute
 
--- the kept gates, and this one where no literal was found
+-- the kept gates, and this one if no literal was found
 abbrev pub kept_after : List (Gate × ℕ) → ℕ → Gate → Option ℕ → List (Gate × ℕ)
 kept_after kept own gate None = kept ++ (gate, own) ∷ []
 kept_after kept own gate (Some substitute) = kept
@@ -64,11 +66,11 @@ unfoldable pub merge_gates : List Gate → Merging → Merging
 merge_gates [] m = m
 merge_gates (gate ∷ gates) m = merge_gates gates (merge_gate m gate)
 
--- before any gate, where these literals stand for the variables before the gates
+-- before any gate, with these substitutes of the variables before the gates
 abbrev pub merging_from : List ℕ → Merging
 merging_from leaves = record { substitutes = leaves; kept = [] }
 
--- by variable the literal that stands for it, where these stand for the variables before the gates
+-- the substitute of each variable, with these of the variables before the gates
 unfoldable pub substitutes_after : Graph → List ℕ → List ℕ
 substitutes_after g leaves = (merge_gates g.gates (merging_from leaves)).substitutes
 
@@ -82,7 +84,7 @@ substitutes_of g held = (merge_gates g.gates (merging_start g held)).substitutes
 abbrev pub replaced_latch : List ℕ → Latch → Latch
 replaced_latch substitutes latch = record latch { next = replaced substitutes latch.next }
 
--- the same latches and gates, reading what stands for what they read
+-- these latches and gates, reading the substitutes of what they read
 unfoldable pub replaced_graph : List ℕ → Graph → Graph
 replaced_graph substitutes g = record {
   inputs = g.inputs;

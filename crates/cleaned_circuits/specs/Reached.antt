@@ -6,11 +6,12 @@ use Rattle.aig_graph.specs.declared.properties.Props.{Props}
 use Rattle.aig_graph.specs.Graph.{Graph, variable, first_latch, gate_at, latch_at}
 use Rattle.aig_graph.specs.Streams.{property_literals}
 
--- whether a variable stays where the latches and gates of s do: the constant and inputs always do
+-- whether a variable stays if the latches and gates of s do: the constant and inputs always do
 abbrev pub stays : Graph → (ℕ → Bool) → ℕ → Bool
 stays g s v = nat_lt v (first_latch g) || s v
 
--- a set of latches and gates with the held latches, and with each latch and gate that a property or one of its own reads
+-- a set of latches and gates with the held latches, and with each latch and gate that a property or
+-- one of its own reads
 pub record HoldsReads (g : Graph) (p : Props) (held : List ℕ) (s : ℕ → Bool) : Type 0 where
   pub all_held : All (λ j. s (first_latch g + j) ≡ true) held
   pub properties : All (λ lit. stays g s (variable lit) ≡ true) (property_literals p)

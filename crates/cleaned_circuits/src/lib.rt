@@ -1,5 +1,5 @@
-//! What structural cleaning of a circuit is, and that it keeps the streams: constant and duplicate latches, gates that say nothing
-//! new, and what no property rests on.
+//! What structural cleaning of a circuit is, and that it keeps the streams. It takes away constant
+//! and duplicate latches, redundant gates, and what no property depends on.
 #![tactic(auto)]
 
 mod laws;

@@ -40,7 +40,8 @@ module _ (laps : List Lap) (i : ℕ) (none : Lap) (within : i < length laps) whe
   pub time-past : (part : Part) → is_part (get_or laps i none).part part ≡ false → time_in part (drop i laps) ≡ time_in part (drop (i + 1) laps)
   time-past part isnt = at_drop_more (time_in part) laps i none within ∙ time-later part (get_or laps i none) (drop (i + 1) laps) isnt
 
-  -- the times so far, with those of a look at this lap, if it is one, are those of all frames with what the laps after it have
+  -- the times so far, with those of a look at this lap, are those of all frames with what later
+  -- laps have
   pub frame-more : (done more : List FrameTimes) (times : Option FrameTimes) → done ++ frames_in (drop i laps) ≡ frames_in laps → more ≡ done ++ option_to_list times
       → times ≡ look_of (get_or laps i none) (drop (i + 1) laps) → more ++ frames_in (drop (i + 1) laps) ≡ frames_in laps
   frame-more done more times so_far added is =

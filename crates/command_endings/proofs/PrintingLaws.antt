@@ -27,7 +27,7 @@ failing (fails.NoSuchLiteral path) s = refl
 failing (fails.Device path) s = tt
 failing fails.Memory s = refl
 
--- the same of a state that hasn't changed
+-- so for a state that hasn't changed
 pub failing_after : (f : Failure) (old new : Output) → new ≡ old → Prints (outcome_of f) old new
 failing_after f old new same = subst (λ (s : Output). Prints (outcome_of f) old s) (sym same) (failing f old)
 
@@ -58,7 +58,7 @@ pub ends_with_line : (outcome : Outcome) (text : List ℕ) (old new : Output) (r
 ends_with_line outcome text old new (Ok ended) p = record { ends = p.0; prints = p.1 }
 ends_with_line outcome text old new (Err failure) p = tt
 
--- the same of an object
+-- so for an object
 pub ends_with_object_line : (outcome : Outcome) (value : Data) (old new : Output) (result : Result Outcome Failure)
     → EndsPrintingObject outcome value old new result → IfOk result (EndsWith outcome (json_line value) old new)
 ends_with_object_line outcome value old new (Ok ended) p = record { ends = p.0; prints = p.1 }

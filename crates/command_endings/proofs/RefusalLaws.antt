@@ -20,6 +20,6 @@ pub refusal_prints : (refusal : Refusal) (status : ℕ) (old new : Output)
     → refusal.status ≡ status → SaysRefusal refusal old new → PrintsRefusal status old new
 refusal_prints refusal status old new states said = record { refusal = refusal; states = states; prints = said }
 
--- by another name of the same refusal
+-- by another name of this refusal
 pub same_said : (given named : Refusal) (old new : Output) → given ≡ named → SaysRefusal given old new → SaysRefusal named old new
 same_said given named old new same said = subst (λ (r : Refusal). SaysRefusal r old new) same said

@@ -27,7 +27,8 @@ holding_of options = record { names = texts_of options.keep.items; positions = o
 abbrev pub held_by : RetimingOptions → Netlist → List ℕ
 held_by options c = held_of (holding_of options) c
 
--- the failure that an error is: the name or the position with this number is that of no latch, or no memory
+-- the failure that an error is: the name or the position with this number is that of no latch, or
+-- no memory
 abbrev pub IsFailureOfHolding : Source → RetimingOptions → HoldError → Failure → Type 0
 IsFailureOfHolding source options NoMemory failure = failure ≡ fails.Memory
 IsFailureOfHolding source options (NoSuchName number) failure = (name : Bor (List ℕ)) → slice_get options.keep.items number ≡ Some name → OfSource source (λ path. failure ≡ fails.NoSuchName path name)

@@ -4,7 +4,7 @@ use Rattle.file_words.specs.Answering.{◌>>=◌}
 use Rattle.file_words.specs.Lines.{lines}
 use Rattle.file_words.specs.Reading.{read_lines}
 use Rattle.command_line.specs.declared.task.Task.{Task}
-use Rattle.command_line.specs.declared.task.Task.TheVariants.{Retime, Backward, Verify, Dot}
+use Rattle.command_line.specs.declared.task.Task.TheVariants.{Retime, Move, Verify, Dot}
 use Rattle.command_endings.specs.HeldNames.{texts_of}
 use Rattle.circuit_files.specs.Entries.{text_of}
 use Rattle.circuit_files.specs.declared.fault.ListError.{ListError}
@@ -28,10 +28,10 @@ unfoldable pub with_names_of : List (List ℕ) → List (List ℕ) → Result (L
 with_names_of names [] = Ok names
 with_names_of names (text ∷ texts) = with_names names text >>= λ more. with_names_of more texts
 
--- the names of the latches that a task holds, where it may hold some
+-- the names of the latches that a task holds, if it may hold some
 abbrev pub held_names : Task → Option (List (List ℕ))
 held_names (Retime retiming) = Some (texts_of retiming.options.keep.items)
-held_names (Backward moving) = Some (texts_of moving.options.keep.items)
+held_names (Move moving) = Some (texts_of moving.options.keep.items)
 held_names (Verify verification) = Some (texts_of verification.options.keep.items)
 held_names (Dot drawing) = Some (texts_of drawing.options.keep.items)
 held_names _ = None

@@ -25,7 +25,8 @@ EndsBy (Ok x) outcome result = result ≡ Ok outcome
 EndsBy (Err printing.NoMemory) outcome result = result ≡ Err fails.Memory
 EndsBy (Err printing.Device) outcome result = (name : Bor (List ℕ)) × (result ≡ Err (fails.Device name))
 
--- nothing was printed where there was no room for the text, and else a beginning of it, and standard output has failed
+-- nothing was printed if there was no room for the text, and else a beginning of it, and standard
+-- output has failed
 abbrev pub FailsPrintingObject : Data → Output → Output → Failure → Type 0
 FailsPrintingObject value old new failure =
     ((outcome_of failure ≡ Memory) × (new ≡ old)) ⊎ ((outcome_of failure ≡ Device) × WritesPart old new (json_line value))

@@ -14,7 +14,8 @@ abbrev pub ending : Result Outcome Failure → Outcome
 ending (Ok outcome) = outcome
 ending (Err failure) = outcome_of failure
 
--- all of the text is printed and the run ends so, or a beginning of it, and standard output has failed
+-- all of the text is printed and the run ends so, or a beginning of it, and standard output has
+-- failed
 abbrev pub EndsPrinting : Outcome → List ℕ → Output → Output → Result Outcome Failure → Type 0
 EndsPrinting outcome text old new result =
     MatchResult result (λ ended. (ended ≡ outcome) × WritesAll old new text) (λ failure. (outcome_of failure ≡ Device) × WritesPart old new text)
@@ -24,12 +25,14 @@ pub record EndsWith (outcome : Outcome) (text : List ℕ) (old new : Output) (en
   pub ends : ended ≡ outcome
   pub prints : WritesAll old new text
 
--- where standard output has been given something else, nothing is printed to it, and the run ends so whatever becomes of that
+-- if standard output has been given something else, nothing is printed to it, and the run ends so
+-- whatever becomes of that
 pub record EndsAside (outcome : Outcome) (old new : Output) (result : Result Outcome Failure) : Type 0 where
   pub ends : ending result ≡ outcome
   pub quiet : new ≡ old
 
--- a command but `batch` gives standard output nothing where it was refused or lacked memory: it writes and prints once all else is done
+-- A command but `batch` gives standard output nothing if it was refused or lacked memory. It writes
+-- and prints once all else is done.
 abbrev pub Prints : Outcome → Output → Output → Type 0
 Prints Done old new = Unit {0}
 Prints Differ old new = Unit {0}

@@ -5,7 +5,7 @@ use Rattle.frames.specs.Named.{holding_in}
 use Rattle.frames.specs.declared.options.Options.{Options}
 use Rattle.command_endings.specs.HeldNames.{holding_of}
 
--- the options of a run are the task's, with so many frames at most, and certificates or none
+-- the options of a run are the task's, with this most frames, and certificates or none
 pub record AreOptionsOf (asked : RetimingOptions) (most : ℕ) (is_certified : Bool) (options : Options) : Type 0 where
   pub spelling : options.spelling ≡ asked.spelling
   pub frames : options.max_frames ≡ most

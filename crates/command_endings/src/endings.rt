@@ -7,7 +7,7 @@ ghost use Rattle.circuit_files.specs.declared.outcome.Failure.TheVariants as fai
 use circuit_files::{Failure, Outcome};
 use counted_io::WriteError;
 
-/// How a command ends that has printed, where standard output took all of it.
+/// Returns the end of a command that has printed, if standard output took all of it.
 pub fn ended<'a>(printed: Result<(), WriteError>, outcome: Outcome) -> Result<Outcome, Failure<'a>>
     ensures ok { IfOk result (λ ended. (ended ≡ outcome) × IsOk printed) }
     ensures err { IfErr result (λ failure. (outcome_of failure ≡ Device) × IsErr printed) }

@@ -11,7 +11,7 @@ use file_words::ReadError;
 use json_reports::{Fault, Refusal, print_refusal};
 use std::alloc::Global;
 
-/// The fault that a failure is.
+/// Returns the fault that a failure is.
 pub fn fault_of(failure: Failure<'_>) -> Fault
     ensures { result ≡ wanted.fault_of failure.entry }
 {
@@ -32,7 +32,7 @@ pub fn fault_of(failure: Failure<'_>) -> Fault
     }
 }
 
-/// The name that is that of no latch.
+/// Returns the name that is that of no latch.
 fn name_of<'a>(failure: Failure<'a>) -> Option<&'a str>
     ensures { result ≡ wanted.name_of failure.entry }
 {
@@ -42,7 +42,7 @@ fn name_of<'a>(failure: Failure<'a>) -> Option<&'a str>
     }
 }
 
-/// The path of the file that a failure is about.
+/// Returns the path of the file that a failure is about.
 fn path_of<'a>(failure: Failure<'a>) -> Option<&'a str>
     ensures { result ≡ wanted.path_of failure.entry }
 {
@@ -63,7 +63,7 @@ fn path_of<'a>(failure: Failure<'a>) -> Option<&'a str>
     }
 }
 
-/// What is printed of a failure of this command.
+/// Returns what is printed of a failure of this command.
 fn refusal_of<'a>(command: &'a str, failure: Failure<'a>) -> Refusal<'a>
     ensures { result ≡ wanted.refusal_of command.entry failure.entry }
 {
@@ -76,7 +76,8 @@ fn refusal_of<'a>(command: &'a str, failure: Failure<'a>) -> Refusal<'a>
     }
 }
 
-/// Prints why this command failed as an object of JSON on a line, where there is room for it. A failed write changes nothing.
+/// Prints why this command failed as an object of JSON on a line, if there is room for it. A failed
+/// write changes nothing.
 pub fn print_failure<O: CountedWrite>(
     alloc: Global,
     command: &str,

@@ -21,7 +21,8 @@ use reports::{Agreement, JobReport, Remaining, Statistics};
 use retimed_circuits::Retimed;
 use std::alloc::Global;
 
-/// How a command ends that has printed an object, where there was room for it and standard output took all of it.
+/// Returns the end of a command that has printed an object, if there was room for it and standard
+/// output took all of it.
 fn ended<'a>(printed: Result<(), PrintError>, outcome: Outcome) -> Result<Outcome, Failure<'a>>
     ensures { EndsBy printed outcome result }
 {
@@ -32,8 +33,10 @@ fn ended<'a>(printed: Result<(), PrintError>, outcome: Outcome) -> Result<Outcom
     }
 }
 
-/// Prints the frames of a retiming, the levels of the circuit that was read and the bound on levels, what the written one has and why no
-/// more latches go, which free latches stayed, what the map of states has, and how long the parts of the run took, where that was measured.
+/// Prints the frames of a retiming, the levels of the circuit that was read and the bound on
+/// levels. Prints what the written one has and why no more latches go, the free latches that
+/// stayed, and what the map of states has. Prints the time of the parts of the run, if that was
+/// measured.
 pub fn print_retiming<'a, W: CountedWrite>(
     alloc: Global,
     retimed: &Retimed,
@@ -53,7 +56,8 @@ pub fn print_retiming<'a, W: CountedWrite>(
     ended(printed, Outcome::Done)
 }
 
-/// Prints what `stat` tells of a circuit, and how many of its latches are merged, where that was asked for.
+/// Prints what `stat` tells of a circuit, and the number of its latches that are merged, if that
+/// was asked for.
 pub fn print_statistics<'a, W: CountedWrite>(
     alloc: Global,
     statistics: &Statistics,
@@ -76,7 +80,7 @@ fn outcome_of_difference(found: Option<Place>) -> Outcome
     }
 }
 
-/// Prints the first place where two circuits differ, or that there is none.
+/// Prints the first place at which two circuits differ, or that there is none.
 pub fn print_difference<'a, W: CountedWrite>(
     alloc: Global,
     found: Option<Place>,
@@ -101,7 +105,8 @@ pub fn print_shapes_differ<'a, W: CountedWrite>(
     ended(printed, Outcome::ShapesDiffer)
 }
 
-/// Prints an audit under a bound on levels, or none, and what came of a file that was compared with the circuit that its blocks end in, after which the run ends so.
+/// Prints an audit under a bound on levels, or none. Prints also the outcome of comparing a file
+/// with the circuit that its blocks end in. The run then ends so.
 pub fn print_audit<'a, W: CountedWrite>(
     alloc: Global,
     blocks: &[Certificate],

@@ -1,5 +1,5 @@
-//! What the commands share: options that become a run, latches that are held, what a run shows while it goes on, and how a command ends,
-//! with text or with an object of JSON.
+//! What the commands share. Options become a run, latches are held, a run shows what it does while
+//! it goes on. A command ends with text or with an object of JSON.
 #![tactic(auto)]
 
 mod endings;

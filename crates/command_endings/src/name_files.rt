@@ -62,7 +62,7 @@ pub fn read_name_files<'a, R: Files, I: CountedRead>(
     Ok(files)
 }
 
-/// The name that a line is, where it is UTF-8.
+/// Returns the name that a line is, if it is UTF-8.
 fn name_of(line: &[u8]) -> Option<&str>
     ensures { option_map (λ name. name.now) result ≡ text_of line.now }
 {
@@ -86,7 +86,7 @@ fn push_name<'t>(line: &Line<'t>, names: &mut Vec<&'t str>) -> Result<(), ListEr
     }
 }
 
-/// Appends the name that a line is, where it isn't empty.
+/// Appends the name that a line is, unless it is empty.
 fn push_line<'t>(line: &Line<'t>, names: &mut Vec<&'t str>) -> Result<(), ListError>
     ensures { Gives NoMemory (λ _. texts_of names.new.items) result
         (wanted.with_line line.now.at (texts_of names.old.items) line.now.text.now) }
@@ -146,7 +146,7 @@ pub fn hold_names<'t>(files: &'t [NameFile<'t>], task: &mut Task<'t>) -> Result<
 {
     match task {
         Task::Retime(retiming) => push_names_of(files, &mut retiming.options.keep),
-        Task::Backward(moving) => push_names_of(files, &mut moving.options.keep),
+        Task::Move(moving) => push_names_of(files, &mut moving.options.keep),
         Task::Verify(verification) => push_names_of(files, &mut verification.options.keep),
         Task::Dot(drawing) => push_names_of(files, &mut drawing.options.keep),
         _ => Ok(()),

@@ -10,7 +10,7 @@ use command_line::RetimingOptions;
 use counted_io::Source;
 use std::alloc::{AllocError, Global};
 
-/// The names, each as its bytes.
+/// Returns the names, each as its bytes.
 pub(crate) fn bytes_of_names(alloc: Global, keep: &[&str]) -> Result<Vec<Vec<u8>>, AllocError>
     ensures { IfOk result (λ names. map (λ name. name.items) names.items
         ≡ map (λ name. name.now) keep.now) }
@@ -22,7 +22,7 @@ pub(crate) fn bytes_of_names(alloc: Global, keep: &[&str]) -> Result<Vec<Vec<u8>
     Ok(names)
 }
 
-/// The failure that no latch of the file's circuit has the name with this place.
+/// Returns the failure that no latch of the file's circuit has the name with this place.
 pub fn missing_name<'a>(path: &'a str, keep: &[&'a str], place: usize) -> Failure<'a>
     ensures { (name : Bor (List ℕ)) → slice_get keep.now place ≡ Some name
         → result ≡ fails.NoSuchName path.entry name }
@@ -30,7 +30,7 @@ pub fn missing_name<'a>(path: &'a str, keep: &[&'a str], place: usize) -> Failur
     Failure::NoSuchName(path, keep.get(place).copied().unwrap_or(""))
 }
 
-/// The failure that no latch of the file's circuit stands at the position with this number.
+/// Returns the failure that no latch of the file's circuit stands at the position with this number.
 pub fn missing_latch<'a>(path: &'a str, positions: &[u32], number: usize) -> Failure<'a>
     ensures { (position : ℕ) → slice_get positions.now number ≡ Some position
         → result ≡ fails.NoSuchLatch path.entry position }
@@ -38,7 +38,8 @@ pub fn missing_latch<'a>(path: &'a str, positions: &[u32], number: usize) -> Fai
     Failure::NoSuchLatch(path, positions.get(number).copied().unwrap_or(0))
 }
 
-/// The failure that an error is, of the latches that are to be held in the circuit that is read.
+/// Returns the failure that an error is, of the latches that are to be held in the circuit that is
+/// read.
 fn failure_of_holding<'a>(
     error: HoldError,
     input: Source<'a>,
@@ -55,7 +56,7 @@ fn failure_of_holding<'a>(
     }
 }
 
-/// The latches of the circuit that is read that the options hold.
+/// Returns the latches of the circuit that is read that the options hold.
 pub fn held_latches<'a>(
     alloc: Global,
     circuit: &Circuit,

@@ -7,7 +7,7 @@ use command_line::RetimingOptions;
 use frames::Options;
 use std::alloc::{AllocError, Global};
 
-/// The options of a run of so many frames at most, which makes certificates or none.
+/// Returns the options of a run of at most `max_frames` frames, which makes certificates or none.
 pub fn run_options(
     alloc: Global,
     asked: &RetimingOptions<'_>,

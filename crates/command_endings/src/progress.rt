@@ -26,11 +26,12 @@ enum Show {
     Nothing,
     /// A line for each frame that is looked for.
     EachFrame,
-    /// From the first stage that begins a second after the run did, one line, which each stage writes over.
+    /// From the first stage that begins a second after the run did, one line, which each stage
+    /// writes over.
     InPlace,
 }
 
-/// What is shown of a run that asks for this.
+/// Returns what is shown of a run that asks for this.
 fn show_for(shown: Shown, is_terminal: bool) -> Show
     ensures { result ≡ wanted.show_for shown is_terminal }
 {
@@ -41,7 +42,7 @@ fn show_for(shown: Shown, is_terminal: bool) -> Show
     }
 }
 
-/// The frame after so many, whose set is looked for in the graph.
+/// Returns the frame after `taken` frames, whose set is looked for in the graph.
 fn frame_of(taken: usize, aig: &Aig) -> Frame
     ensures { result ≡ wanted.frame_of taken aig.now }
 {
@@ -54,7 +55,7 @@ fn frame_of(taken: usize, aig: &Aig) -> Frame
 
 /// Shows a run on a writer, mostly standard error. A write that fails changes nothing of the run.
 ///
-/// The seconds are whole ones since this was made; they are left out where the clock can't be read.
+/// The seconds are whole ones since this was made; they are left out if the clock can't be read.
 #[derive(Drop)]
 pub struct Progress<'a, R, E> {
     show: Show,
@@ -67,7 +68,8 @@ pub struct Progress<'a, R, E> {
 }
 
 impl<'a, R: Clock, E: CountedWrite> Progress<'a, R, E> {
-    /// Shows a run on `err` as it is asked, and takes its times where these are wanted; `is_terminal` is whether `err` is a terminal.
+    /// Shows a run on `err` as it is asked, and takes its times if these are wanted; `is_terminal`
+    /// is whether `err` is a terminal.
     pub fn new(
         shown: Shown,
         is_timed: bool,
@@ -92,7 +94,7 @@ impl<'a, R: Clock, E: CountedWrite> Progress<'a, R, E> {
         }
     }
 
-    /// The whole seconds since the run began.
+    /// Returns the whole seconds since the run began.
     fn seconds(&self) -> Option<u64> {
         match self.began {
             Some(began) => match began.elapsed(self.clock) {
@@ -103,7 +105,8 @@ impl<'a, R: Clock, E: CountedWrite> Progress<'a, R, E> {
         }
     }
 
-    /// What the run does in this stage; it moves over the set of the frame that was looked for last.
+    /// Returns what the run does in this stage; it moves over the set of the frame that was looked
+    /// for last.
     fn state_in(&mut self, stage: Stage<'_>) -> Option<State> {
         match stage {
             Stage::Cleaning => Some(State::Cleaning),
@@ -117,7 +120,7 @@ impl<'a, R: Clock, E: CountedWrite> Progress<'a, R, E> {
         }
     }
 
-    /// Writes the line over, where the run has taken a second.
+    /// Writes the line over, if the run has taken a second.
     fn write_over(&mut self, state: State) {
         let seconds = self.seconds();
         if seconds.unwrap_or(0) > 0 {
@@ -126,7 +129,7 @@ impl<'a, R: Clock, E: CountedWrite> Progress<'a, R, E> {
         }
     }
 
-    /// Clears the line in its place, where there is one.
+    /// Clears the line in its place, if there is one.
     fn clear(&mut self) {
         if self.on_line {
             let _ = clear_line(self.err);
@@ -144,7 +147,8 @@ impl<'a, R: Clock, E: CountedWrite> Progress<'a, R, E> {
         }
     }
 
-    /// Shows what the run does from now on: by a line of its own for each frame that is looked for, or in one line.
+    /// Shows what the run does from now on: by a line of its own for each frame that is looked for,
+    /// or in one line.
     fn show_state(&mut self, state: State) {
         match self.show {
             Show::Nothing => {}
@@ -168,7 +172,7 @@ impl<'a, R: Clock, E: CountedWrite> Progress<'a, R, E> {
     }
 }
 
-/// What a run that moves latches backward does in this stage.
+/// Returns what a run that moves latches backward does in this stage.
 fn state_of(stage: MoveStage) -> State {
     match stage {
         MoveStage::Looking {

@@ -37,7 +37,8 @@ fn put_circuit<R: OutputFiles, O: CountedWrite>(
     }
 }
 
-/// Writes the circuit to a file or to standard output, of which one is named where that failed. A file is made at its first byte.
+/// Writes the circuit to a file or to standard output. The one that failed is named. A file is made
+/// at its first byte.
 pub fn write_circuit<'a, R: OutputFiles, O: CountedWrite>(
     rt: &R,
     circuit: &Circuit,

@@ -18,6 +18,8 @@ use Rattle.command_line.specs.declared.options.RetimingOptions.{RetimingOptions}
 use Rattle.command_line.specs.declared.task.Shown.{Shown}
 use Rattle.command_line.specs.declared.task.Shown.TheVariants.{OnTerminal, EachFrame, Nothing}
 use Rattle.command_line.specs.declared.task.Retiming.{Retiming}
+use Rattle.command_line.specs.declared.task.MoveKind.{MoveKind}
+use Rattle.command_line.specs.declared.task.MoveKind.TheVariants.{Backward, Enables}
 use Rattle.command_line.specs.declared.task.Moving.{Moving}
 use Rattle.command_line.specs.declared.task.Batch.{Batch as Batching}
 use Rattle.command_line.specs.declared.task.Verification.{Verification}
@@ -33,7 +35,7 @@ use Rattle.command_line.specs.declared.task.Checking.{Checking}
 use Rattle.command_line.specs.declared.task.Asking.{Asking}
 use Rattle.command_line.specs.declared.task.Lifting.{Lifting}
 use Rattle.command_line.specs.declared.task.Task.{Task}
-use Rattle.command_line.specs.declared.task.Task.TheVariants.{Retime, Backward, Batch, Stat, Convert, Sim, Same, Verify, Check, Miter, Product, Lift, Dot, Witness, Explain}
+use Rattle.command_line.specs.declared.task.Task.TheVariants.{Retime, Move, Batch, Stat, Convert, Sim, Same, Verify, Check, Miter, Product, Lift, Dot, Witness, Explain}
 
 -- the text is the first value of the argument with this id
 abbrev pub IsGiven : ArgMatches → List ℕ → Bor (List ℕ) → Type 0
@@ -45,7 +47,7 @@ pub record IsSource (matches : ArgMatches) (id : List ℕ) (source : Source) : T
   pub given : IsGiven matches id path
   pub stands_for : source ≡ source_of path
 
--- so where the argument has a value, and none where it has none
+-- so if the argument has a value, and none if it has none
 abbrev pub IsSomeSource : ArgMatches → List ℕ → Option Source → Type 0
 IsSomeSource matches id (Some source) = IsSource matches id source
 IsSomeSource matches id None = first_value (found_of matches) id ≡ None
@@ -56,7 +58,7 @@ pub record IsTarget (matches : ArgMatches) (id : List ℕ) (target : Target) : T
   pub given : IsGiven matches id path
   pub stands_for : target ≡ target_of path
 
--- so where the argument has a value, and none where it has none
+-- so if the argument has a value, and none if it has none
 abbrev pub IsSomeTarget : ArgMatches → List ℕ → Option Target → Type 0
 IsSomeTarget matches id (Some target) = IsTarget matches id target
 IsSomeTarget matches id None = first_value (found_of matches) id ≡ None
@@ -73,24 +75,26 @@ IsSpelling matches (Some Ascii) = IsFlag matches (codes "ascii") true
 IsSpelling matches (Some Binary) = IsFlag matches (codes "ascii") false × IsFlag matches (codes "binary") true
 IsSpelling matches None = IsFlag matches (codes "ascii") false × IsFlag matches (codes "binary") false
 
--- the smallest least set exactly where its flag is given
+-- the smallest least set if and only if its flag is given
 abbrev pub IsChoice : ArgMatches → Choice → Type 0
 IsChoice matches Greatest = IsFlag matches (codes "near") false
 IsChoice matches Smallest = IsFlag matches (codes "near") true
 
--- a line for each frame, or nothing, where its flag is given, else what a terminal is shown
+-- a line for each frame, or nothing, if its flag is given, else what a terminal is shown
 abbrev pub IsShown : ArgMatches → Shown → Type 0
 IsShown matches EachFrame = IsFlag matches (codes "progress") true
 IsShown matches Nothing = IsFlag matches (codes "progress") false × IsFlag matches (codes "quiet") true
 IsShown matches OnTerminal = IsFlag matches (codes "progress") false × IsFlag matches (codes "quiet") false
 
--- the number is the value of the argument with this id, where that is a numeral of 32 bits, and the default where there is none
+-- The number is the value of the argument with this id, if that is a numeral of 32 bits. It is the
+-- default if there is none.
 pub record IsNumber (matches : ArgMatches) (id : List ℕ) (default number : ℕ) : Type 0 where
   pub none : one_text (found_of matches) id ≡ None → number ≡ default
   pub value : (text : List ℕ) → one_text (found_of matches) id ≡ Some text → IsNumeral 10 (without_leading_plus text) → digits_value 10 (without_leading_plus text) < 2 ^ 32
       → number ≡ digits_value 10 (without_leading_plus text)
 
--- the bound on levels: that of the circuit where its flag is given, else the number where one is given, else none
+-- the bound on levels: that of the circuit if its flag is given, else the number if one is given,
+-- else none
 abbrev pub IsBound : ArgMatches → PathBound → Type 0
 IsBound matches bounds.NoLonger = IsFlag matches (codes "no-longer") true
 IsBound matches (bounds.Levels most) =
@@ -120,7 +124,8 @@ pub record AreSources (matches : ArgMatches) (id : List ℕ) (sources : List Sou
   pub given : map (λ path. path.now) paths ≡ values_of matches id
   pub stand_for : sources ≡ map source_of paths
 
--- the options of a retiming are the values of their own arguments; one that isn't given, or that a command doesn't have, is its default
+-- The options of a retiming are the values of their own arguments. One that isn't given, or that a
+-- command doesn't have, is its default.
 pub record AreOptions (matches : ArgMatches) (options : RetimingOptions) : Type 0 where
   pub spelling : IsSpelling matches options.spelling
   pub frames : IsNumber matches (codes "frames") (2 ^ 28) options.frames
@@ -142,7 +147,7 @@ pub record IsRetiming (matches : ArgMatches) (retiming : Retiming) : Type 0 wher
   pub shown : IsShown matches retiming.shown
   pub json : IsFlag matches (codes "json") retiming.json
 
--- the paths and the options of a move backward are the values of their own arguments
+-- the paths and the options of a move are the values of their own arguments
 pub record IsMoving (matches : ArgMatches) (moving : Moving) : Type 0 where
   pub input : IsSource matches (codes "IN") moving.input
   pub output : IsTarget matches (codes "OUT") moving.output
@@ -173,7 +178,7 @@ pub record AreSequences (matches : ArgMatches) (sequences : Sequences) : Type 0 
   pub steps : IsNumber matches (codes "steps") 100 sequences.steps
   pub seed : IsNumber matches (codes "seed") 0 sequences.seed
 
--- the stimulus is read where no number of random sequences is given
+-- the stimulus is read if no number of random sequences is given
 abbrev pub AreStimuli : ArgMatches → Stimuli → Type 0
 AreStimuli matches (Read source) = (first_value (found_of matches) (codes "random") ≡ None) × IsSource matches (codes "STIM") source
 AreStimuli matches (Random sequences) = AreSequences matches sequences
@@ -214,13 +219,22 @@ pub record IsCarrying (matches : ArgMatches) (carrying : Carrying) : Type 0 wher
   pub witness : IsSource matches (codes "WITNESS") carrying.witness
   pub merge : IsFlag matches (codes "merge") carrying.merge
 
--- the paths of the circuits and of the map that is checked are the values of their own arguments
+-- the paths of the circuits are the values of their own arguments. So is that of the map, or of the
+-- list of kept free latches, if there is one.
 pub record IsChecking (matches : ArgMatches) (checking : Checking) : Type 0 where
   pub input : IsSource matches (codes "IN") checking.input
   pub retimed : IsSource matches (codes "OUT") checking.retimed
-  pub mapping : IsSource matches (codes "MAP") checking.map
+  pub mapping : IsSomeSource matches (codes "MAP") checking.map
+  pub kept : IsSomeSource matches (codes "kept") checking.kept
 
--- the paths of the circuits, of the map and of its miter, and the flags of what is written, are the values of their own arguments
+-- two circuits and the map of the states of the one to those of the other
+pub record AreMapped (matches : ArgMatches) (sources : Source × Source × Source) : Type 0 where
+  pub input : IsSource matches (codes "IN") sources.0
+  pub retimed : IsSource matches (codes "OUT") sources.1
+  pub mapping : IsSource matches (codes "MAP") sources.2
+
+-- The paths of the circuits, of the map and of its miter are the values of their own arguments. So
+-- are the flags of what is written.
 pub record IsAsking (matches : ArgMatches) (asking : Asking) : Type 0 where
   pub input : IsSource matches (codes "IN") asking.input
   pub retimed : IsSource matches (codes "OUT") asking.retimed
@@ -229,7 +243,7 @@ pub record IsAsking (matches : ArgMatches) (asking : Asking) : Type 0 where
   pub certificate : IsSomeTarget matches (codes "certificate") asking.certificate
   pub spelling : IsSpelling matches asking.spelling
 
--- the same of both circuits side by side, and of the certificate, which is always given
+-- so for both circuits side by side, and for the certificate, which is always given
 pub record IsPairing (matches : ArgMatches) (asking : Asking) : Type 0 where
   pub input : IsSource matches (codes "IN") asking.input
   pub retimed : IsSource matches (codes "OUT") asking.retimed
@@ -238,7 +252,8 @@ pub record IsPairing (matches : ArgMatches) (asking : Asking) : Type 0 where
   pub certificate : IsSomeTarget matches (codes "CERT") asking.certificate
   pub spelling : IsSpelling matches asking.spelling
 
--- the paths of the files that a witness circuit is lifted by, and the flags of what is written, are the values of their own arguments
+-- The paths of the files that a witness circuit is lifted by are the values of their own arguments.
+-- So are the flags of what is written.
 pub record IsLifting (matches : ArgMatches) (lifting : Lifting) : Type 0 where
   pub input : IsSource matches (codes "IN") lifting.input
   pub retimed : IsSource matches (codes "OUT") lifting.retimed
@@ -248,10 +263,11 @@ pub record IsLifting (matches : ArgMatches) (lifting : Lifting) : Type 0 where
   pub spelling : IsSpelling matches lifting.spelling
   pub back : IsFlag matches (codes "back") lifting.back
 
--- each path of the task, and the name of a fault, is the value of its own argument, so that no file is written that was to be read
+-- Each path of the task, and the name of a fault, is the value of its own argument. So no file is
+-- written that was to be read.
 abbrev pub AsksFor : ArgMatches → Task → Type 0
 AsksFor matches (Retime retiming) = IsRetiming matches retiming
-AsksFor matches (Backward moving) = IsMoving matches moving
+AsksFor matches (Move moving) = IsMoving matches moving
 AsksFor matches (Batch batch) = IsBatch matches batch
 AsksFor matches (Stat counting) = IsCounting matches counting
 AsksFor matches (Convert input output spelling) = IsSource matches (codes "IN") input × IsTarget matches (codes "OUT") output × IsSpelling matches spelling
@@ -266,10 +282,15 @@ AsksFor matches (Dot drawing) = IsDrawing matches drawing
 AsksFor matches (Witness carrying) = IsCarrying matches carrying
 AsksFor matches (Explain name) = IsGiven matches (codes "FAULT") name
 
+-- the name of the command that moves latches so
+abbrev pub move_name : MoveKind → List ℕ
+move_name Backward = codes "backward"
+move_name Enables = codes "enables"
+
 -- the name of the command that does the task
 abbrev pub command_of : Task → List ℕ
 command_of (Retime retiming) = codes "retime"
-command_of (Backward moving) = codes "backward"
+command_of (Move moving) = move_name moving.kind
 command_of (Batch batch) = codes "batch"
 command_of (Stat counting) = codes "stat"
 command_of (Convert input output spelling) = codes "convert"

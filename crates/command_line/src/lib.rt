@@ -12,6 +12,6 @@ pub use options::RetimingOptions;
 pub use parse::parse_arguments;
 pub use refusing::command_error;
 pub use task::{
-    Asking, Batch, Carrying, Checking, Comparison, Counting, Drawing, Lifting, Moving, Retiming,
-    Sequences, Shown, Simulation, Stimuli, Task, Verification,
+    Asking, Batch, Carrying, Checking, Comparison, Counting, Drawing, Lifting, MoveKind, Moving,
+    Retiming, Sequences, Shown, Simulation, Stimuli, Task, Verification,
 };

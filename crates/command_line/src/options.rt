@@ -31,7 +31,7 @@ pub struct RetimingOptions<'a> {
     pub keep_latches: Vec<u32>,
 }
 
-/// The options of a retiming that are given.
+/// Returns the options of a retiming that are given.
 pub(crate) fn options<'a>(
     alloc: Global,
     matches: &ArgMatches<'a>,

@@ -1,15 +1,16 @@
-//! From the matches of the command-line library to a task, each field of which is the value of an argument.
+//! From the matches of the command-line library to a task, each field of which is the value of an
+//! argument.
 ghost use Rattle.std.specs.Prelude.{◌≡◌, IfOk, IfSome, MatchOption, None, codes};
 ghost use Rattle.clap.specs.Words.{first_value, found_of};
-ghost use Rattle.command_line.specs.Asking.{AreSequences, AreStimuli, Asks, IsChecking};
+ghost use Rattle.command_line.specs.Asking.{AreMapped, AreSequences, AreStimuli, Asks, move_name};
 ghost use Rattle.command_line.specs.StreamUses.{UsesStreamsOnce};
 
 use crate::options::options;
 use crate::refusing::command_error;
 use crate::stream_uses::stream_conflict;
 use crate::task::{
-    Asking, Batch, Carrying, Checking, Comparison, Counting, Drawing, Lifting, Moving, Retiming,
-    Sequences, Simulation, Stimuli, Task, Verification,
+    Asking, Batch, Carrying, Checking, Comparison, Counting, Drawing, Lifting, MoveKind, Moving,
+    Retiming, Sequences, Simulation, Stimuli, Task, Verification,
 };
 use crate::values::{
     depth, json, merge, number, shown, source, source_if_given, spelling, target, workers,
@@ -17,6 +18,7 @@ use crate::values::{
 use clap::error::ErrorKind;
 use clap::{ArgMatches, Command, Error};
 use command_words::program_command;
+use counted_io::Source;
 use std::alloc::{AllocError, Global};
 
 fn retiming<'a>(alloc: Global, matches: &ArgMatches<'a>) -> Result<Option<Task<'a>>, AllocError>
@@ -37,13 +39,18 @@ fn retiming<'a>(alloc: Global, matches: &ArgMatches<'a>) -> Result<Option<Task<'
     })))
 }
 
-fn moving<'a>(alloc: Global, matches: &ArgMatches<'a>) -> Result<Option<Task<'a>>, AllocError>
-    ensures { IfOk result (λ found. IfSome found (Asks (codes "backward") matches.now)) }
+fn moving<'a>(
+    alloc: Global,
+    matches: &ArgMatches<'a>,
+    kind: MoveKind,
+) -> Result<Option<Task<'a>>, AllocError>
+    ensures { IfOk result (λ found. IfSome found (Asks (move_name kind) matches.now)) }
 {
     let (Some(input), Some(output)) = (source(matches, "IN"), target(matches, "OUT")) else {
         return Ok(None);
     };
-    Ok(Some(Task::Backward(Moving {
+    Ok(Some(Task::Move(Moving {
+        kind,
         input,
         output,
         options: options(alloc, matches)?,
@@ -120,7 +127,7 @@ fn conversion<'a>(matches: &ArgMatches<'a>) -> Option<Task<'a>>
     Some(Task::Convert(input, output, spelling(matches)))
 }
 
-/// Which random sequences are asked for, where any are.
+/// Returns the random sequences that are asked for, if any are.
 fn sequences(matches: &ArgMatches<'_>) -> Option<Sequences>
     ensures { MatchOption result (first_value (found_of matches.now) (codes "random") ≡ None)
         (AreSequences matches.now) }
@@ -133,7 +140,7 @@ fn sequences(matches: &ArgMatches<'_>) -> Option<Sequences>
     })
 }
 
-/// What circuits are simulated under.
+/// Returns the stimulus that circuits are simulated under.
 fn stimuli<'a>(matches: &ArgMatches<'a>) -> Option<Stimuli<'a>>
     ensures { IfSome result (AreStimuli matches.now) }
 {
@@ -197,8 +204,8 @@ fn witness<'a>(matches: &ArgMatches<'a>) -> Option<Task<'a>>
 }
 
 /// Two circuits and the map of the states of the one to those of the other.
-fn checking<'a>(matches: &ArgMatches<'a>) -> Option<Checking<'a>>
-    ensures { IfSome result (IsChecking matches.now) }
+fn mapped<'a>(matches: &ArgMatches<'a>) -> Option<(Source<'a>, Source<'a>, Source<'a>)>
+    ensures { IfSome result (AreMapped matches.now) }
 {
     let (Some(input), Some(retimed), Some(map)) = (
         source(matches, "IN"),
@@ -207,32 +214,34 @@ fn checking<'a>(matches: &ArgMatches<'a>) -> Option<Checking<'a>>
     ) else {
         return None;
     };
-    Some(Checking {
-        input,
-        retimed,
-        map,
-    })
+    Some((input, retimed, map))
 }
 
 fn check<'a>(matches: &ArgMatches<'a>) -> Option<Task<'a>>
     ensures { IfSome result (Asks (codes "check") matches.now) }
 {
-    match checking(matches) {
-        Some(asked) => Some(Task::Check(asked)),
-        None => None,
-    }
+    let (Some(input), Some(retimed)) = (source(matches, "IN"), source(matches, "OUT")) else {
+        return None;
+    };
+    Some(Task::Check(Checking {
+        input,
+        retimed,
+        map: source_if_given(matches, "MAP"),
+        kept: source_if_given(matches, "kept"),
+    }))
 }
 
 fn miter<'a>(matches: &ArgMatches<'a>) -> Option<Task<'a>>
     ensures { IfSome result (Asks (codes "miter") matches.now) }
 {
-    let (Some(asked), Some(output)) = (checking(matches), target(matches, "MITER")) else {
+    let (Some((input, retimed, map)), Some(output)) = (mapped(matches), target(matches, "MITER"))
+    else {
         return None;
     };
     Some(Task::Miter(Asking {
-        input: asked.input,
-        retimed: asked.retimed,
-        map: asked.map,
+        input,
+        retimed,
+        map,
         output,
         certificate: target(matches, "certificate"),
         spelling: spelling(matches),
@@ -242,17 +251,17 @@ fn miter<'a>(matches: &ArgMatches<'a>) -> Option<Task<'a>>
 fn product<'a>(matches: &ArgMatches<'a>) -> Option<Task<'a>>
     ensures { IfSome result (Asks (codes "product") matches.now) }
 {
-    let (Some(asked), Some(output), Some(certificate)) = (
-        checking(matches),
+    let (Some((input, retimed, map)), Some(output), Some(certificate)) = (
+        mapped(matches),
         target(matches, "MODEL"),
         target(matches, "CERT"),
     ) else {
         return None;
     };
     Some(Task::Product(Asking {
-        input: asked.input,
-        retimed: asked.retimed,
-        map: asked.map,
+        input,
+        retimed,
+        map,
         output,
         certificate: Some(certificate),
         spelling: spelling(matches),
@@ -262,17 +271,17 @@ fn product<'a>(matches: &ArgMatches<'a>) -> Option<Task<'a>>
 fn lifting<'a>(matches: &ArgMatches<'a>) -> Option<Task<'a>>
     ensures { IfSome result (Asks (codes "lift") matches.now) }
 {
-    let (Some(asked), Some(witness), Some(output)) = (
-        checking(matches),
+    let (Some((input, retimed, map)), Some(witness), Some(output)) = (
+        mapped(matches),
         source(matches, "CERT"),
         target(matches, "RESULT"),
     ) else {
         return None;
     };
     Some(Task::Lift(Lifting {
-        input: asked.input,
-        retimed: asked.retimed,
-        map: asked.map,
+        input,
+        retimed,
+        map,
         witness,
         output,
         spelling: spelling(matches),
@@ -289,7 +298,7 @@ fn explanation<'a>(matches: &ArgMatches<'a>) -> Option<Task<'a>>
     }
 }
 
-/// What the matches of a subcommand ask for, where it moves no latches.
+/// Returns what the matches of a subcommand ask for, if it moves no latches.
 fn task_without_options<'a>(name: &str, matches: &ArgMatches<'a>) -> Option<Task<'a>>
     ensures { IfSome result (Asks name.now matches.now) }
 {
@@ -308,7 +317,7 @@ fn task_without_options<'a>(name: &str, matches: &ArgMatches<'a>) -> Option<Task
     }
 }
 
-/// What the matches of a subcommand ask for.
+/// Returns what the matches of a subcommand ask for.
 fn task<'a>(
     alloc: Global,
     name: &str,
@@ -318,7 +327,8 @@ fn task<'a>(
 {
     match name {
         "retime" => retiming(alloc, matches),
-        "backward" => moving(alloc, matches),
+        "backward" => moving(alloc, matches, MoveKind::Backward),
+        "enables" => moving(alloc, matches, MoveKind::Enables),
         "verify" => verification(alloc, matches),
         "batch" => batch(alloc, matches),
         "dot" => drawing(alloc, matches),
@@ -326,7 +336,7 @@ fn task<'a>(
     }
 }
 
-/// What the matches of a whole command line ask for; `None` where they name no command.
+/// Returns what the matches of a whole command line ask for, or `None` if they name no command.
 fn task_of<'a>(alloc: Global, matches: &ArgMatches<'a>) -> Result<Option<Task<'a>>, AllocError> {
     match matches.subcommand() {
         Some((name, matches)) => task(alloc, name, matches),
@@ -334,7 +344,7 @@ fn task_of<'a>(alloc: Global, matches: &ArgMatches<'a>) -> Result<Option<Task<'a
     }
 }
 
-/// The same with a refusal of memory as an error of a command line.
+/// Returns what was asked, with a refusal of memory as an error of a command line.
 fn or_error<'a>(asked: Result<Option<Task<'a>>, AllocError>) -> Result<Option<Task<'a>>, Error> {
     match asked {
         Ok(task) => Ok(task),
@@ -342,7 +352,7 @@ fn or_error<'a>(asked: Result<Option<Task<'a>>, AllocError>) -> Result<Option<Ta
     }
 }
 
-/// What the command-line arguments ask a program for.
+/// Returns what the command-line arguments ask a program for.
 fn asked_of<'a>(
     alloc: Global,
     program: &mut Command<'a>,
@@ -358,7 +368,7 @@ fn asked_of<'a>(
     }
 }
 
-/// The task, where it has one use at most for each standard stream, else what is wrong.
+/// Returns the task if it has one use at most for each standard stream, else what is wrong.
 fn with_streams_once<'a>(alloc: Global, task: Task<'a>) -> Result<Task<'a>, Error>
     ensures { IfOk result UsesStreamsOnce }
 {
@@ -372,7 +382,7 @@ fn with_streams_once<'a>(alloc: Global, task: Task<'a>) -> Result<Task<'a>, Erro
     }
 }
 
-/// What the command-line arguments ask a program for, where asking for nothing is an error.
+/// Returns what the command-line arguments ask a program for. To ask for nothing is an error.
 fn task_asked_of<'a>(
     alloc: Global,
     program: &mut Command<'a>,
@@ -390,12 +400,12 @@ fn task_asked_of<'a>(
     }
 }
 
-/// What the command-line arguments ask for, the program's name first.
+/// Returns what the command-line arguments ask for, the program's name first.
 ///
 /// # Errors
 ///
-/// They ask for help or the version, or are no command of the program, or read or write a standard stream twice, or there is no
-/// memory.
+/// They ask for help or the version, or are no command of the program. They read or write a
+/// standard stream twice, or there is no memory.
 pub fn parse_arguments<'a>(alloc: Global, words: &'a [String]) -> Result<Task<'a>, Error>
     ensures { IfOk result UsesStreamsOnce }
 {

@@ -1,4 +1,5 @@
-//! Errors of a command line that the program finds itself, in the form of those of the command-line library.
+//! Errors of a command line that the program finds itself, in the form of those of the command-line
+//! library.
 ghost use Rattle.std.specs.Prelude.{◌≡◌, ◌⊎◌, IfOk};
 ghost use Rattle.clap.specs.Values.{kind_of};
 ghost use Rattle.clap.specs.declared.error.kind.ErrorKind.TheVariants.{OutOfMemory};
@@ -8,7 +9,7 @@ use clap::{Command, Error};
 use command_words::command_named;
 use std::alloc::Global;
 
-/// An error of this kind that says this, with the usage of a command.
+/// Returns an error of this kind that says this, with the usage of a command.
 fn error_with_usage(mut command: Command<'_>, kind: ErrorKind, message: &str) -> Error
     ensures { (kind_of result ≡ kind) ⊎ (kind_of result ≡ OutOfMemory) }
 {
@@ -20,7 +21,8 @@ fn error_with_usage(mut command: Command<'_>, kind: ErrorKind, message: &str) ->
     }
 }
 
-/// An error of this kind of the command with this name, that says this, with its usage; memory may be refused.
+/// Returns an error of this kind of the command with this name, that says this, with its usage.
+/// Memory may be refused.
 pub fn command_error(alloc: Global, name: &str, kind: ErrorKind, message: &str) -> Error
     ensures { (kind_of result ≡ kind) ⊎ (kind_of result ≡ OutOfMemory) }
 {

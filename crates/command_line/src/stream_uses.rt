@@ -2,11 +2,12 @@
 ghost use Rattle.std.specs.Prelude.{◌≡◌, ◌≤◌, IfNone};
 ghost use Rattle.std.specs.List.{count_by};
 ghost use Rattle.counted_io.specs.Streams.{is_stdin, is_stdout};
-ghost use Rattle.command_line.specs.StreamUses.{UsesStreamsOnce, asking_targets, moving_targets, other_sources, retiming_targets, simulation_targets, sources_of, sources_of_comparison, sources_of_lifting, sources_of_simulation, sources_of_verification, targets_of};
+ghost use Rattle.command_line.specs.StreamUses.{UsesStreamsOnce, asking_targets, moving_targets, other_sources, retiming_targets, simulation_targets, sources_of, sources_of_checking, sources_of_comparison, sources_of_lifting, sources_of_simulation, sources_of_verification, targets_of};
 ghost use Rattle.command_line.specs.StreamUses as wanted;
 
 use crate::task::{
-    Asking, Comparison, Lifting, Moving, Retiming, Simulation, Stimuli, Task, Verification,
+    Asking, Checking, Comparison, Lifting, Moving, Retiming, Simulation, Stimuli, Task,
+    Verification,
 };
 use counted_io::{Source, Target};
 
@@ -22,7 +23,7 @@ fn stdout_count(targets: &[Target<'_>]) -> usize
     targets.iter().filter(|target| target.is_stdout()).count()
 }
 
-/// How many of the circuit and the stimulus are standard input.
+/// Counts which of the circuit and the stimulus are standard input.
 fn stdin_uses_of_simulation(simulation: &Simulation<'_>) -> usize
     ensures { result ≡ count_by is_stdin (sources_of_simulation simulation.now) }
 {
@@ -32,7 +33,7 @@ fn stdin_uses_of_simulation(simulation: &Simulation<'_>) -> usize
     }
 }
 
-/// How many of the circuits, the list and the stimulus are standard input.
+/// Counts which of the circuits, the list and the stimulus are standard input.
 fn stdin_uses_of_comparison(comparison: &Comparison<'_>) -> usize
     ensures { result ≡ count_by is_stdin (sources_of_comparison comparison.now) }
 {
@@ -45,7 +46,20 @@ fn stdin_uses_of_comparison(comparison: &Comparison<'_>) -> usize
     }
 }
 
-/// How many of the circuits and the certificates are standard input.
+/// Counts those of the circuits, the map and the list that are standard input.
+fn stdin_uses_of_checking(checking: &Checking<'_>) -> usize
+    ensures { result ≡ count_by is_stdin (sources_of_checking checking.now) }
+{
+    let (input, retimed) = (checking.input, checking.retimed);
+    match (checking.map, checking.kept) {
+        (Some(map), Some(kept)) => stdin_count(&[input, retimed, map, kept]),
+        (Some(map), None) => stdin_count(&[input, retimed, map]),
+        (None, Some(kept)) => stdin_count(&[input, retimed, kept]),
+        (None, None) => stdin_count(&[input, retimed]),
+    }
+}
+
+/// Counts those of the circuits and the certificates that are standard input.
 fn stdin_uses_of_verification(verification: &Verification<'_>) -> usize
     ensures { result ≡ count_by is_stdin (sources_of_verification verification.now) }
 {
@@ -56,20 +70,20 @@ fn stdin_uses_of_verification(verification: &Verification<'_>) -> usize
     }
 }
 
-/// How many of the circuits, the map and the witness circuit are standard input.
+/// Counts which of the circuits, the map and the witness circuit are standard input.
 fn stdin_uses_of_lifting(lifting: &Lifting<'_>) -> usize
     ensures { result ≡ count_by is_stdin (sources_of_lifting lifting.now) }
 {
     stdin_count(&[lifting.input, lifting.retimed, lifting.map, lifting.witness])
 }
 
-/// How many of the things that a task reads beside files of names are standard input.
+/// Counts which of the files that a task reads beside files of names are standard input.
 fn other_stdin_uses(task: &Task<'_>) -> usize
     ensures { result ≡ count_by is_stdin (other_sources task.now) }
 {
     match task {
         Task::Retime(retiming) => stdin_count(&[retiming.input]),
-        Task::Backward(moving) => stdin_count(&[moving.input]),
+        Task::Move(moving) => stdin_count(&[moving.input]),
         Task::Batch(batch) => stdin_count(&[batch.list]),
         Task::Stat(counting) => stdin_count(&[counting.input]),
         Task::Convert(input, _, _) => stdin_count(&[*input]),
@@ -79,7 +93,7 @@ fn other_stdin_uses(task: &Task<'_>) -> usize
             stdin_count(&[carrying.input, carrying.retimed, carrying.witness])
         }
         Task::Verify(verification) => stdin_uses_of_verification(verification),
-        Task::Check(checking) => stdin_count(&[checking.input, checking.retimed, checking.map]),
+        Task::Check(checking) => stdin_uses_of_checking(checking),
         Task::Miter(asking) => stdin_count(&[asking.input, asking.retimed, asking.map]),
         Task::Product(asking) => stdin_count(&[asking.input, asking.retimed, asking.map]),
         Task::Lift(lifting) => stdin_uses_of_lifting(lifting),
@@ -88,14 +102,14 @@ fn other_stdin_uses(task: &Task<'_>) -> usize
     }
 }
 
-/// How many of the things that a task reads are standard input.
+/// Counts which of the files that a task reads are standard input.
 fn stdin_uses(task: &Task<'_>) -> usize
     ensures { result ≡ count_by is_stdin (sources_of task.now) }
 {
     stdin_count(task.name_files()) + other_stdin_uses(task)
 }
 
-/// How many of the circuit, the map and the certificates go to standard output.
+/// Counts which of the circuit, the map and the certificates go to standard output.
 fn stdout_uses_of(retiming: &Retiming<'_>) -> usize
     ensures { result ≡ count_by is_stdout (retiming_targets retiming.now.output retiming.now.map
         retiming.now.certificates) }
@@ -108,7 +122,7 @@ fn stdout_uses_of(retiming: &Retiming<'_>) -> usize
     }
 }
 
-/// How many of the circuit and the map go to standard output.
+/// Counts which of the circuit and the map go to standard output.
 fn stdout_uses_of_moving(moving: &Moving<'_>) -> usize
     ensures { result ≡ count_by is_stdout (moving_targets moving.now) }
 {
@@ -118,7 +132,7 @@ fn stdout_uses_of_moving(moving: &Moving<'_>) -> usize
     }
 }
 
-/// How many of the trace and the waves go to standard output.
+/// Counts which of the trace and the waves go to standard output.
 fn stdout_uses_of_simulation(simulation: &Simulation<'_>) -> usize
     ensures { result ≡ count_by is_stdout (simulation_targets simulation.now.waves) }
 {
@@ -128,7 +142,7 @@ fn stdout_uses_of_simulation(simulation: &Simulation<'_>) -> usize
     }
 }
 
-/// How many of the miter and the certificate go to standard output.
+/// Counts which of the miter and the certificate go to standard output.
 fn stdout_uses_of_asking(asking: &Asking<'_>) -> usize
     ensures { result ≡ count_by is_stdout (asking_targets asking.now) }
 {
@@ -138,13 +152,13 @@ fn stdout_uses_of_asking(asking: &Asking<'_>) -> usize
     }
 }
 
-/// How many of the things that a task writes are standard output.
+/// Counts which of the files that a task writes are standard output.
 fn stdout_uses(task: &Task<'_>) -> usize
     ensures { result ≡ count_by is_stdout (targets_of task.now) }
 {
     match task {
         Task::Retime(retiming) => stdout_uses_of(retiming),
-        Task::Backward(moving) => stdout_uses_of_moving(moving),
+        Task::Move(moving) => stdout_uses_of_moving(moving),
         Task::Convert(_, output, _) => stdout_count(&[*output]),
         Task::Dot(drawing) => stdout_count(&[drawing.output]),
         Task::Sim(simulation) => stdout_uses_of_simulation(simulation),
@@ -161,7 +175,7 @@ fn stdout_uses(task: &Task<'_>) -> usize
     }
 }
 
-/// What is said of a task that writes standard output twice.
+/// Returns the message about a task that writes standard output twice.
 fn stdout_message(task: &Task<'_>) -> &'static str {
     match task {
         Task::Sim(_) => "standard output has the values: --vcd wants a file of its own",
@@ -171,7 +185,7 @@ fn stdout_message(task: &Task<'_>) -> &'static str {
         Task::Product(_) => {
             "standard output is written once: '-' can stand for one of MODEL and CERT only"
         }
-        Task::Backward(_) => {
+        Task::Move(_) => {
             "standard output is written once: '-' can stand for one of OUT and MAP only"
         }
         _ => {
@@ -180,7 +194,7 @@ fn stdout_message(task: &Task<'_>) -> &'static str {
     }
 }
 
-/// What is wrong where a task has more than one use for a standard stream.
+/// Returns what is wrong if a task has more than one use for a standard stream.
 pub(crate) fn stream_conflict(task: &Task<'_>) -> Option<&'static str>
     ensures { IfNone result (UsesStreamsOnce task.now) }
 {
@@ -193,7 +207,7 @@ pub(crate) fn stream_conflict(task: &Task<'_>) -> Option<&'static str>
     }
 }
 
-/// Whether something that is written where it is asked for goes to standard output.
+/// Returns true if something that may be asked for is written to standard output.
 fn writes_stdout(target: Option<Target<'_>>) -> bool
     ensures { result ≡ wanted.writes_stdout target.entry }
 {
@@ -204,13 +218,13 @@ fn writes_stdout(target: Option<Target<'_>>) -> bool
 }
 
 impl<'a> Task<'a> {
-    /// The files of names of the latches that are held.
+    /// Returns the files of names of the latches that are held.
     pub fn name_files(&self) -> &[Source<'a>]
         ensures { result.now ≡ wanted.name_files self.now }
     {
         match self {
             Task::Retime(retiming) => retiming.options.keep_from.as_slice(),
-            Task::Backward(moving) => moving.options.keep_from.as_slice(),
+            Task::Move(moving) => moving.options.keep_from.as_slice(),
             Task::Verify(verification) => verification.options.keep_from.as_slice(),
             Task::Dot(drawing) => drawing.options.keep_from.as_slice(),
             _ => &[],
@@ -219,7 +233,8 @@ impl<'a> Task<'a> {
 }
 
 impl<'a> Retiming<'a> {
-    /// Whether a circuit, a map or certificates go to standard output, so that what is printed goes to standard error.
+    /// Returns true if a circuit, a map or certificates go to standard output. What is printed then
+    /// goes to standard error.
     pub fn takes_stdout(&self) -> bool
         ensures { result ≡ wanted.takes_stdout self.now }
     {
@@ -228,7 +243,8 @@ impl<'a> Retiming<'a> {
 }
 
 impl<'a> Moving<'a> {
-    /// Whether a circuit or a map goes to standard output, so that what is printed goes to standard error.
+    /// Returns true if a circuit or a map goes to standard output. What is printed then goes to
+    /// standard error.
     pub fn takes_stdout(&self) -> bool
         ensures { result ≡ wanted.moving_takes_stdout self.now }
     {

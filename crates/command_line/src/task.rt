@@ -1,7 +1,8 @@
-//! What a command line asks for, without how that was written: the words of options and their defaults are known in this crate
-//! alone. Paths and names are slices of the arguments, so a task takes memory for lists of names and of their files only.
+//! What a command line asks for, without how that was written: the words of options and their
+//! defaults are known in this crate alone. Paths and names are slices of the arguments, so a task
+//! takes memory for lists of names and of their files only.
 ghost use Rattle.std.specs.Prelude.{◌≡◌};
-ghost use Rattle.command_line.specs.Asking.{command_of};
+ghost use Rattle.command_line.specs.Asking.{command_of, move_name};
 
 use crate::options::RetimingOptions;
 use counted_io::{Source, Target};
@@ -10,7 +11,7 @@ use file_words::Spelling;
 /// What is shown of a run on standard error while it goes on.
 #[derive(Clone, Copy, PartialEq, Eq)]
 pub enum Shown {
-    /// One line, where standard error is a terminal.
+    /// One line, if standard error is a terminal.
     OnTerminal,
     /// A line for each frame.
     EachFrame,
@@ -39,9 +40,32 @@ pub struct Retiming<'a> {
     pub json: bool,
 }
 
-/// What `backward` is to do.
+/// The commands that write what a judge takes, whoever drafted it.
+#[derive(Clone, Copy, PartialEq, Eq)]
+pub enum MoveKind {
+    /// Latches move backward, from behind gates to before them.
+    Backward,
+    /// Registers with an enable or a reset move forward, as those without do.
+    Enables,
+}
+
+impl MoveKind {
+    /// Returns the word for the command.
+    pub fn command(self) -> &'static str
+        ensures { result.now ≡ move_name self }
+    {
+        match self {
+            MoveKind::Backward => "backward",
+            MoveKind::Enables => "enables",
+        }
+    }
+}
+
+/// What `backward` or `enables` is to do.
 #[derive(Drop)]
 pub struct Moving<'a> {
+    /// Which of both it is.
+    pub kind: MoveKind,
     /// What is read.
     pub input: Source<'a>,
     /// What is written.
@@ -82,7 +106,7 @@ pub struct Sequences {
     pub seed: u32,
 }
 
-/// What circuits are simulated under.
+/// The stimulus that circuits are simulated under.
 #[derive(Clone, Copy)]
 pub enum Stimuli<'a> {
     /// The stimulus that is read.
@@ -109,7 +133,7 @@ pub struct Comparison<'a> {
     pub first: Source<'a>,
     /// The second circuit.
     pub second: Source<'a>,
-    /// The list of the free latches of the first that the second has; `None` where it has each.
+    /// The list of the free latches of the first that the second has; `None` if it has each.
     pub kept: Option<Source<'a>>,
     /// What both are simulated under, with the widths of the first.
     pub stimuli: Stimuli<'a>,
@@ -139,7 +163,7 @@ pub struct Drawing<'a> {
     pub output: Target<'a>,
     /// Whether the set over which latches move next is shown.
     pub frame: bool,
-    /// Which latches are held, and how the others move where that set is shown.
+    /// The latches that are held, and how the others move if that set is shown.
     pub options: RetimingOptions<'a>,
     /// The name of what the picture shows the neighbourhood of; `None` asks for the whole circuit.
     pub around: Option<&'a str>,
@@ -178,8 +202,11 @@ pub struct Checking<'a> {
     pub input: Source<'a>,
     /// The circuit that was made of it.
     pub retimed: Source<'a>,
-    /// The map of the states of the one to those of the other.
-    pub map: Source<'a>,
+    /// The map of the states of the one to those of the other. Without one both are compared side
+    /// by side.
+    pub map: Option<Source<'a>>,
+    /// Which free latches of the first the second has, where it hasn't all of them.
+    pub kept: Option<Source<'a>>,
 }
 
 /// What `miter` is to do, and `product`, which always has a certificate.
@@ -193,7 +220,7 @@ pub struct Asking<'a> {
     pub map: Source<'a>,
     /// What the miter, or the model of both, is written to.
     pub output: Target<'a>,
-    /// What the pair of both with its invariant, a witness circuit, is written to; `None` asks for none.
+    /// The file for the pair of both with its invariant, a witness circuit; `None` asks for none.
     pub certificate: Option<Target<'a>>,
     /// The spelling of the written file; `None` is that of the map.
     pub spelling: Option<Spelling>,
@@ -214,7 +241,8 @@ pub struct Lifting<'a> {
     pub output: Target<'a>,
     /// The spelling of the written file; `None` is that of the witness circuit that is read.
     pub spelling: Option<Spelling>,
-    /// Whether the map leads back, from the states of the circuit that was made to those of the first one.
+    /// Whether the map leads back, from the states of the circuit that was made to those of the
+    /// first one.
     pub back: bool,
 }
 
@@ -223,8 +251,8 @@ pub struct Lifting<'a> {
 pub enum Task<'a> {
     /// Retime a circuit.
     Retime(Retiming<'a>),
-    /// Move the latches of a circuit backward.
-    Backward(Moving<'a>),
+    /// Move the latches of a circuit backward, or those with an enable or a reset forward.
+    Move(Moving<'a>),
     /// Retime the circuits of a list.
     Batch(Batch<'a>),
     /// Count what a circuit has.
@@ -237,7 +265,7 @@ pub enum Task<'a> {
     Same(Comparison<'a>),
     /// Check the certificates of a retiming.
     Verify(Verification<'a>),
-    /// Check by a map of states that a circuit is a retiming of another.
+    /// Check that a circuit has the properties of another, by a map of states or without one.
     Check(Checking<'a>),
     /// Write what a map of states has to meet as a circuit.
     Miter(Asking<'a>),
@@ -254,13 +282,13 @@ pub enum Task<'a> {
 }
 
 impl Task<'_> {
-    /// The word for the command.
+    /// Returns the word for the command.
     pub fn command(&self) -> &'static str
         ensures { result.now ≡ command_of self.now }
     {
         match self {
             Task::Retime(_) => "retime",
-            Task::Backward(_) => "backward",
+            Task::Move(moving) => moving.kind.command(),
             Task::Batch(_) => "batch",
             Task::Stat(_) => "stat",
             Task::Convert(_, _, _) => "convert",

@@ -1,5 +1,5 @@
-//! The values of arguments, of which each has a function whose clause says which argument it comes from. That the command-line library
-//! matched the words as it should is only tested.
+//! The values of arguments. Each has a function whose clause says which argument it comes from.
+//! That the command-line library matched the words as it should is only tested.
 ghost use Rattle.std.specs.Prelude.{◌≡◌, ◌^◌, IfOk, IfSome, codes, map};
 ghost use Rattle.counted_io.specs.Streams.{source_of};
 ghost use Rattle.command_line.specs.Asking.{AreSources, IsBound, IsChoice, IsFlag, IsNumber, IsShown, IsSomeSource, IsSomeTarget, IsSource, IsSpelling, number_of, values_of};
@@ -12,7 +12,7 @@ use file_words::Spelling;
 use frames::PathBound;
 use std::alloc::{AllocError, Global};
 
-/// What the argument with this id, a path that is read, stands for.
+/// Returns the source of the argument with this id, a path that is read.
 pub(crate) fn source<'a>(matches: &ArgMatches<'a>, id: &str) -> Option<Source<'a>>
     ensures { IfSome result (IsSource matches.now id.now) }
 {
@@ -22,7 +22,7 @@ pub(crate) fn source<'a>(matches: &ArgMatches<'a>, id: &str) -> Option<Source<'a
     }
 }
 
-/// The same, where the argument is given.
+/// Returns the source of the argument with this id, if it is given.
 pub(crate) fn source_if_given<'a>(matches: &ArgMatches<'a>, id: &str) -> Option<Source<'a>>
     ensures { IsSomeSource matches.now id.now result }
 {
@@ -32,7 +32,7 @@ pub(crate) fn source_if_given<'a>(matches: &ArgMatches<'a>, id: &str) -> Option<
     }
 }
 
-/// What paths that are read stand for.
+/// Returns the sources of paths that are read.
 fn sources_of<'a>(alloc: Global, paths: &[&'a str]) -> Result<Vec<Source<'a>>, AllocError>
     ensures { IfOk result (λ sources. sources.items ≡ map source_of paths.now) }
 {
@@ -43,7 +43,7 @@ fn sources_of<'a>(alloc: Global, paths: &[&'a str]) -> Result<Vec<Source<'a>>, A
     Ok(sources)
 }
 
-/// What each value of the argument with this id, a path that is read, stands for.
+/// Returns the source of each value of the argument with this id, a path that is read.
 pub(crate) fn sources<'a>(
     alloc: Global,
     matches: &ArgMatches<'a>,
@@ -54,7 +54,7 @@ pub(crate) fn sources<'a>(
     sources_of(alloc, matches.get_strs(id).unwrap_or(&[]))
 }
 
-/// What the argument with this id, a path that is written, stands for.
+/// Returns the target of the argument with this id, a path that is written.
 pub(crate) fn target<'a>(matches: &ArgMatches<'a>, id: &str) -> Option<Target<'a>>
     ensures { IsSomeTarget matches.now id.now result }
 {
@@ -64,7 +64,7 @@ pub(crate) fn target<'a>(matches: &ArgMatches<'a>, id: &str) -> Option<Target<'a
     }
 }
 
-/// The spelling that a flag chooses.
+/// Returns the spelling that a flag chooses.
 pub(crate) fn spelling(matches: &ArgMatches<'_>) -> Option<Spelling>
     ensures { IsSpelling matches.now result }
 {
@@ -77,7 +77,7 @@ pub(crate) fn spelling(matches: &ArgMatches<'_>) -> Option<Spelling>
     }
 }
 
-/// The least set that a flag chooses: the smallest, else the greatest.
+/// Returns the least set that a flag chooses: the smallest, else the greatest.
 pub(crate) fn choice(matches: &ArgMatches<'_>) -> Choice
     ensures { IsChoice matches.now result }
 {
@@ -88,7 +88,8 @@ pub(crate) fn choice(matches: &ArgMatches<'_>) -> Choice
     }
 }
 
-/// What a flag asks to be shown of a run: a line for each frame, nothing, else what a terminal is shown.
+/// Returns what a flag asks to be shown of a run: a line for each frame, nothing, else what a
+/// terminal is shown.
 pub(crate) fn shown(matches: &ArgMatches<'_>) -> Shown
     ensures { IsShown matches.now result }
 {
@@ -101,7 +102,7 @@ pub(crate) fn shown(matches: &ArgMatches<'_>) -> Shown
     }
 }
 
-/// The number that an argument has as its value, else the default.
+/// Returns the number that an argument has as its value, else the default.
 pub(crate) fn number(matches: &ArgMatches<'_>, id: &str, default: u32) -> u32
     ensures { IsNumber matches.now id.now default result }
 {
@@ -120,7 +121,7 @@ pub(crate) fn frames(matches: &ArgMatches<'_>) -> u32
     number(matches, "frames", 1 << 28)
 }
 
-/// How long moves may make paths: as the longest path that is read, or as long as a number says.
+/// Returns the bound on paths: the longest path that is read, or a number.
 pub(crate) fn bound(matches: &ArgMatches<'_>) -> PathBound
     ensures { IsBound matches.now result }
 {
@@ -133,7 +134,7 @@ pub(crate) fn bound(matches: &ArgMatches<'_>) -> PathBound
     }
 }
 
-/// The names of the latches that are held.
+/// Returns the names of the latches that are held.
 pub(crate) fn keep<'a>(alloc: Global, matches: &ArgMatches<'a>) -> Result<Vec<&'a str>, AllocError>
     ensures { IfOk result (λ names. map (λ name. name.now) names.items
         ≡ values_of matches.now (codes "keep")) }
@@ -141,14 +142,14 @@ pub(crate) fn keep<'a>(alloc: Global, matches: &ArgMatches<'a>) -> Result<Vec<&'
     Vec::from_slice(alloc, matches.get_strs("keep").unwrap_or(&[]))
 }
 
-/// The number that a text is, else 0.
+/// Returns the number that a text is, else 0.
 fn number_of(text: &str) -> u32
     ensures { result ≡ number_of text.now }
 {
     text.parse().unwrap_or(0)
 }
 
-/// The numbers that texts are.
+/// Returns the numbers that texts are.
 fn numbers_of(alloc: Global, texts: &[&str]) -> Result<Vec<u32>, AllocError>
     ensures { IfOk result (λ numbers. numbers.items
         ≡ map number_of (map (λ text. text.now) texts.now)) }
@@ -160,7 +161,7 @@ fn numbers_of(alloc: Global, texts: &[&str]) -> Result<Vec<u32>, AllocError>
     Ok(numbers)
 }
 
-/// The positions of the latches that are held.
+/// Returns the positions of the latches that are held.
 pub(crate) fn keep_latches(alloc: Global, matches: &ArgMatches<'_>) -> Result<Vec<u32>, AllocError>
     ensures { IfOk result (λ places. places.items
         ≡ map number_of (values_of matches.now (codes "keep-latch"))) }
@@ -168,14 +169,14 @@ pub(crate) fn keep_latches(alloc: Global, matches: &ArgMatches<'_>) -> Result<Ve
     numbers_of(alloc, matches.get_strs("keep-latch").unwrap_or(&[]))
 }
 
-/// Whether an object of JSON is printed.
+/// Returns true if an object of JSON is printed.
 pub(crate) fn json(matches: &ArgMatches<'_>) -> bool
     ensures { IsFlag matches.now (codes "json") result }
 {
     matches.get_flag("json")
 }
 
-/// Whether latches that always agree are merged.
+/// Returns true if latches that always agree are merged.
 pub(crate) fn merge(matches: &ArgMatches<'_>) -> bool
     ensures { IsFlag matches.now (codes "merge") result }
 {

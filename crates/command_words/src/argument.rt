@@ -12,11 +12,11 @@ pub(crate) enum Form {
     Flag,
     /// An option with a text.
     Text(&'static str),
-    /// The same, which may be repeated.
+    /// A text that may be repeated.
     Texts(&'static str),
     /// An option with a text that the help doesn't show.
     Hidden(&'static str),
-    /// An option with a number within these bounds.
+    /// Returns an option with a number within these bounds.
     Number(u64, u64),
     /// An option with a number from 1 to this one, which has a default.
     Limit(u64, &'static str),
@@ -39,8 +39,8 @@ pub(crate) enum Tie {
     WithApart(&'static str, &'static str),
 }
 
-/// An argument of a command: what it is called, which is its word too where it has one; what it looks like; when it is given; and what
-/// the help says of it.
+/// An argument of a command. It has its name, which is also its word if it has one, its form, the
+/// others that it is given with, and its help.
 #[derive(Clone, Copy)]
 pub(crate) struct Argument(
     pub(crate) &'static str,
@@ -49,7 +49,7 @@ pub(crate) struct Argument(
     pub(crate) &'static str,
 );
 
-/// An option that may be repeated, or has one value.
+/// Returns an option that may be repeated, or has one value.
 fn option<'a>(alloc: Global, argument: &Argument, value: &'a str, action: ArgAction) -> Arg<'a> {
     let Argument(id, _, _, help) = *argument;
     Arg::new(alloc, id)
@@ -59,7 +59,7 @@ fn option<'a>(alloc: Global, argument: &Argument, value: &'a str, action: ArgAct
         .help(help)
 }
 
-/// An option with a number within these bounds.
+/// Returns an option with a number within these bounds.
 fn number_option<'a>(
     alloc: Global,
     argument: &Argument,
@@ -69,7 +69,7 @@ fn number_option<'a>(
     option(alloc, argument, "n", action).value_parser(ValueParser::unsigned(least, most))
 }
 
-/// The argument by its form, which may be given with all others.
+/// Returns the argument by its form, which may be given with all others.
 fn formed<'a>(alloc: Global, argument: &Argument) -> Arg<'a> {
     let Argument(id, form, _, help) = *argument;
     match form {
@@ -89,7 +89,7 @@ fn formed<'a>(alloc: Global, argument: &Argument) -> Arg<'a> {
     }
 }
 
-/// An argument that is given together with one alone, and not with another.
+/// Returns an argument that is given together with one alone, and not with another.
 fn with_apart<'a>(arg: Arg<'a>, one: &'a str, other: &'a str) -> Result<Arg<'a>, AllocError> {
     match arg.conflicts_with(other) {
         Ok(arg) => arg.requires_arg(one),
@@ -97,7 +97,7 @@ fn with_apart<'a>(arg: Arg<'a>, one: &'a str, other: &'a str) -> Result<Arg<'a>,
     }
 }
 
-/// The argument for the command-line library.
+/// Returns the argument for the command-line library.
 pub(crate) fn arg_of<'a>(alloc: Global, argument: &Argument) -> Result<Arg<'a>, AllocError> {
     let arg = formed(alloc, argument);
     let Argument(_, _, tie, _) = *argument;

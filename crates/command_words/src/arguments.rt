@@ -113,6 +113,14 @@ const PROGRESS: Argument = Argument(
 
 const QUIET: Argument = Argument("quiet", Flag, Free, "Show no progress on a terminal either");
 
+/// The map of a command that moves latches forward.
+const MAP_ON: Argument = Argument(
+    "map",
+    Text("MAP"),
+    Free,
+    "Write how OUT's latches follow from IN's to MAP",
+);
+
 pub(crate) const RETIME: &[Argument] = &[
     READ_CIRCUIT,
     WRITTEN_CIRCUIT,
@@ -135,12 +143,7 @@ pub(crate) const RETIME: &[Argument] = &[
         Free,
         "Write a certificate of each frame to FILE",
     ),
-    Argument(
-        "map",
-        Text("MAP"),
-        Free,
-        "Write how OUT's latches follow from IN's to MAP",
-    ),
+    MAP_ON,
     PROGRESS,
     QUIET,
     KEEP,
@@ -163,6 +166,23 @@ pub(crate) const BACKWARD: &[Argument] = &[
         Free,
         "Write how IN's latches follow from OUT's to MAP",
     ),
+    PROGRESS,
+    QUIET,
+    KEEP,
+    KEEP_FROM,
+    KEEP_LATCH,
+    JSON,
+];
+
+pub(crate) const ENABLES: &[Argument] = &[
+    READ_CIRCUIT,
+    WRITTEN_CIRCUIT,
+    ASCII,
+    BINARY,
+    FRAMES,
+    LEVELS,
+    NO_LONGER,
+    MAP_ON,
     PROGRESS,
     QUIET,
     KEEP,
@@ -255,7 +275,22 @@ pub(crate) const VERIFY: &[Argument] = &[
     JSON,
 ];
 
-pub(crate) const CHECK: &[Argument] = &[ORIGINAL, RETIMED, MAP];
+pub(crate) const CHECK: &[Argument] = &[
+    Argument(
+        "IN",
+        Path,
+        Always,
+        "The AIGER file that the other is compared with",
+    ),
+    Argument("OUT", Path, Always, "The AIGER file that was made of it"),
+    Argument("MAP", Path, Free, "The map of states, if there is one"),
+    Argument(
+        "kept",
+        Text("LIST"),
+        Apart("MAP"),
+        "OUT has the free latches of IN in LIST alone",
+    ),
+];
 
 pub(crate) const MITER: &[Argument] = &[
     ORIGINAL,

@@ -1,5 +1,6 @@
-//! The words of a command line, as tables: the commands, the arguments of each and what the help says of them; and the program
-//! that the command-line library reads words by, made of them. What a task is that the words ask for is known above.
+//! The words of a command line, as tables: the commands, the arguments of each and what the help
+//! says of them. Of them the program is made by which the command-line library reads words. The
+//! task that the words ask for is known above.
 #![tactic(auto)]
 
 mod argument;

@@ -4,7 +4,7 @@ use crate::subcommands::{COUNT, Subcommand, subcommand_at};
 use clap::Command;
 use std::alloc::{AllocError, Global};
 
-/// The command with this name.
+/// Returns the command with this name.
 fn subcommand_named(name: &str) -> Option<Subcommand> {
     for number in 0..COUNT {
         let subcommand = subcommand_at(number);
@@ -15,7 +15,7 @@ fn subcommand_named(name: &str) -> Option<Subcommand> {
     None
 }
 
-/// A command that calls itself by the program's name and its own.
+/// Returns a command that calls itself by the program's name and its own.
 fn command_below<'a>(alloc: Global, subcommand: &Subcommand) -> Result<Command<'a>, AllocError> {
     let name = format!(in alloc; "fretime {}", subcommand.name)?;
     let command = command_of(alloc, subcommand)?.bin_name(name.as_str());
@@ -23,7 +23,7 @@ fn command_below<'a>(alloc: Global, subcommand: &Subcommand) -> Result<Command<'
     command
 }
 
-/// The command with this name, else the program.
+/// Returns the command with this name, else the program.
 pub fn command_named<'a>(alloc: Global, name: &str) -> Result<Command<'a>, AllocError> {
     match subcommand_named(name) {
         Some(subcommand) => command_below(alloc, &subcommand),

@@ -1,11 +1,11 @@
-//! The program for the command-line library, made of the tables. Each of the library's calls returns a command or a refusal of
-//! memory.
+//! The program for the command-line library, made of the tables. Each of the library's calls
+//! returns a command or a refusal of memory.
 use crate::argument::{Argument, arg_of};
 use crate::subcommands::{COUNT, PROGRAM, Subcommand, subcommand_at};
 use clap::{ArgGroup, Command};
 use std::alloc::{AllocError, Global};
 
-/// A command with one more argument.
+/// Returns a command with one more argument.
 fn with_argument<'a>(
     alloc: Global,
     command: Command<'a>,
@@ -20,7 +20,7 @@ fn with_argument<'a>(
     }
 }
 
-/// A command with more arguments.
+/// Returns a command with more arguments.
 fn with_arguments<'a>(
     alloc: Global,
     command: Command<'a>,
@@ -33,7 +33,7 @@ fn with_arguments<'a>(
     Ok(command)
 }
 
-/// A command without arguments, whose help is shown where it is given nothing.
+/// Returns a command without arguments, whose help is shown if it is given nothing.
 fn described<'a>(alloc: Global, subcommand: &Subcommand) -> Command<'a> {
     let command = Command::new(alloc, subcommand.name)
         .about(subcommand.about)
@@ -48,7 +48,7 @@ fn described<'a>(alloc: Global, subcommand: &Subcommand) -> Command<'a> {
     }
 }
 
-/// The arguments of which a command that takes a stimulus wants one.
+/// Returns the arguments of which a command that takes a stimulus wants one.
 fn stimulus<'a>(alloc: Global) -> Result<ArgGroup<'a>, AllocError> {
     let group = ArgGroup::new(alloc, "stimulus")
         .required(true)
@@ -56,7 +56,7 @@ fn stimulus<'a>(alloc: Global) -> Result<ArgGroup<'a>, AllocError> {
     group.arg("STIM")?.arg("random")
 }
 
-/// A command that takes a stimulus wants it read or random, and has a usage that says so.
+/// Has a command that takes a stimulus want it read or random, with a usage that says so.
 fn with_stimulus<'a>(
     alloc: Global,
     command: Command<'a>,
@@ -71,7 +71,7 @@ fn with_stimulus<'a>(
     }
 }
 
-/// A command.
+/// Returns a command.
 pub(crate) fn command_of<'a>(
     alloc: Global,
     subcommand: &Subcommand,
@@ -86,7 +86,7 @@ pub(crate) fn command_of<'a>(
     }
 }
 
-/// A program with one more command.
+/// Returns a program with one more command.
 fn with_subcommand<'a>(
     alloc: Global,
     program: Command<'a>,
@@ -101,14 +101,14 @@ fn with_subcommand<'a>(
     }
 }
 
-/// The program without its commands.
+/// Returns the program without its commands.
 fn bare_program<'a>(alloc: Global) -> Command<'a> {
     described(alloc, &PROGRAM)
         .version("0.8.0-dev")
         .subcommand_required(true)
 }
 
-/// The program's commands, in the order of the help text.
+/// Returns the program's commands, in the order of the help text.
 pub fn program_command<'a>(alloc: Global) -> Result<Command<'a>, AllocError> {
     let mut program = bare_program(alloc);
     for number in 0..COUNT {

@@ -1,27 +1,28 @@
-//! The program's commands, in the order of its help: what makes circuits, what looks at them, what checks the frames of a retiming, and
-//! what is about maps of states.
+//! The program's commands, in the order of its help. Some make circuits, some look at them, some
+//! check the frames of a retiming, and some are about maps of states.
 use crate::argument::Argument;
 use crate::{arguments, texts};
 
-/// A command.
+/// A command, as it is described to the library of command lines.
 #[derive(Clone, Copy)]
 pub(crate) struct Subcommand {
     /// The word for it.
     pub(crate) name: &'static str,
     /// What it does, on a line.
     pub(crate) about: &'static str,
-    /// What the long help begins with; where there is none, it is that line.
+    /// What the long help begins with; if there is none, it is that line.
     pub(crate) long_about: Option<&'static str>,
     /// What the help ends with.
     pub(crate) example: Option<&'static str>,
-    /// Its usage where it takes a stimulus, which is read or random: that names both after the circuits.
+    /// Its usage if it takes a stimulus, which is read or random: that names both after the
+    /// circuits.
     pub(crate) stimulus_usage: Option<&'static str>,
     /// Its arguments, in the order of its help.
     pub(crate) arguments: &'static [Argument],
 }
 
 /// How many commands there are.
-pub(crate) const COUNT: usize = 15;
+pub(crate) const COUNT: usize = 16;
 
 /// The program, as far as it is described as a command is.
 pub(crate) const PROGRAM: Subcommand = Subcommand {
@@ -33,8 +34,8 @@ pub(crate) const PROGRAM: Subcommand = Subcommand {
     arguments: &[],
 };
 
-/// The command with this number that makes circuits.
-fn making(number: usize) -> Subcommand {
+/// Returns the command with this number that moves the latches of a circuit.
+fn moving(number: usize) -> Subcommand {
     match number {
         0 => Subcommand {
             name: "retime",
@@ -52,7 +53,21 @@ fn making(number: usize) -> Subcommand {
             stimulus_usage: None,
             arguments: arguments::BACKWARD,
         },
-        2 => Subcommand {
+        _ => Subcommand {
+            name: "enables",
+            about: texts::ENABLES_ABOUT,
+            long_about: Some(texts::ENABLES_LONG_ABOUT),
+            example: Some(texts::ENABLES_EXAMPLE),
+            stimulus_usage: None,
+            arguments: arguments::ENABLES,
+        },
+    }
+}
+
+/// Returns the command with this number that makes circuits otherwise.
+fn making(number: usize) -> Subcommand {
+    match number {
+        3 => Subcommand {
             name: "batch",
             about: texts::BATCH_ABOUT,
             long_about: Some(texts::BATCH_LONG_ABOUT),
@@ -71,10 +86,10 @@ fn making(number: usize) -> Subcommand {
     }
 }
 
-/// The command with this number that looks at circuits.
+/// Returns the command with this number that looks at circuits.
 fn looking(number: usize) -> Subcommand {
     match number {
-        4 => Subcommand {
+        5 => Subcommand {
             name: "stat",
             about: texts::STAT_ABOUT,
             long_about: None,
@@ -82,7 +97,7 @@ fn looking(number: usize) -> Subcommand {
             stimulus_usage: None,
             arguments: arguments::STAT,
         },
-        5 => Subcommand {
+        6 => Subcommand {
             name: "sim",
             about: texts::SIM_ABOUT,
             long_about: None,
@@ -90,7 +105,7 @@ fn looking(number: usize) -> Subcommand {
             stimulus_usage: Some("fretime sim [OPTIONS] <IN> <STIM|--random <n>>"),
             arguments: arguments::SIM,
         },
-        6 => Subcommand {
+        7 => Subcommand {
             name: "same",
             about: texts::SAME_ABOUT,
             long_about: None,
@@ -109,10 +124,10 @@ fn looking(number: usize) -> Subcommand {
     }
 }
 
-/// The command with this number that explains a fault, or checks.
+/// Returns the command with this number that explains a fault, or checks.
 fn checking(number: usize) -> Subcommand {
     match number {
-        8 => Subcommand {
+        9 => Subcommand {
             name: "explain",
             about: texts::EXPLAIN_ABOUT,
             long_about: Some(texts::EXPLAIN_LONG_ABOUT),
@@ -120,7 +135,7 @@ fn checking(number: usize) -> Subcommand {
             stimulus_usage: None,
             arguments: arguments::EXPLAIN,
         },
-        9 => Subcommand {
+        10 => Subcommand {
             name: "verify",
             about: texts::VERIFY_ABOUT,
             long_about: Some(texts::VERIFY_LONG_ABOUT),
@@ -128,7 +143,7 @@ fn checking(number: usize) -> Subcommand {
             stimulus_usage: None,
             arguments: arguments::VERIFY,
         },
-        10 => Subcommand {
+        11 => Subcommand {
             name: "check",
             about: texts::CHECK_ABOUT,
             long_about: Some(texts::CHECK_LONG_ABOUT),
@@ -147,10 +162,11 @@ fn checking(number: usize) -> Subcommand {
     }
 }
 
-/// The command with this number that writes for model checkers, or carries back what they say.
+/// Returns the command with this number that writes for model checkers, or carries back what they
+/// say.
 fn carrying(number: usize) -> Subcommand {
     match number {
-        12 => Subcommand {
+        13 => Subcommand {
             name: "product",
             about: texts::PRODUCT_ABOUT,
             long_about: Some(texts::PRODUCT_LONG_ABOUT),
@@ -158,7 +174,7 @@ fn carrying(number: usize) -> Subcommand {
             stimulus_usage: None,
             arguments: arguments::PRODUCT,
         },
-        13 => Subcommand {
+        14 => Subcommand {
             name: "lift",
             about: texts::LIFT_ABOUT,
             long_about: Some(texts::LIFT_LONG_ABOUT),
@@ -177,13 +193,15 @@ fn carrying(number: usize) -> Subcommand {
     }
 }
 
-/// The command with this number, from 0 on; with one past the last, the last.
+/// Returns the command with this number, from 0 on; with one past the last, the last.
 pub(crate) fn subcommand_at(number: usize) -> Subcommand {
-    if number < 4 {
+    if number < 3 {
+        moving(number)
+    } else if number < 5 {
         making(number)
-    } else if number < 8 {
+    } else if number < 9 {
         looking(number)
-    } else if number < 12 {
+    } else if number < 13 {
         checking(number)
     } else {
         carrying(number)

@@ -1,5 +1,5 @@
-//! What the help says of the program and of each command; what it says of an argument stands with the argument. Nothing is proved
-//! of texts: tests compare what is printed.
+//! The texts of the help about the program and each command; what it says of an argument stands
+//! with the argument. Nothing is proved of texts: tests compare what is printed.
 pub(crate) const ABOUT: &str = "Moves the latches of a sequential circuit so that fewer are left";
 
 pub(crate) const LONG_ABOUT: &str =
@@ -13,7 +13,7 @@ written. A file of that name is './-'.
 What is written has a file of its own, by whatever paths files are named. A
 circuit may take the place of the one that it is made of, and of no other.";
 
-pub(crate) const EXAMPLE: &str = "To make a circuit: retime, backward, batch, convert.
+pub(crate) const EXAMPLE: &str = "To make a circuit: retime, backward, enables, batch, convert.
 To look at one: stat, sim, same, dot, explain.
 To check the frames of a retiming: verify.
 About maps of states: check, miter, product, lift, witness.
@@ -119,6 +119,51 @@ In a pipe:
 Exit status: 0 done, 1 IN is no circuit or has no such latch, 2 command line,
 3 device, 4 out of memory.";
 
+pub(crate) const ENABLES_ABOUT: &str =
+    "Moves registers with an enable or a reset forward over gates, too";
+
+pub(crate) const ENABLES_LONG_ABOUT: &str =
+    "Reads a circuit, moves latches forward over gates that 'retime' leaves in place,
+as long as that leaves fewer, and writes it. IN is best what 'retime --merge'
+wrote.
+
+A register with an enable reads itself, so 'retime' can't move it. Registers
+that hold under one condition move together over gates that read them alone, and
+the new ones hold under that condition, too. So do registers with one reset.
+
+Held latches and free ones stay where they are. OUT is drafted, and what is
+drafted is checked as 'check IN OUT MAP' does it. If the check doesn't show that
+OUT is a retiming of IN, half of its frames are taken, and so on. If nothing is
+shown, OUT is IN, and a line says so.
+
+With --map, MAP gets a circuit whose inputs are the latches of IN and whose
+outputs are those of OUT: step for step each latch of OUT holds what its output
+says, wherever the constraints of MAP are 1, which they always are.
+
+With --no-longer no path of OUT has more gates than the longest one of IN; with
+--levels no path gets more than n gates, or than the longest one of IN.
+
+It isn't promised that no other move leaves fewer latches.
+
+OUT is created once IN has been read and its latches are moved: a circuit that
+is refused leaves OUT as it was. If OUT or MAP is '-', standard output, the
+lines that are printed go to standard error.";
+
+pub(crate) const ENABLES_EXAMPLE: &str = "Example:
+  fretime retime --merge stalled.aag middle.aag
+  fretime enables middle.aag smaller.aag --map smaller.map
+  fretime check middle.aag smaller.aag smaller.map
+
+It prints how many frames were taken, and the numbers of all latches:
+  frames 1
+  latches 2 to 1
+
+In a pipe:
+  fretime retime --merge in.aig - | fretime enables - out.aig
+
+Exit status: 0 done, 1 IN is no circuit or has no such latch, 2 command line,
+3 device, 4 out of memory.";
+
 pub(crate) const BATCH_ABOUT: &str = "Retimes the circuits of a list, many at once";
 
 pub(crate) const BATCH_LONG_ABOUT: &str =
@@ -172,32 +217,45 @@ Exit status: 0 all are confirmed, 1 a file is refused or IN has no such latch,
 differs.";
 
 pub(crate) const CHECK_ABOUT: &str =
-    "Checks by a map of states that a circuit is a retiming of another";
+    "Checks that a circuit has the properties of another, with a map or without";
 
 pub(crate) const CHECK_LONG_ABOUT: &str =
-    "Reads a circuit, the circuit that was made of it, and a map of the states of the
-one to those of the other, as 'retime --map' writes it, and checks that by this
-map all properties of both are the same at each step, whoever made the files.
+    "Reads a circuit and the circuit that was made of it, and checks that all
+properties of both are the same at each step, whoever made the files. The third
+file is a map of the states of the one to those of the other, as 'retime --map'
+writes it. Without it both circuits are looked at side by side, over the same
+inputs: it is guessed which latches always agree, and that is checked. So the
+results of tools that merge latches or leave some out need no map; those that
+move latches do.
 
 Gates with the same fan-ins are taken for one, and so are two literals that a
 constraint of MAP says to be equal. If two literals that must be equal stay two,
-it is asked what follows gate by gate if one is 1 and the other isn't; and then
-cases are made, in which inputs and latches of IN are 0 or 1. What is open after
-that is not shown; a SAT solver may still show it, as docs/STATE_MAPS.md says.";
+it is asked what follows gate by gate if one is 1 and the other isn't; with MAP
+cases are made then, in which inputs and latches of IN are 0 or 1. What is open
+after that is not shown; a SAT solver may still show it, as docs/STATE_MAPS.md
+says.
+
+Without MAP the free latches of OUT are those of IN, in their order. With --kept
+they are those at the places in LIST, from 0 among the free latches of IN: what
+'retime --json' gives as 'free_kept', a line each.";
 
 pub(crate) const CHECK_EXAMPLE: &str = "Example:
   fretime retime counter.aag smaller.aag --map counter.map
   fretime check counter.aag smaller.aag counter.map
 
-It prints 'retiming', or the first that isn't shown, by its number from 0:
+It prints 'retiming' if MAP shows that OUT is a retiming of IN, and 'equal' if
+there is no MAP and each property is shown to be the same. Else it prints the
+first that isn't shown, by its number from 0:
   not shown: next latch 3
 
 At step 0 that is a constraint of MAP or a latch of OUT ('reset'). Else it is a
 constraint that may end to hold ('keep'), a latch of OUT ('next'), or an output,
-bad, constraint, justice or fairness of OUT ('read').
+bad, constraint, justice or fairness of OUT ('read'). Without MAP it is the last.
+If MAP has other latches than IN and OUT, it is refused as no map.
 
-Exit status: 0 a retiming, 1 a file is refused, MAP is no map, or shapes differ,
-2 command line, 3 device, 4 out of memory, 5 not shown.";
+Exit status: 0 a retiming or equal, 1 a file is refused, MAP is no map or does
+not fit, or shapes differ, 2 command line, 3 device, 4 out of memory, 5 not
+shown.";
 
 pub(crate) const MITER_ABOUT: &str = "Writes what a map of states has to meet as a circuit";
 

@@ -30,7 +30,7 @@ merged_replay bound most merge held c blocks r settled asked is =
     let P : Bool → Type 0 = λ m. IfOk r (IsReplayFor bound m held c blocks) in
     subst P (sym asked) (subst (λ (n : Option ℕ). IfOk r (IsMergedReplay n held c blocks)) settled is)
 
--- the same where no latches were merged
+-- so if no latches were merged
 pub plain_replay : {E : Type 0} (bound : PathBound) (most : Option ℕ) (merge : Bool) (held : List ℕ) (c : Netlist) (blocks : List Certificate) (r : Result Replay E)
     → most ≡ bound_for bound c → merge ≡ false → IfOk r (IsReplay most held c blocks) → IfOk r (IsReplayFor bound merge held c blocks)
 plain_replay bound most merge held c blocks r settled unasked is =

@@ -51,7 +51,7 @@ stopped task options spelt before after (Retime (NoSuchName place)) f is p = fai
 stopped task options spelt before after (Retime (NoSuchLatch number)) f is p = failing_after f before after p.0
 stopped task options spelt before after (Write e) f is p = subst (λ (g : Failure). Prints (outcome_of g) before after) (sym is.2) tt
 
--- the same where a map is made
+-- so if a map is made
 pub stopped_mapped : (task : Retiming) (options : Options) (spelt : SpeltCircuit) (before after : Output) (e : AnswerError) (f : Failure)
     → IsMapFailureOf task e f → IsMappingStop options spelt before after e → Prints (outcome_of f) before after
 stopped_mapped task options spelt before after (Bytes e) f is p = stopped task options spelt before after e f is p
@@ -206,7 +206,8 @@ has_failed : (target : Option Target) (failure : Failure) → HasFailed target f
 has_failed None failure failed = absurd failed
 has_failed (Some target) failure failed = failed.0
 
--- a run that ends as the map or the certificates could not be written gives standard output no more than such a run may
+-- a run that ends as the map or the certificates could not be written gives standard output no more
+-- than such a run may
 pub fails_beside : (map certificates : Option Target) (failure : Failure) (old new : Output) → HasFailed map failure ⊎ HasFailed certificates failure → Prints (outcome_of failure) old new
 fails_beside map certificates failure old new (inl failed) = subst (λ (e : Outcome). Prints e old new) (sym (has_failed map failure failed)) tt
 fails_beside map certificates failure old new (inr failed) = subst (λ (e : Outcome). Prints e old new) (sym (has_failed certificates failure failed)) tt

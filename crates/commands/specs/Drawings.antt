@@ -31,7 +31,7 @@ use Rattle.commands.specs.declared.scene.Scene.{Scene}
 abbrev pub shown : Netlist → Drawing → ℕ → Bool
 shown c task = elim task.around [ None ↦ everything | Some name ↦ is_near c name.now task.depth ]
 
--- what is in the middle of the neighbourhood, where one is asked for
+-- what is in the middle of the neighbourhood, if one is asked for
 abbrev pub middle : Netlist → Drawing → Option (ℕ → Bool)
 middle c task = option_map (λ name. is_centre c name.now) task.around
 
@@ -39,8 +39,8 @@ middle c task = option_map (λ name. is_centre c name.now) task.around
 abbrev pub nodes : Netlist → ℕ
 nodes c = variables_end c.aig + length c.props.outputs + length c.props.bad + length c.props.constraints + length c.props.justice + length c.props.fairness
 
--- a circuit can be drawn around what has this name, or what a picture calls so, or where none is
--- given as a whole, if that has no more than 2000 nodes
+-- A circuit can be drawn around what has this name, or what a picture calls so. If no name is given
+-- it is drawn as a whole, if that has no more than 2000 nodes.
 abbrev pub CanBeDrawn : Option (Bor (List ℕ)) → Netlist → Type 0
 CanBeDrawn (Some name) c = has_node c name.now ≡ true
 CanBeDrawn None c = nodes c ≤ 2000
@@ -61,9 +61,9 @@ pub record IsShownOf (options : Options) (run : Run NoFollower) (scene : Scene) 
   pub keep : scene.keep ≡ run.keep
   pub set : IsNextSet options run.bound run.keep run.retimed.circuit scene.set
 
--- c cleaned, and where the task asks for it merged, as before the first frame, with its held
--- latches, and the set over which that frame moves latches, under the bound that the task names,
--- where one makes fewer
+-- c cleaned, and merged if the task asks for it, as before the first frame, with its held latches.
+-- Also the set over which that frame moves latches, under the bound that the task names, if one
+-- makes fewer.
 pub record IsNextShown (task : Drawing) (c : Netlist) (scene : Scene) : Type 0 where
   pub options : Options
   pub are : AreOptionsOf task.options 0 false options
@@ -71,8 +71,8 @@ pub record IsNextShown (task : Drawing) (c : Netlist) (scene : Scene) : Type 0 w
   pub is : IsRunBy options c run
   pub shown : IsShownOf options run scene
 
--- what is shown of c: itself with the latches that the task holds, or where the next frame is asked
--- for what that frame begins with
+-- What is shown of c: itself with the latches that the task holds. If the next frame is asked for,
+-- it is what that frame begins with.
 abbrev pub IsShownFor : Bool → Drawing → Netlist → Scene → Type 0
 IsShownFor true task c scene = IsNextShown task c scene
 IsShownFor false task c scene = (scene.circuit ≡ c) × (scene.keep ≡ held_by task.options c) × (scene.set ≡ None)

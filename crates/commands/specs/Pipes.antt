@@ -36,15 +36,15 @@ pub record IsPipe (task : Retiming) : Type 0 where
   pub alone : writes_stdout task.certificates ≡ false
   pub map_aside : writes_stdout task.map ≡ false
 
--- a map, where there is one, is that of the run: from the circuit that was read to the one that is
--- written, whose free latches stay, in its spelling
+-- A map, if there is one, is that of the run: from the circuit that was read to the one that is
+-- written. The free latches of the latter stay, and it is in its spelling.
 abbrev pub IsMapOf : Options → SpeltCircuit → Retimed → Option SpeltMap → Type 0
 IsMapOf options spelt r None = Unit {0}
 IsMapOf options spelt r (Some m) = IsMapCircuit spelt.circuit r.circuit r.kept_free m.circuit × FreeStay spelt.circuit r.circuit m.circuit × (m.spelling ≡ unwrap_or options.spelling spelt.spelling)
 
--- of a circuit that was read, this is the answer by the options, which is read back; its held
--- latches stand at `keep`, the levels of the circuit that was read are reported, and its map is
--- made if that is asked for
+-- Of a circuit that was read, this is the answer by the options, which is read back. Its held
+-- latches are at `keep`, and the levels of the circuit that was read are reported. Its map is made
+-- if that is asked for.
 pub record IsAnswerOf (task : Retiming) (options : Options) (spelt : SpeltCircuit) (answer : Answer) : Type 0 where
   pub is : IsAnswer options spelt answer.retimed
   pub held : IsRetimedHeld options spelt.circuit answer.retimed answer.keep
@@ -72,7 +72,7 @@ pub record WritesAnswer (FileGiven : List ℕ → List ℕ → Type 0) (task : R
   pub read : is_stdin task.input ≡ true → Spells input spelt
   pub at : IsAnswerAt FileGiven task options spelt old new answer
 
--- a map was written to this, where that is asked for
+-- a map was written to this, if that is asked for
 abbrev pub WritesMap : (List ℕ → List ℕ → Type 0) → Option Target → Option SpeltMap → Output → Output → Type 0
 WritesMap FileGiven (Some target) (Some m) old new = IsTargetGiven FileGiven target old new (text_in m.spelling m.circuit)
 WritesMap FileGiven (Some target) None old new = new ≡ old
@@ -109,9 +109,9 @@ pub record IsReportOf (FileGiven : List ℕ → List ℕ → Type 0) (task : Ret
   pub counts_are : mapped ≡ option_map (λ (m : SpeltMap). counts_of m.circuit) answer.map
   pub written : WritesRetiming FileGiven task input old new answer
 
--- the answer of what the task reads was written with all that is asked for, and then it was
--- printed: on standard output, or, where a circuit, a map or certificates went there, on standard
--- error, of which a terminal is told more
+-- The answer of what the task reads was written with all that is asked for, and then it was
+-- printed. It was printed on standard output, or if a circuit, a map or certificates went there, on
+-- standard error. A terminal is told more.
 pub record PrintsRetiming (FileGiven : List ℕ → List ℕ → Type 0) (task : Retiming) (is_terminal : Bool) (input : Input) (old new said : Output) (result : Result Outcome Failure) : Type 0 where
   pub answer : Answer
   pub times : Option Times
@@ -122,8 +122,8 @@ pub record PrintsRetiming (FileGiven : List ℕ → List ℕ → Type 0) (task :
   pub shown : Output
   pub aside : takes_stdout task ≡ true → is_terminal ≡ false → SaysFrames task answer.retimed answer.keep answer.levels times (option_map (λ (m : SpeltMap). counts_of m.circuit) answer.map) shown said
 
--- the answer by the options of the task, of the bytes that standard input had left, was written,
--- and nothing else; the levels are those of the circuit of the bytes
+-- The answer by the options of the task was written, and nothing else. It is of the bytes that
+-- standard input had left. The levels are those of the circuit of the bytes.
 pub record AnswersPipe (task : Retiming) (input : Input) (old new : Output) (retimed : Retimed) (levels : ReadLevels) : Type 0 where
   pub options : Options
   pub are_options : AreOptionsFor task options
@@ -136,8 +136,8 @@ pub record WritesPipe (task : Retiming) (input : Input) (old new : Output) : Typ
   pub levels : ReadLevels
   pub answers : AnswersPipe task input old new retimed levels
 
--- the circuit that is read, of standard input that of the bytes that were left, was written in the
--- chosen spelling, else in the one that wasn't read
+-- The circuit that is read was written in the chosen spelling, else in the one that wasn't read. Of
+-- standard input it is that of the bytes that were left.
 pub record Converts (FileGiven : List ℕ → List ℕ → Type 0) (chosen : Option Spelling) (source : Source) (target : Target) (input : Input) (old new : Output) : Type 0 where
   pub spelt : SpeltCircuit
   pub read : is_stdin source ≡ true → Spells input spelt

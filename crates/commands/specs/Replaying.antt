@@ -19,13 +19,13 @@ use Rattle.circuit_files.specs.declared.outcome.Failure.{Failure}
 use Rattle.command_endings.specs.Sources.{IsReadAt}
 use Rattle.commands.specs.declared.replaying.Judgement.{Judgement}
 
--- what the blocks end in for c, where the latches at these positions are held, under the bound, or,
--- where latches were merged before the first frame, for what c is merged to
+-- What the blocks end in for c, with the latches at these positions held, under the bound. If
+-- latches were merged before the first frame, it is for what c is merged to.
 abbrev pub IsReplayFor : PathBound → Bool → List ℕ → Netlist → List Certificate → Replay → Type 0
 IsReplayFor bound false held c blocks replay = IsReplay (bound_for bound c) held c blocks replay
 IsReplayFor bound true held c blocks replay = IsMergedReplay (bound_for bound c) held c blocks replay
 
--- the bytes that a vector has, where there is one
+-- the bytes that a vector has, if there is one
 abbrev pub bytes_in : Option (Vec ℕ) → Option (List ℕ)
 bytes_in bytes = option_map (λ b. b.items) bytes
 
@@ -33,7 +33,7 @@ bytes_in bytes = option_map (λ b. b.items) bytes
 abbrev pub AreBytesAt : Source → Input → Input → List ℕ → Type 0
 AreBytesAt source old new bytes = IsReadAt source old new (ReadsAll old new bytes)
 
--- the bytes of the file that is compared, where one is
+-- the bytes of the file that is compared, if one is
 abbrev pub AreRetimedAt : Option Source → Input → Input → Option (List ℕ) → Type 0
 AreRetimedAt None old new bytes = (bytes ≡ None) × (new ≡ old)
 AreRetimedAt (Some source) old new bytes = IsSomeAnd bytes (AreBytesAt source old new)
@@ -43,12 +43,12 @@ abbrev pub IsAboutRetimed : Option Source → Failure → Type 0
 IsAboutRetimed None failure = ⊥
 IsAboutRetimed (Some source) failure = IsAbout (source_name source) failure
 
--- the text of a circuit in the spelling of these bytes, in ASCII where they are of neither
+-- the text of a circuit in the spelling of these bytes, in ASCII if they are of neither
 abbrev pub text_like : List ℕ → Netlist → List ℕ
 text_like bytes c = text_in (unwrap_or (spelling_of bytes) Ascii) c
 
--- what comes of comparing bytes with the circuit that blocks end in; nothing where there is none,
--- since something speaks against a block
+-- The outcome of comparing bytes with the circuit that blocks end in. It is nothing if there is
+-- none, since something speaks against a block.
 abbrev pub IsAgreementWith : Option Netlist → List ℕ → Option Agreement → Type 0
 IsAgreementWith None bytes agreement = agreement ≡ None
 IsAgreementWith (Some c) bytes agreement = IsSomeAnd agreement (IsAgreement (text_like bytes c) bytes)

@@ -35,12 +35,12 @@ use Rattle.command_endings.specs.Printing.{EndsPrinting}
 use Rattle.frames.specs.Bounds.{bound_for}
 use Rattle.frames.specs.declared.options.Options.{Options}
 
--- the options of a run are the task's, which makes certificates where they are asked for
+-- the options of a run are the task's, which makes certificates if they are asked for
 abbrev pub AreOptionsFor : Retiming → Options → Type 0
 AreOptionsFor task options = AreOptionsOf task.options task.options.frames (is_some task.certificates) options
 
--- the failure that an error of a run is, of a circuit in which the options hold latches: one of
--- them is that of no latch, or no memory
+-- The failure that an error of a run is, of a circuit in which the options hold latches. One of
+-- them is that of no latch, or there is no memory.
 abbrev pub IsFailureOfRun : Source → RetimingOptions → RetimeError → Failure → Type 0
 IsFailureOfRun source options NoMemory failure = failure ≡ fails.Memory
 IsFailureOfRun source options (NoSuchName number) failure = (name : Bor (List ℕ)) → slice_get options.keep.items number ≡ Some name → OfSource source (λ path. failure ≡ fails.NoSuchName path name)
@@ -62,9 +62,8 @@ abbrev pub HasFailed : Option Target → Failure → Type 0
 HasFailed None failure = ⊥
 HasFailed (Some target) failure = (outcome_of failure ≡ Device) × IsAbout (target_name target) failure
 
--- what the task's retiming leaves under a bound, or without one: the circuit, where its held
--- latches stay, which stand at these positions; fewer frames than the limit end where no set leaves
--- fewer
+-- What the task's retiming leaves under a bound, or without one. It is the circuit, with its held
+-- latches at these positions. Fewer frames than the limit end if no set leaves fewer.
 abbrev pub remaining_of : Retiming → Option ℕ → Retimed → List ℕ → Remaining
 remaining_of task bound r held = remaining r.circuit held bound (nat_lt (length r.frames) task.options.frames)
 
@@ -76,12 +75,12 @@ levels_reported task c = record { counted = if task.json then Some (levels c) el
 abbrev pub counts_of : Netlist → MapCounts
 counts_of m = record { gates = length m.aig.gates; constraints = length m.props.constraints }
 
--- how printing a retiming ends, as an object of JSON where that is asked for, else in lines
+-- how printing a retiming ends, as an object of JSON if that is asked for, else in lines
 abbrev pub EndsPrintingFrames : Bool → Retiming → Retimed → List ℕ → ReadLevels → Option Times → Option MapCounts → Output → Output → Result Outcome Failure → Type 0
 EndsPrintingFrames true task r held levels times mapped old new result = EndsPrintingObject Done (retiming_data r levels (remaining_of task levels.bound r held) times mapped) old new result
 EndsPrintingFrames false task r held levels times mapped old new result = EndsPrinting Done (retiming_text r) old new result
 
--- so it was printed where nobody asks how that ended
+-- it was printed so, and nobody asks how that ended
 pub record SaysFrames (task : Retiming) (r : Retimed) (held : List ℕ) (levels : ReadLevels) (times : Option Times) (mapped : Option MapCounts) (old new : Output) : Type 0 where
   pub ended : Result Outcome Failure
   pub prints : EndsPrintingFrames task.json task r held levels times mapped old new ended

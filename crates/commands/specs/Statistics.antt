@@ -16,19 +16,19 @@ use Rattle.circuit_files.specs.declared.outcome.Outcome.TheVariants.{Done}
 use Rattle.command_endings.specs.Printing.{EndsWith}
 use Rattle.command_endings.specs.Sources.{IsCircuitAt}
 
--- how many latches of c cleaned are merged, where none is held
+-- the number of latches of c cleaned that are merged, if none is held
 pub record AreMergeCounts (c : Netlist) (counts : MergeCounts) : Type 0 where
   pub start : Netlist
   pub kept : List ℕ
   pub now : List ℕ
   pub merges : MergesIn [] c start kept now counts
 
--- where they are asked for
+-- if they are asked for
 abbrev pub AreMergeCountsFor : Bool → Netlist → Option MergeCounts → Type 0
 AreMergeCountsFor merge c None = merge ≡ false
 AreMergeCountsFor merge c (Some counts) = (merge ≡ true) × AreMergeCounts c counts
 
--- what a circuit has: an object on a line where that is asked for, else lines
+-- what a circuit has: an object on a line if that is asked for, else lines
 abbrev pub statistics_text : Bool → Netlist → Option MergeCounts → List ℕ
 statistics_text true c merged = json_line (statistics_data (statistics c) merged)
 statistics_text false c merged = counts_text (statistics c) merged

@@ -1,5 +1,5 @@
--- What is printed of an audit, and of a file that is compared with what its blocks end in, and how
--- the run ends by it.
+-- What is printed of an audit, and of a file that is compared with what its blocks end in. The run
+-- ends by it.
 use Rattle.std.specs.Prelude.{ℕ, ◌≡◌, Bool, true, false, List, Option, Some, None, Result}
 use Rattle.aig_graph.specs.Circuits.{Netlist}
 use Rattle.aig_binary.specs.declared.reading.SpeltCircuit.{SpeltCircuit}
@@ -50,7 +50,7 @@ abbrev pub EndsWithObject : List Certificate → Judgement → Outcome → Outpu
 EndsWithObject blocks judgement outcome old new result =
     EndsPrintingObject outcome (audit_data blocks judgement.audit judgement.agreement judgement.bound (status_of outcome)) old new result
 
--- what is printed of a judgement: an object on a line where that is asked for, else lines
+-- what is printed of a judgement: an object on a line if that is asked for, else lines
 abbrev pub printed_audit : Bool → List Certificate → Judgement → List ℕ
 printed_audit true blocks judgement = json_line (audit_data blocks judgement.audit judgement.agreement judgement.bound (status_of (outcome_of_judgement judgement)))
 printed_audit false blocks judgement = audit_text blocks judgement.audit judgement.agreement
@@ -60,12 +60,12 @@ pub record EndsWithAudit (json : Bool) (blocks : List Certificate) (judgement : 
   pub prints : WritesAll old new (printed_audit json blocks judgement)
   pub ends : ended ≡ outcome_of_judgement judgement
 
--- what the blocks end in for c, where the latches are held that the task names
+-- what the blocks end in for c, with the latches held that the task names
 abbrev pub IsReplayOf : Verification → Netlist → List Certificate → Replay → Type 0
 IsReplayOf task c blocks replay = IsReplayFor task.options.bound task.options.merge (held_by task.options c) c blocks replay
 
--- the audit of the blocks for this circuit, with the latches held that the task names, and what
--- comes of comparing these bytes with what they end in
+-- The audit of the blocks for this circuit, with the latches held that the task names. Also the
+-- outcome of comparing these bytes with what they end in.
 pub record IsJudgedBy (task : Verification) (c : Netlist) (blocks : List Certificate) (bytes : Option (List ℕ)) (judgement : Judgement) : Type 0 where
   pub replay : Replay
   pub replays : IsReplayOf task c blocks replay
@@ -77,7 +77,7 @@ pub record PrintsAudit (task : Verification) (c : Netlist) (blocks : List Certif
   pub judged : IsJudgedBy task c blocks bytes judgement
   pub printed : EndsWithAudit task.json blocks judgement old new ended
 
--- that of the file that is read, where one is compared
+-- that of the file that is read, if one is compared
 pub record PrintsAuditBeside (task : Verification) (c : Netlist) (blocks : List Certificate) (before after : Input) (old new : Output) (ended : Outcome) : Type 0 where
   pub bytes : Option (List ℕ)
   pub read : AreRetimedAt task.retimed before after bytes

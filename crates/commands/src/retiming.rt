@@ -293,7 +293,7 @@ fn certified<
     }
 }
 
-/// Counts the circuit that the retiming leaves, and what holds its latches where they are.
+/// Counts the circuit that the retiming leaves, and why its latches don't move.
 fn remaining(alloc: Global, task: &Retiming<'_>, timed: &Timed) -> Result<Remaining, NoMemory>
     ensures { IfOk result (λ left. left ≡ remaining_of task.now timed.now.levels.bound
         timed.now.retimed timed.now.keep) }

@@ -21,7 +21,7 @@ use std::thread::Threads;
 #[derive(Drop)]
 pub(crate) struct Scene {
     pub(crate) circuit: Circuit,
-    /// The latches that stay where they are.
+    /// The latches that stay.
     pub(crate) keep: Keep,
     /// The gates that the next frame moves latches over, if that frame is shown and takes any.
     pub(crate) set: Option<ClosedSet>,

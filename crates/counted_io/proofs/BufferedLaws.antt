@@ -4,19 +4,22 @@
 --
 --     Puts g.W.CountedWrite.output l.fn.out l.out (flat_map line (take l.x-index l.xs))
 --
--- where `line x` is what one turn puts, and its one answer is
+-- with `line x` for what one turn puts. Its one answer is
 --
---     loop-x-preserved g c = puts-next line _ _ _ c.loop-x-test.true c.x-item.is c.loop-x.invariant c.put_line.ensures
+--     loop-x-preserved g c = puts-next line _ _ _ c.loop-x-test.true c.x-item.is
+--         c.loop-x.invariant c.put_line.ensures
 --
--- (often it needs none), and `puts-numbered_next` and `puts-range_next` where the lines are numbered. One that puts several
--- texts, one after the other, answers with as many `puts-then`, which stand as the `++` of the text do:
+-- (often it needs none), and `puts-numbered_next` and `puts-range_next` if the lines are numbered.
+-- One that puts several texts, one after the other, answers with as many `puts-then`, which stand
+-- as the `++` of the text do:
 --
 --     returns g c = puts-then (puts-then c.put_a.ensures c.put_b.ensures) c.put_c.ensures
 --
--- Where a text is a literal, its cells are not seen as one text, and it is named: `puts-then {xs = codes "aag "} ..`. One that
--- makes the buffer, puts a text and flushes it, answers
+-- If a text is a literal, its cells are not seen as one text, and it is named: `puts-then {xs =
+-- codes "aag "} ..`. One that makes the buffer, puts a text and flushes it, answers
 --
---     returns g c = writes-whole c.new-out.ensures c.put_text.ensures c.flush.ensures (search rules)
+--     returns g c = writes-whole c.new-out.ensures c.put_text.ensures c.flush.ensures
+--         (search rules)
 use Rattle.std.proofs.Common.{ℕ, ◌+◌, ◌<◌, ◌≤◌, ◌≡◌, true, false, List, [], ◌∷◌, ◌++◌, length, take, drop, Result, Ok, Err, refl, ap, sym, ◌∙◌, append_assoc, append-nil, subst, get_or, suc, zero, arith}
 use Rattle.std.proofs.lemmas.List.{take-append-drop, take_all, take_more, length-take-le}
 use Rattle.std.proofs.lemmas.List.Concat.{flat_map-append}
@@ -147,7 +150,8 @@ module _ {W : Type 0} {output : W → Output} where
   whole-err {w = w} {text = text} (Err e) new puts flushes end =
       subst (λ v. WritesPart (output w.now) (output v) text) (sym (at_end new puts flushes end)) ((has_put new puts flushes).failed flushes.err)
 
-  -- a text that was put into a new buffer, which was then flushed, was written, where the writer ends as x
+  -- a text that was put into a new buffer, which was then flushed, was written, if the writer ends
+  -- as x
   pub writes-whole : {T E : Type 0} {w : MutBor W} {b c d : Buffered W} {r : Result T E} {text : List ℕ} {x : W} → IsNew w b → Puts output b c text → Flushes output c d r
       → (d.writer.ghost_name ≡ w.ghost_name → x ≡ d.writer.now) → Writes (output w.now) (output x) r text
   writes-whole {r = r} new puts flushes end = record { ok = whole-ok r new puts flushes end; err = whole-err r new puts flushes end }

@@ -40,7 +40,7 @@ all-pieces s t u n text p q = subst (λ (xs : List ℕ). WritesAll s u xs) (take
 pub part-pieces : (s t u : Output) (n : ℕ) (text : List ℕ) → WritesAll s t (take n text) → WritesPart t u (drop n text) → WritesPart s u text
 part-pieces s t u n text p q = subst (λ (xs : List ℕ). WritesPart s u xs) (take-append-drop n text) (part-then s t u (take n text) (drop n text) p q)
 
--- a text without a byte is written where the writer stays as it is
+-- a text without a byte is written if the writer stays as it is
 pub all-empty : (s : Output) (text : List ℕ) → length text ≡ 0 → WritesAll s s text
 all-empty s [] e = all-nothing s
 all-empty s (x ∷ xs) e = absurd (omega arith)

@@ -1,4 +1,4 @@
--- What has been put into a buffered writer, where the argument `output` is the member of `CountedWrite`.
+-- What has been put into a buffered writer; the argument `output` is the member of `CountedWrite`.
 use Rattle.std.specs.Prelude.{ℕ, ◌≡◌, true, false, List, [], ◌++◌, Result, OnOk, OnErr}
 use Rattle.std.specs.Borrow.{MutBor}
 use Rattle.counted_io.specs.Output.{Output, WritesAll, WritesPart}

@@ -5,7 +5,7 @@ use Rattle.counted_io.specs.declared.fakes.Failure.{Failure}
 use Rattle.counted_io.specs.declared.fakes.Failure.TheVariants as failures
 use Rattle.counted_io.specs.declared.fakes.OneByte.{OneByte}
 
--- passes so many calls on, and then fails in this way
+-- passes n calls on, and then fails in this way
 abbrev pub fail_after : {T : Type 0} → T → ℕ → Failure → FailAfter T
 fail_after inner calls failure = record { inner = inner; calls_left = calls; failure = failure }
 
@@ -17,7 +17,7 @@ fail_after_inner f = f.inner
 abbrev pub one_byte_inner : {T : Type 0} → OneByte T → T
 one_byte_inner o = o.inner
 
--- a call uses up one of those that are passed on; where none is left nothing changes
+-- a call uses up one of those that are passed on; if none is left nothing changes
 pub record IsCounted {T : Type 0} (old new : FailAfter T) : Type 0 where
   pub failure : new.failure ≡ old.failure
   pub passed : 0 < old.calls_left → new.calls_left + 1 ≡ old.calls_left

@@ -3,7 +3,7 @@ use Rattle.std.specs.Prelude.{ℕ, ◌≡◌, List, [], Option, Some, Result, is
 use Rattle.std.specs.Io.KnownBytes.{Consumes}
 use Rattle.counted_io.specs.Output.{one_more}
 
--- the bytes that a reader has left, where they are known, and how many reads failed
+-- the bytes that a reader has left, if they are known, and the number of reads that failed
 pub record Input : Type 0 where
   pub bytes : Option (List ℕ)
   pub failures : ℕ
@@ -12,7 +12,7 @@ pub record Input : Type 0 where
 abbrev pub failures_after_read : {E : Type 0} → ℕ → Result ℕ E → ℕ
 failures_after_read failures result = if is_ok result then failures else one_more failures
 
--- these are all the bytes that were left, where those are known: none is left, and no read failed
+-- these are all the bytes that were left, if those are known: none is left, and no read failed
 pub record ReadsAll (old new : Input) (read : List ℕ) : Type 0 where
   pub bytes : (left : List ℕ) → old.bytes ≡ Some left → (read ≡ left) × (new.bytes ≡ Some [])
   pub failures : new.failures ≡ old.failures

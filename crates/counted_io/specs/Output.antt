@@ -2,7 +2,7 @@
 use Rattle.std.specs.Prelude.{ℕ, ◌+◌, ◌-◌, ◌^◌, ◌≡◌, ◌==◌, ◌&&◌, Bool, true, not, min, List, take, Option, Result, Ok, Err, OnOk, OnErr, if◌then◌else◌}
 use Rattle.std.specs.Io.KnownBytes.{Appends}
 
--- the bytes that a writer holds, where they are known, and how many writes failed
+-- the bytes that a writer holds, if they are known, and the number of writes that failed
 pub record Output : Type 0 where
   pub bytes : Option (List ℕ)
   pub failures : ℕ

@@ -1,6 +1,6 @@
-//! A put returns nothing, and the failure of a write is kept and reported by `flush`, as an output stream of C keeps its error
-//! indicator. So a text of many pieces has one place where it can fail, and a function that puts pieces says of each only which
-//! text it put.
+//! A put returns nothing. The failure of a write is kept and reported by `flush`, as an output
+//! stream of C keeps its error indicator. So a text of many pieces can fail at one call alone, and
+//! a function that puts pieces says only which text it put.
 ghost use Rattle.std.specs.Prelude.{◌≡◌, ◌+◌, ◌≤◌, [], ◌∷◌, ◌++◌, length, decimal, IsOk};
 ghost use Rattle.std.specs.List.{flat_map};
 ghost use Rattle.counted_io.specs.Line.{spaced, line};
@@ -26,7 +26,7 @@ pub struct Buffered<'a, W> {
 impl<'a, W: CountedWrite> Buffered<'a, W> {
     ghost use Rattle.counted_io.specs.Buffered.{IsNew, Puts, Flushes};
 
-    /// Nothing waits.
+    /// Returns a buffer in which nothing waits.
     pub fn new(writer: &'a mut W) -> Buffered<'a, W>
         ensures { IsNew writer.entry result }
     {
@@ -46,7 +46,7 @@ impl<'a, W: CountedWrite> Buffered<'a, W> {
         self.waiting.append(bytes);
     }
 
-    /// Writes what waits, or drops it where a write has failed.
+    /// Writes what waits, or drops it if a write has failed.
     fn send(&mut self)
         ensures puts { Puts W.output self.old self.new [] }
         ensures empty { self.new.waiting ≡ [] }
@@ -67,7 +67,8 @@ impl<'a, W: CountedWrite> Buffered<'a, W> {
         }
     }
 
-    /// Whether a write has failed, so that what is put is dropped. A long loop may end there.
+    /// Returns true if a write has failed. What is put is dropped then, so a long loop may end
+    /// there.
     pub fn has_failed(&self) -> bool
         ensures { result ≡ self.now.failed }
     {

@@ -1,5 +1,5 @@
-//! Readers and writers that count their failures. What a device does is unknown to contracts; that a call reports a failure
-//! exactly where this count rose can be said and proved.
+//! Readers and writers that count their failures. What a device does is unknown to contracts, but
+//! they can say that a call reports a failure if and only if this count rose.
 ghost use Rattle.std.specs.Prelude.{◌≡◌, ◌≤◌, length, IfOk};
 ghost use Rattle.std.specs.Io.KnownBytes.{WriteAppends, ReadConsumes};
 ghost use Rattle.counted_io.specs.Output.{Output, failures_after_write, one_more};
@@ -8,7 +8,7 @@ ghost use Rattle.counted_io.specs.Input.{Input, failures_after_read};
 use std::io;
 use std::io::{Read, Write};
 
-/// A writer whose contents are known, where they can be, and that counts its failures.
+/// A writer that counts its failures, and whose contents are known if they can be.
 pub trait CountedWrite {
     ghost output: { Self → Output };
 
@@ -21,12 +21,12 @@ pub trait CountedWrite {
         ensures failures { (output self.new).failures
             ≡ failures_after_write (output self.old).failures result (length bytes.now) };
 
-    /// How many writes failed; it stays at `u64::MAX`.
+    /// Returns the number of writes that failed; it stays at `u64::MAX`.
     fn failures(&self) -> u64
         ensures { result ≡ (output self.now).failures };
 }
 
-/// A reader whose remaining bytes are known, where they can be, and that counts its failures.
+/// A reader that counts its failures, and whose remaining bytes are known if they can be.
 pub trait CountedRead {
     ghost input: { Self → Input };
 
@@ -39,7 +39,7 @@ pub trait CountedRead {
         ensures failures { (input self.new).failures
             ≡ failures_after_read (input self.old).failures result };
 
-    /// How many reads failed; it stays at `u64::MAX`.
+    /// Returns the number of reads that failed; it stays at `u64::MAX`.
     fn failures(&self) -> u64
         ensures { result ≡ (input self.now).failures };
 }
@@ -78,7 +78,7 @@ pub struct Counted<T> {
 impl<T> Counted<T> {
     ghost use Rattle.counted_io.specs.Counted.{counted_inner, counted_failures};
 
-    /// No call has failed yet.
+    /// Returns a count of no failed call.
     pub fn new(inner: T) -> Counted<T>
         ensures inner { counted_inner result ≡ inner }
         ensures failures { counted_failures result ≡ 0 }
@@ -86,7 +86,7 @@ impl<T> Counted<T> {
         Counted { inner, failures: 0 }
     }
 
-    /// The reader or writer, as the calls left it.
+    /// Returns the reader or writer, as the calls left it.
     pub fn into_inner(self) -> T
         ensures { result ≡ counted_inner self }
     {

@@ -12,11 +12,12 @@ use std::io::{Read, Write};
 pub enum Failure {
     /// By an `Err`.
     Error,
-    /// By taking none of the bytes. A read fails by an `Err` all the same, since `Ok(0)` is its end.
+    /// By taking none of the bytes. A read still fails by an `Err`, since `Ok(0)` is its end.
     Nothing,
 }
 
-/// Passes a number of calls on, and fails the rest. Of a call that is passed on the clauses say no more than those of the traits.
+/// Passes a number of calls on, and fails the rest. Of a call that is passed on the clauses say no
+/// more than those of the traits.
 #[derive(Drop)]
 pub struct FailAfter<T> {
     inner: T,
@@ -37,7 +38,7 @@ impl<T> FailAfter<T> {
         }
     }
 
-    /// The reader or writer, as the calls left it.
+    /// Returns the reader or writer, as the calls left it.
     pub fn into_inner(self) -> T
         ensures { result ≡ fail_after_inner self }
     {
@@ -103,7 +104,7 @@ impl<T> OneByte<T> {
         OneByte { inner }
     }
 
-    /// The reader or writer, as the calls left it.
+    /// Returns the reader or writer, as the calls left it.
     pub fn into_inner(self) -> T
         ensures { result ≡ one_byte_inner self }
     {

@@ -1,7 +1,8 @@
-//! Readers and writers that count their failures: buffered writing that takes no memory, reading to the end, the streams that the paths of
-//! a command line name, and fake devices for tests.
+//! Readers and writers that count their failures: buffered writing, which takes no memory, reading
+//! to the end, streams of paths, and fake devices for tests.
 //!
-//! `-` is a standard stream, and any other path a file (that of the name `-` is `./-`).
+//! The path `-` of a command line names a standard stream, and any other path a file (that of the
+//! name `-` is `./-`).
 #![tactic(auto)]
 
 mod buffered;

@@ -1,5 +1,5 @@
-//! A reader, read to its end by pieces, since how much is to come isn't known. Reads that fail are counted in the clauses: so an
-//! error `Device` says that one did, and a refusal of memory that none did.
+//! A reader, read to its end by pieces, since its length isn't known. Reads that fail are counted
+//! in the clauses. So an error `Device` says that one did, and a refusal of memory that none did.
 ghost use Rattle.std.specs.Prelude.{◌≡◌, ◌<◌, ◌≤◌, length, take, IfOk, OnErr, IfErr, IsErrOf};
 ghost use Rattle.std.specs.Io.KnownBytes.{Consumes, IsAtEnd, Keeps};
 ghost use Rattle.counted_io.specs.Output.{one_more};
@@ -32,7 +32,7 @@ impl From<AllocError> for ReadAllError {
 impl ReadAllError {
     ghost use Rattle.counted_io.specs.ReadErrors.{code_of};
 
-    /// The number of the error.
+    /// Returns the number of the error.
     pub fn code(self) -> u8
         ensures { result ≡ code_of self }
     {
@@ -66,8 +66,8 @@ fn read_piece<R: CountedRead>(reader: &mut R, piece: &mut [u8]) -> Result<usize,
 
 /// Reads to the end.
 ///
-/// Stops at the first read that fails, and where there is no room for what was read: a beginning
-/// of the bytes is gone from the reader then.
+/// Stops at the first read that fails, and if there is no room for what was read. A beginning of
+/// the bytes is then gone from the reader.
 pub fn read_all<R: CountedRead>(alloc: Global, reader: &mut R) -> Result<Vec<u8>, ReadAllError>
     ensures ok { IfOk result (λ bytes.
         ReadsAll (R.input reader.old) (R.input reader.new) bytes.items) }

@@ -12,7 +12,7 @@ pub enum Source<'a> {
 }
 
 impl<'a> Source<'a> {
-    /// Standard input for `-`, else the file.
+    /// Returns standard input for `-`, otherwise the file.
     pub fn of(path: &'a str) -> Source<'a>
         ensures { result ≡ source_of path.entry }
     {
@@ -32,7 +32,7 @@ impl<'a> Source<'a> {
         }
     }
 
-    /// How messages name it: `stdin`, or the path of the file.
+    /// Returns the name that messages have for it: `stdin`, or the path of the file.
     pub fn name(self) -> &'a str
         ensures { result.now ≡ source_name self.entry }
     {

@@ -12,7 +12,7 @@ pub enum Target<'a> {
 }
 
 impl<'a> Target<'a> {
-    /// Standard output for `-`, else the file.
+    /// Returns standard output for `-`, otherwise the file.
     pub fn of(path: &'a str) -> Target<'a>
         ensures { result ≡ target_of path.entry }
     {
@@ -32,7 +32,7 @@ impl<'a> Target<'a> {
         }
     }
 
-    /// How messages name it: `stdout`, or the path of the file.
+    /// Returns the name that messages have for it: `stdout`, or the path of the file.
     pub fn name(self) -> &'a str
         ensures { result.now ≡ target_name self.entry }
     {

@@ -42,7 +42,7 @@ impl Waiting {
         }
     }
 
-    /// How many more bytes can wait.
+    /// Returns the number of bytes that can still wait.
     pub(crate) fn room(&self) -> usize
         ensures { length self.now + result ≡ CAPACITY }
     {

@@ -13,7 +13,7 @@ pub enum WriteError {
 }
 
 impl WriteError {
-    /// The number of the error.
+    /// Returns the number of the error.
     pub fn code(self) -> u8
         ensures { result ≡ 1 }
     {

@@ -228,7 +228,8 @@ module _ (net : FlowNet) (ok : IsFlowNet net) (m : RunEnd) (end : IsMaxPreflow n
     )),
   )
 
-  -- what the arcs of a greatest flow carry is within capacities, and no inner node gives more than it gets
+  -- what the arcs of a greatest flow carry is within capacities, and no inner node gives more than
+  -- it gets
   pub holds-first : IsPreflowAt net xs 1
   holds-first = record {
     long = carried.long;
@@ -243,7 +244,7 @@ module _ (net : FlowNet) (ok : IsFlowNet net) (m : RunEnd) (end : IsMaxPreflow n
       let none : out_of net xs 1 ≡ 0 = sum_all_zero (node_count net) (pair net xs 1) (λ w l. omega (arith, pair-carried net ok m.flow.cells.residuals xs carried 1 w two, none-out-of-sink c held net is w two l)) in
       omega (arith, balance 1 (omega arith) two, none)
 
--- where no arc into a node carries anything, nothing comes in
+-- if no arc into a node carries anything, nothing comes in
 pub nothing-comes : (net : FlowNet) (ok : IsFlowNet net) (xs : List ℕ) (w : ℕ) → w < node_count net → ((k : ℕ) → k < row_len net w → slice_index xs (mate net w k) ≡ 0) → into net xs w ≡ 0
 nothing-comes net ok xs w h none = sum_all_zero (node_count net) (λ v. pair net xs v w) (λ v l. elim (cases_lt 0 (pair net xs v w)) [
   | inr zero' ↦ omega (arith, zero')

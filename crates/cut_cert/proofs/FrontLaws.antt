@@ -1,4 +1,5 @@
--- What a walk keeps that marks and queues nodes, whatever a marked node is and whatever its reading marks.
+-- What a walk keeps that marks and queues nodes, whatever a marked node is and whatever its reading
+-- marks.
 use Rattle.std.proofs.Common.{ℕ, zero, ◌+◌, ◌<◌, ◌≤◌, ◌≡◌, ◌⊎◌, inl, inr, List, [], ◌∷◌, ◌++◌, length, replicate, Bool, true, false, cond, Some, None, slice_get, set, get_or, count_by, arith, ap, sym, ◌∙◌, subst}
 use Rattle.std.proofs.lemmas.Bool.{cases_Bool, cases_eq, cases_lt, cond-true, cond-false}
 use Rattle.std.proofs.lemmas.Option.{none-some, slice_get_within, same_Some}
@@ -89,7 +90,7 @@ module _ (r : SearchFront) (w : ℕ) (within : w < length r.marks) where
 
 -- ---- what the walk keeps
 
--- nothing is reached of so many nodes
+-- nothing is reached of n nodes
 abbrev pub no_front : ℕ → SearchFront
 no_front n = record { marks = replicate n false; queue = [] }
 
@@ -116,7 +117,8 @@ no-marks n v e =
 
 -- a walk over n nodes: what holds of each marked node, and when a node is read
 module _ (n : ℕ) (Inside : ℕ → Type 0) (HasRead : SearchFront → ℕ → Type 0) where
-  -- the queue has marked nodes, no more of them than there are; each marked node waits at place k or after it, or is read
+  -- the queue has marked nodes, no more of them than there are; each marked node waits at place k
+  -- or after it, or is read
   pub record Sweeps (r : SearchFront) (k : ℕ) : Type 0 where
     -- there is a mark for each node
     pub as_long : length r.marks ≡ n
@@ -176,7 +178,7 @@ module _ (n : ℕ) (Inside : ℕ → Type 0) (HasRead : SearchFront → ℕ → 
     inside = sweep.inside;
   }
 
-  -- where the queue is at its end, each marked node is read
+  -- if the queue is at its end, each marked node is read
   pub sweeps-read : (r : SearchFront) (k : ℕ) → Sweeps r k → slice_get r.queue k ≡ None → (v : ℕ) → is_marked r v ≡ true → HasRead r v
   sweeps-read r k sweep last v e = elim (sweep.pending v e) [
     | inl waits ↦ absurd (waits-end r.queue k v last waits sweep.within)

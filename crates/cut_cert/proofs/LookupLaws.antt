@@ -40,7 +40,7 @@ precedes-back (Some q) p e f = elim (or_cases (nat_lt q.var p.var) (q.var == p.v
 ]
 
 module _ (net : FlowNet) (ok : IsFlowNet net) (rise : PointsRise net) (node : ℕ) (h : node < node_count net) (p : Point) (k : ℕ) (l : k < row_len net node) (at : point_of net (head net node k) ≡ Some p) where
-  -- where a head's point precedes the one looked for, that one stands past it in the row
+  -- if a head's point precedes the one looked for, that one stands past it in the row
   pub before-target : (m : ℕ) → m < row_len net node → precedes (point_of net (head net node m)) (Some p) ≡ true → m + 1 ≤ k
   before-target m lm e = elim (cases_order m k) [
     | inl same ↦ absurd (precedes-self p (subst (λ (o : Option Point). precedes o (Some p) ≡ true) (ap (λ (j : ℕ). point_of net (head net node j)) same ∙ at) e))
@@ -52,7 +52,7 @@ module _ (net : FlowNet) (ok : IsFlowNet net) (rise : PointsRise net) (node : �
     ]
   ]
 
-  -- where a head's point doesn't precede the one looked for, that one stands there or before it
+  -- if a head's point doesn't precede the one looked for, that one stands there or before it
   pub not-before-target : (m : ℕ) → m < row_len net node → precedes (point_of net (head net node m)) (Some p) ≡ false → k ≤ m
   not-before-target m lm e = elim (cases_lt m k) [
     | inr ge ↦ ge

@@ -76,7 +76,7 @@ module _ (net : FlowNet) (ok : IsFlowNet net) (xs : List ℕ) (long : length xs 
   pub pair-comes : 0 < pair net xs (head net w k) w
   pair-comes = subst (λ (x : ℕ). 0 < x) (sym (mate-pair net ok xs w k comes.node comes.inside)) comes.some
 
-  -- a place of a row that is the arc's is of the same pair
+  -- a place of a row that is the arc's is of its pair
   same-row : (x j : ℕ) → x < node_count net → j < row_len net x → start net x + j ≡ mate net w k → x ≡ head net w k
   same-row x j h l same = elim (cases_order x (head net w k)) [
     | inl e ↦ e

@@ -49,7 +49,7 @@ next-of net a nodes i (b ∷ ns) p points e way =
       way = subst (λ (xs : List ℕ). IsWay net b xs points) rest way.1.1;
     }
 
--- where a point is left of a route, a node is left of its way
+-- if a point is left of a route, a node is left of its way
 pub next : (net : FlowNet) (a : ℕ) (nodes : List ℕ) (i : ℕ) (points : List Point) (d : Point) → i < length points → IsWay net a (drop i nodes) (drop i points)
     → Next net a (drop i nodes) (drop (i + 1) nodes) (slice_index_or points i d) (drop (i + 1) points)
 next net a nodes i points d h way =
@@ -59,7 +59,7 @@ ends-of : (net : FlowNet) (a : ℕ) (nodes : List ℕ) (points : List Point) →
 ends-of net a [] points e way = refl
 ends-of net a (b ∷ nodes) points e way = absurd (subst (λ (ps : List Point). IsWay net a (b ∷ nodes) ps) e way)
 
--- where no point is left of a route, no node is left of its way
+-- if no point is left of a route, no node is left of its way
 pub ends : (net : FlowNet) (a : ℕ) (nodes : List ℕ) (i : ℕ) (points : List Point) → length points ≤ i → IsWay net a (drop i nodes) (drop i points) → drop i nodes ≡ []
 ends net a nodes i points h way = ends-of net a (drop i nodes) (drop i points) (drop_all i points h) way
 
@@ -87,7 +87,7 @@ next-way-of net ways i (ns ∷ rest) route routes e are =
       ways = subst (λ (xs : List (List ℕ)). AreWays net xs routes) tail are.1;
     }
 
--- where a route is left, so is its way
+-- if a route is left, so is its way
 pub next-way : (net : FlowNet) (ways : List (List ℕ)) (i : ℕ) (routes : List (List Point)) (d : List Point) → i < length routes → AreWays net (drop i ways) (drop i routes)
     → NextWay net (drop i ways) (drop (i + 1) ways) (slice_index_or routes i d) (drop (i + 1) routes)
 next-way net ways i routes d h are =
@@ -97,7 +97,7 @@ ways-end-of : (net : FlowNet) (ways : List (List ℕ)) (routes : List (List Poin
 ways-end-of net [] routes e are = refl
 ways-end-of net (ns ∷ ways) routes e are = absurd (subst (λ (ps : List (List Point)). AreWays net (ns ∷ ways) ps) e are)
 
--- where no route is left, no way is
+-- if no route is left, no way is
 pub ways-end : (net : FlowNet) (ways : List (List ℕ)) (i : ℕ) (routes : List (List Point)) → length routes ≤ i → AreWays net (drop i ways) (drop i routes) → drop i ways ≡ []
 ways-end net ways i routes h are = ways-end-of net (drop i ways) (drop i routes) (drop_all i routes h) are
 
@@ -163,7 +163,8 @@ module _ (net : FlowNet) (ok : IsFlowNet net) (used new : List Bool) (long : len
       let some : nat_lt 0 (steps_of node (b ∷ ns) x (head net x j)) ≡ true = lt-ltb 0 _ (omega (arith, counts, steps-next node b ns x (head net x j))) in
       ap (λ (u : Bool). u || nat_lt 0 (steps_of b ns x (head net x j))) on ∙ sym (or_right (is_used net used x j) _ some)
 
-  -- with the first step's arc marked, what is marked, and what the walk's other steps use, is the same together
+  -- with the first step's arc marked, what is marked and what the walk's other steps use have one
+  -- union
   pub mark-more : (x j : ℕ) → x < node_count net → j < row_len net x
       → (is_used net new x j || nat_lt 0 (steps_of b ns x (head net x j))) ≡ (is_used net used x j || nat_lt 0 (steps_of node (b ∷ ns) x (head net x j)))
   mark-more x j hx lj = elim (cases_eq x node) [
@@ -175,7 +176,7 @@ module _ (net : FlowNet) (ok : IsFlowNet net) (used new : List Bool) (long : len
     ]
   ]
 
--- with no step more, an arc is used where it was marked
+-- with no step more, an arc is used if it was marked
 pub or-none : (u : Bool) (m : ℕ) → m ≡ 0 → (u || nat_lt 0 m) ≡ u
 or-none u m e = ap (λ (n : ℕ). u || nat_lt 0 n) e ∙ last u
   where

@@ -6,7 +6,7 @@ use Rattle.frame_net.proofs.SumLaws.{term-le-sum_below}
 use Rattle.frame_net.proofs.TheoryCutLaws.{held_off, cut_identity, sum_all_zero, cond_zero, one_term, sink-le-held}
 use Rattle.cut_cert.specs.Cuts.{NoneLeaves, IsNearSide, IsSmallestLeastCut, NearSideIsSmallest}
 
--- where the residuals that leave a set sum to none, no residual arc leaves it
+-- if the residuals that leave a set sum to none, no residual arc leaves it
 pub none_leaves-sum : (n : ℕ) (s : State) (other : ℕ → Bool) → between n other (λ w. not (other w)) s.res ≡ 0 → NoneLeaves n s other
 none_leaves-sum n s other z v w h k on pos = elim (cases_Bool (other w)) [
   | inl there ↦ there
@@ -51,7 +51,7 @@ module _ (n : ℕ) (cap : ℕ → ℕ → ℕ) (s : State) (side : ℕ → Bool)
       let all : held_off n s side ≤ cond (not (side 1)) (s.excess 1) 0 = one_term n (λ v. cond (not (side v)) (s.excess v) 0) off-term in
       omega (arith, cut_identity n cap s side p near.with_source, no-residual, all, within (not (side 1)) (s.excess 1))
 
-  -- where no inner node holds excess, and the sink is off it, the near side is the smallest least cut
+  -- if no inner node holds excess, and the sink is off it, the near side is the smallest least cut
   pub near-smallest : IsSmallestLeastCut n cap side
   near-smallest = record {
     is_cut = record { with_source = near.with_source; without_sink = off };
@@ -59,6 +59,7 @@ module _ (n : ℕ) (cap : ℕ → ℕ → ℕ) (s : State) (side : ℕ → Bool)
     smallest = λ other o le v h on. near.within other o.with_source (none_leaves-cut n cap s other big p o (omega (arith, le, worth))) v h on;
   }
 
--- of each preflow without excess at inner nodes the near side, where the sink is off it, is the smallest least cut
+-- of each preflow without excess at inner nodes the near side, if the sink is off it, is the
+-- smallest least cut
 pub near_side_is_smallest-law : NearSideIsSmallest
 near_side_is_smallest-law n cap s side big p drained near off = near-smallest n cap s side big p drained near off

@@ -61,7 +61,7 @@ module _ (net : FlowNet) (used : List Bool) where
   pub reach-on : (r : SearchFront) (k v : ℕ) → SweepsOn r k → v < node_count net → Inside v → GoesOn k r (reach_node r v) × (is_marked (reach_node r v) v ≡ true)
   reach-on r k v sweep below way = reach-goes (node_count net) (λ u. Inside u) (λ t w. HasRead t w) read-still r k v sweep below way
 
-  -- the same, with the source's mark, which the start makes
+  -- swept, with the source's mark, which the start makes
   pub record Swept (r : SearchFront) (k : ℕ) : Type 0 where
     -- the walk has come to place k of the queue
     pub sweeps : SweepsOn r k
@@ -118,7 +118,7 @@ module _ (net : FlowNet) (used : List Bool) where
           source = go.0.grows.marks 0 sweep.source;
         })
 
-  -- where the queue is at its end, the marked nodes are those to which open arcs lead
+  -- if the queue is at its end, the marked nodes are those to which open arcs lead
   pub sweeps-end : (r : SearchFront) (k : ℕ) → Swept r k → slice_get r.queue k ≡ None → IsOpenSide net used (is_marked r)
   sweeps-end r k sweep last = record {
     with_source = sweep.source;
@@ -147,7 +147,8 @@ pub open-back : (net : FlowNet) (used : List Bool) (w k : ℕ) → slice_index_o
 unfolding is_open
 open-back net used w k e = or_left (slice_index_or used (mate net w k) false) _ e
 
--- an arc whose mate isn't used is open where it has a capacity, and isn't one to after a variable that is used
+-- an arc whose mate isn't used is open if it has a capacity, and isn't one to after a variable that
+-- is used
 pub open-else : (net : FlowNet) (used : List Bool) (w k : ℕ) → slice_index_or used (mate net w k) false ≡ false
     → is_open net used w k ≡ (nat_lt 0 (cap_at net (start net w + k)) && not (is_behind (point_of net (head net w k)) && is_used net used w k))
 unfolding is_open

@@ -85,7 +85,8 @@ module _ (net : FlowNet) (ok : IsFlowNet net) where
     ]
   ]
 
-  -- a step back over an arc goes on with the walk, whose loop is forgotten where it comes back to a node
+  -- a step back over an arc goes on with the walk; if it comes back to a node, the loop is
+  -- forgotten
   pub goes-back : (first xs new : List ℕ) (n : ℕ) (marks left : List Bool) (at tail : ℕ) (trail mid after : List ℕ) → SoFar net first xs n marks at trail → StepsBack net xs new at tail → mid ≡ at ∷ trail → AreOn n left after → ComesTo tail mid after
       → SoFar net first new n left tail after
   goes-back first xs new n marks left at tail trail mid after far back is_mid on to =
@@ -136,14 +137,14 @@ module _ (net : FlowNet) (ok : IsFlowNet net) where
 -- ---- where each row is read from
 
 module _ (net : FlowNet) (ok : IsFlowNet net) where
-  -- places before which nothing comes in stay such where no arc carries more
+  -- places before which nothing comes in stay such if no arc carries more
   pub searched-less : (xs new places : List ℕ) → ((arc : ℕ) → slice_index new arc ≤ slice_index xs arc) → AreSearched net xs places → AreSearched net new places
   searched-less xs new places less searched = record {
     long = searched.long;
     none = λ w h k l m. omega (arith, less (mate net w k), searched.none w h k l m);
   }
 
-  -- places before which nothing comes in stay such where an arc carries one less
+  -- places before which nothing comes in stay such if an arc carries one less
   pub searched-lower : (xs new places : List ℕ) (w k : ℕ) → length xs ≡ length net.heads → Comes net xs w k → new ≡ lowered net xs w k → AreSearched net xs places → AreSearched net new places
   searched-lower xs new places w k long comes is_new searched = searched-less xs new places (λ arc. omega (arith, ap (λ (zs : List ℕ). slice_index zs arc) is_new, none-more net ok xs long w k comes arc)) searched
 
@@ -193,7 +194,7 @@ pub record Gathered (c : Netlist) (held : List ℕ) (net : FlowNet) (first : ℕ
   -- the routes and what is left to come into the sink are what had reached it
   pub count : length routes + into net xs 1 ≡ first
 
--- the same in every circuit with this network, and nothing is left before a place of the sink's row
+-- gathering in every circuit with this network; nothing is left before a place of the sink's row
 pub record Gathering (net : FlowNet) (m : RunEnd) (xs : List ℕ) (routes : List (List Point)) (place : ℕ) : Type 0 where
   -- there is a value for each arc
   pub long : length xs ≡ length net.heads
@@ -203,7 +204,8 @@ pub record Gathering (net : FlowNet) (m : RunEnd) (xs : List ℕ) (routes : List
   pub gathered : (c : Netlist) (held : List ℕ) → IsNetworkOf c held net → Gathered c held net (slice_index m.flow.cells.excess 1) xs routes
 
 module _ (net : FlowNet) (ok : IsFlowNet net) (m : RunEnd) where
-  -- before the first walk there are no routes, and all that the arcs of a greatest flow carry is left
+  -- before the first walk there are no routes, and all that the arcs of a greatest flow carry is
+  -- left
   pub no-routes : IsMaxPreflow net m → (xs : List ℕ) → AreArcFlows net m.flow.cells.residuals xs → Gathering net m xs [] 0
   no-routes end xs carried = record {
     long = carried.long;
@@ -250,7 +252,7 @@ module _ (net : FlowNet) (ok : IsFlowNet net) (m : RunEnd) where
         one-more c held (slice_index m.flow.cells.excess 1) xs ys routes route before (back.once c held is) (back.walked c held (all_passed routes) is before.ready);
   }
 
-  -- where nothing is left
+  -- if nothing is left
   pub all-routes : IsMaxPreflow net m → (xs : List ℕ) (routes : List (List Point)) (place : ℕ) → Gathering net m xs routes place → NoneComes net xs 1 place (row_len net 1)
       → (c : Netlist) (held : List ℕ) → IsNetworkOf c held net → AreLeastRoutes c held routes
   all-routes end xs routes place old none c held is =

@@ -1,4 +1,5 @@
--- A walk backward from the sink marks the nodes that reach it: a sweep by falling number, and a queue of those it is past.
+-- A walk backward from the sink marks the nodes that reach it: a sweep by falling number, and a
+-- queue of those it is past.
 use Rattle.std.proofs.Common.{ℕ, zero, suc, ◌+◌, ◌<◌, ◌≤◌, ◌≡◌, ◌⊎◌, ◌&&◌, inl, inr, Bool, List, length, true, false, not, nat_lt, Some, None, slice_get, slice_index, refl, arith, ap, ap₂, sym, ◌∙◌, subst}
 use Rattle.std.proofs.lemmas.Bool.{cases_Bool, cases_eq, cases_lt, cond-true, cond-false, lt-ltb, le-ltb, not-false, not_from_true}
 use Rattle.std.proofs.lemmas.List.{get_or-replicate}
@@ -205,7 +206,7 @@ module _ (n : ℕ) (s : State) where
     | inr other ↦ inl (inner, omega (arith, less, last, other))
   ])
 
-  -- where the queue is at its end, the marked nodes are those that reach the sink
+  -- if the queue is at its end, the marked nodes are those that reach the sink
   pub sweeping-end : (r : SearchFront) (k : ℕ) → Sweeping 2 r k → slice_get r.queue k ≡ None → IsSourceSide n s (λ v. not (is_marked r v))
   sweeping-end r k sweep last = λ v h. (
     (λ e. sweep.sweeps.inside v (not-false (is_marked r v) e)),

@@ -157,14 +157,14 @@ on-lent n marks lent same on =
 pub first-in : (n : ℕ) (marks : List Bool) (all trail : List ℕ) (v : ℕ) → all ≡ v ∷ trail → AreOn n marks all → v < n
 first-in n marks all trail v e on = marked-in n marks all v on (ap (λ (vs : List ℕ). has vs v) e ∙ or_left (v == v) (has trail v) (eq-eqb v v refl))
 
--- where the trail's first node is the one come back to, the trail after it is what is left
+-- if the trail's first node is the one come back to, the trail after it is what is left
 pub cut-here : (front old cur new : List ℕ) (last node : ℕ) → old ≡ front ++ cur → cur ≡ last ∷ new → last ≡ node → Distinct cur → ComesTo node old new
 cut-here front old cur new last node parts e same d = record {
   off = ap (has new) (sym same) ∙ not-later last new (subst Distinct e d);
   how = inr (front, parts ∙ ap (λ (vs : List ℕ). front ++ vs) (e ∙ ap (λ (v : ℕ). v ∷ new) same));
 }
 
--- where the trail's first node isn't the one looked for, that one is among the others
+-- if the trail's first node isn't the one looked for, that one is among the others
 pub still-there : (cur new : List ℕ) (last node : ℕ) → cur ≡ last ∷ new → (last == node) ≡ false → has cur node ≡ true → has new node ≡ true
 still-there cur new last node e other member = sym (ap (λ (b : Bool). b || has new node) other) ∙ ap (λ (vs : List ℕ). has vs node) (sym e) ∙ member
 

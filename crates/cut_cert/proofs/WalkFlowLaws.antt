@@ -91,7 +91,7 @@ module _ (n : ℕ) (two : 1 < n) where
     label = λ v. 0;
   }
 
-  -- where walks use no pair beyond its capacity, the state after a unit along each is a preflow
+  -- if walks use no pair beyond its capacity, the state after a unit along each is a preflow
   pub sent-preflow : (cap : ℕ → ℕ → ℕ) (ways : List (List ℕ)) → AllBelow n two ways → ((x y : ℕ) → x < n → y < n → all_steps (all_to_sink ways) x y ≤ cap x y) → IsPreflow n cap (sent cap ways)
   sent-preflow cap ways below within = record {
     paired = λ v w h l. omega (arith, within v w h l, within w v l h);

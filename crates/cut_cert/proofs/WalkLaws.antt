@@ -38,15 +38,17 @@ pub distinct-cons : (v : ℕ) (xs : List ℕ) → has xs v ≡ false → Distinc
 unfolding IsDistinct
 distinct-cons v xs absent d = (none-is v xs absent, d)
 
--- the rest of a route, from the node on at which the walk stands; `reached` is what came into the sink before the walk
+-- the rest of a route, from the node on at which the walk stands; `reached` is what came into the
+-- sink before the walk
 pub record Walking (c : Netlist) (held : List ℕ) (net : FlowNet) (past : List ℕ) (reached : ℕ) (xs : List ℕ) (at : ℕ) (rest : List Point) : Type 0 where
-  -- no pair carries more than its capacity, and no inner node gives more than it gets, where the walk stands less
+  -- no pair carries more than its capacity, and no inner node gives more than it gets, the walk's
+  -- node less
   pub holds : IsPreflowAt net xs at
   -- the walk stands at a node
   pub node : at < node_count net
   -- the node isn't the sink
   pub inner : at ≡ 1 → ⊥
-  -- where the node has a point, the rest of the route may follow it
+  -- if the node has a point, the rest of the route may follow it
   pub goes : (p : Point) → point_of net at ≡ Some p → goes_on c held p rest ≡ true
   -- at the source the rest is a route
   pub begun : at ≡ 0 → is_route c held rest ≡ true
@@ -189,7 +191,8 @@ module _ (c : Netlist) (held : List ℕ) (net : FlowNet) (ok : IsFlowNet net) (i
   pub walking-start : (xs : List ℕ) (k : ℕ) (past : List ℕ) → Comes net xs 1 k → Ready net xs past → Walking c held net past (into net xs 1) (lowered net xs 1 k) (head net 1 k) []
   walking-start xs k past comes ready = start-at xs 1 k ready.holds comes past refl ready
 
-  -- a step back over an arc that carries something puts the node's point in front of the rest of the route
+  -- a step back over an arc that carries something puts the node's point in front of the rest of
+  -- the route
   pub walking-step : (xs : List ℕ) (w k : ℕ) (past : List ℕ) (reached : ℕ) (rest : List Point) (p : Point) → Comes net xs w k → Walking c held net past reached xs w rest → point_of net w ≡ Some p
       → Walking c held net past reached (lowered net xs w k) (head net w k) (p ∷ rest)
   walking-step xs w k past reached rest p comes walking at = step-on xs w k walking.holds comes past reached rest walking p at
@@ -205,7 +208,7 @@ module _ (c : Netlist) (held : List ℕ) (net : FlowNet) (ok : IsFlowNet net) (i
       count = walking.count;
     }
 
-    -- where there is no point the walk stands at the source
+    -- if there is no point the walk is at the source
     pub ends-at-source : point_of net at ≡ None → Walked c held net past reached xs rest
     ends-at-source e = elim (cases_eq at 0) [
       | inl none ↦ at-source none

@@ -28,7 +28,7 @@ pub record IsSmallestLeastCut (n : ℕ) (cap : ℕ → ℕ → ℕ) (side : ℕ 
   pub least : (other : ℕ → Bool) → IsCut other → cut_value n cap side ≤ cut_value n cap other
   pub smallest : (other : ℕ → Bool) → IsCut other → cut_value n cap other ≤ cut_value n cap side → (v : ℕ) → v < n → side v ≡ true → other v ≡ true
 
--- where no excess is left at inner nodes and residual arcs don't lead to the sink, the near side is
+-- if no excess is left at inner nodes and residual arcs don't lead to the sink, the near side is
 -- the smallest least cut
 abbrev pub NearSideIsSmallest : Type 0
 NearSideIsSmallest = (n : ℕ) (cap : ℕ → ℕ → ℕ) (s : State) (side : ℕ → Bool) → 1 < n → IsPreflow n cap s

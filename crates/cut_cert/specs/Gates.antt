@@ -8,7 +8,7 @@ abbrev pub gate_after : Option Point → Option ℕ
 gate_after None = None
 gate_after (Some point) = if point.behind then None else Some point.var
 
--- the gate with node v before it, where v is in the set
+-- the gate with node v before it, if v is in the set
 unfoldable pub gate_of_node : FlowNet → (ℕ → Bool) → ℕ → Option ℕ
 gate_of_node net side v = if side v then gate_after (point_of net v) else None
 

@@ -61,8 +61,8 @@ abbrev pub is_behind : Option Point → Bool
 is_behind None = false
 is_behind (Some p) = p.behind
 
--- whether the k-th arc from x has a residual: a route goes the other way, or it has a capacity,
--- which one route takes up where it leads to after a variable
+-- Whether the k-th arc from x has a residual: a route goes the other way, or it has a capacity. One
+-- route takes that up if it leads to after a variable.
 unfoldable pub is_open : FlowNet → List Bool → ℕ → ℕ → Bool
 is_open net used x k = slice_index_or used (mate net x k) false || (nat_lt 0 (cap_at net (start net x + k)) && not (is_behind (point_of net (head net x k)) && is_used net used x k))
 

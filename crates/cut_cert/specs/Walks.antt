@@ -13,7 +13,7 @@ use Rattle.cut_cert.specs.Shown.{HasNoPointTwice}
 
 -- ---- what arcs carry
 
--- the capacity of each arc less its residual, where it is more
+-- the capacity of each arc less its residual, if it is more
 pub record AreArcFlows (net : FlowNet) (residuals xs : List ℕ) : Type 0 where
   pub long : length xs ≡ length net.heads
   pub each : (arc : ℕ) → arc < length net.heads → slice_index xs arc ≡ cap_at net arc - slice_index residuals arc
@@ -71,7 +71,7 @@ pub record AreOn (n : ℕ) (marks : List Bool) (trail : List ℕ) : Type 0 where
   pub each : (v : ℕ) → slice_index_or marks v false ≡ has trail v
   pub apart : IsDistinct (λ v w. v == w) trail
 
--- where a walk comes back to a node of its trail, the loop and the node are forgotten
+-- if a walk comes back to a node of its trail, the loop and the node are forgotten
 pub record ComesTo (node : ℕ) (old new : List ℕ) : Type 0 where
   pub off : has new node ≡ false
   pub how : (new ≡ old) ⊎ ((loop : List ℕ) × (old ≡ loop ++ node ∷ new))
@@ -91,8 +91,8 @@ points_of net (v ∷ nodes) = and_point (point_of net v) (points_of net nodes)
 unfoldable pub here : ℕ → ℕ → ℕ
 here v at = if v == at then 1 else 0
 
--- No pair carries more than its capacity, and at each inner node no more goes out than comes in;
--- where a walk stands, less.
+-- No pair carries more than its capacity. At each inner node no more goes out than comes in, and
+-- less at the walk's node.
 pub record IsPreflowAt (net : FlowNet) (xs : List ℕ) (at : ℕ) : Type 0 where
   pub long : length xs ≡ length net.heads
   pub within : (v w : ℕ) → v < node_count net → w < node_count net → pair net xs v w ≤ capacity_between net v w

@@ -19,28 +19,9 @@ use pulse::{Crew, MaxPreflow, PhaseGate};
 use std::alloc::Global;
 use std::thread::Threads;
 
-/// Returns the chosen least set of the circuit with network `net`: the far side of a maximum
-/// preflow, or the near side of its routes.
-fn set_of(
-    alloc: Global,
-    net: &Net,
-    preflow: &MaxPreflow,
-    routes: &Routes,
-    choice: Choice,
-) -> Result<ClosedSet, NoMemory>
-    requires preflow { IsMaxPreflow net.now preflow.now }
-    requires routes { AreLeastRoutesOf net.now routes.now }
-    ensures { IfOk result (IsChosenOf choice net.now) }
-{
-    match choice {
-        Choice::Greatest => greatest_cut(alloc, net, preflow),
-        Choice::Smallest => near_cut(alloc, net, routes),
-    }
-}
-
 /// Returns the chosen least set of the circuit with network `net`, and the routes of a maximum
 /// preflow.
-fn chosen_by_preflow(
+fn set_and_routes_of(
     alloc: Global,
     net: &Net,
     preflow: &MaxPreflow,
@@ -51,20 +32,63 @@ fn chosen_by_preflow(
     ensures routes { IfOk result (λ found. AreLeastRoutesOf net.now found.1) }
 {
     let routes = routes(alloc, net, preflow)?;
-    let set = set_of(alloc, net, preflow, &routes, choice)?;
+    let set = match choice {
+        Choice::Greatest => greatest_cut(alloc, net, preflow)?,
+        Choice::Smallest => near_cut(alloc, net, &routes)?,
+    };
     Ok((set, routes))
 }
 
-/// Finds the chosen least set of a circuit whose held latches stay where they are, by a maximum
-/// flow of the circuit's network.
+/// Returns the chosen least set of the circuit with network `net`. Routes are looked for only if
+/// the smallest set is chosen.
+fn set_of(
+    alloc: Global,
+    net: &Net,
+    preflow: &MaxPreflow,
+    choice: Choice,
+) -> Result<ClosedSet, NoMemory>
+    requires { IsMaxPreflow net.now preflow.now }
+    ensures { IfOk result (IsChosenOf choice net.now) }
+{
+    match choice {
+        Choice::Greatest => greatest_cut(alloc, net, preflow),
+        Choice::Smallest => {
+            let routes = routes(alloc, net, preflow)?;
+            near_cut(alloc, net, &routes)
+        }
+    }
+}
+
+/// Finds the chosen least set of a circuit whose held latches stay, by a maximum flow of the
+/// circuit's network.
 ///
-/// Its routes come with it: the number of them is that of the variables of its border. The network
-/// and the flow are dropped.
+/// The network, the flow and, for the smallest set, its routes are dropped.
 ///
 /// # Errors
 ///
 /// `NoMemory` if a table, the list of gates or a route is refused.
 pub fn chosen_of_network<G: PhaseGate>(
+    rt: &(impl Threads + Sync),
+    alloc: Global,
+    circuit: &Circuit,
+    keep: &Keep,
+    choice: Choice,
+    crew: &Crew<G>,
+) -> Result<ClosedSet, NoMemory>
+    ensures { IfOk result (IsChosen choice circuit.now keep.now) }
+{
+    let net = network(alloc, circuit, keep)?;
+    let preflow = maximum_preflow(rt, alloc, &net, crew)?;
+    set_of(alloc, &net, &preflow, choice)
+}
+
+/// Finds what [`chosen_of_network`] finds, and routes that show it: the number of them is that of
+/// the variables of its border.
+///
+/// # Errors
+///
+/// `NoMemory` if a table, the list of gates or a route is refused.
+pub fn shown_by_network<G: PhaseGate>(
     rt: &(impl Threads + Sync),
     alloc: Global,
     circuit: &Circuit,
@@ -77,5 +101,5 @@ pub fn chosen_of_network<G: PhaseGate>(
 {
     let net = network(alloc, circuit, keep)?;
     let preflow = maximum_preflow(rt, alloc, &net, crew)?;
-    chosen_by_preflow(alloc, &net, &preflow, choice)
+    set_and_routes_of(alloc, &net, &preflow, choice)
 }

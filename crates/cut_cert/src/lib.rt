@@ -41,7 +41,7 @@ pub use certificates::{
     write_cert,
 };
 pub use certifying::certificate_of;
-pub use chosen::chosen_of_network;
+pub use chosen::{chosen_of_network, shown_by_network};
 pub use gathering::routes;
 pub use greatest::greatest_cut;
 pub use nearest::near_cut;

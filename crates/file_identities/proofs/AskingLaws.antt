@@ -33,7 +33,7 @@ module _ (before after : List FileUse) (given_use : Option FileUse) where
   pub given-pushed : (file : FileUse) → given_use ≡ Some file → after ≡ before ++ file ∷ [] → after ≡ before ++ option_to_list given_use
   given-pushed file is push = push ∙ ap (λ (o : Option FileUse). before ++ option_to_list o) (sym is)
 
-  -- the same where there is none
+  -- so if there is none
   pub none-pushed : given_use ≡ None → after ≡ before → after ≡ before ++ option_to_list given_use
   none-pushed is same = same ∙ sym (append-nil before) ∙ ap (λ (o : Option FileUse). before ++ option_to_list o) (sym is)
 

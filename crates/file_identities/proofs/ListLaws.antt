@@ -1,4 +1,5 @@
--- The first clash of a list, line by line, and that where none is found no two of all its files are one, so that anything would be lost.
+-- The first clash of a list, line by line. If none is found no two of all its files are one, so
+-- that anything would be lost.
 use Rattle.std.proofs.Common.{ℕ, zero, suc, ◌+◌, ◌≡◌, ◌<◌, ◌≤◌, ◌&&◌, Bool, true, false, cond, List, [], ◌∷◌, drop, length, get_or, map, Option, Some, None, is_some, option_map, All, inl, inr, refl, sym, ap, ap₂, ◌∙◌, subst, arith}
 use Rattle.std.specs.List.{find}
 use Rattle.std.specs.Option.{option_or}
@@ -186,7 +187,7 @@ quiet-lines printed listed [] none = record {
 quiet-lines printed listed (entry ∷ entries) (inl here) = absurd (false≢true here.0)
 quiet-lines printed listed (entry ∷ entries) (inr later) = quiet-more printed listed entry entries later.0 (quiet-lines printed listed entries later.1)
 
--- where no line of a list has a clash, no two of all its files are one, so that anything would be lost
+-- if no line of a list has a clash, no two of all its files are one, so that anything would be lost
 pub list-apart : (list : Source) (entries : List Entry) → IsListClash list entries None → AreListFilesApart list entries
 list-apart list entries none =
     let quiet = quiet-lines none.printed none.listed entries none.first in

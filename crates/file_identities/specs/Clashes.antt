@@ -27,8 +27,8 @@ is_written roles.Written = true
 is_written roles.Lines = true
 is_written roles.LineInstead = true
 
--- whether two that are written may stand in one file: lines follow one another, of two circuits of a list the later one stands, and a line in
--- place of what is written stands alone
+-- Whether two that are written may stand in one file. Lines follow one another, of two circuits of
+-- a list the later one stands, and a line in place of what is written stands alone.
 abbrev pub stand_together : Role → Role → Bool
 stand_together roles.Lines roles.Lines = true
 stand_together roles.Remade roles.Remade = true
@@ -73,7 +73,7 @@ is_aside first second = is_stderr first.place || is_stderr second.place
 abbrev pub is_shared : FileUse → FileUse → Bool
 is_shared first second = stand_together first.role second.role || is_aside first second
 
--- whether something is lost where the first of two, which is written, and the second are one file
+-- whether something is lost if the first of two, which is written, and the second are one file
 abbrev pub loses : Keeping → FileUse → FileUse → Bool
 loses Bytes first second = not (replaces first second || stand_together first.role second.role)
 loses Pipe first second = is_written second.role && not (is_shared first second)
@@ -84,7 +84,7 @@ abbrev pub is_same : Identity → Identity → Bool
 is_same first second =
     first.device == second.device && (first.node == second.node && bytes_eq (string_bytes first.name) (string_bytes second.name))
 
--- so by what the file system answered, where it did
+-- so by what the file system answered, if it did
 abbrev pub clash_at : FileUse → FileUse → Option Identity → Option Identity → Bool
 clash_at first second (Some one) (Some other) = is_same one other && loses one.keeping first second
 clash_at first second (Some one) None = false
@@ -107,7 +107,8 @@ clash_among first others = option_map (clash_of first) (find (clash first) other
 abbrev pub clash_with : Asked → List Asked → List Asked → Option FileClash
 clash_with first later read = option_or (clash_among first later) (clash_among first read)
 
--- the first file that is written and clashes with one that is written after it, or with one that is read
+-- the first file that is written and clashes with one that is written after it, or with one that is
+-- read
 abbrev pub first_clash : List Asked → List Asked → Option FileClash
 first_clash [] read = None
 first_clash (first ∷ later) read = option_or (clash_with first later read) (first_clash later read)

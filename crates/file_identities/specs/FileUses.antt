@@ -1,4 +1,5 @@
--- The files that a task reads and writes, with the argument that names each, and what it is there for.
+-- The files that a task reads and writes, with the argument that names each, and what it is there
+-- for.
 use Rattle.std.specs.Prelude.{◌++◌, Bool, List, [], ◌∷◌, Option, Some, None, map, if◌then◌else◌}
 use Rattle.std.specs.List.{flat_map}
 use Rattle.std.specs.Option.{option_to_list}
@@ -20,7 +21,7 @@ use Rattle.command_line.specs.declared.task.Stimuli.{Stimuli}
 use Rattle.command_line.specs.declared.task.Stimuli.TheVariants as stimuli
 use Rattle.command_line.specs.declared.task.Task.{Task}
 use Rattle.command_line.specs.declared.task.Verification.{Verification}
-use Rattle.command_line.specs.declared.task.Task.TheVariants.{Retime, Backward, Batch, Stat, Convert, Sim, Same, Verify, Check, Miter, Product, Lift, Dot, Witness, Explain}
+use Rattle.command_line.specs.declared.task.Task.TheVariants.{Retime, Move, Batch, Stat, Convert, Sim, Same, Verify, Check, Miter, Product, Lift, Dot, Witness, Explain}
 use Rattle.file_identities.specs.declared.file_use.Argument.{Argument}
 use Rattle.file_identities.specs.declared.file_use.Argument.TheVariants.{In, Out, Map, MapOption, Cert, List as ListFile, First, Second, Kept, Certificates, OutOption, Stim, Vcd, MiterFile, Certificate, ModelFile, CertificateFile, WitnessFile, ResultFile, Witness as WitnessRead, KeepFrom, Progress, Printed}
 use Rattle.file_identities.specs.declared.file_use.Role.TheVariants as roles
@@ -52,12 +53,12 @@ remade argument target = record { argument = argument; role = roles.Remade; plac
 abbrev pub writing : Argument → Target → FileUse
 writing argument target = record { argument = argument; role = roles.Written; place = place_of_target target }
 
--- so, where it is asked for
+-- so, if it is asked for
 abbrev pub writing_if_asked : Argument → Option Target → Option FileUse
 writing_if_asked argument None = None
 writing_if_asked argument (Some target) = Some (writing argument target)
 
--- so, where it is asked for, of a file that is read
+-- so, if it is asked for, of a file that is read
 abbrev pub reading_if_asked : Argument → Option Source → Option FileUse
 reading_if_asked argument None = None
 reading_if_asked argument (Some source) = Some (reading argument source)
@@ -70,7 +71,7 @@ lines_at argument place = record { argument = argument; role = roles.Lines; plac
 abbrev pub printed_use : FileUse
 printed_use = lines_at Printed places.Stdout
 
--- the lines of a run: on standard error, where standard output is given a file
+-- the lines of a run: on standard error, if standard output is given a file
 abbrev pub printed_beside : Bool → FileUse
 printed_beside is_aside = lines_at Printed (if is_aside then places.Stderr else places.Stdout)
 
@@ -84,7 +85,7 @@ progress_of Nothing = None
 abbrev pub shapes_use : FileUse
 shapes_use = record { argument = Printed; role = roles.LineInstead; place = places.Stdout }
 
--- a stimulus, where one is read
+-- a stimulus, if one is read
 abbrev pub stimulus_of : Stimuli → Option FileUse
 stimulus_of (stimuli.Read source) = Some (reading Stim source)
 stimulus_of (stimuli.Random sequences) = None
@@ -103,7 +104,7 @@ written_by_retiming retiming =
     given (Some (remade Out retiming.output) ∷ writing_if_asked MapOption retiming.map ∷ writing_if_asked Cert retiming.certificates
     ∷ Some (printed_beside (takes_stdout retiming)) ∷ progress_of retiming.shown ∷ [])
 
--- the circuit and the map of a move backward, and its lines
+-- the circuit and the map of a move, and its lines
 abbrev pub written_by_moving : Moving → List FileUse
 written_by_moving moving =
     given (Some (remade Out moving.output) ∷ writing_if_asked MapOption moving.map ∷ Some (printed_beside (moving_takes_stdout moving)) ∷ progress_of moving.shown ∷ [])
@@ -126,16 +127,18 @@ abbrev pub read_by_verification : Verification → List FileUse
 read_by_verification verification =
     given (Some (reading In verification.input) ∷ Some (reading Certificates verification.certificates) ∷ reading_if_asked OutOption verification.retimed ∷ [])
 
+-- the circuits, and the map or the list of kept free latches if there is one
 abbrev pub read_by_checking : Checking → List FileUse
-read_by_checking checking = given (Some (reading In checking.input) ∷ Some (reading Out checking.retimed) ∷ Some (reading Map checking.map) ∷ [])
+read_by_checking checking = given (Some (reading In checking.input) ∷ Some (reading Out checking.retimed) ∷ reading_if_asked Map checking.map ∷ reading_if_asked Kept checking.kept ∷ [])
 
 abbrev pub read_by_carrying : Carrying → List FileUse
 read_by_carrying carrying = given (Some (reading In carrying.input) ∷ Some (reading Out carrying.retimed) ∷ Some (reading WitnessRead carrying.witness) ∷ [])
 
--- what a task writes; the files of a batch's list are known once that is read, and the page of a fault is printed by a task that reads nothing
+-- What a task writes. The files of a batch's list are known once that is read. The page of a fault
+-- is printed by a task that reads nothing.
 abbrev pub written_by : Task → List FileUse
 written_by (Retime retiming) = written_by_retiming retiming
-written_by (Backward moving) = written_by_moving moving
+written_by (Move moving) = written_by_moving moving
 written_by (Convert input output spelling) = given (Some (remade Out output) ∷ [])
 written_by (Sim simulation) = given (Some printed_use ∷ writing_if_asked Vcd simulation.waves ∷ [])
 written_by (Miter asking) = given (Some (remade MiterFile asking.output) ∷ writing_if_asked Certificate asking.certificate ∷ Some shapes_use ∷ [])
@@ -153,7 +156,7 @@ written_by (Explain name) = []
 -- what a task reads beside files of names
 abbrev pub others_read_by : Task → List FileUse
 others_read_by (Retime retiming) = given (Some (original In retiming.input) ∷ [])
-others_read_by (Backward moving) = given (Some (original In moving.input) ∷ [])
+others_read_by (Move moving) = given (Some (original In moving.input) ∷ [])
 others_read_by (Convert input output spelling) = given (Some (original In input) ∷ [])
 others_read_by (Sim simulation) = given (Some (reading In simulation.input) ∷ stimulus_of simulation.stimuli ∷ [])
 others_read_by (Miter asking) = read_by_asking asking

@@ -1,4 +1,5 @@
--- The files of a list: what is printed and the circuits that are made are written, the list and the circuits that are retimed are read.
+-- The files of a list. What is printed and the circuits that are made are written, the list and the
+-- circuits that are retimed are read.
 use Rattle.std.specs.Prelude.{◌≡◌, ◌⊎◌, true, List, [], ◌∷◌, map, Option, None, is_some}
 use Rattle.counted_io.specs.declared.source.Source.{Source}
 use Rattle.circuit_files.specs.declared.entry.Entry.{Entry}

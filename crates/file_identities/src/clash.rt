@@ -27,14 +27,15 @@ impl Debug for FileClash<'_> {
     }
 }
 
-/// Whether two that are written lose nothing as one pipe or device.
+/// Returns true if two that are written lose nothing as one pipe or device.
 fn is_shared(first: FileUse<'_>, second: FileUse<'_>) -> bool
     ensures { result ≡ wanted.is_shared first.entry second.entry }
 {
     first.role.stands_with(second.role) || first.is_aside(&second)
 }
 
-/// Whether something is lost where the first of two, which is written, and the second are one file.
+/// Returns true if something is lost if the first of two, which is written, and the second are one
+/// file.
 fn loses(keeping: Keeping, first: FileUse<'_>, second: FileUse<'_>) -> bool
     ensures { result ≡ wanted.loses keeping first.entry second.entry }
 {
@@ -48,7 +49,7 @@ fn loses(keeping: Keeping, first: FileUse<'_>, second: FileUse<'_>) -> bool
     }
 }
 
-/// Whether two files, of which the first is written, can't be one and are.
+/// Returns true if two files, of which the first is written, can't be one and are.
 fn clash(first: &Asked<'_>, second: &Asked<'_>) -> bool
     ensures { result ≡ wanted.clash first.now second.now }
 {
@@ -59,7 +60,7 @@ fn clash(first: &Asked<'_>, second: &Asked<'_>) -> bool
     }
 }
 
-/// What is said of them.
+/// Returns the clash of two files.
 fn clash_of<'a>(first: &Asked<'a>, second: &Asked<'a>) -> FileClash<'a>
     ensures { result ≡ wanted.clash_of first.now second.now }
 {
@@ -70,7 +71,7 @@ fn clash_of<'a>(first: &Asked<'a>, second: &Asked<'a>) -> FileClash<'a>
     }
 }
 
-/// So, if they are one.
+/// Returns the clash of two files, if they are one.
 pub(crate) fn pair_clash<'a>(first: &Asked<'a>, second: &Asked<'a>) -> Option<FileClash<'a>>
     ensures { result ≡ clash_among first.now (second.now ∷ []) }
 {
@@ -81,7 +82,7 @@ pub(crate) fn pair_clash<'a>(first: &Asked<'a>, second: &Asked<'a>) -> Option<Fi
     }
 }
 
-/// The first of some files that clashes with one that is written.
+/// Returns the first of some files that clashes with one that is written.
 fn clash_among<'a>(first: &Asked<'a>, others: &[Asked<'a>]) -> Option<FileClash<'a>>
     ensures { result ≡ wanted.clash_among first.now others.now }
 {
@@ -93,7 +94,7 @@ fn clash_among<'a>(first: &Asked<'a>, others: &[Asked<'a>]) -> Option<FileClash<
     None
 }
 
-/// So of those that are written after it, else of those that are read.
+/// Returns the first clash with those that are written after it, else with those that are read.
 fn clash_with<'a>(
     first: &Asked<'a>,
     later: &[Asked<'a>],
@@ -107,8 +108,8 @@ fn clash_with<'a>(
     }
 }
 
-/// The first file that is written and clashes with one that is written after it, or with one that is read. The time is linear in
-/// what is read, for each file that is written.
+/// Returns the first file that is written and clashes with one that is written after it, or with
+/// one that is read. The time is linear in what is read, for each file that is written.
 pub(crate) fn first_clash<'a>(written: &[Asked<'a>], read: &[Asked<'a>]) -> Option<FileClash<'a>>
     ensures { result ≡ wanted.first_clash written.now read.now }
 {

@@ -57,7 +57,7 @@ pub enum Argument {
 }
 
 impl Argument {
-    /// How the usage of its command has it.
+    /// Returns the name that the usage of its command has.
     fn name(self) -> &'static str {
         match self {
             Argument::In => "IN",
@@ -114,7 +114,7 @@ impl Role {
         }
     }
 
-    /// Whether two that are written may stand in one file.
+    /// Returns true if two that are written may stand in one file.
     pub(crate) fn stands_with(self, other: Role) -> bool
         ensures { result ≡ wanted.stand_together self other }
     {
@@ -128,7 +128,7 @@ impl Role {
     }
 }
 
-/// Where a file is.
+/// The place of a file.
 #[derive(Clone, Copy)]
 pub enum Place<'a> {
     /// Standard input.
@@ -142,7 +142,7 @@ pub enum Place<'a> {
 }
 
 impl<'a> Place<'a> {
-    /// Whether it is the one that `-` stands for.
+    /// Returns true if it is the stream that `-` names.
     pub(crate) fn is_stream(self) -> bool
         ensures { result ≡ wanted.is_stream_place self.entry }
     {
@@ -161,7 +161,7 @@ impl<'a> Place<'a> {
         }
     }
 
-    /// Whether a file is made anew there, in place of one that is there.
+    /// Returns true if a file is made anew there, in place of one that exists.
     fn is_path(self) -> bool
         ensures { result ≡ wanted.is_path self.entry }
     {
@@ -171,7 +171,7 @@ impl<'a> Place<'a> {
         }
     }
 
-    /// The path that the file system is asked for.
+    /// Returns the path that the file system is asked for.
     pub(crate) fn path(self) -> &'a str {
         match self {
             Place::Stdin => "/dev/stdin",
@@ -181,7 +181,7 @@ impl<'a> Place<'a> {
         }
     }
 
-    /// What was given.
+    /// Returns the word that was given.
     fn word(self) -> &'a str {
         match self {
             Place::Stdin | Place::Stdout => "-",
@@ -198,7 +198,7 @@ pub struct FileUse<'a> {
     pub argument: Argument,
     /// What it is there for.
     pub role: Role,
-    /// Where it is.
+    /// Its place.
     pub place: Place<'a>,
 }
 
@@ -206,8 +206,8 @@ impl FileUse<'_> {
     ghost use Rattle.std.specs.Prelude.{◌≡◌};
     ghost use Rattle.file_identities.specs.Clashes as wanted;
 
-    /// Whether what is written may take the place of what is read: a path is made anew, a stream
-    /// isn't.
+    /// Returns true if what is written may take the place of what is read: a path is made anew, a
+    /// stream isn't.
     pub(crate) fn replaces(&self, other: &FileUse<'_>) -> bool
         ensures { result ≡ wanted.replaces self.now other.now }
     {
@@ -217,7 +217,7 @@ impl FileUse<'_> {
         }
     }
 
-    /// Whether the one or the other is standard error.
+    /// Returns true if the one or the other is standard error.
     pub(crate) fn is_aside(&self, other: &FileUse<'_>) -> bool
         ensures { result ≡ wanted.is_aside self.now other.now }
     {

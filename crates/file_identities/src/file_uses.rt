@@ -31,7 +31,7 @@ fn place_of_target(target: Target<'_>) -> Place<'_>
     }
 }
 
-/// A file that is read.
+/// Returns a file that is read.
 pub(crate) fn reading(argument: Argument, source: Source<'_>) -> FileUse<'_>
     ensures { result ≡ wanted.reading argument source.entry }
 {
@@ -42,7 +42,7 @@ pub(crate) fn reading(argument: Argument, source: Source<'_>) -> FileUse<'_>
     }
 }
 
-/// The circuit that what is written is made of, whose place that may take.
+/// Returns the circuit that what is written is made of, whose place that may take.
 fn original(argument: Argument, source: Source<'_>) -> FileUse<'_>
     ensures { result ≡ wanted.original argument source.entry }
 {
@@ -53,7 +53,7 @@ fn original(argument: Argument, source: Source<'_>) -> FileUse<'_>
     }
 }
 
-/// A circuit that is made of another one.
+/// Returns a circuit that is made of another one.
 fn remade(argument: Argument, target: Target<'_>) -> FileUse<'_>
     ensures { result ≡ wanted.remade argument target.entry }
 {
@@ -64,7 +64,7 @@ fn remade(argument: Argument, target: Target<'_>) -> FileUse<'_>
     }
 }
 
-/// A file that is written, and takes the place of nothing.
+/// Returns a file that is written, and takes the place of nothing.
 fn writing(argument: Argument, target: Target<'_>) -> FileUse<'_>
     ensures { result ≡ wanted.writing argument target.entry }
 {
@@ -75,7 +75,7 @@ fn writing(argument: Argument, target: Target<'_>) -> FileUse<'_>
     }
 }
 
-/// The same, where it is asked for.
+/// Returns a file that is written if it is asked for.
 fn writing_if_asked(argument: Argument, target: Option<Target<'_>>) -> Option<FileUse<'_>>
     ensures { result ≡ wanted.writing_if_asked argument target.entry }
 {
@@ -85,7 +85,7 @@ fn writing_if_asked(argument: Argument, target: Option<Target<'_>>) -> Option<Fi
     }
 }
 
-/// The same of a file that is read.
+/// Returns a file that is read if it is asked for.
 fn reading_if_asked(argument: Argument, source: Option<Source<'_>>) -> Option<FileUse<'_>>
     ensures { result ≡ wanted.reading_if_asked argument source.entry }
 {
@@ -95,7 +95,7 @@ fn reading_if_asked(argument: Argument, source: Option<Source<'_>>) -> Option<Fi
     }
 }
 
-/// Lines that are printed.
+/// Returns lines that are printed.
 fn lines_at<'a>(argument: Argument, place: Place<'a>) -> FileUse<'a>
     ensures { result ≡ wanted.lines_at argument place.entry }
 {
@@ -106,14 +106,14 @@ fn lines_at<'a>(argument: Argument, place: Place<'a>) -> FileUse<'a>
     }
 }
 
-/// What is printed on standard output.
+/// Returns what is printed on standard output.
 pub(crate) fn printed<'a>() -> FileUse<'a>
     ensures { result ≡ wanted.printed_use }
 {
     lines_at(Argument::Printed, Place::Stdout)
 }
 
-/// The lines of a run: on standard error, if standard output is given a file.
+/// Returns the lines of a run: on standard error, if standard output is given a file.
 fn printed_beside<'a>(is_aside: bool) -> FileUse<'a>
     ensures { result ≡ wanted.printed_beside is_aside }
 {
@@ -125,7 +125,7 @@ fn printed_beside<'a>(is_aside: bool) -> FileUse<'a>
     lines_at(Argument::Printed, place)
 }
 
-/// The lines of `--progress`.
+/// Returns the lines of `--progress`.
 fn progress_of<'a>(shown: Shown) -> Option<FileUse<'a>>
     ensures { result ≡ wanted.progress_of shown }
 {
@@ -135,7 +135,7 @@ fn progress_of<'a>(shown: Shown) -> Option<FileUse<'a>>
     }
 }
 
-/// The line that two circuits can't be compared.
+/// Returns the line that two circuits can't be compared.
 fn shapes<'a>() -> FileUse<'a>
     ensures { result ≡ wanted.shapes_use }
 {
@@ -146,7 +146,7 @@ fn shapes<'a>() -> FileUse<'a>
     }
 }
 
-/// A stimulus, where one is read.
+/// Returns a stimulus, if one is read.
 fn stimulus_of<'a>(stimuli: Stimuli<'a>) -> Option<FileUse<'a>>
     ensures { result ≡ wanted.stimulus_of stimuli.entry }
 {
@@ -191,24 +191,24 @@ fn ask_all<'a, R: Files>(
     Ok(files)
 }
 
-/// So many files of a task, each of which there may be.
+/// Files of a task, each of which may be absent.
 type Uses<'a> = [Option<FileUse<'a>>; 5];
 
-/// One file.
+/// Returns one file.
 fn one(file: FileUse<'_>) -> Uses<'_>
     ensures { result ≡ Some file.entry ∷ None ∷ None ∷ None ∷ None ∷ [] }
 {
     [Some(file), None, None, None, None]
 }
 
-/// A file, and one that there may be.
+/// Returns a file, and one that may be absent.
 fn two<'a>(first: FileUse<'a>, second: Option<FileUse<'a>>) -> Uses<'a>
     ensures { result ≡ Some first.entry ∷ second.entry ∷ None ∷ None ∷ None ∷ [] }
 {
     [Some(first), second, None, None, None]
 }
 
-/// Two files, and one that there may be.
+/// Returns two files, and one that may be absent.
 fn three<'a>(first: FileUse<'a>, second: FileUse<'a>, third: Option<FileUse<'a>>) -> Uses<'a>
     ensures { result ≡ Some first.entry ∷ Some second.entry ∷ third.entry ∷ None ∷ None ∷ [] }
 {
@@ -262,11 +262,13 @@ fn read_by_verification<'a>(verification: &Verification<'a>) -> Uses<'a>
 fn read_by_checking<'a>(checking: &Checking<'a>) -> Uses<'a>
     ensures { given result ≡ wanted.read_by_checking checking.now }
 {
-    three(
-        reading(Argument::In, checking.input),
-        reading(Argument::Out, checking.retimed),
-        Some(reading(Argument::Map, checking.map)),
-    )
+    [
+        Some(reading(Argument::In, checking.input)),
+        Some(reading(Argument::Out, checking.retimed)),
+        reading_if_asked(Argument::Map, checking.map),
+        reading_if_asked(Argument::Kept, checking.kept),
+        None,
+    ]
 }
 
 fn read_by_carrying<'a>(carrying: &Carrying<'a>) -> Uses<'a>
@@ -303,7 +305,7 @@ fn written_by_moving<'a>(moving: &Moving<'a>) -> Uses<'a>
     ]
 }
 
-/// A circuit that is made of others, a certificate of it, and the line in place of both.
+/// Returns a circuit that is made of others, a certificate of it, and the line in place of both.
 fn made<'a>(circuit: FileUse<'a>, certificate: Option<FileUse<'a>>) -> Uses<'a>
     ensures { result ≡ Some circuit.entry ∷ certificate.entry ∷ Some wanted.shapes_use
         ∷ None ∷ None ∷ [] }
@@ -311,13 +313,13 @@ fn made<'a>(circuit: FileUse<'a>, certificate: Option<FileUse<'a>>) -> Uses<'a>
     [Some(circuit), certificate, Some(shapes()), None, None]
 }
 
-/// The files that a task writes, none of which is asked for yet.
+/// Returns the files that a task writes, none of which is asked for yet.
 fn uses_written<'a>(task: &Task<'a>) -> Uses<'a>
     ensures { given result ≡ wanted.written_by task.now }
 {
     match task {
         Task::Retime(retiming) => written_by_retiming(retiming),
-        Task::Backward(moving) => written_by_moving(moving),
+        Task::Move(moving) => written_by_moving(moving),
         Task::Convert(_, output, _) => one(remade(Argument::Out, *output)),
         Task::Sim(simulation) => {
             two(printed(), writing_if_asked(Argument::Vcd, simulation.waves))
@@ -346,7 +348,7 @@ fn uses_written<'a>(task: &Task<'a>) -> Uses<'a>
     }
 }
 
-/// What a task writes.
+/// Returns what a task writes.
 pub(crate) fn written_by<'a, R: Files>(
     rt: &R,
     alloc: Global,
@@ -358,13 +360,13 @@ pub(crate) fn written_by<'a, R: Files>(
     ask_all(rt, alloc, &uses_written(task))
 }
 
-/// The files that a task reads beside files of names, none of which is asked for yet.
+/// Returns the files that a task reads beside files of names, none of which is asked for yet.
 fn uses_read<'a>(task: &Task<'a>) -> Uses<'a>
     ensures { given result ≡ wanted.others_read_by task.now }
 {
     match task {
         Task::Retime(retiming) => one(original(Argument::In, retiming.input)),
-        Task::Backward(moving) => one(original(Argument::In, moving.input)),
+        Task::Move(moving) => one(original(Argument::In, moving.input)),
         Task::Batch(batch) => one(reading(Argument::List, batch.list)),
         Task::Stat(counting) => one(reading(Argument::In, counting.input)),
         Task::Convert(input, _, _) => one(original(Argument::In, *input)),
@@ -401,7 +403,7 @@ fn push_name_files<'a, R: Files>(
     Ok(())
 }
 
-/// What a task reads, and after it the files of names of the latches that it holds.
+/// Returns what a task reads, and after it the files of names of the latches that it holds.
 pub(crate) fn read_by<'a, R: Files>(
     rt: &R,
     alloc: Global,

@@ -8,8 +8,8 @@ use command_line::Task;
 use std::alloc::{AllocError, Global};
 use std::rt::Files;
 
-/// The first two files of a task that are one, where something would be lost: by whatever paths they are named, and whether they
-/// are there or would be made. Nothing is opened.
+/// Returns the first two files of a task that are one, if something would be lost. They may be
+/// named by any paths, and may exist or be about to be made. Nothing is opened.
 ///
 /// # Errors
 ///

@@ -28,14 +28,14 @@ pub struct Identity {
     pub device: u64,
     /// The number of the file, or of that folder, on its device.
     pub node: u64,
-    /// The name of a file that would be made; nothing, where it is there.
+    /// The name of a file that would be made; nothing, if it exists.
     pub name: String,
     /// What it keeps.
     pub keeping: Keeping,
 }
 
 impl Identity {
-    /// Whether two paths lead to one file, or to one that would be made.
+    /// Returns true if two paths lead to one file, or to one that would be made.
     pub(crate) fn is_same(&self, other: &Identity) -> bool
         ensures { result ≡ wanted.is_same self.now other.now }
     {
@@ -45,7 +45,8 @@ impl Identity {
     }
 }
 
-/// A file of a command line, and which one it is; unless it loses nothing, or the file system has no answer.
+/// A file of a command line, with its identity unless it loses nothing, or the file system has no
+/// answer.
 #[derive(Drop)]
 pub struct Asked<'a> {
     /// The file.
@@ -57,12 +58,13 @@ pub struct Asked<'a> {
 /// As many links are followed, one to the next.
 const MOST_LINKS: u32 = 40;
 
-/// Whether a device is that of `/dev/null`, `/dev/zero` or `/dev/full`: nothing that is written there is anywhere.
+/// Returns true if a device is that of `/dev/null`, `/dev/zero` or `/dev/full`: nothing that is
+/// written there is anywhere.
 fn is_void(device: u64) -> bool {
     matches!(device, 0x103 | 0x105 | 0x107)
 }
 
-/// What a file keeps; `None` where nothing can be lost.
+/// Returns what a file keeps, or `None` if nothing can be lost.
 fn keeping_of(metadata: &Metadata) -> Option<Keeping> {
     let kind = metadata.file_type();
     if kind.is_char_device() {
@@ -78,7 +80,7 @@ fn keeping_of(metadata: &Metadata) -> Option<Keeping> {
     }
 }
 
-/// The identity of a file that is there.
+/// Returns the identity of an existing file.
 fn identity_of(alloc: Global, metadata: &Metadata) -> Option<Identity> {
     match keeping_of(metadata) {
         Some(keeping) => Some(Identity {
@@ -91,12 +93,12 @@ fn identity_of(alloc: Global, metadata: &Metadata) -> Option<Identity> {
     }
 }
 
-/// The path that a link at this path leads to.
+/// Returns the path that a link at this path leads to.
 fn joined(alloc: Global, path: Path<'_>, target: Path<'_>) -> Result<PathBuf, AllocError> {
     path.parent().unwrap_or(Path::new("")).join(alloc, target)
 }
 
-/// What a link at this path leads to, where it is one.
+/// Returns what a link at this path leads to, if it is one.
 fn link_at<R: Files>(rt: &R, alloc: Global, path: Path<'_>) -> Result<Option<PathBuf>, AllocError> {
     match rt.read_link(alloc, path.as_str()) {
         Ok(target) => {
@@ -111,7 +113,7 @@ fn link_at<R: Files>(rt: &R, alloc: Global, path: Path<'_>) -> Result<Option<Pat
     }
 }
 
-/// The path at which a file would be made: where links lead that lead to nothing.
+/// Returns the path at which a file would be made: the end of links that lead to nothing.
 fn end_of_links<R: Files>(rt: &R, alloc: Global, path: &str) -> Result<PathBuf, AllocError> {
     let mut end = PathBuf::from_str(alloc, path)?;
     for _ in 0..MOST_LINKS {
@@ -123,7 +125,7 @@ fn end_of_links<R: Files>(rt: &R, alloc: Global, path: &str) -> Result<PathBuf, 
     Ok(end)
 }
 
-/// The identity of a file that would be made by this name in a folder.
+/// Returns the identity of a file that would be made by this name in a folder.
 fn identity_in_folder<R: Files>(
     rt: &R,
     alloc: Global,
@@ -142,7 +144,8 @@ fn identity_in_folder<R: Files>(
     }
 }
 
-/// The same at this path, where it has a folder and a name in it.
+/// Returns the identity of a file that would be made at this path, if that has a folder and a name
+/// in it.
 fn identity_made_at<R: Files>(
     rt: &R,
     alloc: Global,
@@ -154,7 +157,7 @@ fn identity_made_at<R: Files>(
     }
 }
 
-/// The same of a path at which nothing is.
+/// Returns the identity of a file that would be made at a path at which nothing is.
 fn identity_to_be<R: Files>(
     rt: &R,
     alloc: Global,
@@ -166,7 +169,8 @@ fn identity_to_be<R: Files>(
     identity
 }
 
-/// The identity of the file at this path; `None` where nothing can be lost, or the file system has no answer.
+/// Returns the identity of the file at this path, or `None` if nothing can be lost, or the file
+/// system has no answer.
 fn identity_at<R: Files>(
     rt: &R,
     alloc: Global,

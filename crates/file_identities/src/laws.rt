@@ -5,15 +5,16 @@ ghost use Rattle.file_identities.specs.Clashes.{AreFilesApart, first_clash};
 ghost use Rattle.file_identities.specs.ListFiles.{AreListFilesApart, IsListClash};
 ghost use Rattle.file_identities.specs.declared.identity.Asked.{Asked};
 
-/// Where no clash is found there is none: whatever the file system answered, nothing that is written is where something else is
-/// written, or is read, so that anything would be lost.
+/// If no clash is found there is none, whatever the file system answered. Nothing that is written
+/// stands in the file of something else that is written, or is read, so that anything would be
+/// lost.
 pub fn apart_law()
     ensures { (written read : List Asked) → first_clash written read ≡ None
         → AreFilesApart written read }
 {}
 
-/// If no line of a list has a clash, no two of all the files that it writes and reads are one, so
-/// that anything would be lost: by some answers of the file system, one for each.
+/// Let no line of a list have a clash. Then none of the files that it writes and reads are one, so
+/// that anything would be lost. That is by some answers of the file system, one for each.
 pub fn list_apart_law()
     ensures { (list : Source) (entries : List Entry) → IsListClash list entries None
         → AreListFilesApart list entries }

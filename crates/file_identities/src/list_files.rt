@@ -1,6 +1,6 @@
-//! The same rule for the files of a list, line by line: what is printed and `OUT` are written, the
-//! list and `IN` are read. Other files of the list that are one lose nothing: all `IN` are read
-//! first, and of two circuits the later one stands.
+//! The rule for files of a command line, for those of a list, line by line. What is printed and
+//! `OUT` are written, the list and `IN` are read. Other files of the list that are one lose
+//! nothing: all `IN` are read first, and of two circuits the later one stands.
 ghost use Rattle.std.specs.Prelude.{◌≡◌, ◌∷◌, [], IfOk};
 ghost use Rattle.file_identities.specs.Clashes.{first_clash};
 ghost use Rattle.file_identities.specs.ListFiles.{IsFirstOfLines, IsLineClash, IsListClash};
@@ -15,7 +15,7 @@ use counted_io::Source;
 use std::alloc::{AllocError, Global};
 use std::rt::Files;
 
-/// The circuit that a line writes.
+/// Returns the circuit that a line writes.
 pub(crate) fn output_of<'a>(entry: &Entry<'a>) -> FileUse<'a>
     ensures { result ≡ wanted.output_use entry.now }
 {
@@ -26,7 +26,7 @@ pub(crate) fn output_of<'a>(entry: &Entry<'a>) -> FileUse<'a>
     }
 }
 
-/// The circuit that a line reads.
+/// Returns the circuit that a line reads.
 fn input_of<'a>(entry: &Entry<'a>) -> FileUse<'a>
     ensures { result ≡ wanted.input_use entry.now }
 {
@@ -37,8 +37,8 @@ fn input_of<'a>(entry: &Entry<'a>) -> FileUse<'a>
     }
 }
 
-/// The first clash of what is printed and a circuit, which are written, and the list and a circuit,
-/// which are read.
+/// Returns the first clash of what is printed and a circuit, which are written, and the list and a
+/// circuit, which are read.
 fn clash_of_four<'a>(
     printed: &Asked<'a>,
     output: &Asked<'a>,
@@ -59,7 +59,7 @@ fn clash_of_four<'a>(
         .or(over_input)
 }
 
-/// The first clash of a line.
+/// Returns the first clash of a line.
 fn line_clash<'a, R: Files>(
     rt: &R,
     alloc: Global,
@@ -84,7 +84,7 @@ fn line_clash<'a, R: Files>(
     }
 }
 
-/// That of the first line that has one, else of what is printed and the list.
+/// Returns the clash of the first line that has one, else of what is printed and the list.
 fn first_of_lines<'a, R: Files>(
     rt: &R,
     alloc: Global,
@@ -103,9 +103,9 @@ fn first_of_lines<'a, R: Files>(
     Ok(pair_clash(printed, list))
 }
 
-/// The first two files of a line that are one, so that something would be lost: by whatever paths,
-/// and whether they are there or would be made. Nothing is opened. The time is linear in the number
-/// of lines.
+/// Returns the first two files of a line that are one, if something would be lost. They may be
+/// named by any paths, and may exist or be about to be made. Nothing is opened. The time is linear
+/// in the number of lines.
 ///
 /// # Errors
 ///

@@ -15,7 +15,7 @@ struct FileNumber<'a> {
     name: &'a str,
 }
 
-/// The number of a file that keeps its bytes.
+/// Returns the number of a file that keeps its bytes.
 fn number_of<'a>(file: &'a Asked<'_>) -> Option<FileNumber<'a>> {
     match &file.identity {
         Some(identity) => match identity.keeping {
@@ -45,7 +45,7 @@ fn takes_again<'a>(
     }
 }
 
-/// The number of the first of these files that is one before it, from 1.
+/// Returns the number of the first of these files that is one before it, from 1.
 fn first_repeat(alloc: Global, files: &[Asked<'_>]) -> Result<Option<u64>, AllocError> {
     let mut taken = HashSet::new(alloc);
     for (k, file) in files.iter().enumerate() {
@@ -69,8 +69,8 @@ fn ask_outputs<'a, R: Files>(
     Ok(files)
 }
 
-/// The number of the first line that writes the file of a line before it, by whatever paths, from
-/// 1; none, if memory is refused. The time is linear in the number of lines.
+/// Returns the number of the first line that writes the file of a line before it, by whatever
+/// paths, from 1. Gives none if memory is refused. The time is linear in the number of lines.
 pub fn repeated_output<R: Files>(rt: &R, alloc: Global, entries: &[Entry<'_>]) -> Option<u64> {
     match ask_outputs(rt, alloc, entries) {
         Ok(files) => {

@@ -13,7 +13,7 @@ Fails-where e r s has (inr is) = inr (has is)
 pub Fails-with : {Y E : Type 0} {no_memory : E} (e : E) (r : Result Y E) → r ≡ Err e → Fails no_memory e r
 Fails-with e r is = inr is
 
--- the same, the other way round
+-- that, the other way round
 pub Fails-is : {Y E : Type 0} {no_memory : E} (e : E) (r : Result Y E) → Err e ≡ r → Fails no_memory e r
 Fails-is e r same = inr (sym same)
 
@@ -21,7 +21,7 @@ Fails-is e r same = inr (sym same)
 pub Fails-same : {Y E : Type 0} {no_memory : E} (e : E) (a b : Result Y E) → a ≡ b → Fails no_memory e a → Fails no_memory e b
 Fails-same e a b same fails = Fails-where e a b (λ is. sym same ∙ is) fails
 
--- the same, the other way round
+-- that, the other way round
 pub Fails-as : {Y E : Type 0} {no_memory : E} (e : E) (a b : Result Y E) → b ≡ a → Fails no_memory e a → Fails no_memory e b
 Fails-as e a b same fails = Fails-where e a b (λ is. same ∙ is) fails
 
@@ -30,7 +30,7 @@ pub Fails-err : {Y Z E : Type 0} {no_memory : E} (e x : E) (a : Result Y E) (b :
 Fails-err e x a b p q (inl none) = inl none
 Fails-err e x a b p q (inr is) = inr (cc)
 
--- where reading has no fault, only memory fails
+-- if reading has no fault, only memory fails
 pub Fails-ok : {Y Z E : Type 0} {no_memory : E} (e : E) (y : Y) (b : Result Z E) → Fails no_memory e (Ok y) → Fails no_memory e b
 Fails-ok e y b (inl none) = inl none
 Fails-ok e y b (inr is) = absurd (cc)

@@ -30,7 +30,7 @@ parted_at [] i b within here = absurd (omega arith)
 parted_at (x ∷ xs) zero b within here = ap (λ (y : ℕ). y ∷ xs) here
 parted_at (x ∷ xs) (suc i) b within here = ap (λ (ys : List ℕ). x ∷ ys) (parted_at xs i b (omega arith) here)
 
--- where the first mark is found at a place, it cuts the bytes into those before and those after it
+-- if the first mark is found at a place, it cuts the bytes into those before and those after it
 pub cuts_at : (mark : ℕ) (bytes : List ℕ) (i : ℕ) → position (λ b. b == mark) bytes ≡ Some i → (i < length bytes) × Cuts mark bytes (take i bytes) (drop (i + 1) bytes)
 cuts_at mark bytes i e =
     let found = position-Some (λ b. nat_eq b mark) bytes i 0 e in (
@@ -41,7 +41,7 @@ cuts_at mark bytes i e =
       },
     )
 
--- where no mark is found, the bytes lack it
+-- if no mark is found, the bytes lack it
 pub no_mark : (mark : ℕ) (bytes : List ℕ) → position (λ b. b == mark) bytes ≡ None → lacks mark bytes ≡ true
 no_mark mark bytes e =
     let past : length bytes ≤ position_or_len (λ x. nat_eq x mark) bytes = ltb-false _ _ (by_test _ _ e) in

@@ -40,7 +40,7 @@ first_only (b ∷ text) more some clean none = record {
   starts = inl none;
 }
 
--- where there is more, the newline stands between
+-- if there is more, the newline stands between
 pub apart : (text line more : List ℕ) → IsFirst text line more → 0 < length more → length line + 1 + length more ≡ length text
 apart text line more first some = elim first.starts [
   | inl none ↦ absurd (omega (arith, some, ap length none))

@@ -1,4 +1,5 @@
--- A text that is read line by line: what is read of the lines that are left gives what is read of all.
+-- A text that is read line by line: what is read of the lines that are left gives what is read of
+-- all.
 use Rattle.std.proofs.Common.{ℕ, ◌+◌, ◌-◌, ◌<◌, ◌≤◌, ◌≡◌, [], ◌∷◌, List, length, Result, Ok, refl, arith, sym, ap, ◌∙◌}
 use Rattle.file_words.specs.Answering.{◌>>=◌, Fails}
 use Rattle.file_words.specs.Cuts.{IsFirst}

@@ -1,4 +1,5 @@
--- The faults: their numbers, names and offsets, whose they are, and those of a reader that was not read to its end.
+-- The faults: their numbers, names and offsets, whose they are, and those of a reader that was not
+-- read to its end.
 use Rattle.std.specs.Prelude.{ℕ, Bool, true, false, List, Option, Some, None, codes}
 use Rattle.counted_io.specs.declared.reading.ReadAllError.{ReadAllError}
 use Rattle.counted_io.specs.declared.reading.ReadAllError.TheVariants as reading
@@ -41,7 +42,7 @@ name_of (Trailing at) = codes "Trailing"
 name_of NoMemory = codes "NoMemory"
 name_of Device = codes "Device"
 
--- the offset of what is at fault, where it has one
+-- the offset of what is at fault, if it has one
 abbrev pub offset_of : ReadError → Option ℕ
 offset_of (BadHeader at) = Some at
 offset_of (TooLarge at) = Some at
@@ -65,7 +66,7 @@ is_fault_of_bytes NoMemory = false
 is_fault_of_bytes Device = false
 is_fault_of_bytes fault = true
 
--- the fault where a reader wasn't read to its end
+-- the fault if a reader wasn't read to its end
 abbrev pub fault_of_reading : ReadAllError → ReadError
 fault_of_reading reading.NoMemory = NoMemory
 fault_of_reading reading.Device = Device

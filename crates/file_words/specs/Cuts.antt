@@ -1,4 +1,4 @@
--- Where the first mark among bytes stands: a newline, or a space; and the first line of a text.
+-- The first mark among bytes, a newline or a space, and the first line of a text.
 use Rattle.std.specs.Prelude.{ℕ, ◌≡◌, ◌+◌, ◌<◌, ◌==◌, ◌⊎◌, Bool, not, true, List, [], ◌∷◌, ◌++◌, length}
 use Rattle.std.specs.List.{list_all}
 use Rattle.file_words.specs.Lines.{lines}
@@ -16,7 +16,7 @@ pub record Cuts (mark : ℕ) (bytes part rest : List ℕ) : Type 0 where
   pub clean : lacks mark part ≡ true
   pub whole : bytes ≡ part ++ mark ∷ rest
 
--- the first line of a text, and what follows it: where there is more, it follows a newline
+-- the first line of a text, and what follows it: if there is more, it follows a newline
 pub record IsFirst (text line more : List ℕ) : Type 0 where
   pub shorter : length more < length text
   pub whole : lines text ≡ line ∷ lines more

@@ -8,7 +8,8 @@ abbrev pub with_front : ℕ → List (List ℕ) → List (List ℕ)
 with_front b [] = (b ∷ []) ∷ []
 with_front b (piece ∷ pieces) = (b ∷ piece) ∷ pieces
 
--- the lines of a text: a line runs up to a newline or to the end, and there is none where no byte is left
+-- the lines of a text: a line runs up to a newline or to the end, and there is none if no byte is
+-- left
 unfoldable pub lines : List ℕ → List (List ℕ)
 lines [] = []
 lines (b ∷ bytes) = if b == 10 then [] ∷ lines bytes else with_front b (lines bytes)
@@ -26,7 +27,7 @@ is_number piece = not (length piece == 0) && list_all is_ascii_digit piece
 abbrev pub digits_value : List ℕ → ℕ
 digits_value digits = fold (λ value digit. 10 * value + (digit - 48)) 0 digits
 
--- the numbers of a line, where it is numbers with one space between
+-- the numbers of a line, if it is numbers with one space between
 unfoldable pub numbers_of : List ℕ → Option (List ℕ)
 numbers_of line = if list_all is_number (pieces line) then Some (map digits_value (pieces line)) else None
 

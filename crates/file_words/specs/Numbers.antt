@@ -2,7 +2,7 @@
 use Rattle.std.specs.Prelude.{ℕ, ◌-◌, ◌^◌, List, Option, Some, None, min, if◌then◌else◌}
 use Rattle.file_words.specs.Lines.{is_number, digits_value}
 
--- the number, or the greatest of 64 bits where it is greater
+-- the number, or the greatest of 64 bits if it is greater
 abbrev pub clamped : ℕ → ℕ
 clamped n = min n (2 ^ 64 - 1)
 

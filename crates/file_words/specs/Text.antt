@@ -24,7 +24,7 @@ header_row c =
     (variables_end c.aig - 1) ∷ c.aig.inputs ∷ length c.aig.latches ∷ length c.props.outputs ∷ length c.aig.gates
     ∷ without_last_zeros (length c.props.bad ∷ length c.props.constraints ∷ length c.props.justice ∷ length c.props.fairness ∷ [])
 
--- the number of a latch's reset, which is left out where it is 0
+-- the number of a latch's reset, which is left out if it is 0
 abbrev pub reset_row : ℕ → Reset → List ℕ
 reset_row var Zero = []
 reset_row var One = 1 ∷ []

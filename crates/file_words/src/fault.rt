@@ -1,5 +1,6 @@
-//! The faults of circuit files of either spelling. A place is an offset, since the gates of a binary file stand on no line; what
-//! only the whole file shows, an undefined variable or a cycle, has none.
+//! The faults of circuit files of either spelling. A place is an offset, since the gates of a
+//! binary file stand on no line. An undefined variable or a cycle shows only in the whole file, and
+//! has no place.
 ghost use Rattle.std.specs.Prelude.{◌≡◌};
 
 use aig_graph::NoMemory;
@@ -9,8 +10,8 @@ use std::error::Error;
 use std::fmt;
 use std::fmt::{Display, Formatter};
 
-/// Why bytes were not read as a circuit. The number is the offset of the first byte of the line or delta at fault, and
-/// where that is missing, the length of the input.
+/// Why bytes were not read as a circuit. The number is the offset of the first byte of the line or
+/// delta at fault. If that is missing, it is the length of the input.
 #[derive(Clone, Copy, Debug, PartialEq, Eq)]
 pub enum ReadError {
     /// The first line is no header.
@@ -48,7 +49,7 @@ pub enum ReadError {
 impl ReadError {
     ghost use Rattle.file_words.specs.Codes.{code_of, name_of, offset_of};
 
-    /// The number of the kind of fault, from 1 on.
+    /// Returns the number of the kind of fault, from 1 on.
     pub fn code(self) -> u8
         ensures { result ≡ code_of self }
     {
@@ -71,7 +72,7 @@ impl ReadError {
         }
     }
 
-    /// The name, as messages and reports have it.
+    /// Returns the name that messages and reports have for it.
     pub fn name(self) -> &'static str
         ensures { result.now ≡ name_of self }
     {
@@ -94,7 +95,7 @@ impl ReadError {
         }
     }
 
-    /// The offset of the first byte of the line or delta at fault, where it has one.
+    /// Returns the offset of the first byte of the line or delta at fault, if it has one.
     pub fn offset(self) -> Option<u64>
         ensures { result ≡ offset_of self }
     {
@@ -115,7 +116,7 @@ impl ReadError {
         }
     }
 
-    /// What its message begins with.
+    /// Returns the words that its message begins with.
     fn title(self) -> &'static str {
         match self {
             ReadError::NoMemory => "out of memory",

@@ -1,5 +1,5 @@
-//! The words of circuit files, after the AIGER 1.9 note: their two spellings, lines and numbers, the text of a circuit in ASCII,
-//! and the faults of bytes that are no circuit.
+//! The words of circuit files, after the AIGER 1.9 note: two spellings, lines and numbers, a
+//! circuit's text, and the faults of other bytes.
 #![tactic(auto)]
 
 mod cutting;

@@ -1,5 +1,6 @@
-//! The lines of a text with their offsets, since a fault of a line is told by where the line begins. Lists, stimuli, certificates and
-//! witnesses are read by these; what each makes of a line stands in its own crate.
+//! The lines of a text with their offsets, since a fault of a line is told by the offset of its
+//! first byte. Lists, stimuli, certificates and witnesses are read by these. What each makes of a
+//! line stands in its own crate.
 ghost use Rattle.std.specs.Prelude.{◌≤◌, length};
 
 use crate::cutting::first_line;
@@ -26,7 +27,7 @@ impl<'a> Lines<'a> {
     ghost use Rattle.std.specs.Prelude.{◌≡◌, ◌≤◌, ◌-◌, ◌==◌, [], length, MatchOption};
     ghost use Rattle.file_words.specs.Cuts.{IsFirst};
 
-    /// All lines of a text.
+    /// Returns all lines of a text.
     pub fn new(text: &'a [u8]) -> Lines<'a>
         ensures rest { result.rest.now ≡ text.now }
         ensures end { result.end ≡ length text.now }
@@ -37,21 +38,21 @@ impl<'a> Lines<'a> {
         }
     }
 
-    /// The length of the whole text, which is where a line that is missing would begin.
+    /// Returns the length of the whole text, which is the offset of a missing line.
     pub fn end(&self) -> u64
         ensures { result ≡ self.now.end }
     {
         self.end
     }
 
-    /// Whether no line is left.
+    /// Returns true if no line is left.
     pub fn is_at_end(&self) -> bool
         ensures { result ≡ (length self.now.rest.now == 0) }
     {
         self.rest.is_empty()
     }
 
-    /// Takes the next line, where there is one.
+    /// Takes the next line, if there is one.
     pub fn next_line(&mut self) -> Option<Line<'a>>
         ensures end { self.new.end ≡ self.old.end }
         ensures within { length self.old.rest.now ≤ self.old.end }

@@ -48,7 +48,7 @@ module _ (g : Graph) (props : Props) (held : List ℕ) (valid : IsGraph g) where
   unfolding capacity
   cap-at v w a b p q = ap₂ (λ (x y : Node). arc_capacity g props held x y) p q
 
-  -- two numbers are adjacent where the nodes that they stand for have an arc one way or the other
+  -- two numbers are adjacent if the nodes that they stand for have an arc one way or the other
   pub adjacent-at : (v w : ℕ) (a b : Node) → node_at (latch_count g held) (node_variables g held) v ≡ a → node_at (latch_count g held) (node_variables g held) w ≡ b
       → adjacent (capacity g props held) v w ≡ nat_lt 0 (arc_capacity g props held a b + arc_capacity g props held b a)
   adjacent-at v w a b p q = ap₂ (λ (x y : ℕ). nat_lt 0 (x + y)) (cap-at v w a b p q) (cap-at w v b a q p)
@@ -59,7 +59,7 @@ module _ (g : Graph) (props : Props) (held : List ℕ) (valid : IsGraph g) where
   something : (x y : ℕ) → 0 < x + y → nat_lt 0 (x + y) ≡ true
   something x y h = lt-ltb 0 (x + y) h
 
-  -- the sink, where the variable leaves the frame
+  -- the sink, if the variable leaves the frame
   sink-step : (v u : ℕ) (links : List Link) → 1 < v → node_at (latch_count g held) (node_variables g held) v ≡ after u → AreLinksTo (capacity g props held) v 1 links
       → AreLinksTo (capacity g props held) v 2 (links ++ cond (is_observed g props held u) (link 1 0 (unbounded g held) ∷ []) [])
   sink-step v u links h at l = elim (cases_Bool (is_observed g props held u)) [
@@ -97,7 +97,8 @@ module _ (g : Graph) (props : Props) (held : List ℕ) (valid : IsGraph g) where
   source-latch : (u : ℕ) → has_node g held u ≡ true → u < first_gate g → cond {A = ℕ} (is_known (latch_at g u)) 1 0 ≡ 1
   source-latch u p h = cond-true (is_known (latch_at g u)) 1 0 (sym (has_node-latch g held u h) ∙ p)
 
-  -- the node after a known latch is linked to the source, and to the sink where the latch leaves the frame
+  -- the node after a known latch is linked to the source, and to the sink if the latch leaves the
+  -- frame
   pub latch-links : (u : ℕ) → has_node g held u ≡ true → u < first_gate g → AreLinks (capacity g props held) (latch_number g held u) (latch_links (is_observed g props held u) (unbounded g held))
   latch-links u p h =
       let v : ℕ = latch_number g held u in
@@ -135,7 +136,8 @@ module _ (g : Graph) (props : Props) (held : List ℕ) (valid : IsGraph g) where
   gate-total : (u : ℕ) → has_node g held u ≡ true → first_gate g ≤ u → u < variables_end g → after_number g held u < node_total g held
   gate-total u p from h = omega (arith, rank-gate g held u from, rank-below g held u p h)
 
-  -- the node after a passable gate is linked to the sink where the gate leaves the frame, and to the node before the gate
+  -- the node after a passable gate is linked to the sink if the gate leaves the frame, and to the
+  -- node before the gate
   pub after-links : (u : ℕ) → has_node g held u ≡ true → first_gate g ≤ u → u < variables_end g
       → AreLinks (capacity g props held) (after_number g held u) (after_links (is_observed g props held u) (unbounded g held) (before_number g held u))
   after-links u p from h =

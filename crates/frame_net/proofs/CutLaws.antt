@@ -92,7 +92,8 @@ module _ (g : Graph) (props : Props) (held : List ℕ) (valid : IsGraph g) (side
       known false true e q = absurd (true≢false q)
       known false false e q = e
 
-  -- the border of the gates of a cut that no unbounded arc leaves has at most as many variables as the cut's value
+  -- the border of the gates of a cut that no unbounded arc leaves has at most as many variables as
+  -- the cut's value
   pub border-below : count_below (λ v. (is_known (latch_at g v) || has s v) && (is_held g held v || is_read_outside g props (has s) v)) (variables_end g)
       ≤ cut_value (node_total g held) (capacity g props held) side
   border-below = omega (

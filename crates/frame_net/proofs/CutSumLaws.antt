@@ -37,9 +37,9 @@ pub record Shares (g : Graph) (held : List ℕ) (share : ℕ → ℕ) (q : ℕ �
   pub at_sink : share 1 ≡ 0
   -- a variable without a node isn't counted
   pub none : (v : ℕ) → has_node g held v ≡ false → q v ≡ false
-  -- the node after a known latch adds 1 where the latch is counted
+  -- the node after a known latch adds 1 if the latch is counted
   pub latch : (v : ℕ) → has_node g held v ≡ true → v < first_gate g → share (latch_number g held v) ≡ cond (q v) 1 0
-  -- the node before a passable gate adds 1 where the gate is counted
+  -- the node before a passable gate adds 1 if the gate is counted
   pub gate : (v : ℕ) → has_node g held v ≡ true → first_gate g ≤ v → v < variables_end g → share (before_number g held v) ≡ cond (q v) 1 0
   -- the node after a passable gate adds nothing
   pub past : (v : ℕ) → has_node g held v ≡ true → first_gate g ≤ v → v < variables_end g → share (after_number g held v) ≡ 0
@@ -114,14 +114,14 @@ pub crosses-none : (g : Graph) (held : List ℕ) (side : ℕ → Bool) (v : ℕ)
 unfolding crosses
 crosses-none g held side v p = ap (λ (b : Bool). b && cond (nat_lt v (first_gate g)) (not (side (latch_number g held v))) (side (before_number g held v) && not (side (after_number g held v)))) p
 
--- a known latch adds to the cut where the node after it isn't in the set
+-- a known latch adds to the cut if the node after it isn't in the set
 pub crosses-latch : (g : Graph) (held : List ℕ) (side : ℕ → Bool) (v : ℕ) → has_node g held v ≡ true → v < first_gate g → crosses g held side v ≡ not (side (latch_number g held v))
 unfolding crosses
 crosses-latch g held side v p h =
     ap (λ (b : Bool). b && cond (nat_lt v (first_gate g)) (not (side (latch_number g held v))) (side (before_number g held v) && not (side (after_number g held v)))) p
     ∙ cond-true (nat_lt v (first_gate g)) _ _ (lt-ltb v (first_gate g) h)
 
--- a passable gate adds to the cut where the node before it is in the set and the one after it isn't
+-- a passable gate adds to the cut if the node before it is in the set and the one after it isn't
 pub crosses-gate : (g : Graph) (held : List ℕ) (side : ℕ → Bool) (v : ℕ) → has_node g held v ≡ true → first_gate g ≤ v → crosses g held side v ≡ (side (before_number g held v) && not (side (after_number g held v)))
 unfolding crosses
 crosses-gate g held side v p h =
@@ -196,7 +196,7 @@ module _ (g : Graph) (props : Props) (held : List ℕ) (valid : IsGraph g) (side
       ∙ ap (λ (m : ℕ). cond (side (before_number g held u) && not (side (after_number g held u))) m 0)
       (cap-at g props held valid (before_number g held u) (after_number g held u) (before u) (after u) (at-before g held u p from below) (at-after g held u p from below) ∙ cond-true (u == u) 1 0 (eq-eqb u u refl))
 
-  -- what a node adds to the cut, where an arc from the source is told of its head
+  -- what a node adds to the cut, if an arc from the source is told of its head
   pub share : ℕ → ℕ
   share x = cond (x == 0) 0 (sum_below (node_total g held) (λ y. cond (side x && not (side y)) (capacity g props held x y) 0)) + cond (side 0 && not (side x)) (capacity g props held 0 x) 0
 

@@ -10,7 +10,8 @@ use Rattle.aig_graph.specs.Counting.{count_below, places}
 use Rattle.frame_net.specs.Passable.{is_passable, passable_gates}
 use Rattle.frame_net.specs.Capacity.{has_node, is_observed, capacity, node_total}
 
--- the arcs with tail v to heads below m, and all arcs with tails below n, as tail, head and capacity
+-- the arcs with tail v to heads below m, and all arcs with tails below n, as tail, head and
+-- capacity
 abbrev arcs_from : (ℕ → ℕ → ℕ) → ℕ → ℕ → List (ℕ × ℕ × ℕ)
 arcs_from cap' v zero = []
 arcs_from cap' v (suc m) = arcs_from cap' v m ++ cond (nat_lt 0 (cap' v m)) ((v, m, cap' v m) ∷ []) []
@@ -35,7 +36,7 @@ one_gate-arcs : arcs_below (capacity one_gate (output 10) []) (node_total one_ga
 unfolding capacity has_node is_observed is_passable is_settled fold_gates fold_to_depth is_read_outside count_below places
 one_gate-arcs = refl
 
--- the same with the first latch held: no gate is passable, and both latches leave the frame
+-- those arcs with the first latch held: no gate is passable, and both latches leave the frame
 held-arcs : arcs_below (capacity one_gate (output 10) (0 ∷ [])) (node_total one_gate (0 ∷ [])) (node_total one_gate (0 ∷ []))
     ≡ (0, 2, 1) ∷ (0, 3, 1) ∷ (2, 1, 3) ∷ (3, 1, 3) ∷ []
 unfolding capacity has_node is_observed is_passable is_settled fold_gates fold_to_depth is_read_outside count_below places

@@ -28,12 +28,13 @@ use Rattle.frame_net.proofs.NodeLaws.{has_node-latch, has_node-gate, rank-latch,
 pub node-before : (g : Graph) (held : List ℕ) (v : ℕ) → v < first_latch g → has_node g held v ≡ false
 node-before g held v h = has_node-latch g held v (omega (arith, h)) ∙ ap (λ (o : Option Latch). is_known o) (latch_at-before g v h)
 
--- a variable has a node where it is a known latch or marked as passable
+-- a variable has a node if it is a known latch or marked as passable
 pub has_node-marked : (g : Graph) (held : List ℕ) (v : ℕ) (a b : Bool) → a ≡ is_known (latch_at g v) → b ≡ is_passable g held v → (a || b) ≡ has_node g held v
 unfolding has_node
 has_node-marked g held v a b p q = ap₂ (λ (x y : Bool). x || y) p q
 
--- marks of held latches, and then of what is read from outside the passable gates, are the table of what leaves the frame
+-- marks of held latches, and then of what is read from outside the passable gates, are the table of
+-- what leaves the frame
 pub leaving-table : (g : Graph) (props : Props) (held : List ℕ) (n : ℕ) (inside old mid new : List Bool)
     → ((v : ℕ) → mark_at (first_latch g) inside v ≡ is_passable g held v)
     → old ≡ replicate n false → Marks (first_latch g) old mid (is_held g held) → Marks (first_latch g) mid new (is_read_outside g props (mark_at (first_latch g) inside))
@@ -111,7 +112,8 @@ gate-within l v from h past = omega (arith, from, h, past, l.latches_are, latche
 pub latch-rank : (l : Layout) (i u : ℕ) → i < l.latches → u ≡ get_or l.variables.items i u → Ranks (has_node l.aig.now l.keep.now) (variables_end l.aig.now) i u
 latch-rank l i u h is = place-of l.aig.now l.keep.now l.variables.items i u l.variables_are (place-within l i h) is
 
--- the variable of a gate's node in a layout has a node, and the place that the node's number gives as its rank
+-- the variable of a gate's node in a layout has a node, and the place that the node's number gives
+-- as its rank
 pub gate-rank : (l : Layout) (v u : ℕ) → 2 ≤ v → v < nodes_of l → l.latches ≤ v - 2 → u ≡ get_or l.variables.items (l.latches + (v - 2 - l.latches) / 2) u
     → Ranks (has_node l.aig.now l.keep.now) (variables_end l.aig.now) (l.latches + (v - 2 - l.latches) / 2) u
 gate-rank l v u from h past is = place-of l.aig.now l.keep.now l.variables.items (l.latches + (v - 2 - l.latches) / 2) u l.variables_are (gate-within l v from h past) is

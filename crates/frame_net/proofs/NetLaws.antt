@@ -1,4 +1,4 @@
--- The same of a network, as contracts see it.
+-- Laws of a network, as contracts see it.
 use Rattle.std.proofs.Common.{◌≡◌, ℕ, ◌<◌, ◌≤◌, Bool, true, false, not, IsTrue, List, length, Some, arith, refl, ap, ap₂, sym, ◌∙◌, subst}
 use Rattle.std.proofs.lemmas.Option.{none-some, same_Some}
 use Rattle.frame_net.specs.Flow.{IsCut, cut_value}
@@ -43,7 +43,8 @@ module _ (c : Netlist) (held : List ℕ) (net : FlowNet) (is : IsNetworkOf c hel
       between-same (node_count net) side (λ w. not (side w)) (capacity_between net) (capacity c.aig c.props held) (λ v w h k. is.is_net.capacities v w h k)
       ∙ ap (λ (n : ℕ). cut_value n (capacity c.aig c.props held) side) nodes
 
-  -- a node at the point before a variable is the node before it, and the variable is a passable gate
+  -- a node at the point before a variable is the node before it, and the variable is a passable
+  -- gate
   pub point-before : (n v : ℕ) → View c.aig held n → point_of net n ≡ Some (record { var = v; behind = false }) → (is_passable c.aig held v ≡ true) × (n ≡ before_number c.aig held v)
   point-before n v (the_source e) p = absurd (none-some _ (sym (ap (λ (k : ℕ). point_of net k) e) ∙ p))
   point-before n v (the_sink e) p = absurd (none-some _ (sym (ap (λ (k : ℕ). point_of net k) e) ∙ p))
@@ -94,7 +95,8 @@ module _ (c : Netlist) (held : List ℕ) (net : FlowNet) (is : IsNetworkOf c hel
     closed-gates : IsClosedSet c.aig held s
     closed-gates = record { rising = gates.rising; closed = closed c.aig c.props held is.valid side cut no-unbounded s members members' }
 
-    -- the gates of a cut that no unbounded arc leaves are a closed set, whose border is no larger than what leaves the cut
+    -- the gates of a cut that no unbounded arc leaves are a closed set, whose border is no larger
+    -- than what leaves the cut
     pub cut-closed : IsClosedSet c.aig held s × (border_size (move_of c held s) ≤ leaving net side)
     cut-closed = (
       closed-gates,

@@ -48,12 +48,12 @@ node_at-after latches variables m =
 
 -- ---- which variables have nodes
 
--- a variable before the gates has a node exactly where it is a known latch
+-- a variable before the gates has a node if and only if it is a known latch
 pub has_node-latch : (g : Graph) (held : List ℕ) (v : ℕ) → v < first_gate g → has_node g held v ≡ is_known (latch_at g v)
 unfolding has_node
 has_node-latch g held v h = ap (λ (b : Bool). is_known (latch_at g v) || b) (passable-before g held v h) ∙ or-false (is_known (latch_at g v))
 
--- a variable from the first gate on has nodes exactly where it is a passable gate
+-- a variable from the first gate on has nodes if and only if it is a passable gate
 pub has_node-gate : (g : Graph) (held : List ℕ) (v : ℕ) → first_gate g ≤ v → has_node g held v ≡ is_passable g held v
 unfolding has_node
 has_node-gate g held v h = ap (λ (o : Option Latch). is_known o || is_passable g held v) (latch_at-gates g v h)
@@ -122,7 +122,8 @@ gate-side g held n two past below =
       | inr odd ↦ an_after u.0 u.1.passes from u.1.below (omega (arith, odd, u.1.rank, two, past))
     ]
 
--- each number below that of the nodes is the source's, the sink's, a known latch's, or one of a passable gate's two
+-- each number below that of the nodes is the source's, the sink's, a known latch's, or one of a
+-- passable gate's two
 pub view : (g : Graph) (held : List ℕ) (n : ℕ) → n < node_total g held → View g held n
 view g held n below = elim (cases_eq n 0) [
   | inl zero' ↦ the_source zero'

@@ -71,7 +71,7 @@ deliver_here n t (v ∷ vs) u d on = elim (cases_Bool (u == v)) [
       }
 ]
 
--- functions that agree below n have the same least value there
+-- functions that agree below n have equal least values there
 pub least_below-same : (n : ℕ) (f g : ℕ → ℕ) (m : ℕ) → ((i : ℕ) → i < n → f i ≡ g i) → least_below n f m ≡ least_below n g m
 least_below-same zero f g m e = refl
 least_below-same (suc n) f g m e = let a = least_below-same n f g m (λ i h. e i (omega arith)) in let b = e n (omega arith) in cc
@@ -79,7 +79,8 @@ least_below-same (suc n) f g m e = let a = least_below-same n f g m (λ i h. e i
 same_choice : (a a' b b' : Bool) (x x' y y' : ℕ) → a ≡ a' → b ≡ b' → x ≡ x' → y ≡ y' → cond (a && b) x y ≡ cond (a' && b') x' y'
 same_choice a a' b b' x x' y y' p q r e = cc
 
--- all reads of a pulse in any order, and then all deliveries in any order, leave the state after the pulse
+-- all reads of a pulse in any order, and then all deliveries in any order, leave the state after
+-- the pulse
 pub any_order : (n : ℕ) (t : Moment) (rs ds : List ℕ) → EachOnce n rs → EachOnce n ds → IsAfterPulse n (state_of t) (deliver_all n (read_all n t rs) ds)
 any_order n t rs ds er ed =
     let r : Moment = read_all n t rs in

@@ -37,7 +37,7 @@ pub passable-no_gate : (g : Graph) (held : List ℕ) (v : ℕ) → gate_at g v �
 unfolding is_passable
 passable-no_gate g held v e = ap (λ (o : Option Gate). is_some o && is_settled g held v) e
 
--- a gate is passable exactly where it is settled
+-- a gate is passable if and only if it is settled
 pub passable-at_gate : (g : Graph) (held : List ℕ) (v : ℕ) (gate : Gate) → gate_at g v ≡ Some gate → is_passable g held v ≡ is_settled g held v
 unfolding is_passable
 passable-at_gate g held v gate e = ap (λ (o : Option Gate). is_some o && is_settled g held v) e
@@ -53,7 +53,7 @@ passable-past g held v h = elim (gate_cases g v) [
   | inr some ↦ absurd (omega (arith, h, (gate_place g v some.0 some.1).below))
 ]
 
--- a variable is passable by the test exactly where it is a passable gate
+-- a variable is passable by the test if and only if it is a passable gate
 pub passable-means : (g : Graph) (held : List ℕ) (v : ℕ) → IsTrue (is_passable g held v) ↔ IsPassable g held v
 passable-means g held v = elim (gate_cases g v) [
   | inl none ↦ (
@@ -70,7 +70,7 @@ passable-means g held v = elim (gate_cases g v) [
     no_true true e t = absurd (cc)
     no_true false e t = absurd (cc)
 
--- what is no gate is settled exactly where it may move
+-- what is no gate is settled if and only if it may move
 pub settled-leaf : (g : Graph) (held : List ℕ) (v : ℕ) → gate_at g v ≡ None → is_settled g held v ≡ may_move g held v
 unfolding is_settled
 settled-leaf g held v e = fold_gates-leaf g (may_move g held) both v e

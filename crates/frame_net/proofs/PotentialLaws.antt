@@ -76,7 +76,7 @@ top_falls n s ok same w a on =
     ]) in
     omega (arith, bound, low w a on)
 
--- where a node is active after a pulse, the potential has fallen
+-- if a node is active after a pulse, the potential has fallen
 pub potential_falls : (n : ℕ) (s : State) → IsValid n s → (w : ℕ) → w < n → is_active n (pulse n s) w ≡ true → potential n (pulse n s) < potential n s
 potential_falls n s ok w a on =
     let cap : sum_below n (next_label n s) ≤ n * n = sum_below-le_const n n (next_label n s) (next_label-le n s ok) in

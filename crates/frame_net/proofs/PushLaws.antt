@@ -1,4 +1,4 @@
--- What a node pushes: no more than its excess, and all that is admissible where some excess is kept.
+-- What a node pushes: no more than its excess, and all that is admissible if some excess is kept.
 use Rattle.std.proofs.Common.{◌≡◌, ℕ, suc, zero, ◌+◌, ◌<◌, ◌≤◌, ◌==◌, ◌&&◌, nat_lt, min, cond, Bool, true, false, arith, refl, ap}
 use Rattle.std.proofs.lemmas.Bool.{and_parts, ltb-true, eqb-true, lt-ltb, eq-eqb, and_from}
 use Rattle.frame_net.specs.Flow.{State, sum_below, admissible, push, outflow, is_active}
@@ -17,7 +17,7 @@ pushed-up_to n s v (suc w) = omega (arith, pushed-up_to n s v w)
 pub outflow-le-excess : (n : ℕ) (s : State) (v : ℕ) → outflow n s v ≤ s.excess v
 outflow-le-excess n s v = omega (arith, pushed-up_to n s v n)
 
--- where some excess is kept, every admissible residual is used up
+-- if some excess is kept, every admissible residual is used up
 pub push-is_admissible : (n : ℕ) (s : State) (v w : ℕ) → w < n → outflow n s v < s.excess v → push n s v w ≡ admissible n s v w
 push-is_admissible n s v w h k = omega (arith, pushed-up_to n s v n, sum_below-mono (suc w) n (admissible n s v) (omega arith))
 
@@ -61,7 +61,8 @@ pub record Sends (n : ℕ) (s : State) (v w : ℕ) : Type 0 where
   -- the pair has a residual
   pub residual : 0 < s.res v w
 
--- where something is admissible, the node is active, the head's label is one less and the pair has a residual
+-- if something is admissible, the node is active, the head's label is one less and the pair has a
+-- residual
 pub sends_by_room : (n : ℕ) (s : State) (v w : ℕ) → 0 < admissible n s v w → Sends n s v w
 sends_by_room n s v w h =
     let p = cond-pos (is_active n s v && (s.label w + 1 == s.label v)) (s.res v w) h in
@@ -73,7 +74,8 @@ sends_by_room n s v w h =
 pub room-is_res : (n : ℕ) (s : State) (v w : ℕ) → is_active n s v ≡ true → s.label w + 1 ≡ s.label v → admissible n s v w ≡ s.res v w
 room-is_res n s v w a d = ap (λ (b : Bool). cond b (s.res v w) 0) (and_from (is_active n s v) (s.label w + 1 == s.label v) a (eq-eqb (s.label w + 1) (s.label v) d))
 
--- where something is pushed, the node is active, the head's label is one less and the pair has a residual
+-- if something is pushed, the node is active, the head's label is one less and the pair has a
+-- residual
 pub sends : (n : ℕ) (s : State) (v w : ℕ) → 0 < push n s v w → Sends n s v w
 sends n s v w h = sends_by_room n s v w (omega arith)
 

@@ -65,7 +65,7 @@ sparse-at len h f k up l =
       | inr r ↦ elim r [ inl lt ↦ omega (arith, up i k lt l) | inr gt ↦ omega (arith, up k i gt a) ]
     ]
 
--- where no arc of the row has this head, the row's function is 0
+-- if no arc of the row has this head, the row's function is 0
 pub sparse-none : (len : ℕ) (h f : ℕ → ℕ) (w : ℕ) → ((k : ℕ) → k < len → h k ≡ w → ⊥) → sparse len h f w ≡ 0
 sparse-none len h f w none = all_zero len (λ j. cond (h j == w) (f j) 0) (λ j l. ap (λ (b : Bool). cond b (f j) 0) (ne_eqb (h j) w (none j l)))
 

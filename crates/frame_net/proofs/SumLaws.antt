@@ -8,12 +8,12 @@ pub sum_below-add : (n : ℕ) (f g : ℕ → ℕ) → sum_below n (λ i. f i + g
 sum_below-add zero f g = refl
 sum_below-add (suc n) f g = omega (arith, sum_below-add n f g)
 
--- functions that agree below n have the same sum there
+-- functions that agree below n have equal sums there
 pub sum_below-same : (n : ℕ) (f g : ℕ → ℕ) → ((i : ℕ) → i < n → f i ≡ g i) → sum_below n f ≡ sum_below n g
 sum_below-same zero f g e = refl
 sum_below-same (suc n) f g e = omega (arith, sum_below-same n f g (λ i h. e i (omega arith)), e n (omega arith))
 
--- where no term is greater, the sum isn't
+-- if no term is greater, the sum isn't
 pub sum_below-le : (n : ℕ) (f g : ℕ → ℕ) → ((i : ℕ) → i < n → f i ≤ g i) → sum_below n f ≤ sum_below n g
 sum_below-le zero f g e = omega arith
 sum_below-le (suc n) f g e = omega (arith, sum_below-le n f g (λ i h. e i (omega arith)), e n (omega arith))

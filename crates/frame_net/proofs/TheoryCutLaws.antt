@@ -1,4 +1,5 @@
--- The excess outside a set and the residual that leaves it make up its cut: so the far side is the greatest least cut.
+-- The excess outside a set and the residual that leaves it make up its cut: so the far side is the
+-- greatest least cut.
 use Rattle.std.proofs.Common.{◌≡◌, ℕ, suc, zero, ◌+◌, ◌*◌, ◌<◌, ◌≤◌, ◌==◌, ◌&&◌, not, cond, Bool, true, false, arith, refl, ap, sym, ◌∙◌, subst, inl, inr}
 use Rattle.std.proofs.Math.Bool.{and_comm}
 use Rattle.std.proofs.lemmas.Bool.{cases_lt, cases_Bool, false≢true, eq-eqb, eqb-true, cases_order, ne_eqb, cases_eq}
@@ -9,7 +10,7 @@ use Rattle.frame_net.proofs.PushLaws.{is_active-true}
 
 -- ---- sums over pairs
 
--- functions that agree on pairs of nodes have the same sum between two sets
+-- functions that agree on pairs of nodes have equal sums between two sets
 pub between-same : (n : ℕ) (a b : ℕ → Bool) (f g : ℕ → ℕ → ℕ) → ((v w : ℕ) → v < n → w < n → f v w ≡ g v w) → between n a b f ≡ between n a b g
 between-same n a b f g e = sum_below-same n (λ v. sum_below n (λ w. cond (a v && b w) (f v w) 0)) (λ v. sum_below n (λ w. cond (a v && b w) (g v w) 0))
     (λ v h. sum_below-same n (λ w. cond (a v && b w) (f v w) 0) (λ w. cond (a v && b w) (g v w) 0) (λ w k. ap (λ (x : ℕ). cond (a v && b w) x 0) (e v w h k)))
@@ -26,7 +27,8 @@ between-add n a b f g =
     ∙ sum_below-add n (λ w. cond (a v && b w) (f v w) 0) (λ w. cond (a v && b w) (g v w) 0))
     ∙ sum_below-add n (λ v. sum_below n (λ w. cond (a v && b w) (f v w) 0)) (λ v. sum_below n (λ w. cond (a v && b w) (g v w) 0))
 
--- the sum between two sets of what each pair has the other way round is the sum between the sets in the other order
+-- the sum between two sets of what each pair has the other way round is the sum between the sets in
+-- the other order
 pub between-swap : (n : ℕ) (a b : ℕ → Bool) (f : ℕ → ℕ → ℕ) → between n a b (λ v w. f w v) ≡ between n b a f
 between-swap n a b f =
     sum_below-swap n n (λ v w. cond (a v && b w) (f w v) 0)
@@ -83,7 +85,8 @@ both_ways n cap s a b p =
     let e : between n a b (λ v w. s.res v w + s.res w v) ≡ between n a b (λ v w. cap v w + cap w v) = between-same n a b (λ v w. s.res v w + s.res w v) (λ v w. cap v w + cap w v) (λ v w h k. p.paired v w h k) in
     omega (arith, e, between-add n a b s.res (λ v w. s.res w v), between-add n a b cap (λ v w. cap w v), between-swap n a b s.res, between-swap n a b cap)
 
--- the excess that the nodes off a set with the source hold, and the residual that leaves the set, make up its cut
+-- the excess that the nodes off a set with the source hold, and the residual that leaves the set,
+-- make up its cut
 pub cut_identity : (n : ℕ) (cap : ℕ → ℕ → ℕ) (s : State) (side : ℕ → Bool) → IsPreflow n cap s → side 0 ≡ true
     → held_off n s side + between n side (λ w. not (side w)) s.res ≡ cut_value n cap side
 cut_identity n cap s side p src =
@@ -98,7 +101,7 @@ cut_identity n cap s side p src =
 
 -- ---- a node of label n can't reach the sink
 
--- every number up to its label is the label of some node, where it reaches the sink
+-- every number up to its label is the label of some node, if it reaches the sink
 label_met : (n : ℕ) (s : State) → IsValid n s → 1 < n → (k v j : ℕ) → v < n → Walk n s k v → j ≤ s.label v → (w : ℕ) × ((w < n) × (s.label w ≡ j))
 label_met n s ok big zero v j h e le = (1, (big, omega (arith, ok.sink, subst (λ (x : ℕ). j ≤ s.label x) e le)))
 label_met n s ok big (suc k) v j h walk le = elim (cases_order j (s.label v)) [
@@ -238,7 +241,7 @@ stays_inside : (n : ℕ) (s : State) (other : ℕ → Bool) → between n other 
 stays_inside n s other z off zero v h on e = false≢true (sym off ∙ (sym (ap other e) ∙ on))
 stays_inside n s other z off (suc k) v h on walk = stays_inside n s other z off k walk.0 walk.1.0 (closed_cut n s other z v walk.0 h walk.1.0 on walk.1.1.0) walk.1.1.1
 
--- where no node is active, the nodes that can't reach the sink are the greatest least cut
+-- if no node is active, the nodes that can't reach the sink are the greatest least cut
 pub source_side_greatest : (n : ℕ) (cap : ℕ → ℕ → ℕ) (s : State) (side : ℕ → Bool) → 1 < n → IsPreflow n cap s → IsValid n s
     → ((v : ℕ) → v < n → is_active n s v ≡ false) → IsSourceSide n s side → IsGreatestLeastCut n cap side
 source_side_greatest n cap s side big p ok quiet far =

@@ -50,7 +50,8 @@ abbrev pub gate_reads : ℕ → Option Gate → Bool
 gate_reads v None = false
 gate_reads v (Some gate) = is_fan_in v gate
 
--- whether the variable is a held latch, or is read by a gate that isn't passable, a next literal or a property
+-- whether the variable is a held latch, or is read by a gate that isn't passable, a next literal or
+-- a property
 unfoldable pub is_observed : Graph → Props → List ℕ → ℕ → Bool
 is_observed g props held v = is_held g held v || is_read_outside g props (is_passable g held) v
 
@@ -63,12 +64,13 @@ arc_capacity g props held (before w) (before v) = if gate_reads v (gate_at g w) 
 arc_capacity g props held (after v) sink = if is_observed g props held v then unbounded g held else 0
 arc_capacity g props held v w = 0
 
--- the same by the numbers of the nodes
+-- the capacity of an arc, by the numbers of its nodes
 unfoldable pub capacity : Graph → Props → List ℕ → ℕ → ℕ → ℕ
 capacity g props held v w =
     arc_capacity g props held (node_at (latch_count g held) (node_variables g held) v) (node_at (latch_count g held) (node_variables g held) w)
 
--- The network of a circuit: the arcs with tail v and their mates go to just the nodes with an arc from or to v.
+-- The network of a circuit: the arcs with tail v and their mates go to just the nodes with an arc
+-- from or to v.
 pub record IsNetOf (g : Graph) (props : Props) (held : List ℕ) (net : FlowNet) : Type 0 where
   pub latches : net.latches ≡ latch_count g held
   pub variables : net.variables ≡ node_variables g held

@@ -1,7 +1,8 @@
 use Rattle.std.specs.Prelude.{◌≡◌, ℕ, ◌+◌, ◌-◌, ◌<◌, ◌==◌, nat_lt, ◌&&◌, ◌||◌, Bool, true, false, cond, List, [], ◌∷◌}
 use Rattle.frame_net.specs.Flow.{State, sum_below, least_below, push, is_active, next_res, next_excess, next_label}
 
--- within a pulse: residuals, excess, the labels of its start, the new labels, and the pushes of each pair
+-- within a pulse: residuals, excess, the labels of its start, the new labels, and the pushes of
+-- each pair
 pub record Moment : Type 0 where
   pub res : ℕ → ℕ → ℕ
   pub excess : ℕ → ℕ
@@ -23,8 +24,8 @@ residual_after_delivery t v w = (t.res v w + t.pushes w v) - t.pushes v w
 abbrev pub excess_after_delivery : ℕ → Moment → ℕ → ℕ
 excess_after_delivery n t v = (t.excess v + sum_below n (λ w. t.pushes w v)) - sum_below n (t.pushes v)
 
--- the label of v after its delivery: an active node that keeps some of its excess rises to one
--- above the least label of a node to which it has a residual, others keep theirs
+-- The label of v after its delivery. An active node that keeps some of its excess rises to one
+-- above the least label of a node to which it has a residual. Others keep theirs.
 abbrev pub label_after_delivery : ℕ → Moment → ℕ → ℕ
 label_after_delivery n t v = cond (is_active n (state_of t) v && nat_lt (sum_below n (t.pushes v)) (t.excess v))
     (least_below n (λ w. cond (nat_lt 0 (residual_after_delivery t v w)) (t.label w + 1) n) n) (t.label v)

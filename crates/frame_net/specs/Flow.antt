@@ -15,7 +15,8 @@ abbrev pub greatest_below : ℕ → (ℕ → ℕ) → ℕ
 greatest_below zero f = 0
 greatest_below (suc n) f = max (greatest_below n f) (f n)
 
--- the residual of each ordered pair of nodes (capacity less flow), and the excess and the label of each node
+-- the residual of each ordered pair of nodes (capacity less flow), and the excess and the label of
+-- each node
 pub record State : Type 0 where
   pub res : ℕ → ℕ → ℕ
   pub excess : ℕ → ℕ
@@ -25,11 +26,12 @@ pub record State : Type 0 where
 abbrev pub is_active : ℕ → State → ℕ → Bool
 is_active n s v = nat_lt 1 v && nat_lt 0 (s.excess v) && nat_lt (s.label v) n
 
--- what v may push to w: the residual, where v is active and the label of w is one less
+-- what v may push to w: the residual, if v is active and the label of w is one less
 abbrev pub admissible : ℕ → State → ℕ → ℕ → ℕ
 admissible n s v w = cond (is_active n s v && (s.label w + 1 == s.label v)) (s.res v w) 0
 
--- what v pushes to w: its excess goes to the heads in rising order, to each as far as its admissible residual
+-- what v pushes to w: its excess goes to the heads in rising order, to each as far as its
+-- admissible residual
 abbrev pub push : ℕ → State → ℕ → ℕ → ℕ
 push n s v w = min (admissible n s v w) (s.excess v - sum_below w (admissible n s v))
 
@@ -48,7 +50,8 @@ next_res n s v w = (s.res v w + push n s w v) - push n s v w
 abbrev pub has_excess_left : ℕ → State → ℕ → Bool
 has_excess_left n s v = is_active n s v && nat_lt (outflow n s v) (s.excess v)
 
--- the lesser of n and one more than the least label of a node to which v has a residual after delivery
+-- the lesser of n and one more than the least label of a node to which v has a residual after
+-- delivery
 abbrev pub relabelled : ℕ → State → ℕ → ℕ
 relabelled n s v = least_below n (λ w. cond (nat_lt 0 (next_res n s v w)) (s.label w + 1) n) n
 
@@ -62,12 +65,14 @@ next_excess n s v = (s.excess v + inflow n s v) - outflow n s v
 abbrev pub pulse : ℕ → State → State
 pulse n s = record { res = next_res n s; excess = next_excess n s; label = next_label n s }
 
--- residuals of capacities: the flows of a pair are each other's negative, and excess is inflow less outflow
+-- residuals of capacities: the flows of a pair are each other's negative, and excess is inflow less
+-- outflow
 pub record IsPreflow (n : ℕ) (cap : ℕ → ℕ → ℕ) (s : State) : Type 0 where
   pub paired : (v w : ℕ) → v < n → w < n → s.res v w + s.res w v ≡ cap v w + cap w v
   pub conserved : (v : ℕ) → 0 < v → v < n → s.excess v + sum_below n (cap v) ≡ sum_below n (s.res v)
 
--- valid labels: n at the source, 0 at the sink, and at most one less at the head of an arc with residual
+-- valid labels: n at the source, 0 at the sink, and at most one less at the head of an arc with
+-- residual
 pub record IsValid (n : ℕ) (s : State) : Type 0 where
   pub source : s.label 0 ≡ n
   pub sink : s.label 1 ≡ 0

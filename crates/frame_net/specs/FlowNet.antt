@@ -4,8 +4,9 @@ use Rattle.frame_net.specs.Flow.{sum_below}
 use Rattle.frame_net.specs.Rows.{sparse}
 use Rattle.frame_net.specs.declared.net.Point.{Point}
 
--- Node 0 is the source, node 1 the sink. The arcs with tail v are those from starts v on, up to starts (v + 1).
--- `variables` are those of the known latches, of which there are `latches`, and then those of the passable gates.
+-- Node 0 is the source, node 1 the sink. The arcs with tail v are those from starts v on, up to
+-- starts (v + 1). `variables` are those of the `latches` known latches, and then those of the
+-- passable gates.
 pub record FlowNet : Type 0 where
   pub starts : List ℕ
   pub heads : List ℕ
@@ -38,7 +39,7 @@ mate net v k = slice_index net.mates (start net v + k)
 abbrev pub cap_at : FlowNet → ℕ → ℕ
 cap_at net arc = slice_index net.caps arc
 
--- the capacity of the arc from v to w, or 0 where there is none
+-- the capacity of the arc from v to w, or 0 if there is none
 abbrev pub capacity_between : FlowNet → ℕ → ℕ → ℕ
 capacity_between net v w = sparse (row_len net v) (head net v) (λ k. cap_at net (start net v + k)) w
 
@@ -49,8 +50,8 @@ pub record HasMate (net : FlowNet) (v k : ℕ) : Type 0 where
   pub arc : mate net v k ≡ start net (head net v k) + place
   pub back : head net (head net v k) place ≡ v
 
--- the rows stand end to end with rising heads, each arc has a mate that leads back, and both
--- capacities of a pair fit a word
+-- The rows stand end to end with rising heads. Each arc has a mate that leads back, and both
+-- capacities of a pair fit a word.
 pub record IsFlowNet (net : FlowNet) : Type 0 where
   pub two : 2 < length net.starts
   pub short : length net.starts < 2 ^ 31

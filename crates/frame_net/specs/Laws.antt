@@ -10,12 +10,13 @@ PulseKeepsPreflow = (n : ℕ) (cap : ℕ → ℕ → ℕ) (s : State) → 1 < n 
 abbrev pub PulseRaisesLabels : Type 0
 PulseRaisesLabels = (n : ℕ) (s : State) → IsValid n s → (v : ℕ) → v < n → (s.label v ≤ next_label n s v) × (has_excess_left n s v ≡ true → s.label v < next_label n s v)
 
--- where some node is active after the pulse, the potential has fallen
+-- if some node is active after the pulse, the potential has fallen
 abbrev pub PulseLowersPotential : Type 0
 PulseLowersPotential = (n : ℕ) (s : State) → IsValid n s → (w : ℕ) → w < n → is_active n (pulse n s) w ≡ true
     → potential n (pulse n s) < potential n s
 
--- at the end of a run the nodes that can't reach the sink are a cut of least value, and every such cut lies in it
+-- At the end of a run the nodes that can't reach the sink are a cut of least value. Every such cut
+-- lies in it.
 pub record IsGreatestLeastCut (n : ℕ) (cap : ℕ → ℕ → ℕ) (side : ℕ → Bool) : Type 0 where
   pub is_cut : IsCut side
   pub least : (other : ℕ → Bool) → IsCut other → cut_value n cap side ≤ cut_value n cap other
@@ -30,7 +31,7 @@ SourceSideIsGreatest = (n : ℕ) (cap : ℕ → ℕ → ℕ) (s : State) (side :
 abbrev pub TotalIsKept : Type 0
 TotalIsKept = (n : ℕ) (s : State) → IsValid n s → (sum_below n (next_excess n s) ≡ sum_below n s.excess) × (inflow n s 0 ≡ 0)
 
--- d holds the residual distances to the sink, with n where it is n or more
+-- d holds the residual distances to the sink, with n for those of n or more
 pub record IsDistance (n : ℕ) (s : State) (d : ℕ → ℕ) : Type 0 where
   pub small : (v : ℕ) → v < n → d v ≤ n
   pub walk : (v : ℕ) → v < n → d v < n → Walk n s (d v) v

@@ -13,7 +13,7 @@ node_admissible active heads residuals labels label k = cond (active && (slice_i
 abbrev pub IsRowOfPushes : (ℕ → ℕ) → ℕ → List ℕ → Type 0
 IsRowOfPushes admissible excess row = (k : ℕ) → k < length row → slice_index row k ≡ min (admissible k) (excess - sum_below k admissible)
 
--- a row as a function of the head: the value of the arc to w, or 0 where there is none
+-- a row as a function of the head: the value of the arc to w, or 0 if there is none
 abbrev pub sparse : ℕ → (ℕ → ℕ) → (ℕ → ℕ) → ℕ → ℕ
 sparse len h f w = sum_below len (λ k. cond (h k == w) (f k) 0)
 

@@ -1,9 +1,9 @@
-//! The nodes of a network, and the links of each. Nodes 0 and 1 are the source and the sink; then
+//! The nodes of a network, and the links of each. Nodes 0 and 1 are the source and the sink. Then
 //! comes a node after each known latch, then for each passable gate one before it and one after it.
 //! A variable's number is counted as if a gate had one node. With two known latches and two
 //! passable gates the numbers are 2, 3, 4, 5. The nodes are 2, 3 (after the latches), 4 and 5
-//! (before and after the first gate), 6 and 7 (the second). So the node before a gate is
-//! `2 * number - base`, and `base` is the first gate's number.
+//! (before and after the first gate), 6 and 7 (the second). So the node before a gate is `2 *
+//! number - base`, and `base` is the first gate's number.
 ghost use Rattle.std.specs.Prelude.{ℕ, Bool, List, ◌≡◌, ◌+◌, ◌-◌, ◌<◌, ◌≤◌, ◌^◌, nat_le, take, length, IfOk, true, if◌then◌else◌};
 ghost use Rattle.std.specs.List.{slice_index_or};
 ghost use Rattle.aig_graph.specs.Counting.{count_below};

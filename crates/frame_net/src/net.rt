@@ -23,8 +23,8 @@ pub struct Point {
 }
 
 /// A flow network: for each node the arcs with it as tail, by rising number of the head. Each arc
-/// has a mate from its head to its tail. Node 0 is the source and node 1 the sink; then there is a
-/// node after each known latch, in latch order, and for each passable gate, in gate order, one
+/// has a mate from its head to its tail. Node 0 is the source and node 1 the sink. Then there is a
+/// node after each known latch, in latch order. For each passable gate, in gate order, there is one
 /// before and one after it.
 pub struct Net {
     starts: Vec<u32>,

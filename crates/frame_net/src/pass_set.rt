@@ -11,7 +11,7 @@ ghost use Rattle.frame_net.specs.Passable.{is_passable, passable_gates, IsPassSe
 use aig_graph::{Aig, Gate, Keep, NoMemory, count_marks, mark_at};
 use std::alloc::Global;
 
-/// The passable gates of a graph, by a table from the first latch on: inputs, of which a short file
+/// The passable gates of a graph, by a table from the first latch on. Inputs, of which a short file
 /// can have hundreds of millions, have no entry.
 pub struct PassSet {
     first: u32,

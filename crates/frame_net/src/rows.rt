@@ -72,8 +72,8 @@ fn label_over(residual: u32, label: u32, nodes: u32) -> u32
     if residual > 0 { label + 1 } else { nodes }
 }
 
-/// Returns the label of a node by its residuals `row`: one more than the least label of a head to
-/// which it has a residual, at most `nodes`.
+/// Returns the label of a node by its residuals `row`. It is the least label of a head to which it
+/// has a residual, plus one, at most `nodes`.
 pub fn relabel(heads: &[u32], row: &[u32], labels: &[u32], nodes: u32) -> u32
     requires heads { (k : ℕ) → k < length heads.now → slice_index heads.now k < length labels.now }
     requires row { length row.now ≡ length heads.now }

@@ -1,4 +1,5 @@
--- The ranges of five workers over twelve nodes, computed: each ends before the next one's border, so nodes 6 and 7 have different workers.
+-- The ranges of five workers over twelve nodes, computed: each ends before the next one's border,
+-- so nodes 6 and 7 have different workers.
 use Rattle.std.proofs.Common.{◌≡◌, ℕ, List, [], ◌∷◌, refl}
 use Rattle.pulse_parts.specs.Start.{border_of}
 

@@ -8,13 +8,13 @@ use std::test::*;
 /// Two inputs, a latch after each, and a gate that reads both latches. The second input has a name.
 const TWO_LATCHES: &[u8] = b"aag 5 2 2 1 1\n2\n4\n6 2\n8 4\n10\n10 6 8\ni1 no ne\n";
 
-/// The same circuit as a binary file.
+/// That circuit as a binary file.
 const BINARY: &[u8] = b"aig 5 2 2 1 1\n2\n4\n10\n\x02\x02i1 no ne\n";
 
 /// It with a first delta of two bytes.
 const LONG_DELTA: &[u8] = b"aig 5 2 2 1 1\n2\n4\n10\n\x82\x00\x02i1 no ne\n";
 
-/// Whether it is the circuit of two latches.
+/// Returns true if it is the circuit of two latches.
 fn is_two_latches(alloc: Global, circuit: &Circuit) -> bool {
     let mut out = Counted::new(Vec::new(alloc));
     let written = write(circuit, Spelling::Binary, &mut out);
@@ -22,7 +22,8 @@ fn is_two_latches(alloc: Global, circuit: &Circuit) -> bool {
     written.is_ok() & (text.as_slice() == BINARY)
 }
 
-/// Whether a reader names the spelling of a whole file, and gives the circuit of two latches.
+/// Returns true if a reader names the spelling of a whole file, and gives the circuit of two
+/// latches.
 fn reads_whole(alloc: Global, bytes: &[u8], form: Spelling) -> bool {
     let mut reader = AnyReader::new(alloc);
     let taken = reader.feed(bytes).is_ok();
@@ -37,7 +38,7 @@ fn reads_whole(alloc: Global, bytes: &[u8], form: Spelling) -> bool {
     taken & named & whole
 }
 
-/// What a reader gives: whether it is the circuit of two latches, and the fault where there is one.
+/// Returns whether a reader gives the circuit of two latches, and the fault if there is one.
 fn read_from<R: CountedRead>(alloc: Global, reader: &mut R) -> (bool, Option<ReadError>) {
     let mut circuits = AnyReader::new(alloc);
     let spelt = read_circuit(reader, &mut circuits);
@@ -49,7 +50,8 @@ fn read_from<R: CountedRead>(alloc: Global, reader: &mut R) -> (bool, Option<Rea
     (whole, spelt.err())
 }
 
-/// The same of a device that gives one byte a read and fails from a number of reads on, and how many reads failed.
+/// Reads from a device that gives one byte a read and fails from read `reads` on. Returns what
+/// [`read_from`] does, and the number of reads that failed.
 fn read_failing(alloc: Global, bytes: &[u8], reads: usize) -> (bool, Option<ReadError>, u64) {
     let device = FailAfter::new(OneByte::new(bytes), reads as u64, Failure::Error);
     let mut reader = Counted::new(device);
@@ -57,7 +59,8 @@ fn read_failing(alloc: Global, bytes: &[u8], reads: usize) -> (bool, Option<Read
     (whole, fault, CountedRead::failures(&reader))
 }
 
-/// Whether the reading ends at each first read that fails, and answers that failure, and else reads to the end.
+/// Returns true if the reading ends at each first read that fails, and answers that failure, and
+/// otherwise reads to the end.
 fn ends_where_it_should(alloc: Global, bytes: &[u8]) -> bool {
     let mut ends = read_failing(alloc, bytes, bytes.len() + 1) == (true, None, 0);
     for reads in 0..=bytes.len() {

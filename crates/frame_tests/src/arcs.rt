@@ -7,7 +7,7 @@ const MATES: [u32; 12] = [3, 5, 10, 0, 7, 1, 8, 4, 6, 11, 2, 9];
 
 const CAPS: [u32; 12] = [1, 1, 0, 0, 3, 0, 3, 0, 0, 1, 3, 0];
 
-/// Whether a table has this value at a place.
+/// Returns true if a table has this value at a place.
 pub(crate) fn is_at(values: &[u32], place: usize, value: u32) -> bool {
     place < values.len() && values[place] == value
 }
@@ -25,7 +25,7 @@ fn has_arcs(net: &Net, heads: &[u32], mates: &[u32], caps: &[u32]) -> bool {
     same
 }
 
-/// The rows begin at these arcs, and each gives its heads and mates.
+/// Returns true if the rows begin at these arcs, and each gives its heads and mates.
 fn has_rows(net: &Net, starts: &[u32]) -> bool {
     let mut same = starts.len() == net.nodes() as usize;
     for v in 0..net.nodes() {
@@ -38,12 +38,12 @@ fn has_rows(net: &Net, starts: &[u32]) -> bool {
     same
 }
 
-/// The point of node 4, if there is one.
+/// Returns the point of node 4, if there is one.
 fn fourth_point(net: &Net) -> Option<Point> {
     if 4 < net.nodes() { net.point(4) } else { None }
 }
 
-/// Whether the arcs and their rows are those that were worked by hand.
+/// Returns true if the arcs and their rows are those that were worked by hand.
 pub(crate) fn are_as_worked(net: &Net) -> bool {
     let before = Point {
         var: 5,

@@ -3,7 +3,7 @@ use batch_pool::{Drawer, Draws};
 use std::alloc::Global;
 use std::test::*;
 
-/// Whether these are three drawers, each at its place.
+/// Returns true if these are three drawers, each at its place.
 fn are_three_in_place(drawers: &[Drawer]) -> bool {
     match drawers {
         [first, second, third] => {

@@ -1,5 +1,6 @@
-//! That the workers of a batch are at work at once, and draw the files one at a time: one of two workers is held as the batch begins for it,
-//! until the other has left the batch, with files and with none; and one of five files is held until the other worker has run all others.
+//! The workers of a batch are at work at once, and draw the files one at a time. One of two workers
+//! is held as the batch begins for it, until the other has left the batch, with files and with
+//! none. One of five files is held until the other worker has run all others.
 use crate::batch_files::five_files;
 use crate::batch_outcomes::ended_with;
 use crate::circuits::options;
@@ -10,7 +11,7 @@ use std::alloc::Global;
 use std::test::*;
 use std::thread::Threads;
 
-/// Whether two workers run all files past this one that is held.
+/// Returns true if two workers run all files past one that is held.
 fn runs_past<R: Threads + Sync>(rt: &R, alloc: Global, jobs: &[Job], held: Held) -> bool {
     match PoolGate::of(alloc, 2, jobs.len() as u64, held) {
         Ok(gate) => {
@@ -24,7 +25,7 @@ fn runs_past<R: Threads + Sync>(rt: &R, alloc: Global, jobs: &[Job], held: Held)
     }
 }
 
-/// Whether a crew gives the files their outcomes.
+/// Returns true if a crew gives the files their outcomes.
 fn runs_with<R: Threads + Sync>(
     rt: &R,
     alloc: Global,
@@ -37,13 +38,13 @@ fn runs_with<R: Threads + Sync>(
     ended_with(ended, !jobs.is_empty())
 }
 
-/// Whether either worker can be held.
+/// Returns true if either worker can be held.
 fn runs_past_workers<R: Threads + Sync>(rt: &R, alloc: Global, jobs: &[Job]) -> bool {
     let first = runs_past(rt, alloc, jobs, Held::Worker(0));
     first & runs_past(rt, alloc, jobs, Held::Worker(1))
 }
 
-/// Whether either worker, and each of five files, can be held.
+/// Returns true if either worker, and each of five files, can be held.
 fn runs_past_each<R: Threads + Sync>(rt: &R, alloc: Global, jobs: &[Job]) -> bool {
     let mut all = runs_past_workers(rt, alloc, jobs);
     for number in 0..5u64 {

@@ -3,7 +3,7 @@ use crate::batch_files::{CHAINS_ANSWER, NEGATED_ANSWER, PAIR_ANSWER};
 use batch_pool::{BatchError, Outcome};
 use file_words::ReadError;
 
-/// Whether the file was retimed to this text, from so many latches to so many.
+/// Returns true if the file was retimed to this text, from `from` latches to `to`.
 fn is_done(outcome: &Outcome, text: &[u8], from: u32, to: u32) -> bool {
     match outcome {
         Outcome::Done {
@@ -23,7 +23,7 @@ fn is_cyclic(outcome: &Outcome) -> bool {
     }
 }
 
-/// Whether these are the outcomes of the five files, in their order.
+/// Returns true if these are the outcomes of the five files, in their order.
 fn are_answers(outcomes: &[Outcome]) -> bool {
     match outcomes {
         [first, second, third, fourth, fifth] => {
@@ -37,7 +37,7 @@ fn are_answers(outcomes: &[Outcome]) -> bool {
     }
 }
 
-/// Whether a batch ended with these, or with none where it had no files.
+/// Returns true if a batch ended with these, or with none if it had no files.
 pub(crate) fn ended_with(ended: Result<Vec<Outcome>, BatchError>, has_files: bool) -> bool {
     let right = match &ended {
         Ok(outcomes) if has_files => are_answers(outcomes.as_slice()),

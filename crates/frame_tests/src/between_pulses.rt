@@ -1,4 +1,5 @@
-//! The first worked network between its first two pulses, and what the pushes of the second one send.
+//! The first worked network between its first two pulses, and what the pushes of the second one
+//! send.
 ghost use Rattle.std.specs.Prelude.{◌≡◌, false};
 ghost use Rattle.pulse.specs.Conditions.{ArePushesOf, IsBetween, IsFlowOf};
 
@@ -8,7 +9,7 @@ use frame_net::Net;
 use pulse::{Flow, Pushes, read_range};
 use std::alloc::Global;
 
-/// How many units the source sends: it fills the arc to each latch at the start.
+/// Returns the number of units that the source sends: it fills the arc to each latch at the start.
 fn sent_by_source(net: &Net, flow: &Flow) -> i64
     requires { IsBetween net.now flow.now }
 {
@@ -22,7 +23,8 @@ fn sent_by_source(net: &Net, flow: &Flow) -> i64
     sent
 }
 
-/// Whether no node is delivered, and memory was refused neither to the flow nor to the pushes.
+/// Returns true if no node is delivered, and memory was refused neither to the flow nor to the
+/// pushes.
 fn is_between(net: &Net, flow: &Flow, pushes: &Pushes) -> bool
     requires { IsFlowOf net.now flow.now }
 {
@@ -33,7 +35,7 @@ fn is_between(net: &Net, flow: &Flow, pushes: &Pushes) -> bool
     between
 }
 
-/// How many units the pushes send over all arcs.
+/// Returns the number of units that the pushes send over all arcs.
 fn sent(net: &Net, pushes: &Pushes) -> u32
     requires pushes { ArePushesOf net.now pushes.now }
     requires usable { pushes.now.spent ≡ false }
@@ -46,7 +48,7 @@ fn sent(net: &Net, pushes: &Pushes) -> u32
     sent
 }
 
-/// Whether the second pulse sends the units of both latches.
+/// Returns true if the second pulse sends the units of both latches.
 fn sends_both(net: &Net, flow: &mut Flow, pushes: &mut Pushes) -> bool
     requires flow { IsBetween net.now flow.old }
     requires pushes { ArePushesOf net.now pushes.old }
@@ -59,7 +61,7 @@ fn sends_both(net: &Net, flow: &mut Flow, pushes: &mut Pushes) -> bool
     between & (sent(net, pushes) == 2)
 }
 
-/// Whether it does from the start.
+/// Returns true if the second pulse sends them from the start.
 pub(crate) fn sends_both_units(alloc: Global, net: &Net) -> bool {
     match start(alloc, net) {
         Ok((mut flow, mut pushes)) => {

@@ -2,7 +2,8 @@
 use std::alloc::{AllocError, Global};
 use std::sync::atomic::{AtomicU64, Ordering};
 
-/// How many calls each place had, and how many faults there were: calls at a place that there isn't, or out of turn.
+/// The number of calls that each place had, and of faults: calls at a place that doesn't exist, or
+/// out of turn.
 #[derive(Drop)]
 pub(crate) struct Calls {
     had: Vec<AtomicU64>,
@@ -10,7 +11,7 @@ pub(crate) struct Calls {
 }
 
 impl Calls {
-    /// So many places, each of which has had so many calls.
+    /// Returns `places` places, each of which has had `calls` calls.
     pub(crate) fn of(alloc: Global, places: u64, calls: u64) -> Result<Calls, AllocError> {
         let mut had = Vec::new(alloc);
         for _ in 0..places {
@@ -22,7 +23,7 @@ impl Calls {
         })
     }
 
-    /// A call at a place, which is to come after so many calls there.
+    /// Notes a call at a place, which is to come after `before` calls there.
     pub(crate) fn note(&self, place: u64, before: u64) {
         let follows = match self.had.as_slice().get(place as usize) {
             Some(calls) => calls.fetch_add(1, Ordering::SeqCst) == before,
@@ -37,7 +38,7 @@ impl Calls {
         self.faults.fetch_add(1, Ordering::SeqCst);
     }
 
-    /// How many calls a place has had.
+    /// Returns the number of calls that a place has had.
     pub(crate) fn at(&self, place: u64) -> u64 {
         match self.had.as_slice().get(place as usize) {
             Some(calls) => calls.load(Ordering::SeqCst),
@@ -45,7 +46,7 @@ impl Calls {
         }
     }
 
-    /// How many places have had another number of calls.
+    /// Returns the number of places that have had another number of calls.
     pub(crate) fn others_than(&self, calls: u64) -> u64 {
         let mut others: u64 = 0;
         for place in 0..self.had.len() as u64 {

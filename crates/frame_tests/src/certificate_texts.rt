@@ -1,5 +1,5 @@
-//! Files of certificates of both versions, one that shows its set, and a number of their faults and of objections to certificates. Contracts say
-//! all numbers.
+//! Files of certificates of both versions, one that shows its set, and a number of their faults and
+//! of objections to certificates. Contracts say all numbers.
 use crate::circuits::TWO_LATCHES;
 use aag_text::{Counted, read_aag};
 use aig_graph::{Circuit, Keep};
@@ -15,7 +15,7 @@ const SECOND_VERSION: &[u8] =
 
 const NO_FRAME: &[u8] = b"fretime-cert 2\nchoice smallest\n";
 
-/// Whether this is the text that is written.
+/// Returns true if this is the text that is written.
 fn is_written_as(alloc: Global, file: &CertFile, text: &[u8]) -> bool {
     let mut out = Counted::new(Vec::new(alloc));
     let written = write_cert(file, &mut out).is_ok();
@@ -23,7 +23,7 @@ fn is_written_as(alloc: Global, file: &CertFile, text: &[u8]) -> bool {
     written & (bytes.as_slice() == text)
 }
 
-/// Whether the file is read, and written as this text.
+/// Returns true if the file is read, and written as this text.
 fn is_read(alloc: Global, bytes: &[u8], text: &[u8]) -> bool {
     match read_cert(alloc, bytes) {
         Ok(file) => {
@@ -48,13 +48,13 @@ fn reads_and_writes_both_versions_and_numbers_faults_and_objections(rt: HostRunt
 /// The set of the gate of two latches, along the first.
 const ONE_GATE: &[u8] = b"fretime-cert 1\nframe 1 1 1\ng 5\nr 3+ 5- 5+\n";
 
-/// Whether the first certificate of the file passes all tests, no latch held.
+/// Returns true if the first certificate of the file passes all tests, no latch held.
 fn passes(alloc: Global, circuit: &Circuit, file: &CertFile) -> bool {
     let blocks = file.blocks.as_slice();
     !blocks.is_empty() && check(alloc, circuit, &blocks[0], &Keep::none()) == Ok(Verdict::Yes)
 }
 
-/// Whether it does where the file is read.
+/// Returns true if it does as it is read.
 fn passes_as_read(alloc: Global, circuit: &Circuit) -> bool {
     match read_cert(alloc, ONE_GATE) {
         Ok(file) => {
@@ -66,7 +66,7 @@ fn passes_as_read(alloc: Global, circuit: &Circuit) -> bool {
     }
 }
 
-/// Whether it does of the circuit's text.
+/// Returns true if it does for the circuit of the text.
 fn passes_of_text(alloc: Global) -> bool {
     match read_aag(alloc, TWO_LATCHES) {
         Ok(circuit) => {

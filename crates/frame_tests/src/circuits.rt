@@ -7,10 +7,11 @@ use std::alloc::Global;
 /// Two inputs, a latch at each, and the gate of the latches, which is variable 5 and the output.
 pub(crate) const TWO_LATCHES: &[u8] = b"aag 5 2 2 1 1\n2\n4\n6 2\n8 4\n10\n10 8 6\n";
 
-/// Two latches in a row after each of two inputs, and the gate of the last ones, which is the output.
+/// Two latches in a row after each of two inputs, and the gate of the last ones, which is the
+/// output.
 pub(crate) const CHAINS: &[u8] = b"aag 7 2 4 1 1\n2\n4\n6 2\n8 6\n10 4\n12 10\n14\n14 8 12\n";
 
-/// Whether this is the circuit's text.
+/// Returns true if this is the circuit's text.
 pub(crate) fn is_text(alloc: Global, circuit: &Circuit, text: &[u8]) -> bool {
     let mut out = Counted::new(Vec::new(alloc));
     let written = write_aag(circuit, &mut out).is_ok();
@@ -18,7 +19,7 @@ pub(crate) fn is_text(alloc: Global, circuit: &Circuit, text: &[u8]) -> bool {
     written & (bytes.as_slice() == text)
 }
 
-/// Whether a set was found, and has these gates.
+/// Returns true if a set was found, and has these gates.
 pub(crate) fn is_set(found: Result<ClosedSet, NoMemory>, gates: &[u32]) -> bool {
     match found {
         Ok(set) => set.vars() == gates,
@@ -26,7 +27,7 @@ pub(crate) fn is_set(found: Result<ClosedSet, NoMemory>, gates: &[u32]) -> bool 
     }
 }
 
-/// The set of one gate.
+/// Returns the set of one gate.
 pub(crate) fn set_of(alloc: Global, gate: u32) -> Option<ClosedSet> {
     match Vec::from_array(alloc, [gate]) {
         Ok(vars) => ClosedSet::new(vars),
@@ -34,7 +35,7 @@ pub(crate) fn set_of(alloc: Global, gate: u32) -> Option<ClosedSet> {
     }
 }
 
-/// So many frames at most, and nothing else that is asked for.
+/// Returns options for at most `max_frames` frames, and nothing else that is asked for.
 pub(crate) fn options(alloc: Global, max_frames: u32) -> Options {
     let mut options = Options::defaults(alloc);
     options.max_frames = max_frames;

@@ -7,13 +7,14 @@ use frame_net::passable;
 use std::alloc::Global;
 use std::test::*;
 
-/// An input, and three free latches: the first two read it, the third reads the first and is the output.
+/// An input, and three free latches: the first two read it, the third reads the first and is the
+/// output.
 const FREE_LATCHES: &[u8] = b"aag 4 1 3 1 0\n2\n4 2 4\n6 2 6\n8 4 8\n8\n";
 
 /// The first and the third are left.
 const FIRST_AND_THIRD: &[u8] = b"aag 3 1 2 1 0\n2\n4 2 4\n6 4 6\n6\n";
 
-/// Whether these two are left of the circuit.
+/// Returns true if cleaning leaves these two of the circuit.
 fn cleans_to_two(alloc: Global, circuit: &Circuit) -> bool {
     match clean(alloc, circuit, &Keep::none()) {
         Ok(cleaned) => {
@@ -26,7 +27,7 @@ fn cleans_to_two(alloc: Global, circuit: &Circuit) -> bool {
     }
 }
 
-/// Whether they are left of the circuit's text.
+/// Returns true if it leaves them of the circuit's text.
 fn cleans_text_to_two(alloc: Global) -> bool {
     match read_aag(alloc, FREE_LATCHES) {
         Ok(circuit) => {
@@ -43,7 +44,7 @@ fn tells_which_free_latches_stay(rt: HostRuntime) {
     assert!(rt; cleans_text_to_two(rt.alloc()));
 }
 
-/// Whether the gate alone is passable.
+/// Returns true if the gate alone is passable.
 fn passes_gate(alloc: Global, circuit: &Circuit) -> bool {
     match passable(alloc, circuit.aig(), &Keep::none()) {
         Ok(pass) => {
@@ -55,7 +56,7 @@ fn passes_gate(alloc: Global, circuit: &Circuit) -> bool {
     }
 }
 
-/// Whether it is in the circuit's text.
+/// Returns true if it is in the circuit of the text.
 fn passes_gate_of_text(alloc: Global) -> bool {
     match read_aag(alloc, TWO_LATCHES) {
         Ok(circuit) => {

@@ -10,7 +10,7 @@ pub(crate) struct CountingGate {
 }
 
 impl CountingGate {
-    /// The gate of so many workers, which are to pass a phase of this number first.
+    /// Returns the gate of `workers` workers, which are to pass phase `phase` first.
     pub(crate) fn from(
         alloc: Global,
         workers: u32,
@@ -20,13 +20,15 @@ impl CountingGate {
         Ok(CountingGate { calls })
     }
 
-    /// Whether each worker passed and left the phases up to this number, in turn, and no other.
+    /// Returns true if each worker passed and left the phases up to this number, in turn, and no
+    /// other.
     pub(crate) fn saw_all(&self, phases: u64) -> bool {
         let all = self.calls.others_than(phases.saturating_mul(2)) == 0;
         all & self.calls.are_without_faults()
     }
 
-    /// Whether a worker passed and left the phases up to this number, in turn, and maybe more.
+    /// Returns true if a worker passed and left the phases up to this number, in turn, and maybe
+    /// more.
     pub(crate) fn saw(&self, phases: u64, worker: u64) -> bool {
         (self.calls.at(worker) >= phases.saturating_mul(2)) & self.calls.are_without_faults()
     }

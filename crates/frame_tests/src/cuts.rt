@@ -1,4 +1,5 @@
-//! The greatest and the smallest least set of a circuit that has two, at the end of both runs. `tests/cases/retime` has others.
+//! The greatest and the smallest least set of a circuit that has two, at the end of both runs.
+//! `tests/cases/retime` has others.
 ghost use Rattle.std.specs.Prelude.{IfOk};
 ghost use Rattle.pulse.specs.Conditions.{IsMaxPreflow};
 
@@ -6,19 +7,22 @@ use crate::circuits::is_set;
 use crate::nets::net_of_text;
 use aag_text::read_aag;
 use aig_graph::{Choice, Circuit, Keep};
-use cut_cert::{chosen_of_network, greatest_cut, maximum_preflow, near_cut, routes};
+use cut_cert::{
+    chosen_of_network, greatest_cut, maximum_preflow, near_cut, routes, shown_by_network,
+};
 use frame_net::Net;
 use pulse::{Crew, MaxPreflow, OpenGate, run_to_end};
 use std::alloc::Global;
 use std::test::*;
 use std::thread::Threads;
 
-/// Three latches, the gate of the first two, which is variable 7, and the gate of that one and the third, which is variable 8 and an
-/// output as the third latch is: two latches are left after a move over the first gate, and as many after one over both.
+/// Three latches and two gates. Variable 7 is the gate of the first two latches. Variable 8 is the
+/// gate of that one and the third latch, and an output, as the third latch is. Two latches are left
+/// after a move over the first gate, and as many after one over both.
 pub(crate) const TWO_LEAST_SETS: &[u8] =
     b"aag 8 3 3 2 2\n2\n4\n6\n8 2\n10 4\n12 6\n16\n12\n14 10 8\n16 14 12\n";
 
-/// Whether there are two routes, by which the smallest has the first gate alone.
+/// Returns true if there are two routes, by which the smallest has the first gate alone.
 fn is_smallest_by_routes(alloc: Global, net: &Net, end: &MaxPreflow) -> bool
     requires { IsMaxPreflow net.now end.now }
 {
@@ -33,7 +37,8 @@ fn is_smallest_by_routes(alloc: Global, net: &Net, end: &MaxPreflow) -> bool
     }
 }
 
-/// Whether the greatest has both gates and the smallest the first, at the end of a run, if it has one.
+/// Returns true if the greatest has both gates and the smallest the first, at the end of a run, if
+/// it has one.
 fn are_both<E: Copy>(alloc: Global, net: &Net, ended: Result<MaxPreflow, E>) -> bool
     requires { IfOk ended (IsMaxPreflow net.now) }
 {
@@ -48,14 +53,14 @@ fn are_both<E: Copy>(alloc: Global, net: &Net, ended: Result<MaxPreflow, E>) -> 
     }
 }
 
-/// Whether they are so at the end of the plain run, and of the one with global relabeling.
+/// Returns true if they are so at the end of the plain run, and of the one with global relabeling.
 fn are_both_at_each_end<R: Threads + Sync>(rt: &R, alloc: Global, net: &Net) -> bool {
     let crew = Crew::new(1, OpenGate);
     let plain = are_both(alloc, net, run_to_end(rt, alloc, net, &crew));
     plain & are_both(alloc, net, maximum_preflow(rt, alloc, net, &crew))
 }
 
-/// Whether they are of the circuit's text.
+/// Returns true if they are so for the circuit of the text.
 fn are_both_of_text<R: Threads + Sync>(rt: &R, alloc: Global) -> bool {
     match net_of_text(alloc, TWO_LEAST_SETS) {
         Ok(net) => {
@@ -81,7 +86,11 @@ fn is_chosen<R: Threads + Sync>(
     gates: &[u32],
 ) -> bool {
     let crew = Crew::new(1, OpenGate);
-    match chosen_of_network(rt, alloc, circuit, &Keep::none(), choice, &crew) {
+    let alone = chosen_of_network(rt, alloc, circuit, &Keep::none(), choice, &crew);
+    if !is_set(alone, gates) {
+        return false;
+    }
+    match shown_by_network(rt, alloc, circuit, &Keep::none(), choice, &crew) {
         Ok((set, routes)) => {
             let two = routes.len() == 2;
             drop(routes);

@@ -1,4 +1,5 @@
-//! Buffered writing and reading to the end, with devices that take or give a part, or fail to take one.
+//! Buffered writing and reading to the end, with devices that take or give a part, or fail to take
+//! one.
 use counted_io::{
     Buffered, Counted, CountedRead, CountedWrite, FailAfter, Failure, OneByte, WriteError,
     read_all, write_all,
@@ -7,7 +8,7 @@ use std::alloc::Global;
 use std::fmt::Write;
 use std::test::*;
 
-/// Two lines, a text, a byte and a number.
+/// Puts two lines, a text, a byte and a number.
 fn put_some<W: CountedWrite>(writer: &mut W) -> Result<(), WriteError> {
     let mut out = Buffered::new(writer);
     out.put_line(&[6, 0, 18446744073709551615]);
@@ -20,8 +21,8 @@ fn put_some<W: CountedWrite>(writer: &mut W) -> Result<(), WriteError> {
 
 const SOME: &[u8] = b"6 0 18446744073709551615\n\nto c10";
 
-/// Whether a device that takes one byte a call, and fails from a number of calls on, was given this text, so many calls failed, and
-/// the writing ended well where none did.
+/// Writes to a device that takes one byte a call, and fails from call `calls` on. Returns true if
+/// it was given this text, `failures` calls failed, and the writing ended well if none did.
 fn is_given(alloc: Global, calls: u64, failure: Failure, text: &[u8], failures: u64) -> bool {
     let mut taken = Vec::new(alloc);
     let mut out = Counted::new(FailAfter::new(OneByte::new(&mut taken), calls, failure));
@@ -30,7 +31,7 @@ fn is_given(alloc: Global, calls: u64, failure: Failure, text: &[u8], failures: 
     (failed == (failures > 0)) & (counted == failures) & (taken.as_slice() == text)
 }
 
-/// Whether a vector is given the whole text at once.
+/// Returns true if a vector is given the whole text at once.
 fn writes_all(alloc: Global, text: &[u8]) -> bool {
     let mut out = Counted::new(Vec::new(alloc));
     let written = write_all(&mut &mut out, text).is_ok();
@@ -38,7 +39,7 @@ fn writes_all(alloc: Global, text: &[u8]) -> bool {
     written & (bytes.as_slice() == text)
 }
 
-/// Whether a device that gives one byte a call is read to its end, and is left empty.
+/// Returns true if a device that gives one byte a call is read to its end, and is left empty.
 fn reads_all(alloc: Global, text: &[u8]) -> bool {
     let device = FailAfter::new(OneByte::new(text), 1000, Failure::Error);
     let mut reader = Counted::new(device);

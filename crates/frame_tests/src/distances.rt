@@ -3,7 +3,7 @@ use frame_net::Net;
 use pulse_parts::{exact_labels, start_parts};
 use std::alloc::{AllocError, Global};
 
-/// Whether these are the distances at the start, when the source's arcs are full.
+/// Returns true if these are the distances at the start, when the source's arcs are full.
 fn starts_with(alloc: Global, net: &Net, distances: &[u32]) -> Result<bool, AllocError> {
     let nodes = net.nodes();
     net.known_capacities();
@@ -20,7 +20,7 @@ fn starts_with(alloc: Global, net: &Net, distances: &[u32]) -> Result<bool, Allo
     Ok(labels.as_slice() == distances)
 }
 
-/// Whether they are those that were worked by hand.
+/// Returns true if they are those that were worked by hand.
 pub(crate) fn start_as_worked(alloc: Global, net: &Net) -> bool {
     starts_with(alloc, net, &[6, 0, 3, 3, 2, 1]).unwrap_or(false)
 }

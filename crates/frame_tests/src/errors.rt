@@ -10,7 +10,7 @@ use std::alloc::Global;
 use std::fmt::Display;
 use std::test::*;
 
-/// Whether an error has this text.
+/// Returns true if an error has this text.
 fn is_spelt<E: Display>(alloc: Global, error: &E, text: &str) -> bool {
     match format!(in alloc; "{error}") {
         Ok(found) => found.as_str() == text,

@@ -1,4 +1,5 @@
-//! Retiming from a device that fails at each of its reads, and to one that fails at each of its writes.
+//! Retiming from a device that fails at each of its reads, and to one that fails at each of its
+//! writes.
 use crate::circuits::{CHAINS, options};
 use aag_text::{
     Counted, CountedRead, CountedWrite, FailAfter, Failure, OneByte, ReadError, WriteError,
@@ -12,7 +13,7 @@ use std::thread::Threads;
 /// The chains after their two frames.
 const TEXT: &[u8] = b"aag 5 2 2 1 1\n2\n4\n6 8\n8 10\n6\n10 4 2\n";
 
-/// Why there is no answer, where there is none.
+/// Returns why there is no answer, if there is none.
 fn fault<R: Threads + Sync, I: CountedRead, O: CountedWrite>(
     rt: &R,
     alloc: Global,
@@ -24,7 +25,8 @@ fn fault<R: Threads + Sync, I: CountedRead, O: CountedWrite>(
     retime_bytes(rt, alloc, reader, writer, options, &crew).err()
 }
 
-/// Whether a device that gives one byte a call, and fails from a number of calls on, ends the retiming before anything is written.
+/// Returns true if a device that gives one byte a call, and fails from call `calls` on, ends the
+/// retiming before anything is written.
 fn is_unread<R: Threads + Sync>(rt: &R, alloc: Global, options: &Options, calls: usize) -> bool {
     let device = FailAfter::new(OneByte::new(CHAINS), calls as u64, Failure::Error);
     let mut reader = Counted::new(device);
@@ -42,7 +44,8 @@ fn is_unread_by_each<R: Threads + Sync>(rt: &R, alloc: Global, options: &Options
     unread
 }
 
-/// How the retiming to a device that takes one byte a call, and fails from a number of calls on, ends, and what it took.
+/// Retimes to a device that takes one byte a call, and fails from call `calls` on. Returns how that
+/// ends, and what the device took.
 fn written<R: Threads + Sync>(
     rt: &R,
     alloc: Global,
@@ -56,7 +59,7 @@ fn written<R: Threads + Sync>(
     (ended, taken)
 }
 
-/// Whether as much of the text was written as there were calls before the one that failed.
+/// Returns true if the text was written up to the call that failed, a byte a call.
 fn is_beginning<R: Threads + Sync>(
     rt: &R,
     alloc: Global,
@@ -72,7 +75,7 @@ fn is_beginning<R: Threads + Sync>(
     right
 }
 
-/// Whether that is so of each call.
+/// Returns true if that is so of each call.
 fn is_written_up_to_each<R: Threads + Sync>(rt: &R, alloc: Global, options: &Options) -> bool {
     let mut written = true;
     for calls in 0..TEXT.len() {
@@ -83,7 +86,7 @@ fn is_written_up_to_each<R: Threads + Sync>(rt: &R, alloc: Global, options: &Opt
     written
 }
 
-/// Whether the whole text is written where none fails.
+/// Returns true if the whole text is written if no call fails.
 fn is_written<R: Threads + Sync>(rt: &R, alloc: Global, options: &Options) -> bool {
     let (ended, taken) = written(rt, alloc, options, TEXT.len(), Failure::Error);
     let whole = ended.is_none() & (taken.as_slice() == TEXT);

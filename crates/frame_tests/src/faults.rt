@@ -1,11 +1,11 @@
-//! A number of the faults of files and of devices, and what the latter are called. Contracts say all numbers.
+//! Some faults of files and of devices, and the names of the latter. Contracts say all numbers.
 use aag_text::{ReadError, WriteError};
 use counted_io::ReadAllError;
 use std::alloc::Global;
 use std::fmt::Display;
 use std::test::*;
 
-/// Whether an error has this text.
+/// Returns true if an error has this text.
 fn is_named<E: Display>(alloc: Global, error: &E, name: &str) -> bool {
     match format!(in alloc; "{error}") {
         Ok(text) => text.as_str() == name,

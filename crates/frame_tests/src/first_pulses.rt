@@ -1,5 +1,5 @@
-//! Which pulses of a flow are shared: two workers make the first one of a circuit of 16 latches and
-//! gates, and no second worker has a part in those of a circuit of 17. The calling thread passes
+//! The pulses of a flow that are shared. Two workers make the first one of a circuit of 16 latches
+//! and gates. No second worker has a part in those of a circuit of 17. The calling thread passes
 //! and leaves each phase of a pulse that it makes alone.
 use crate::counting_gate::CountingGate;
 use crate::wide_circuits::{BLOCK, FanIn, Units};
@@ -11,8 +11,8 @@ use std::test::*;
 use std::thread::Threads;
 
 /// A gate of the first two latches, which is the output, one of it and the next latch, and so on to
-/// the eighth, and one of the last of these and the eighth again. All gates are in the greatest
-/// least set, since nothing else reads what they read.
+/// the eighth. A last one reads the last of these and the eighth again. All gates are in the
+/// greatest least set, since nothing else reads what they read.
 const CHAIN: &[[FanIn; 2]] = &[
     [FanIn::Latch(1), FanIn::Latch(0)],
     [FanIn::Kind(0), FanIn::Latch(2)],
@@ -33,7 +33,7 @@ const SIXTEEN: Units = Units {
     joined: None,
 };
 
-/// The same with a latch that nothing reads.
+/// That circuit with a latch that nothing reads.
 const SEVENTEEN: Units = Units {
     count: 1,
     latches: 9,
@@ -69,8 +69,8 @@ fn gates_by<R: Threads + Sync>(
     }
 }
 
-/// Returns whether so many workers find a set of so many gates, and the last of them passes and
-/// leaves both phases of a pulse: then the answer is whether it is to.
+/// Returns true if `workers` workers find a set of `gates` gates, and the last worker takes part as
+/// `is_shared` says. It takes part if it passes and leaves both phases of a pulse.
 fn shares<R: Threads + Sync>(
     rt: &R,
     alloc: Global,

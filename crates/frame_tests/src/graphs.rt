@@ -9,7 +9,7 @@ use aig_graph::{
 use std::alloc::Global;
 use std::test::*;
 
-/// Two inputs and two latches.
+/// Returns two inputs and two latches.
 fn two_latches(alloc: Global) -> Result<AigBuilder, BuildError>
     ensures { IfOk result (λ builder. builder ≡ without_gates 2 (Reset.Zero ∷ Reset.Zero ∷ [])) }
 {
@@ -17,7 +17,7 @@ fn two_latches(alloc: Global) -> Result<AigBuilder, BuildError>
     AigBuilder::new(alloc, 2, resets)
 }
 
-/// A latch at each input, and the gate of the latches, which is variable 5.
+/// Returns a graph of a latch at each input, and the gate of the latches, which is variable 5.
 fn gate_of_two_latches(alloc: Global) -> Result<Aig, BuildError>
     ensures first { IfOk result (λ aig. first_latch aig ≡ 3) }
     ensures end { IfOk result (λ aig. variables_end aig ≡ 6) }
@@ -29,7 +29,7 @@ fn gate_of_two_latches(alloc: Global) -> Result<Aig, BuildError>
     Ok(builder.finish())
 }
 
-/// Whether the graph is built, and its gate's negation is 0 where the latches are 1.
+/// Returns true if the graph is built, and its gate's negation is 0 when the latches are 1.
 fn builds_the_gate(alloc: Global) -> bool {
     match gate_of_two_latches(alloc) {
         Ok(aig) => {

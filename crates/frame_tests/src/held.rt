@@ -1,4 +1,4 @@
-//! Latches that are held by their names and by their positions, and where they stand after a run.
+//! Latches that are held by their names and by their positions, and their positions after a run.
 //! `tests/cases/keep` has what the program makes of them.
 use crate::circuits::options;
 use aag_text::read_aag;
@@ -13,7 +13,8 @@ use std::{mem, slice};
 /// An input, and three latches, of which the last two have names.
 const NAMED: &[u8] = b"aag 4 1 3 1 0\n2\n4 2\n6 2\n8 8\n6\nl1 twin\nl2 stuck\n";
 
-/// Whether no latch is held where none is asked for, nor at a position past the last latch, which is refused.
+/// Returns true if no latch is held when none is asked for, and a position past the last latch is
+/// refused.
 fn holds_no_other(alloc: Global, circuit: &Circuit) -> bool {
     let past = hold(alloc, circuit, &[], &[0, 3]).err() == Some(HoldError::NoSuchLatch(1));
     match keep_of(alloc, circuit, &[]) {
@@ -22,7 +23,7 @@ fn holds_no_other(alloc: Global, circuit: &Circuit) -> bool {
     }
 }
 
-/// Whether the latch of a name, the second, and one at a position are held.
+/// Returns true if the latch of a name, the second, and one at a position are held.
 fn holds_both(alloc: Global, circuit: &Circuit, twin: &[Vec<u8>]) -> bool {
     match hold(alloc, circuit, twin, &[2]) {
         Ok(keep) => keep.positions() == [1, 2].as_slice(),
@@ -30,7 +31,7 @@ fn holds_both(alloc: Global, circuit: &Circuit, twin: &[Vec<u8>]) -> bool {
     }
 }
 
-/// Whether both are so of the circuit's text.
+/// Returns true if both are held in the circuit of the text.
 fn holds_each(alloc: Global, twin: &[Vec<u8>]) -> bool {
     match read_aag(alloc, NAMED) {
         Ok(circuit) => {
@@ -42,7 +43,7 @@ fn holds_each(alloc: Global, twin: &[Vec<u8>]) -> bool {
     }
 }
 
-/// Whether they are so of the name.
+/// Returns true if they are with this name.
 fn holds_twin(alloc: Global) -> bool {
     match Vec::from_slice(alloc, b"twin") {
         Ok(twin) => holds_each(alloc, slice::from_ref(&twin)),
@@ -58,7 +59,7 @@ fn holds_latches_by_name_and_by_position(rt: HostRuntime) {
 /// An input and two latches, of which the output reads the second alone.
 const SECOND_READ: &[u8] = b"aag 3 1 2 1 0\n2\n4 2\n6 3\n6\n";
 
-/// At which position the held latch of a run by these options stands at its end, or why the run was
+/// Returns the position of the held latch at the end of a run by these options, or why the run was
 /// refused. There is no position 9.
 fn ends_at<R: Threads + Sync>(
     rt: &R,
@@ -77,7 +78,7 @@ fn ends_at<R: Threads + Sync>(
     }
 }
 
-/// The same if the latch at this position is held.
+/// Returns [`ends_at`] with the latch at this position held.
 fn stands_at<R: Threads + Sync>(
     rt: &R,
     alloc: Global,
@@ -95,8 +96,9 @@ fn stands_at<R: Threads + Sync>(
     stands
 }
 
-/// Whether the first latch stands where it was, and the second one is the first then, since nothing
-/// holds the first; a third one is none.
+/// Returns true if held latches end as they were worked by hand. The first latch stays at its
+/// position. The second one becomes the first, since nothing holds the first. A third one doesn't
+/// exist.
 fn stand_as_worked<R: Threads + Sync>(rt: &R, alloc: Global) -> bool {
     match read_aag(alloc, SECOND_READ) {
         Ok(circuit) => {

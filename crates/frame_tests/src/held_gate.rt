@@ -17,13 +17,13 @@ pub(crate) struct HeldGate {
     calls: Calls,
 }
 
-/// The place of a worker's calls in a phase.
+/// Returns the place of a worker's calls in a phase.
 fn place_of(phase: u64, worker: u32) -> u64 {
     phase.saturating_mul(2).saturating_add(worker as u64)
 }
 
 impl HeldGate {
-    /// The gate of two workers that looks at so many phases, the first ones.
+    /// Returns the gate of two workers that looks at the first `phases` phases.
     pub(crate) fn of(alloc: Global, held: u32, phases: u64) -> Result<HeldGate, AllocError> {
         let calls = Calls::of(alloc, phases.saturating_mul(2), 0)?;
         Ok(HeldGate {

@@ -1,4 +1,4 @@
-//! What a held latch is to cleaning, passable gates, resets and moves: it is merged with no other
+//! Held latches in cleaning, passable gates, resets and moves. A held latch is merged with no other
 //! and dropped by none, and no gate that reads it moves.
 use crate::circuits::{TWO_LATCHES, is_text, set_of};
 use crate::moves::moved_over;
@@ -112,8 +112,8 @@ const IDLE_STAYS: &[u8] = b"aag 5 2 2 1 1\n2\n4\n6 2\n8 10\n8\n10 4 2\nl0 idle\n
 
 const IDLE_GOES: &[u8] = b"aag 4 2 1 1 1\n2\n4\n6 8\n6\n8 4 2\n";
 
-/// Returns whether a circuit becomes this one, with so many latches in the border, if latches move
-/// over the set and these are held.
+/// Returns true if a circuit becomes that of the text, with `border` latches in the border, if
+/// latches move over the set. These latches are held.
 fn moves_to(
     alloc: Global,
     circuit: &Circuit,

@@ -10,7 +10,7 @@ fn plain(word: u64, negated: bool) -> u64 {
     if negated { !word } else { word }
 }
 
-/// Whether the AND of the first words is that of each word.
+/// Returns true if the AND of the first words is that of each word.
 fn ands(len: usize, neg_a: bool, neg_b: bool) -> bool {
     if len > 9 {
         return false;

@@ -3,8 +3,8 @@
 //! runs by crews of several sizes, how crews share the work, cuts, routes, files of certificates,
 //! frames by crews, from bytes to bytes, simulation, and many files at once. On files: reading and
 //! writing circuits in both spellings, the order that gates take, buffered writing and devices that
-//! fail. And moves backward. They stand in a crate of their own, since a crate with tests is proved
-//! twice.
+//! fail. Moves backward, latches that are opened, and the judge of registers that moved past an
+//! enable. They stand in a crate of their own, since a crate with tests is proved twice.
 #![tactic(auto)]
 
 #[cfg(test)]
@@ -54,6 +54,8 @@ mod held_gate;
 #[cfg(test)]
 mod held_moves;
 #[cfg(test)]
+mod judged_registers;
+#[cfg(test)]
 mod lanes;
 #[cfg(test)]
 mod least_sets;
@@ -99,6 +101,8 @@ mod wide_runs;
 mod worked_backward;
 #[cfg(test)]
 mod worked_networks;
+#[cfg(test)]
+mod worked_openings;
 #[cfg(test)]
 mod worked_pulses;
 #[cfg(test)]

@@ -1,4 +1,4 @@
-//! A gate at which two workers meet: in the first two phases each of them waits as the phase begins
+//! A gate at which two workers meet. In the first two phases each of them waits as the phase begins
 //! for it, until the other has passed too. Both are to leave the phase as well.
 use pulse::PhaseGate;
 use std::sync::atomic::{AtomicU64, Ordering};
@@ -21,7 +21,7 @@ impl Arrivals {
         }
     }
 
-    /// How many came there in a phase, one of the first two.
+    /// Returns the number of workers that came there in a phase, one of the first two.
     fn in_phase(&self, phase: u64) -> &AtomicU64 {
         if phase == 0 {
             &self.in_read
@@ -34,7 +34,7 @@ impl Arrivals {
         self.in_phase(phase).fetch_add(1, Ordering::SeqCst);
     }
 
-    /// Whether two workers came there.
+    /// Returns true if two workers came there.
     fn are_two(&self, phase: u64) -> bool {
         self.in_phase(phase).load(Ordering::SeqCst) >= 2
     }
@@ -67,8 +67,8 @@ impl MeetingGate {
         self.in_vain.fetch_add(1, Ordering::SeqCst);
     }
 
-    /// Whether both workers passed and left a phase, one of the first two, and none waited in vain
-    /// in either.
+    /// Returns true if both workers passed and left a phase, one of the first two, and none waited
+    /// in vain in either.
     pub fn saw_both(&self, phase: u64) -> bool {
         self.passed.are_two(phase)
             & self.left.are_two(phase)

@@ -13,7 +13,7 @@ use std::test::*;
 /// Two inputs, a latch at each, and the gate of the latches' negations.
 const NEGATED_LATCHES: &[u8] = b"aag 5 2 2 1 1\n2\n4\n6 2\n8 4\n10\n10 9 7\n";
 
-/// Whether there is room for the free latches and so many others beside the gates.
+/// Returns true if there is room for the free latches and `others` others beside the gates.
 fn has_room(aig: &Aig, others: u32) -> bool
     ensures { IsTrue result → first_latch aig.now + free_latches aig.now + others + length
         aig.now.gates ≤ MAX_VARIABLES }
@@ -22,10 +22,11 @@ fn has_room(aig: &Aig, others: u32) -> bool
         <= MAX_VARIABLES
 }
 
-/// The one latch starts at 1 and reads the gate's copy, which reads the inputs; and the output reads the latch.
+/// The one latch starts at 1 and reads the gate's copy, which reads the inputs; and the output
+/// reads the latch.
 const MOVED: &[u8] = b"aag 4 2 1 1 1\n2\n4\n6 8 1\n6\n8 5 3\n";
 
-/// Whether the set is closed where these latches are held, its border is of this size, and the
+/// Returns true if the set is closed with these latches held, its border has this size, and the
 /// circuit moved over it has this text.
 pub(crate) fn moved_over(
     alloc: Global,
@@ -54,7 +55,7 @@ pub(crate) fn moved_over(
     }
 }
 
-/// Whether the gate alone is such a set, no latch held.
+/// Returns true if the gate alone is such a set, no latch held.
 fn moves_to_one_latch(alloc: Global, circuit: &Circuit) -> bool {
     match set_of(alloc, 5) {
         Some(set) => moved_over(alloc, circuit, &set, &Keep::none(), 1, MOVED),
@@ -62,7 +63,7 @@ fn moves_to_one_latch(alloc: Global, circuit: &Circuit) -> bool {
     }
 }
 
-/// Whether the one gate starts so, no latch held.
+/// Returns true if the one gate has this reset, no latch held.
 fn starts_at(alloc: Global, aig: &Aig, reset: Reset) -> bool {
     match resets(alloc, aig, &Keep::none()) {
         Ok(resets) => resets.as_slice() == [reset].as_slice(),
@@ -70,7 +71,7 @@ fn starts_at(alloc: Global, aig: &Aig, reset: Reset) -> bool {
     }
 }
 
-/// Whether both are so of the circuit's text.
+/// Returns true if both are so for the circuit of the text.
 fn starts_at_1_and_moves(alloc: Global) -> bool {
     match read_aag(alloc, NEGATED_LATCHES) {
         Ok(circuit) => {

@@ -11,10 +11,9 @@ use std::alloc::Global;
 use std::test::*;
 use std::thread::Threads;
 
-/// What is left of a pipelined cipher where most latches and gates are taken out: frames of 33 to
-/// 26 latches and of 26 to 23. In the second one a gate takes a unit that waits, and a unit that is
-/// left elsewhere can come to the sink by the way back. `tests/cases/json/no_network` has the
-/// answer.
+/// A pipelined cipher from which most latches and gates were taken out, with frames of 33 to 26
+/// latches and of 26 to 23. In the second one a gate takes a unit that waits. A unit that is left
+/// elsewhere can come to the sink by the way back. `tests/cases/json/no_network` has the answer.
 const PIPELINE: &[u8] =
     b"aag 66 6 33 1 27\n2\n4\n6\n8\n10\n12\n14 93\n16 4\n18 2\n20 10\n22 48\n24 102\n26 45\n28 108\n30 112\n32 125\n34 64\n36 62\n38 6\n40 18\n42 16\n44 8\n46 0 1\n48 52 1\n50 74 1\n52 12\n54 127 1\n56 128 1\n58 26 1\n60 28 1\n62 30 1\n64 24 1\n66 131 1\n68 34 1\n70 132 1\n72 36 1\n74 52\n76 38\n78 76\n14\n80 68 66\n82 80 71\n84 83 71\n86 84 73\n88 87 67\n90 89 67\n92 91 67\n94 50 46\n96 95 51\n98 96 43\n100 97 42\n102 101 99\n104 54 53\n106 104 40\n108 107 40\n110 57 47\n112 111 20\n114 58 18\n116 114 60\n118 117 18\n120 119 59\n122 121 59\n124 122 18\n126 43 23\n128 38 23\n130 33 17\n132 78 21\n";
 

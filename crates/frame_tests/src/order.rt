@@ -5,7 +5,7 @@ use ascii_file::{Reads, are_in_file, gate_order};
 use std::alloc::Global;
 use std::test::*;
 
-/// Each gate's place among those that it reads first and second, in a file where they stand out of order.
+/// Each gate's place among those that it reads first and second, in a file that isn't in order.
 const GATES: [Reads; 4] = [
     Reads {
         first: Some(2),
@@ -25,7 +25,7 @@ const GATES: [Reads; 4] = [
     },
 ];
 
-/// Whether the gates take this order.
+/// Returns true if the gates take this order.
 fn are_ordered_as(alloc: Global, gates: &[Reads], wanted: &[u32]) -> bool {
     if gates.len() >= 1 << 20 || !are_in_file(gates) {
         return false;

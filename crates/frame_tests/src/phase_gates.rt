@@ -1,5 +1,6 @@
-//! That each worker of a crew passes the gate of each phase once, and then leaves it once, before it passes the next; that two of them are in a
-//! phase at once; that phases count on after a pulse by ranges; and that a later pulse is handed to the crew too.
+//! Each worker of a crew passes the gate of each phase once, and then leaves it once, before it
+//! passes the next. Two of them are in a phase at once. Phases count on after a pulse by ranges,
+//! and a later pulse is handed to the crew too.
 use crate::counting_gate::CountingGate;
 use crate::meeting_gates::MeetingGate;
 use crate::starts::start;
@@ -9,7 +10,7 @@ use pulse::{Crew, PhaseGate, run_to_end, run_with_global_relabeling};
 use std::alloc::Global;
 use std::thread::Threads;
 
-/// How many pulses a crew's run makes, and 0 where memory is refused.
+/// Returns the number of pulses that a crew's run makes, or 0 if memory is refused.
 fn pulses_of<R: Threads + Sync, G: PhaseGate>(
     rt: &R,
     alloc: Global,
@@ -26,7 +27,7 @@ fn pulses_of<R: Threads + Sync, G: PhaseGate>(
     }
 }
 
-/// Whether a crew makes a pulse after one by ranges, from the start.
+/// Returns true if a crew makes a pulse after one by ranges, from the start.
 fn makes_a_pulse_after_ranges<R: Threads + Sync, G: PhaseGate>(
     rt: &R,
     alloc: Global,
@@ -44,7 +45,7 @@ fn makes_a_pulse_after_ranges<R: Threads + Sync, G: PhaseGate>(
     }
 }
 
-/// Whether so many workers pass and leave both phases of each of the six pulses of a run.
+/// Returns true if `workers` workers pass and leave both phases of each of the six pulses of a run.
 fn sees_all<R: Threads + Sync>(rt: &R, alloc: Global, net: &Net, workers: u32) -> bool {
     match CountingGate::from(alloc, workers, 0) {
         Ok(gate) => {
@@ -58,7 +59,8 @@ fn sees_all<R: Threads + Sync>(rt: &R, alloc: Global, net: &Net, workers: u32) -
     }
 }
 
-/// Whether one worker passes and leaves the third and the fourth phase, which are those of the pulse after one by ranges.
+/// Returns true if one worker passes and leaves the third and the fourth phase, which are those of
+/// the pulse after one by ranges.
 fn sees_all_after_ranges<R: Threads + Sync>(rt: &R, alloc: Global, net: &Net) -> bool {
     match CountingGate::from(alloc, 1, 2) {
         Ok(gate) => {
@@ -72,7 +74,8 @@ fn sees_all_after_ranges<R: Threads + Sync>(rt: &R, alloc: Global, net: &Net) ->
     }
 }
 
-/// Whether one worker, which is the calling thread, two, and more workers than nodes do so of a run, and one after a pulse by ranges.
+/// Returns true if one worker, which is the calling thread, two, and more workers than nodes do so
+/// in a run. One does so after a pulse by ranges.
 pub(crate) fn each_crew_passes<R: Threads + Sync>(rt: &R, alloc: Global, net: &Net) -> bool {
     let one = sees_all(rt, alloc, net, 1);
     let two = sees_all(rt, alloc, net, 2);
@@ -80,15 +83,15 @@ pub(crate) fn each_crew_passes<R: Threads + Sync>(rt: &R, alloc: Global, net: &N
     one & two & many & sees_all_after_ranges(rt, alloc, net)
 }
 
-/// Whether two workers are in each phase of the first pulse at once.
+/// Returns true if two workers are in each phase of the first pulse at once.
 pub(crate) fn two_workers_meet<R: Threads + Sync>(rt: &R, alloc: Global, net: &Net) -> bool {
     let crew = Crew::new(2, MeetingGate::new());
     let pulses = pulses_of(rt, alloc, net, &crew);
     (pulses == 6) & crew.gate().saw_both(0) & crew.gate().saw_both(1)
 }
 
-/// Whether the second worker has a part in both phases of the second pulse. All four latches of twelve nodes are active in the first,
-/// which is over a quarter.
+/// Returns true if the second worker has a part in both phases of the second pulse. All four
+/// latches of twelve nodes are active in the first, which is over a quarter.
 pub(crate) fn second_pulse_is_shared<R: Threads + Sync>(rt: &R, alloc: Global, net: &Net) -> bool {
     match CountingGate::from(alloc, 2, 0) {
         Ok(gate) => {

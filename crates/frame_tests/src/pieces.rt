@@ -5,7 +5,7 @@ use aig_graph::{Circuit, Gate, Lit};
 use std::alloc::Global;
 use std::test::*;
 
-/// Whether a circuit was read that has just one gate, which reads its two latches.
+/// Returns true if a circuit was read that has just one gate, which reads its two latches.
 fn is_of_latches(read: Result<Circuit, ReadError>) -> bool {
     let gate = Gate {
         rhs0: Lit::new(4, false),
@@ -19,7 +19,7 @@ fn is_of_latches(read: Result<Circuit, ReadError>) -> bool {
     is
 }
 
-/// Whether that is so of an ASCII file in two pieces.
+/// Returns true if that is so of an ASCII file in two pieces.
 fn reads_ascii(alloc: Global, first: &[u8], second: &[u8]) -> bool {
     let mut reader = AagReader::new(alloc);
     let first_taken = reader.feed(first).is_ok();
@@ -29,7 +29,7 @@ fn reads_ascii(alloc: Global, first: &[u8], second: &[u8]) -> bool {
     first_taken & second_taken & is_of_latches(read)
 }
 
-/// Whether that is so of a binary file in two pieces.
+/// Returns true if that is so of a binary file in two pieces.
 fn reads_binary(alloc: Global, first: &[u8], second: &[u8]) -> bool {
     let mut reader = AigReader::new(alloc);
     let first_taken = reader.feed(first).is_ok();

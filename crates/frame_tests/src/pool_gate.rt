@@ -1,5 +1,6 @@
-//! A gate that counts what the workers of a pool pass and leave, and holds one of them until the others have left. A wrong number, a call too
-//! many and a hold that never began tell as much as one in vain: a pool that gives its gate other numbers would never be held.
+//! A gate that counts what the workers of a pool pass and leave, and holds one of them until the
+//! others have left. A wrong number, a call too many and a hold that never began tell as much as
+//! one in vain. A pool that gives its gate other numbers would never be held.
 use crate::calls::Calls;
 use pulse::PhaseGate;
 use std::alloc::{AllocError, Global};
@@ -8,7 +9,8 @@ use std::sync::atomic::{AtomicU64, Ordering};
 /// How often what is held looks for the others at most.
 const TURNS: u64 = 1 << 28;
 
-/// What is held as its phase begins: the worker of this number in phase 0, or the job of this number.
+/// What is held as its phase begins: the worker of this number in phase 0, or the job of this
+/// number.
 #[derive(Clone, Copy, Drop)]
 pub(crate) enum Held {
     Worker(u64),
@@ -42,7 +44,7 @@ impl PoolGate {
         })
     }
 
-    /// Waits until all others have left, so many turns at most.
+    /// Waits until all others have left, for `TURNS` turns at most.
     fn hold(&self, others: &Calls) {
         self.holds.fetch_add(1, Ordering::SeqCst);
         for _ in 0..TURNS {
@@ -69,7 +71,8 @@ impl PoolGate {
         }
     }
 
-    /// A worker's call in a phase, which is to come after so many in it. A job's come while the worker is in phase 0.
+    /// Notes a worker's call in a phase, which is to come after `before` calls in it. Those of a
+    /// job come while the worker is in phase 0.
     fn note(&self, phase: u64, worker: u32, before: u64) {
         if phase == 0 {
             self.workers.note(worker as u64, before);
@@ -81,7 +84,8 @@ impl PoolGate {
         self.jobs.note(phase.saturating_sub(1), before);
     }
 
-    /// Whether each worker and each job passed once and left once, no other did, and what was to be held was held once, not in vain.
+    /// Returns true if each worker and each job passed once and left once, and no other did. What
+    /// was to be held was held once, not in vain.
     pub(crate) fn saw_all(&self) -> bool {
         let all = (self.workers.others_than(2) == 0) & (self.jobs.others_than(2) == 0);
         let in_turn = self.workers.are_without_faults() & self.jobs.are_without_faults();

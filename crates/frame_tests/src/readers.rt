@@ -4,8 +4,8 @@ use aig_graph::{Circuit, Latch, Lit, Reset};
 use std::alloc::Global;
 use std::test::*;
 
-/// Two inputs, a latch at each, of which the second starts at 1, and the gate of the first latch
-/// and the negated second, which is the output, negated. The second input has a name.
+/// Two inputs and a latch at each; the second latch starts at 1. The gate of the first latch and
+/// the negated second is the output, negated. The second input has a name.
 const NAMED_INPUT: &[u8] = b"aag 5 2 2 1 1\n2\n4\n6 2\n8 4 1\n11\n10 9 6\ni1 go\n";
 
 /// Returns whether a literal and its negation differ in the sign alone.

@@ -1,4 +1,5 @@
-//! The frames of two chains of latches, and that the set of a frame doesn't rest on what is known of the last flow.
+//! The frames of two chains of latches. The set of a frame doesn't depend on what is known of the
+//! last flow.
 use crate::circuits::{CHAINS, is_set, options};
 use crate::meeting_gates::MeetingGate;
 use aag_text::read_aag;
@@ -12,7 +13,7 @@ use std::test::*;
 use std::thread::Threads;
 use unit_flows::GateFlow;
 
-/// What is told of a frame over one gate.
+/// Returns the report of a frame over one gate.
 fn over_one_gate(before: u32) -> FrameReport {
     FrameReport {
         before,
@@ -21,7 +22,7 @@ fn over_one_gate(before: u32) -> FrameReport {
     }
 }
 
-/// Whether two latches are left, after two frames. `tests/cases/frames` has the text.
+/// Returns true if two latches are left, after two frames. `tests/cases/frames` has the text.
 fn has_two_latches(retimed: &Retimed) -> bool {
     (retimed.frames.as_slice() == [over_one_gate(4), over_one_gate(3)].as_slice())
         & (retimed.circuit.aig().latches().len() == 2)
@@ -29,7 +30,8 @@ fn has_two_latches(retimed: &Retimed) -> bool {
         & retimed.kept_free.is_empty()
 }
 
-/// Whether two frames are taken where no more help, by two workers that are at work at once in each phase of the first pulse.
+/// Returns true if two frames are taken, and none after that would help. Two workers take them,
+/// which are at work at once in each phase of the first pulse.
 fn takes_two_frames<R: Threads + Sync>(rt: &R, alloc: Global, circuit: &Circuit) -> bool {
     let options = options(alloc, 1 << 28);
     let crew = Crew::new(2, MeetingGate::new());
@@ -43,7 +45,7 @@ fn takes_two_frames<R: Threads + Sync>(rt: &R, alloc: Global, circuit: &Circuit)
     right & crew.gate().saw_both(0) & crew.gate().saw_both(1)
 }
 
-/// The flow of a gate that a number spells, bit by bit.
+/// Returns the flow of a gate that a number spells, bit by bit.
 fn flow_of(number: u32) -> GateFlow {
     GateFlow {
         first_up: number % 2 == 1,
@@ -54,7 +56,7 @@ fn flow_of(number: u32) -> GateFlow {
     }
 }
 
-/// Whether the gate is the greatest least set, where these are the flows that are known.
+/// Returns true if the gate is the greatest least set, with these known flows.
 fn finds_gate<R: Threads + Sync>(
     rt: &R,
     alloc: Global,
@@ -71,7 +73,7 @@ fn finds_gate<R: Threads + Sync>(
     is_set(set, &[7])
 }
 
-/// Whether it is where the flow of a number is that of so many gates.
+/// Returns true if it is with `count` known flows of the number `number`.
 fn finds_gate_along<R: Threads + Sync>(
     rt: &R,
     alloc: Global,
@@ -85,7 +87,7 @@ fn finds_gate_along<R: Threads + Sync>(
     }
 }
 
-/// Whether it is for many flows, of too few gates, of the one that there is, and of too many.
+/// Returns true if it is for many flows, of too few gates, of the one gate, and of too many.
 fn finds_gate_whatever_is_known<R: Threads + Sync>(
     rt: &R,
     alloc: Global,
@@ -98,7 +100,7 @@ fn finds_gate_whatever_is_known<R: Threads + Sync>(
     finds
 }
 
-/// Whether both are so of the chains.
+/// Returns true if both are so of the chains.
 fn chains_are_as_worked<R: Threads + Sync>(rt: &R, alloc: Global) -> bool {
     match read_aag(alloc, CHAINS) {
         Ok(circuit) => {

@@ -1,4 +1,4 @@
-//! Where runs over the first worked network end.
+//! The ends of runs over the first worked network.
 ghost use Rattle.std.specs.Prelude.{IfOk};
 ghost use Rattle.pulse.specs.Conditions.{IsMaxPreflow};
 
@@ -33,7 +33,7 @@ fn has_flow(net: &Net, end: &MaxPreflow) -> bool
     same
 }
 
-/// Whether a run ended after so many pulses, and left the labels that were worked by hand.
+/// Returns true if a run ended after `pulses` pulses, and left the labels that were worked by hand.
 fn ended_as_worked(net: &Net, ended: Result<MaxPreflow, PulseError>, pulses: u64) -> bool
     requires { IfOk ended (IsMaxPreflow net.now) }
 {
@@ -49,8 +49,9 @@ fn ended_as_worked(net: &Net, ended: Result<MaxPreflow, PulseError>, pulses: u64
     }
 }
 
-/// Whether a run of six pulses does, and one with global relabeling: in that both units of excess go to the gate; one goes on to the
-/// sink, the other back to a latch, which can't reach the sink any more.
+/// Returns true if a run of six pulses does, and one with global relabeling. In that both units of
+/// excess go to the gate. One goes on to the sink, the other back to a latch, which can't reach the
+/// sink any more.
 pub(crate) fn end_as_worked<R: Threads + Sync>(rt: &R, alloc: Global, net: &Net) -> bool {
     let crew = Crew::new(2, OpenGate);
     let plain = ended_as_worked(net, run_to_end(rt, alloc, net, &crew), 6);

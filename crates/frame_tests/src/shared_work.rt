@@ -1,6 +1,6 @@
-//! How the work on a frame is shared: each worker of a crew has a share of each step, and either of
-//! two can bring the flow of all parts while the other is held. The answer is the same whoever does
-//! it, so the shares are looked at by themselves.
+//! Shared work on a frame. Each worker of a crew has a share of each step. Either of two can bring
+//! the flow of all parts while the other is held. The answer doesn't depend on the worker, so the
+//! shares are looked at by themselves.
 use crate::held_gate::HeldGate;
 use crate::unit_parts::{BLOCKS, SHARED};
 use aig_graph::{Circuit, Keep, NoMemory};
@@ -44,7 +44,7 @@ fn shares_on<R: Threads + Sync, G: PhaseGate>(
     }
 }
 
-/// Returns whether each worker brought the flow of so many parts.
+/// Returns true if each worker brought the flow of its number of parts in `drawing`.
 fn are_drawn(shares: Option<Shares>, drawing: &[usize]) -> bool {
     match shares {
         Some(shares) => {
@@ -136,7 +136,7 @@ fn each_of_seven_workers_gathers_flows(rt: HostRuntime) {
     assert!(rt; gathering == 7);
 }
 
-/// Returns whether ranges follow one another from the first place to the last, and each has so many
+/// Returns true if ranges follow one another from the first place to the last, and each has `least`
 /// places or one more.
 fn are_even(ranges: &[Range], places: u32, least: u32) -> bool {
     let mut even = true;
@@ -150,7 +150,7 @@ fn are_even(ranges: &[Range], places: u32, least: u32) -> bool {
     even & (first == places)
 }
 
-/// Returns whether so many workers share a pulse over so many places evenly.
+/// Returns true if `workers` workers share a pulse over `places` places evenly.
 fn share_evenly(alloc: Global, workers: u32, places: u32, least: u32) -> bool {
     match pulse_ranges(alloc, workers, places as usize) {
         Ok(ranges) => {

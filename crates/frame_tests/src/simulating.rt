@@ -1,4 +1,5 @@
-//! Stimuli that are read, traces of a circuit of two latches, and where two circuits differ first.
+//! Stimuli that are read, traces of a circuit of two latches, and the first difference of two
+//! circuits.
 use crate::circuits::TWO_LATCHES;
 use aag_text::{ReadError, read_aag};
 use aig_graph::Circuit;
@@ -15,7 +16,7 @@ const STIMULUS: &[u8] = b"=\n:11\n:01\n:11\n=\n:11\n";
 /// Two latches as in the other circuit, and the gate of their negations.
 const NEGATED_LATCHES: &[u8] = b"aag 5 2 2 1 1\n2\n4\n6 2\n8 4\n10\n10 9 7\n";
 
-/// The same as the other circuit, with a gate of one latch alone.
+/// The other circuit with a gate of one latch alone.
 const ONE_READ: &[u8] = b"aag 5 2 2 1 1\n2\n4\n6 2\n8 4\n10\n10 8 8\n";
 
 /// One input, and no latch.
@@ -29,8 +30,8 @@ fn has_sequences(stimulus: &Stimulus) -> bool {
         & (stimulus.steps(2) == None)
 }
 
-/// Returns whether the gate is 1 in the second step alone, after both inputs were; the trace ends
-/// where the sequences do.
+/// Returns true if the gate is 1 in the second step alone, after both inputs were, and the trace
+/// ends as the sequences do.
 fn is_as_worked(trace: &Trace) -> bool {
     (trace.get(0, 0, 0) == Some(false))
         & (trace.get(0, 1, 0) == Some(true))
@@ -59,7 +60,7 @@ fn traces<R: Threads + Sync>(
     }
 }
 
-/// Returns where the circuit of a text differs first from another.
+/// Returns the first place at which the circuit of a text differs from another.
 fn differs<R: Threads + Sync>(
     rt: &R,
     alloc: Global,
@@ -85,9 +86,9 @@ fn is_at_step(found: Result<Result<Option<Place>, SimError>, ReadError>, at: usi
     }
 }
 
-/// Returns whether the circuit differs from itself nowhere, from that of the negations at once,
-/// from that of one latch after the step in which one input is 1, and in shape from one with
-/// another number of inputs.
+/// Returns true if the circuit differs from itself nowhere, and from that of the negations at once.
+/// From that of one latch it differs after the step in which one input is 1. From one with another
+/// number of inputs it differs in shape.
 fn differ_as_worked<R: Threads + Sync>(
     rt: &R,
     alloc: Global,
@@ -131,7 +132,7 @@ fn simulates<R: Threads + Sync>(rt: &R, alloc: Global) -> bool {
     }
 }
 
-/// Returns whether a line of one input is refused where there are two.
+/// Returns true if a line of one input is refused for a circuit of two.
 fn refuses_width(alloc: Global) -> bool {
     match read_stimulus(alloc, b"=\n:1\n", 2, 0) {
         Ok(stimulus) => {

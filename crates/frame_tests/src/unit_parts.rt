@@ -1,6 +1,7 @@
-//! A frame that is cut: workers that own whole components are at work at once, a crew shares the pulses of a large one, and the flow that they find is
-//! the same for every number of workers. So is that of a frame that isn't cut, whose pulses a crew shares: two workers are in a phase at the same moment
-//! in the first pulse of a small circuit, and in one of many active nodes.
+//! A frame that is cut. Workers that own whole components are at work at once, and a crew shares
+//! the pulses of a large one. The flow that they find is one flow for every number of workers. So
+//! is that of a frame that isn't cut, whose pulses a crew shares. Two workers are in a phase at
+//! once in the first pulse of a small circuit, and in one of many active nodes.
 ghost use Rattle.std.specs.Prelude.{◌<◌, ◌≤◌};
 
 use crate::circuits::TWO_LATCHES;
@@ -52,7 +53,7 @@ pub(crate) const BLOCKS: Units = Units {
     joined: None,
 };
 
-/// So many blocks leave as many active nodes as a pulse is shared out for.
+/// These blocks leave as many active nodes as a pulse is shared out for.
 const MANY_BLOCKS: Units = Units {
     count: 4096,
     latches: 3,
@@ -78,11 +79,12 @@ const RACES: Units = Units {
     joined: None,
 };
 
-/// Six pairs of latches, and the gate of each pair, which is an output. So is the second latch of each second pair.
+/// Six pairs of latches, and the gate of each pair, which is an output. So is the second latch of
+/// each second pair.
 const SIX_PAIRS: &[u8] =
     b"aag 30 12 12 9 6\n2\n4\n6\n8\n10\n12\n14\n16\n18\n20\n22\n24\n26 2\n28 4\n30 6\n32 8\n34 10\n36 12\n38 14\n40 16\n42 18\n44 20\n46 22\n48 24\n50\n52\n54\n56\n58\n60\n32\n40\n48\n50 28 26\n52 32 30\n54 36 34\n56 40 38\n58 44 42\n60 48 46\n";
 
-/// How many gates a set has, if there is one.
+/// Returns the number of gates of a set, if there is one.
 fn gates_of(shown: Result<Option<ClosedSet>, NoMemory>) -> Option<usize> {
     match shown {
         Ok(Some(set)) => Some(set.vars().len()),
@@ -91,7 +93,7 @@ fn gates_of(shown: Result<Option<ClosedSet>, NoMemory>) -> Option<usize> {
     }
 }
 
-/// How many gates the greatest least set has that a crew shows, or none.
+/// Returns the number of gates of the greatest least set that a crew shows, or none.
 fn shown_gates<R: Threads + Sync, G: PhaseGate>(
     rt: &R,
     alloc: Global,
@@ -112,7 +114,8 @@ fn shown_gates<R: Threads + Sync, G: PhaseGate>(
     }
 }
 
-/// Whether two workers meet in the first and the last of these phases, of the first two, and show a set of so many gates.
+/// Returns true if two workers meet in the first and the last of these phases, which are of the
+/// first two. They are to show a set of `gates` gates.
 fn meet<R: Threads + Sync>(
     rt: &R,
     alloc: Global,
@@ -129,7 +132,7 @@ fn meet<R: Threads + Sync>(
     (shown == Some(gates)) & crew.gate().saw_both(first) & crew.gate().saw_both(last)
 }
 
-/// Whether they do on the circuit of a text.
+/// Returns true if they do on the circuit of a text.
 fn meet_in<R: Threads + Sync>(
     rt: &R,
     alloc: Global,
@@ -148,7 +151,7 @@ fn meet_in<R: Threads + Sync>(
     }
 }
 
-/// Whether they do on the circuit of units.
+/// Returns true if they do on the circuit of units.
 fn meet_on<R: Threads + Sync>(
     rt: &R,
     alloc: Global,
@@ -167,7 +170,8 @@ fn meet_on<R: Threads + Sync>(
     }
 }
 
-/// Whether so many workers show a set of so many gates by the same flow, from nothing and then along itself.
+/// Returns true if `workers` workers show a set of `gates` gates by the flow `wanted`, from nothing
+/// and then along itself.
 fn finds<R: Threads + Sync>(
     rt: &R,
     alloc: Global,
@@ -189,7 +193,7 @@ fn finds<R: Threads + Sync>(
     (shown == Some(gates)) & same & (again == Some(gates))
 }
 
-/// Whether three, seven and sixty-four workers find the flow that two find.
+/// Returns true if three, seven and sixty-four workers find the flow that two find.
 fn find_the_same<R: Threads + Sync>(
     rt: &R,
     alloc: Global,
@@ -207,7 +211,7 @@ fn find_the_same<R: Threads + Sync>(
     (shown == Some(gates)) & same
 }
 
-/// Whether they do so on the circuit of units.
+/// Returns true if they do so on the circuit of units.
 fn find_the_same_on<R: Threads + Sync>(
     rt: &R,
     alloc: Global,
@@ -250,23 +254,25 @@ fn parts_have_the_same_flow_for_every_number_of_workers(rt: HostRuntime) {
     assert!(rt; find_the_same_on(&rt, rt.alloc(), &BLOCKS, SHARED, 192));
 }
 
-// In the fourth pulse two units are before the third gate of each of 2048 races, and one is before the sixth. So 4096 nodes are active, and the pulse is
-// shared out. The third gate keeps a unit, and the sixth pushes there. It has to see the label of before, in whichever range that is.
+// In the fourth pulse two units are before the third gate of each of 2048 races, and one is before
+// the sixth. So 4096 nodes are active, and the pulse is shared out. The third gate keeps a unit,
+// and the sixth pushes there. It has to see the label of before, in whichever range that is.
 #[test]
 fn pulses_leave_the_same_flow_for_every_number_of_workers(rt: HostRuntime) {
     assert!(rt; find_the_same_on(&rt, rt.alloc(), &RACES, WHOLE, 16_384));
 }
 
-// A gate takes the unit of its second latch where both wait. With the marks of another pair it does so where that latch is an output. Then the first
-// latch's unit stays, since it can go nowhere but through the gate, and one unit fewer leaves.
-// In all, six leave at gates and three at latches. As many latches are left where all gates move, so the greatest least set has these.
+// A gate takes the unit of its second latch if both wait. With the marks of another pair it does so
+// if that latch is an output. Then the first latch's unit stays, since it can go nowhere but
+// through the gate, and one unit fewer leaves. In all, six leave at gates and three at latches. As
+// many latches are left after a move over all gates, so the greatest least set has these.
 #[test]
 fn each_part_has_marks_of_its_own(rt: HostRuntime) {
     assert!(rt; meet_in(&rt, rt.alloc(), SIX_PAIRS, EACH, [0, 0], 6));
 }
 
-// As the head of `chosen_least_in_parts` says. A circuit of 2^19 latches and gates is cut into parts of 2^13, and a part of over 2^16 is large. A size
-// that nothing reaches would change no set.
+// As the head of `chosen_least_in_parts` says. A circuit of 2^19 latches and gates is cut into
+// parts of 2^13, and a part of over 2^16 is large. A size that nothing reaches would change no set.
 #[test]
 fn a_run_cuts_from_the_sizes_that_are_told(rt: HostRuntime) {
     let Sizes {

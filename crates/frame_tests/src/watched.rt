@@ -9,8 +9,8 @@ use std::alloc::Global;
 use std::test::*;
 use std::thread::Threads;
 
-/// How many stages of a run there were so far, and whether each was the one of the chains' two
-/// frames; and how many sets a network found, once that is known.
+/// The number of stages of a run so far, and whether each was that of the chains' two frames. Once
+/// it is known, also the number of sets that a network found.
 #[derive(Drop)]
 struct Stages {
     count: u32,
@@ -18,8 +18,8 @@ struct Stages {
     networks: Option<u32>,
 }
 
-/// Whether a stage of the chains' run is the one with this number. A look for a set is told how many frames were taken, and how many known latches
-/// and gates there are.
+/// Returns true if a stage of the chains' run is the one with this number. A look for a set is told
+/// the number of frames that were taken, and of known latches and gates.
 fn is_stage(number: u32, stage: Stage<'_>) -> bool {
     match stage {
         Stage::Cleaning => number == 0,
@@ -48,7 +48,7 @@ impl FrameWatcher for Stages {
     }
 }
 
-/// Whether a watcher of the chains is notified of each stage of both frames.
+/// Returns true if a watcher of the chains is notified of each stage of both frames.
 fn tells_each_stage<R: Threads + Sync>(rt: &R, alloc: Global) -> bool {
     let options = options(alloc, 8);
     let crew = Crew::new(1, OpenGate);

@@ -1,4 +1,5 @@
-//! Wide circuits: many units of a few latches and gates, side by side, or joined so that they are two components.
+//! Wide circuits: many units of a few latches and gates, side by side, or joined into two
+//! components.
 use aag_text::{Counted, CountedWrite, ReadError, read_aag};
 use aig_graph::Circuit;
 use counted_io::Buffered;
@@ -11,9 +12,10 @@ pub(crate) enum FanIn {
     Kind(u64),
 }
 
-/// So many units, each of so many latches, which read inputs, and a gate of each kind, of a larger and a smaller fan-in. The gates of so many
-/// kinds, the first, are outputs. Each half of the units may be joined by a gate of each two that come one after the other, which reads their
-/// gates of a kind: an output, so it isn't in a least set if it reads outputs.
+/// Has `count` units of `latches` latches, which read inputs. Each unit has a gate of each of the
+/// `kinds`, of a larger and a smaller fan-in. The gates of the first `outputs` kinds are outputs.
+/// Each half of the units may be joined: a gate for each two units that follow one another reads
+/// their gates of a kind. It is an output, so it isn't in a least set if it reads outputs.
 #[derive(Clone, Copy)]
 pub(crate) struct Units {
     pub(crate) count: u64,
@@ -26,17 +28,20 @@ pub(crate) struct Units {
 /// Two latches and their gate.
 pub(crate) const PAIR: &[[FanIn; 2]] = &[[FanIn::Latch(1), FanIn::Latch(0)]];
 
-/// The gate of the first and the third latch, that of the second latch and this gate, and that of the second and the third latch. A start
-/// brings two of the three units of a block's latches to the sink, so that one is left in each.
+/// A gate of the first and the third latch, one of that gate and the second latch, and one of both
+/// later latches. A start brings two of the three units of a block's latches to the sink, and
+/// leaves one in each.
 pub(crate) const BLOCK: &[[FanIn; 2]] = &[
     [FanIn::Latch(2), FanIn::Latch(0)],
     [FanIn::Kind(0), FanIn::Latch(1)],
     [FanIn::Latch(2), FanIn::Latch(1)],
 ];
 
-/// A race of seven latches, of which the gates of the first five kinds are outputs. A start takes the units of the second and the fourth latch
-/// through the first two gates. It takes that of the fifth up the last three, which lead nowhere. Then three are left that could all come to before
-/// the third gate, and one of them can go through. The start from the sink down brings that one, but loses one at the fourth and fifth gate.
+/// A race of seven latches, of which the gates of the first five kinds are outputs. A start takes
+/// the units of the second and the fourth latch through the first two gates. It takes that of the
+/// fifth up the last three, which lead nowhere. Then three are left that could all come to before
+/// the third gate, and one of them can go through. The start from the sink down brings that one,
+/// but loses one at the fourth and fifth gate.
 pub(crate) const RACE: &[[FanIn; 2]] = &[
     [FanIn::Latch(1), FanIn::Latch(0)],
     [FanIn::Latch(3), FanIn::Latch(2)],
@@ -49,7 +54,7 @@ pub(crate) const RACE: &[[FanIn; 2]] = &[
 ];
 
 impl Units {
-    /// The circuit.
+    /// Returns the circuit.
     pub(crate) fn circuit(&self, alloc: Global) -> Result<Circuit, ReadError> {
         let mut text = Counted::new(Vec::new(alloc));
         self.put(&mut text);
@@ -59,7 +64,7 @@ impl Units {
         circuit
     }
 
-    /// Puts the circuit's text. Where memory is refused, an end of it is missing.
+    /// Puts the circuit's text. If memory is refused, an end of it is missing.
     fn put<W: CountedWrite>(&self, text: &mut W) {
         let mut out = Buffered::new(text);
         let joins = match self.joined {
@@ -91,7 +96,7 @@ impl Units {
         out.put_line(&[variables, latches, latches, outputs, gates]);
     }
 
-    /// Puts the inputs, the latches and so many outputs.
+    /// Puts the inputs, the latches and `outputs` outputs.
     fn put_latches<W: CountedWrite>(&self, out: &mut Buffered<'_, W>, outputs: u64) {
         let latches = self.count.saturating_mul(self.latches);
         for latch in 0..latches {
@@ -105,7 +110,7 @@ impl Units {
         }
     }
 
-    /// The number of the variable of a fan-in of one of the units.
+    /// Returns the number of the variable of a fan-in of one of the units.
     fn number(&self, fan_in: FanIn, unit: u64) -> u64 {
         match fan_in {
             FanIn::Latch(latch) => self
@@ -139,7 +144,7 @@ impl Units {
         }
     }
 
-    /// Puts the gates that join the units, which come after so many others.
+    /// Puts the gates that join the units, which come after `gates` others.
     fn put_joins<W: CountedWrite>(&self, out: &mut Buffered<'_, W>, joined: FanIn, gates: u64) {
         let latches = self.count.saturating_mul(self.latches);
         let mut next = latches.saturating_mul(2).saturating_add(gates);
@@ -156,7 +161,7 @@ impl Units {
     }
 }
 
-/// The literal of the variable with a number, from 0.
+/// Returns the literal of the variable with a number, from 0.
 fn literal(number: u64) -> u64 {
     number.saturating_add(1).saturating_mul(2)
 }

@@ -1,4 +1,4 @@
-//! That two workers own the components of a frame that is large enough to be cut, both at the same moment.
+//! Two workers own the components of a frame that is large enough to be cut, both at once.
 use crate::circuits::options;
 use crate::meeting_gates::MeetingGate;
 use crate::wide_circuits::{PAIR, Units};
@@ -9,7 +9,7 @@ use std::alloc::Global;
 use std::test::*;
 use std::thread::Threads;
 
-/// So many pairs of latches and their gates are the least number that is cut, and one place more.
+/// The least number of pairs of latches that is cut: with their gates they are 2^19 + 1 places.
 const PAIRS: usize = 174_763;
 
 const ALL_PAIRS: Units = Units {
@@ -20,7 +20,7 @@ const ALL_PAIRS: Units = Units {
     joined: None,
 };
 
-/// Whether two workers are at work at once, and leave a latch of each pair.
+/// Returns true if two workers are at work at once, and leave a latch of each pair.
 fn own_at_once<R: Threads + Sync>(rt: &R, alloc: Global, circuit: &Circuit) -> bool {
     let options = options(alloc, 1);
     let crew = Crew::new(2, MeetingGate::new());
@@ -34,7 +34,7 @@ fn own_at_once<R: Threads + Sync>(rt: &R, alloc: Global, circuit: &Circuit) -> b
     (left == PAIRS) & crew.gate().saw_both(0)
 }
 
-/// Whether they are on the circuit of the pairs.
+/// Returns true if they are on the circuit of the pairs.
 fn own_pairs_at_once<R: Threads + Sync>(rt: &R, alloc: Global) -> bool {
     match ALL_PAIRS.circuit(alloc) {
         Ok(circuit) => {

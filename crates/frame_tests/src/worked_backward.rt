@@ -1,4 +1,5 @@
-//! A circuit whose latches move backward as was worked out by hand, with what a watcher is notified of.
+//! A circuit whose latches move backward as was worked out by hand, with what a watcher is notified
+//! of.
 use aag_text::read_aag;
 use aig_graph::{Circuit, Keep};
 use backward_retiming::{MoveOptions, MoveStage, MoveWatcher, MovedBack, move_back};
@@ -16,8 +17,8 @@ struct Seen {
     is_wanted: bool,
 }
 
-/// Whether the stage with a number is the wanted one: it is looked for a set in four latches, then in the two that are left, and what came of
-/// it is checked.
+/// Returns true if the stage with a number is the wanted one. A set is looked for in four latches,
+/// then in the two that are left, and the result is checked.
 fn is_stage(number: u32, stage: MoveStage) -> bool {
     match stage {
         MoveStage::Looking {
@@ -41,7 +42,8 @@ impl MoveWatcher for Seen {
     }
 }
 
-/// Whether two latches are left, and a map of their gates is shown. `tests/cases/backward/decoder.case` has the texts.
+/// Returns true if two latches are left, and a map of their gates is shown.
+/// `tests/cases/backward/decoder.case` has the texts.
 fn is_wanted(moved: &MovedBack) -> bool {
     moved.is_shown
         & (moved.circuit.aig().latches().len() == 2)

@@ -14,7 +14,8 @@ use std::alloc::Global;
 use std::test::*;
 use std::thread::Threads;
 
-/// Whether the first network has its arcs in their rows and its distances at the start, and its pulses and runs send what they should.
+/// Returns true if the first network has its arcs in their rows and its distances at the start. Its
+/// pulses and runs have to send what they should.
 fn is_first_as_worked<R: Threads + Sync>(rt: &R, alloc: Global, net: &Net) -> bool {
     let arcs = are_as_worked(net);
     let distances = start_as_worked(alloc, net);
@@ -23,12 +24,12 @@ fn is_first_as_worked<R: Threads + Sync>(rt: &R, alloc: Global, net: &Net) -> bo
     arcs & distances & pulses & phases & end_as_worked(rt, alloc, net)
 }
 
-/// Whether the second network relabels after delivery, and its second pulse is handed out.
+/// Returns true if the second network relabels after delivery, and its second pulse is handed out.
 fn is_second_as_worked<R: Threads + Sync>(rt: &R, alloc: Global, net: &Net) -> bool {
     follow_after_eleven(rt, alloc, net) & second_pulse_is_shared(rt, alloc, net)
 }
 
-/// Whether the network of a circuit is as worked: that of the first, or of the second.
+/// Returns true if the network of a circuit is as worked: that of the first, or of the second.
 fn is_as_worked<R: Threads + Sync>(rt: &R, alloc: Global, text: &[u8], is_first: bool) -> bool {
     match net_of_text(alloc, text) {
         Ok(net) => {
@@ -44,8 +45,8 @@ fn is_as_worked<R: Threads + Sync>(rt: &R, alloc: Global, text: &[u8], is_first:
     }
 }
 
-/// Whether the first network, built of the passable gates of its circuit, has its arcs in their
-/// rows.
+/// Returns true if the first network, built of the passable gates of its circuit, has its arcs in
+/// their rows.
 fn is_built_as_worked(alloc: Global) -> bool {
     match read_aag(alloc, TWO_LATCHES) {
         Ok(circuit) => {
@@ -57,7 +58,7 @@ fn is_built_as_worked(alloc: Global) -> bool {
     }
 }
 
-/// Whether a network, if there is one, does.
+/// Returns true if a network, if there is one, has its arcs in their rows.
 fn has_arcs_as_worked(built: Result<Net, NoMemory>) -> bool {
     match built {
         Ok(net) => {

@@ -12,10 +12,12 @@ use pulse::{
 use std::alloc::Global;
 use std::thread::Threads;
 
-/// Numbers of workers: one, some that divide the nodes unevenly, one for each node of the second network, and the most.
+/// Numbers of workers: one, some that divide the nodes unevenly, one for each node of the second
+/// network, and the most.
 const CREWS: [u32; 6] = [1, 2, 5, 7, 12, 64];
 
-/// Labels of all nodes, excess of all but the source, and how many nodes are active, whose rows the next read phase walks.
+/// Labels of all nodes, excess of all but the source, and the number of active nodes, whose rows
+/// the next read phase walks.
 #[derive(Clone, Copy)]
 struct State {
     labels: &'static [u32],
@@ -69,8 +71,8 @@ const UNSEEN: State = State {
     active: 0,
 };
 
-/// The second network after eleven pulses. In the eleventh the node after the first gate delivers to the node before it, which keeps
-/// its own unit and relabels.
+/// The second network after eleven pulses. In the eleventh the node after the first gate delivers
+/// to the node before it, which keeps its own unit and relabels.
 const AFTER_ELEVEN: State = State {
     labels: &[12, 0, 3, 3, 3, 3, 4, 3, 4, 1, 2, 1],
     excess: &[1, 0, 0, 0, 0, 2, 0, 1, 0, 0, 0],
@@ -92,7 +94,7 @@ const LATER_STATES: [State; 12] = [
     AFTER_ELEVEN,
 ];
 
-/// Whether the flow is in this state.
+/// Returns true if the flow is in this state.
 fn is_at(net: &Net, flow: &Flow, state: &State) -> bool
     requires flow { IsFlowOf net.now flow.now }
     requires unspent { flow.now.spent ≡ false }
@@ -107,8 +109,8 @@ fn is_at(net: &Net, flow: &Flow, state: &State) -> bool
     same
 }
 
-/// Whether the flow is in this state, if it is looked at, and still is after the read phase of a pulse, which walks the rows of active
-/// nodes. Makes that pulse by both phases.
+/// Makes a pulse by both phases. Returns true if the flow is in this state, if that is looked at,
+/// and stays in it over the read phase. That phase walks the rows of active nodes.
 fn pulses_from<R: Threads + Sync, G: PhaseGate>(
     rt: &R,
     alloc: Global,
@@ -132,7 +134,7 @@ fn pulses_from<R: Threads + Sync, G: PhaseGate>(
     Ok((before & between) | state.labels.is_empty())
 }
 
-/// Whether the pulses of a crew go through the states.
+/// Returns true if the pulses of a crew go through the states.
 fn goes_through<R: Threads + Sync>(
     rt: &R,
     alloc: Global,
@@ -154,7 +156,7 @@ fn goes_through<R: Threads + Sync>(
     Ok(true)
 }
 
-/// Whether they do from the start.
+/// Returns true if they do from the start.
 fn follows<R: Threads + Sync>(
     rt: &R,
     alloc: Global,
@@ -173,7 +175,7 @@ fn follows<R: Threads + Sync>(
     }
 }
 
-/// Whether the pulses of every crew do.
+/// Returns true if the pulses of every crew do.
 fn all_follow<R: Threads + Sync>(rt: &R, alloc: Global, net: &Net, states: &[State]) -> bool {
     let mut all = true;
     for workers in CREWS {
@@ -183,7 +185,7 @@ fn all_follow<R: Threads + Sync>(rt: &R, alloc: Global, net: &Net, states: &[Sta
     all
 }
 
-/// A pulse by the ranges of all nodes.
+/// Makes a pulse by the ranges of all nodes.
 pub(crate) fn pulse_by_ranges(net: &Net, flow: &mut Flow, pushes: &mut Pushes)
     requires flow { IsBetween net.now flow.old }
     requires pushes { ArePushesOf net.now pushes.old }
@@ -199,7 +201,7 @@ pub(crate) fn pulse_by_ranges(net: &Net, flow: &mut Flow, pushes: &mut Pushes)
     flow.turn();
 }
 
-/// Whether a crew makes a pulse after one by ranges.
+/// Returns true if a crew makes a pulse after one by ranges.
 pub(crate) fn pulses_after_ranges<R: Threads + Sync, G: PhaseGate>(
     rt: &R,
     alloc: Global,
@@ -216,12 +218,12 @@ pub(crate) fn pulses_after_ranges<R: Threads + Sync, G: PhaseGate>(
     pulses_from(rt, alloc, net, flow, pushes, crew, &UNSEEN) == Ok(true)
 }
 
-/// Whether the pulses of the first network go through its states, by every crew.
+/// Returns true if the pulses of the first network go through its states, by every crew.
 pub(crate) fn follow_states<R: Threads + Sync>(rt: &R, alloc: Global, net: &Net) -> bool {
     all_follow(rt, alloc, net, &STATES)
 }
 
-/// Whether the second network's flow is in its state after eleven pulses of every crew.
+/// Returns true if the second network's flow is in its state after eleven pulses of every crew.
 pub(crate) fn follow_after_eleven<R: Threads + Sync>(rt: &R, alloc: Global, net: &Net) -> bool {
     all_follow(rt, alloc, net, &LATER_STATES)
 }

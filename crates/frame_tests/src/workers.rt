@@ -1,6 +1,6 @@
-//! That two workers are at work in a phase of `retime` at once: one is held as the phase begins for
-//! it, until the other has left it. And that the calling thread passes and leaves each phase of a
-//! pulse that it makes alone.
+//! Two workers are at work in a phase of `retime` at once. One is held as the phase begins for it,
+//! until the other has left it. The calling thread passes and leaves each phase of a pulse that it
+//! makes alone.
 use crate::circuits::{TWO_LATCHES, options};
 use crate::held_gate::HeldGate;
 use aag_text::read_aag;
@@ -11,8 +11,7 @@ use std::alloc::Global;
 use std::test::*;
 use std::thread::Threads;
 
-/// Returns whether two workers pass and leave the first two phases of a frame, where this one is
-/// held.
+/// Returns true if two workers pass and leave the first two phases of a frame, with this one held.
 fn holds<R: Threads + Sync>(rt: &R, alloc: Global, circuit: &Circuit, held: u32) -> bool {
     match HeldGate::of(alloc, held, 2) {
         Ok(gate) => {

@@ -5,12 +5,12 @@ use aig_graph::Circuit;
 use std::alloc::Global;
 use std::test::*;
 
-/// Two inputs, a latch that reads the gate of the inputs, and that gate; the same in binary.
+/// Two inputs, a latch that reads the gate of the inputs, and that gate, in ASCII and in binary.
 const ONE_LATCH: &[u8] = b"aag 4 2 1 1 1\n2\n4\n6 8\n6\n8 4 2\n";
 
 const ONE_LATCH_BINARY: &[u8] = b"aig 4 2 1 1 1\n8\n6\n\x04\x02";
 
-/// Whether this is the circuit's text in a spelling, and names its spelling.
+/// Returns true if this is the circuit's text in a spelling, and names its spelling.
 fn is_spelt(alloc: Global, circuit: &Circuit, form: Spelling, text: &[u8]) -> bool {
     let mut out = Counted::new(Vec::new(alloc));
     let written = write(circuit, form, &mut out).is_ok();
@@ -18,7 +18,7 @@ fn is_spelt(alloc: Global, circuit: &Circuit, form: Spelling, text: &[u8]) -> bo
     written & (bytes.as_slice() == text) & (spelling(bytes.as_slice()) == Some(form))
 }
 
-/// Whether a writer refuses a circuit.
+/// Returns true if a writer refuses a circuit.
 fn is_refused<W: CountedWrite>(circuit: &Circuit, form: Spelling, out: &mut W) -> bool {
     match form {
         Spelling::Ascii => write_aag(circuit, out).is_err(),
@@ -26,7 +26,8 @@ fn is_refused<W: CountedWrite>(circuit: &Circuit, form: Spelling, out: &mut W) -
     }
 }
 
-/// Whether a device that takes one byte a call, and fails from a number of calls on, stops the writing of the text there.
+/// Returns true if a device that takes one byte a call, and fails from call `calls` on, stops the
+/// writing of the text there.
 fn is_stopped(
     alloc: Global,
     circuit: &Circuit,
@@ -43,7 +44,7 @@ fn is_stopped(
     refused & (failures == 1) & (taken.len() == calls) & text.starts_with(taken.as_slice())
 }
 
-/// Whether the text is written whole, and up to each call that fails.
+/// Returns true if the text is written whole, and up to each call that fails.
 fn is_written(alloc: Global, circuit: &Circuit, form: Spelling, text: &[u8]) -> bool {
     let mut written = is_spelt(alloc, circuit, form, text);
     for calls in 0..text.len() {

@@ -11,8 +11,9 @@ use std::test::*;
 const DECODER: &[u8] =
     b"aag 10 2 4 4 4\n2\n4\n6 14 1\n8 16\n10 18\n12 20\n6\n8\n10\n12\n14 4 2\n16 5 2\n18 4 3\n20 5 3\n";
 
-/// The codes of a draft of it with two latches: their next literals, whether they start at 1, what the gates read, which are those of the map
-/// too but for where they begin, and the outputs of the map.
+/// The codes of a draft of it with two latches. They are next literals, values at step 0, the
+/// fan-ins of the gates, and the outputs of the map. The map's gates have these fan-ins too, but
+/// for their first variable.
 #[derive(Clone, Copy)]
 struct Numbers {
     nexts: &'static [u32],
@@ -33,8 +34,9 @@ const RIGHT: Numbers = Numbers {
 /// How many wrong drafts there are.
 const WRONG: u32 = 7;
 
-/// A wrong draft by its number: a latch that starts otherwise, one with a negated next literal, a gate with another sign, two lines of the map
-/// for each other, and numbers that are out of range: of a gate, of a latch, of an output.
+/// Returns a wrong draft by its number. One has a latch that starts otherwise, one a negated next
+/// literal, one a gate with another sign, one two lines of the map swapped. Others have numbers
+/// that are out of range: of a gate, of a latch, of an output.
 fn wrong(place: u32) -> Numbers {
     let mut numbers = RIGHT;
     if place == 0 {
@@ -95,7 +97,7 @@ fn put_gates(numbers: &Numbers, less: u32, gates: &mut [Pair]) {
     }
 }
 
-/// A draft with as many latches and gates, which are all none.
+/// Returns a draft with as many latches and gates, which are all none.
 fn blank(memory: &mut Memory) -> Drafted {
     Drafted {
         latches: memory.table(DraftLatch::NONE, 2),
@@ -117,7 +119,8 @@ fn fill(drafted: &mut Drafted, numbers: &Numbers) {
     put_literals(numbers.outputs, drafted.map_outputs.as_mut_slice());
 }
 
-/// Whether a draft leaves so many latches of a circuit, and is shown.
+/// Returns true if a draft leaves `latches` latches of a circuit, and is shown or not as `is_shown`
+/// says.
 fn leaves_of(
     alloc: Global,
     circuit: Circuit,
@@ -136,7 +139,7 @@ fn leaves_of(
     }
 }
 
-/// The same of the decoder and a draft of these numbers.
+/// Returns true if a draft of these numbers leaves that of the decoder.
 fn leaves(alloc: Global, numbers: &Numbers, latches: usize, is_shown: bool) -> bool {
     let mut drafted = blank(&mut Memory::of(alloc));
     fill(&mut drafted, numbers);

@@ -29,7 +29,7 @@ one-spelt bytes input other a b first second p q =
     let spelling : a.spelling ≡ b.spelling = same_spelling a.spelling b.spelling (sym (p.spelling bytes first) ∙ q.spelling bytes second) in
     λ i. record { circuit = circuit i; spelling = spelling i }
 
--- the same bytes have one answer by the same options, but for certificates
+-- these bytes have one answer by these options, but for certificates
 pub one-answer : (bytes : List ℕ) (options : Options) → IsOneAnswer bytes options
 one-answer bytes options certify input other old new before after r s first second p q =
     let spelt : p.spelt ≡ q.spelt = one-spelt bytes input other p.spelt q.spelt first second p.read q.read in

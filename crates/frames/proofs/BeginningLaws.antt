@@ -37,7 +37,8 @@ plain-begun has_come options bound most c held old new r now valid unasked keep 
       };
     })
 
--- what a merged circuit is cleaned to is what the circuit that was read is cleaned, merged and cleaned to
+-- what a merged circuit is cleaned to is what the circuit that was read is cleaned, merged and
+-- cleaned to
 pub merged-begun : {F : Type 0} (has_come : F → Netlist → Netlist → List ℕ → Type 0) (options : Options) (bound most : Option ℕ) (c : Netlist) (held : List ℕ) (first mid : F) (m : MergedStart) (last : F) (r : Retimed)
     (now : List ℕ) (read : Option ReadCircuit) → IsCircuit c → options.merge ≡ true → held ≡ kept_by options c → bound ≡ bound_in options c → most ≡ bound → has_come first c c (all_free c.aig)
     → MergesIn held c m.circuit m.kept_free m.keep m.counts → SameStreams c m.circuit m.kept_free → StayHeld held c m.keep m.circuit → ComesOn has_come first mid c m.circuit m.kept_free
@@ -91,7 +92,8 @@ merged-below has_come options bound c read found r end now later f last some end
     let start = ready.starts in
     places-below options bound c start.start start.held found end start.is (ends start.start start.held found.kept_free start.followed).retimed
 
--- and what the merged circuit is retimed to is what is asked for, reported of the circuit that was read
+-- and what the merged circuit is retimed to is what is asked for, reported of the circuit that was
+-- read
 pub merged-finished : {F : Type 0} (has_come : F → Netlist → Netlist → List ℕ → Type 0) (options : Options) (bound : Option ℕ) (c : Netlist) (read : Option ReadCircuit) (found : ReadCircuit) (r end whole : Retimed)
     (now later there : List ℕ) (f last final : F) → read ≡ Some found → Ends has_come options bound c r now f end later last → whole ≡ reported_of_read found end → there ≡ later → final ≡ last
     → IsRunBegun has_come options bound c read r now f → IsRetimedFollowed has_come options c whole there final

@@ -20,7 +20,7 @@ none-yet : (bound : Option ℕ) (choice : Choice) (held : List ℕ) (c : Netlist
 none-yet bound choice held c i d kept now reports cert run at =
     let within : i < 0 = slice_get_within {A = Certificate} [] i cert at in absurd (omega (arith, within))
 
--- where no certificates were made yet, those of the first none of the circuits are collected
+-- if no certificates were made yet, those of the first none of the circuits are collected
 pub none-collected : (options : Options) (bound : Option ℕ) (held : List ℕ) (c : Netlist) (records : Records) → records.certify ≡ options.certify → records.certificates.items ≡ []
     → AreCollected options bound held c 0 records
 none-collected options bound held c records wanted empty = record {
@@ -30,7 +30,7 @@ none-collected options bound held c records wanted empty = record {
   none = λ no. empty;
 }
 
--- the circuit that so many frames make is one, so a certificate of it is one of any
+-- the circuit that n frames make is one, so a certificate of it is one of any
 one-more-certificate : (bound : Option ℕ) (choice : Choice) (held : List ℕ) (c : Netlist) (certs : List Certificate) (cert : Certificate) (d : Netlist) (kept now : List ℕ) (reports : List FrameReport)
     → AreOfFrames bound choice held c certs → AfterFrames bound choice held c (length certs) d kept now reports → IsCertificate bound choice now d cert → AreOfFrames bound choice held c (certs ++ cert ∷ [])
 one-more-certificate bound choice held c certs cert d kept now reports before run is i e left later s other again at = elim (slice_get_push certs cert i other at) [
@@ -42,7 +42,8 @@ one-more-certificate bound choice held c certs cert d kept now reports before ru
       (subst (λ (x : Netlist). IsCertificate bound choice later x cert) same.circuit (subst (λ (js : List ℕ). IsCertificate bound choice js d cert) same.held is)))
 ]
 
--- with what is added for the circuit that n frames make, the certificates of the first n + 1 circuits are collected, if wanted
+-- with what is added for the circuit that n frames make, the certificates of the first n + 1
+-- circuits are collected, if wanted
 pub one-collected : (options : Options) (bound : Option ℕ) (held : List ℕ) (c : Netlist) (n : ℕ) (mid new : Records) (d : Netlist) (kept now : List ℕ) (reports : List FrameReport)
     → AreCollected options bound held c n mid → AfterFrames bound options.choice held c n d kept now reports → AddsFound options bound now d mid new → AreCollected options bound held c (suc n) new
 one-collected options bound held c n mid new d kept now reports before run adds = record {
@@ -60,7 +61,8 @@ one-collected options bound held c n mid new d kept now reports before run adds 
   none = λ no. adds.none (before.wanted ∙ no) ∙ before.none no;
 }
 
--- the certificates of r are those that were collected of the first n circuits: as many as frames at the limit, one more before it
+-- the certificates of r are those that were collected of the first n circuits: as many as frames at
+-- the limit, one more before it
 pub certified : (options : Options) (bound : Option ℕ) (c : Netlist) (held : List ℕ) (n : ℕ) (r : Retimed) (now : List ℕ) (records : Records) → AreCollected options bound held c n records
     → r.certificates ≡ records.certificates.items → (taken : ℕ) → AfterFrames bound options.choice held c taken r.circuit r.kept_free now r.frames → (length r.frames ≡ options.max_frames → n ≡ length r.frames)
     → (length r.frames < options.max_frames → n ≡ suc (length r.frames)) → AreCertified bound options.choice c held options.max_frames options.certify r

@@ -32,7 +32,7 @@ composed-whole : (n : ℕ) (kept : List ℕ) → length kept ≡ n → composed 
 unfolding table
 composed-whole n kept many = sym (table-from 0 n (λ i. get_or kept i 0) kept 0 many (λ k less. ap (λ (i : ℕ). get_or kept i 0) (sym (zero-add k))))
 
--- as many free latches where all stay
+-- as many free latches if all stay
 as-many : (c d : Netlist) → SameStreams c d (all_free c.aig) → free_latches c.aig ≡ free_latches d.aig
 as-many c d streams = sym (length-range_with_len 0 (free_latches c.aig)) ∙ streams.places.each
 
@@ -63,7 +63,7 @@ own-followed has_come held c f (Ok d) circuit keep places valid in_range normali
 }
 own-followed has_come held c f (Err e) circuit keep places valid in_range normalised = tt
 
--- a moved circuit, cleaned, where the move and the cleaning were followed
+-- a moved circuit, cleaned, if the move and the cleaning were followed
 pub moved-followed : {F E : Type 0} (has_come : F → Netlist → Netlist → List ℕ → Type 0) (held : List ℕ) (c after : Netlist) (set there : List ℕ) (old mid new : F) (r : Result Cleaned E)
     → IsNetlist c → All (λ j. j < length c.aig.latches) held → after ≡ moved_over held c set → there ≡ held_over held c set → SameStreams c after (all_free c.aig) → ComesWhole has_come old mid c after
     → IfOk r (IsCleanedFollowed has_come there after mid new) → IfOk r (IsMovedFollowed has_come held c set old new)
@@ -78,7 +78,7 @@ pub many-kept : (options : Options) (bound : Option ℕ) (d : Netlist) (held kep
     → length (composed kept r.kept_free) ≡ free_latches r.circuit.aig
 many-kept options bound d held kept n r now underway = length-map r.kept_free (λ place. get_or kept place 0) ∙ underway.keeps.streams.places.each
 
--- what so many frames make is one
+-- what n frames make is one
 pub one-taken : {F : Type 0} (has_come : F → Netlist → Netlist → List ℕ → Type 0) (options : Options) (bound : Option ℕ) (c d : Netlist) (held kept : List ℕ) (n : ℕ) (r after : Retimed) (now later : List ℕ) (taken : Frame) (f : F)
     → IsUnderway options bound d held n r now → Moves options bound now r.circuit taken → IsUnderway options bound d held (suc n) after later
     → has_come f c taken.cleaned.circuit (composed (composed kept r.kept_free) taken.cleaned.kept_free) → IsFollowed has_come options bound c d held kept (suc n) after later f

@@ -75,7 +75,8 @@ pub cleaned-by : (held : List ℕ) (c : Netlist) (d : Cleaned) → IsCircuit c �
     → SameStreams c d.circuit d.kept_free → IsCleanedBy held c d
 cleaned-by held c d valid in_range cleans streams = record { cleaned = cleans; keeps = cleaned-keeps held c d.circuit d.kept_free d.keep valid in_range cleans streams }
 
--- a normalised circuit is its own cleaning, and so is a result that is that circuit with all its free latches and held ones
+-- a normalised circuit is its own cleaning, and so is a result that is that circuit with all its
+-- free latches and held ones
 pub own-cleaned : (held : List ℕ) (c : Netlist) (d : Cleaned) → d.circuit ≡ c → d.keep ≡ held → d.kept_free ≡ all_free c.aig → IsCircuit c → All (λ j. j < length c.aig.latches) held
     → IsNormalised held c → IsCleanedBy held c d
 own-cleaned held c d circuit keep free valid in_range normalised =
@@ -136,7 +137,8 @@ abbrev pub with_certificates : Retimed → Records → Retimed
 with_certificates r records =
     record { circuit = r.circuit; kept_free = r.kept_free; read_latches = r.read_latches; merged = r.merged; frames = r.frames; certificates = records.certificates.items }
 
--- a run ends at the limit of frames, or where none counts less; it has the certificates that were collected
+-- a run ends at the limit of frames, or if none counts less; it has the certificates that were
+-- collected
 pub ended : (options : Options) (bound : Option ℕ) (c : Netlist) (held : List ℕ) (records : Records) (r : Retimed) (now : List ℕ) → IsWholeRun options bound c held records r now
     → (is : IsRetimedAsIs options bound c held (with_certificates r records)) × (now ≡ is.now)
 ended options bound c held records r now run =

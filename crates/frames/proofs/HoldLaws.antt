@@ -10,7 +10,7 @@ use Rattle.frames.specs.Codes.{of_hold_error}
 same_error : {T : Type 0} (a b : RetimeError) → ◌≡◌ {A = Result T RetimeError} (Err a) (Err b) → a ≡ b
 same_error a b e = cc
 
--- what is so where an error is that of a position is so where the result has it
+-- what is so if an error is that of a position is so if the result has it
 pub at-latch : {T : Type 0} (r : Result T RetimeError) (e : RetimeError) (P : ℕ → Type 0) → IsErrAnd r (λ x. x ≡ e) → ((place : ℕ) → e ≡ NoSuchLatch place → P place)
     → (place : ℕ) → r ≡ Err (NoSuchLatch place) → P place
 at-latch (Ok x) e P is given place same = absurd is

@@ -30,7 +30,7 @@ over-saves c held s None over = tt
 over-saves c held s (Some h) over = over.saves
 
 module _ (options : Options) (held : List ℕ) (c : Netlist) where
-  -- the chosen least set is the one that is found, where what is found over it keeps the bound
+  -- the chosen least set is the one that is found, if what is found over it keeps the bound
   found-first : (bound : Option ℕ) (set : List ℕ) (first : Option Helping) → IsChosen options.choice c held set → IsFoundOver c held set first
       → KeepsBound bound c held first → IsFound bound options.choice held c set
   found-first None set first chosen over keeps = chosen
@@ -38,7 +38,7 @@ module _ (options : Options) (held : List ℕ) (c : Netlist) where
   found-first (Some most) set (Some h) chosen over keeps =
       found_whole set chosen (λ fewer. subst (λ (s : List ℕ). levels (moved_over held c s) ≤ most) over.same keeps)
 
-  -- where it breaks the bound, the chosen least set is too long
+  -- if it breaks the bound, the chosen least set is too long
   too-long : (most : ℕ) (set : List ℕ) (first : Option Helping) → IsChosen options.choice c held set → IsFoundOver c held set first
       → BreaksBound most c held first → IsTooLong most options.choice held c set
   too-long most set None chosen over breaks = absurd breaks
@@ -82,7 +82,8 @@ module _ (options : Options) (held : List ℕ) (c : Netlist) where
     none = adds.none;
   }
 
-  -- so is the one that is added in place of the first one, of a set that is chosen in the bounded circuit
+  -- so is the one that is added in place of the first one, of a set that is chosen in the bounded
+  -- circuit
   adds-within : (most : ℕ) (first set : List ℕ) (old mid less new : Records) → BoundedLaw most held c → IsClosedWithin most c.aig held set
       → IsFound (Some most) options.choice held c set → AddsOne c held old mid first → ForgetsLast mid less
       → AddsOne (bounded most held c) held less new set → AddsFound options (Some most) held c old new
@@ -102,7 +103,7 @@ module _ (options : Options) (held : List ℕ) (c : Netlist) where
     none = λ no. adds.none (forgets.certify ∙ before.certify ∙ no) ∙ forgets.none (before.certify ∙ no) ∙ before.none no;
   }
 
-  -- what the first look finds stays where it keeps the bound
+  -- what the first look finds stays if it keeps the bound
   pub finds-first : (bound : Option ℕ) (old new : Records) (first : Option Helping) → IsLook options.choice c c held old new first
       → KeepsBound bound c held first → Finds options bound held c old new first
   finds-first bound old new first look keeps =

@@ -25,7 +25,7 @@ frames-more taken last (first ∷ reports) report at =
     let later : last ≡ suc taken + length reports = omega (arith, at) in
     ap (λ (stages : List Notification). Looking taken first.before ∷ Moving ∷ stages) (frames-more (suc taken) last reports report later)
 
--- a look past the last frame, where the limit leaves one
+-- a look past the last frame, if the limit leaves one
 look-once : (left taken latches : ℕ) → 0 < left → last_look left taken latches ≡ Looking taken latches ∷ []
 look-once zero taken latches some = absurd (omega (arith, some))
 look-once (suc left) taken latches some = refl
@@ -47,11 +47,12 @@ pub none-taken : (options : Options) (bound : Option ℕ) (c : Netlist) (held : 
 none-taken options bound c held r now run = none-listed r.frames (many-taken options bound c held 0 r now run)
 
 module _ {W : Type 0} (was_notified : W → List Notification → Type 0) where
-  -- a watcher who stays the same was notified of nothing more
+  -- a watcher who stays as it was, was notified of nothing more
   pub notifies-nothing : (a : W) → Notifies was_notified a a []
   notifies-nothing a = λ before notified. subst (was_notified a) (sym (append-nil before)) notified
 
-  -- a watcher who was notified of some stages and then of others was notified of both, one after the other
+  -- a watcher who was notified of some stages and then of others was notified of both, one after
+  -- the other
   pub notifies-then : (a b c : W) (xs ys : List Notification) → Notifies was_notified a b xs → Notifies was_notified b c ys → Notifies was_notified a c (xs ++ ys)
   notifies-then a b c xs ys first next = λ before notified. subst (was_notified c) (append_assoc before xs ys) (next (before ++ xs) (first before notified))
 
@@ -76,7 +77,7 @@ module _ {W : Type 0} (was_notified : W → List Notification → Type 0) where
       subst (λ (rs : List FrameReport). Notifies was_notified a d (frame_stages 0 rs)) (sym whole)
       (subst (Notifies was_notified a d) (sym (frames-more 0 (length reports) reports report at)) so_far)
 
-  -- the run ends where the set that was looked for last doesn't help
+  -- the run ends if the set that was looked for last doesn't help
   pub notifies-end : (a b c d : W) (limit : ℕ) (r : Retimed) → length r.frames < limit → Notifies was_notified a b (frame_stages 0 r.frames)
       → Notifies was_notified b c (Looking (length r.frames) (known_latches r.circuit.aig) ∷ []) → Notifies was_notified c d [] → Notifies was_notified a d (looks_of limit r)
   notifies-end a b c d limit r less frames look nothing =
@@ -102,7 +103,7 @@ module _ {W : Type 0} (was_notified : W → List Notification → Type 0) where
   all-notified (Ok x) a b c xs ys first next = notifies-then a b c xs (ys x) first next
   all-notified (Err e) a b c xs ys first next = tt
 
-  -- of the same frames and circuit the same looks are notified of
+  -- of equal frames and circuits equal looks are notified of
   pub same-looks : (a b : W) (limit : ℕ) (r s : Retimed) → s.frames ≡ r.frames → s.circuit ≡ r.circuit → Notifies was_notified a b (looks_of limit r) → Notifies was_notified a b (looks_of limit s)
   same-looks a b limit r s frames circuit notified =
       subst (λ (list : List FrameReport). Notifies was_notified a b (frame_stages 0 list ++ last_look (limit - length list) (length list) (known_latches s.circuit.aig))) (sym frames)

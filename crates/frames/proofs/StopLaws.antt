@@ -19,7 +19,7 @@ pub at-error : {T E : Type 0} (r : Result T E) (e : E) (P : E → Type 0) → Is
 at-error (Ok x) e P h p = tt
 at-error (Err x) e P h p = subst P (sym h) p
 
--- nothing is written where the circuit isn't retimed
+-- nothing is written if the circuit isn't retimed
 pub stops-retiming : (options : Options) (spelt : SpeltCircuit) (out : Output) (e : RetimeError)
     → ((place : ℕ) → e ≡ NoSuchName place → IsFirstMissingBy options spelt.circuit place) → ((place : ℕ) → e ≡ NoSuchLatch place → IsFirstNoLatchBy options spelt.circuit place)
     → IsStop options spelt out out (Retime e)

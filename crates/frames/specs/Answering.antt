@@ -30,8 +30,8 @@ pub record IsAnswer (options : Options) (spelt : SpeltCircuit) (r : Retimed) : T
   pub names : NoneMissingBy options spelt.circuit
   pub retimed : IsRetimedBy options spelt.circuit r
 
--- the bytes that were left are those of a circuit, and r has no path longer than the options' bound
--- for it, but for those that it has
+-- The bytes that were left are those of a circuit. r has no path longer than the options' bound for
+-- it, but for those that it has.
 pub record KeepsLevelsOf (options : Options) (input : Input) (r : Retimed) : Type 0 where
   pub spelt : SpeltCircuit
   pub spells : Spells input spelt
@@ -41,8 +41,8 @@ pub record KeepsLevelsOf (options : Options) (input : Input) (r : Retimed) : Typ
 abbrev pub ReadsBack : Options → SpeltCircuit → Retimed → Type 0
 ReadsBack options spelt r = read_any (text_for options spelt r) ≡ Ok r.circuit
 
--- the text of the answer was written whole, and nothing else; if the circuit was within the limits
--- of a header, the text is read as the answer
+-- The text of the answer was written whole, and nothing else. If the circuit was within the limits
+-- of a header, the text is read as the answer.
 pub record IsWritten (options : Options) (spelt : SpeltCircuit) (old new : Output) (r : Retimed) : Type 0 where
   pub answer : IsAnswer options spelt r
   pub writes : WritesAll old new (text_for options spelt r)
@@ -63,8 +63,8 @@ IsStop options spelt old new (Retime (NoSuchName place)) = (new ≡ old) × IsFi
 IsStop options spelt old new (Retime (NoSuchLatch place)) = (new ≡ old) × IsFirstNoLatchBy options spelt.circuit place
 IsStop options spelt old new (Write e) = StopsWriting options spelt old new
 
--- the bytes that were left are those of a circuit in a spelling, its answer was written, and what
--- was written is read as that answer
+-- The bytes that were left are those of a circuit in a spelling, and its answer was written. The
+-- text is read as that answer.
 pub record IsAnswered (input : Input) (old new : Output) (options : Options) (r : Retimed) : Type 0 where
   pub spelt : SpeltCircuit
   pub read : Spells input spelt
@@ -75,8 +75,8 @@ pub record IsAnswered (input : Input) (old new : Output) (options : Options) (r 
 abbrev pub certifying : Options → Bool → Options
 certifying options certify = record { spelling = options.spelling; max_frames = options.max_frames; choice = options.choice; certify = certify; keep = options.keep; keep_latches = options.keep_latches; merge = options.merge; bound = options.bound }
 
--- of the same bytes by the same options, with certificates or without, there is one answer but for
--- the routes of certificates, and one text of it
+-- Of these bytes by these options, with certificates or without, there is one answer but for the
+-- routes of certificates. There is one text of it.
 abbrev pub IsOneAnswer : List ℕ → Options → Type 0
 IsOneAnswer bytes options = (certify : Bool) (input other : Input) (old new before after : Output) (r s : Retimed) → input.bytes ≡ Some bytes → other.bytes ≡ Some bytes
     → (p : IsAnswered input old new options r) (q : IsAnswered other before after (certifying options certify) s)
@@ -96,14 +96,14 @@ IsBytesError options old new before after (Read e) = IsReadError old new e × (a
 IsBytesError options old new before after (Retime e) = EndsWithoutAnswer options old new before after (Retime e)
 IsBytesError options old new before after (Write e) = EndsWithoutAnswer options old new before after (Write e)
 
--- P, where the bytes were read as a circuit's: after an answer, and after an error that came later
+-- P, if the bytes were read as a circuit's: after an answer, and after an error that came later
 abbrev pub AfterReading : Result Retimed BytesError → Type 0 → Type 0
 AfterReading (Ok r) P = P
 AfterReading (Err (Read e)) P = ⊤
 AfterReading (Err (Retime e)) P = P
 AfterReading (Err (Write e)) P = P
 
--- P, where the run ended before its first write
+-- P, if the run ended before its first write
 abbrev pub BeforeWriting : Result Retimed BytesError → Type 0 → Type 0
 BeforeWriting (Ok r) P = ⊤
 BeforeWriting (Err (Read e)) P = P

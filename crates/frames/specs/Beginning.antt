@@ -13,7 +13,7 @@ use Rattle.frames.specs.Merging.{IsRunStart}
 use Rattle.frames.specs.Named.{kept_by, names_in}
 use Rattle.frames.specs.Underway.{IsUnderway}
 
--- r is d cleaned, where the latches at these positions are held, and it was followed
+-- r is d cleaned, with the latches at these positions held, and it was followed
 pub record IsCleanedRun {F : Type 0} (has_come : F → Netlist → Netlist → List ℕ → Type 0) (options : Options) (bound : Option ℕ) (d : Netlist) (held : List ℕ) (old new : F) (r : Retimed)
     (now : List ℕ) : Type 0 where
   pub underway : IsUnderway options bound d held 0 r now
@@ -44,14 +44,14 @@ pub record IsPlainReady {F : Type 0} (has_come : F → Netlist → Netlist → L
   pub unasked : options.merge ≡ false
   pub followed : IsFollowed has_come options bound c c (kept_by options c) (all_free c.aig) 0 r now f
 
--- what frames of c start from, with merging where the options ask for it, as what is reported of c
+-- what frames of c start from, with merging if the options ask for it, as what is reported of c
 -- tells
 abbrev pub StartsFrom : {F : Type 0} → (F → Netlist → Netlist → List ℕ → Type 0) → Options → Option ℕ → Netlist → Option ReadCircuit → Retimed → List ℕ → F → Type 0
 StartsFrom has_come options bound c None r now f = IsPlainReady has_come options bound c r now f
 StartsFrom has_come options bound c (Some read) r now f = IsMergedReady has_come options bound c read r now f
 
--- c, whose held latches are those that the options hold, with all of their names, before its first
--- frame, under the bound that the options have for it
+-- c before its first frame, under the bound that the options have for it. Its held latches are
+-- those that the options hold, with all of their names.
 pub record IsRunBegun {F : Type 0} (has_come : F → Netlist → Netlist → List ℕ → Type 0) (options : Options) (bound : Option ℕ) (c : Netlist) (read : Option ReadCircuit) (r : Retimed)
     (now : List ℕ) (f : F) : Type 0 where
   pub names : Covers (names_in options) (kept_by options c) c

@@ -4,8 +4,8 @@ use Rattle.aig_graph.specs.declared.choice.Choice.TheVariants.{Greatest}
 use Rattle.frames.specs.declared.bound.PathBound.TheVariants as bounds
 use Rattle.frames.specs.declared.options.Options.{Options}
 
--- the spelling of the file, as many frames as can be, each over the greatest least set, no
--- certificate, no latch held, none merged, paths as long as they come
+-- The spelling of the file, frames without a limit, each over the greatest least set. No
+-- certificate, no latch held, none merged, and no bound on paths.
 pub record AreDefaults (options : Options) : Type 0 where
   pub spelling : options.spelling ≡ None
   pub frames : options.max_frames ≡ 2 ^ 28

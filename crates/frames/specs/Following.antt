@@ -1,6 +1,6 @@
--- What follows a run from circuit to circuit. That a follower has come from one circuit to another,
--- whose free latches have these places among those of the first, is a relation that each follower
--- chooses.
+-- What follows a run from circuit to circuit. A follower has come from one circuit to another,
+-- whose free latches have these places among those of the first. That is a relation that each
+-- follower chooses.
 use Rattle.std.specs.Prelude.{ℕ, ◌≡◌, List, Option, length}
 use Rattle.aig_graph.specs.Circuits.{Netlist}
 use Rattle.aig_graph.specs.Graph.{free_latches}
@@ -28,7 +28,7 @@ ComesOn has_come old new d e more = (c : Netlist) (kept : List ℕ) → length k
 abbrev pub ComesWhole : {F : Type 0} → (F → Netlist → Netlist → List ℕ → Type 0) → F → F → Netlist → Netlist → Type 0
 ComesWhole has_come old new d e = (c : Netlist) (kept : List ℕ) → has_come old c d kept → has_come new c e kept
 
--- d is c cleaned, where the latches at these positions are held, and it was followed
+-- d is c cleaned, with the latches at these positions held, and it was followed
 pub record IsCleanedFollowed {F : Type 0} (has_come : F → Netlist → Netlist → List ℕ → Type 0) (held : List ℕ) (c : Netlist) (old new : F) (d : Cleaned) : Type 0 where
   pub cleaned : IsCleanedBy held c d
   pub comes : ComesOn has_come old new c d.circuit d.kept_free
@@ -43,9 +43,9 @@ pub record MovesFollowed {F : Type 0} (has_come : F → Netlist → Netlist → 
   pub moves : Moves options bound held c frame
   pub comes : ComesOn has_come old new c frame.cleaned.circuit frame.cleaned.kept_free
 
--- r is what n frames make of d, which is cleaned first, and the follower has come there from c:
--- that is d itself, or was merged to d; kept has the places of d's free latches among c's. The
--- latches held in d stand at now
+-- r is what n frames make of d, which is cleaned first. The follower has come there from c: that is
+-- d itself, or was merged to d. kept has the places of d's free latches among c's. The latches held
+-- in d are at the positions `now`.
 pub record IsFollowed {F : Type 0} (has_come : F → Netlist → Netlist → List ℕ → Type 0) (options : Options) (bound : Option ℕ) (c d : Netlist) (held kept : List ℕ) (n : ℕ) (r : Retimed)
     (now : List ℕ) (f : F) : Type 0 where
   pub underway : IsUnderway options bound d held n r now

@@ -34,7 +34,7 @@ pub record IsAfterMove (c : Netlist) (held s : List ℕ) (d : Netlist) : Type 0 
   pub value : d ≡ moved_of (move_of c held s)
   pub streams : SameStreams c d (all_free c.aig)
 
--- it has the marks of the move over the set, and, where the circuit after it was made, that
+-- it has the marks of the move over the set, and the circuit after it if that was made
 pub record IsPrepared (c : Netlist) (held s : List ℕ) (prepared : PreparedMove) : Type 0 where
   pub marks : AreMarksOf (move_of c held s) prepared.marks
   pub after : IfSome prepared.after (IsAfterMove c held s)
@@ -46,12 +46,12 @@ pub record IsOver (c : Netlist) (held s : List ℕ) (found : Helping) : Type 0 w
   pub prepared : IsPrepared c held found.set found.prepared
   pub report : found.report ≡ report_over held c found.set
 
--- what is found over a set: nothing where it counts no less than c has known latches
+-- what is found over a set: nothing if it counts no less than c has known latches
 abbrev pub IsFoundOver : Netlist → List ℕ → List ℕ → Option Helping → Type 0
 IsFoundOver c held s found = MatchOption found (known_latches c.aig ≤ border_size (move_of c held s)) (IsOver c held s)
 
--- a look for a set: the chosen least set of d, with its certificate where certificates are wanted,
--- and what is found over it in c
+-- A look for a set: the chosen least set of d, with its certificate if certificates are wanted.
+-- What is found is over that set, in c.
 pub record IsLook (choice : Choice) (c d : Netlist) (held : List ℕ) (old new : Records) (found : Option Helping) : Type 0 where
   pub set : List ℕ
   pub chosen : IsChosen choice d held set
@@ -62,7 +62,7 @@ pub record IsLook (choice : Choice) (c d : Netlist) (held : List ℕ) (old new :
 abbrev pub levels_over : Netlist → List ℕ → List ℕ → ℕ
 levels_over c held s = levels (moved_of (move_of c held s))
 
--- where there is a bound, what is found keeps it
+-- if there is a bound, what is found keeps it
 abbrev pub KeepsBound : Option ℕ → Netlist → List ℕ → Option Helping → Type 0
 KeepsBound None c held found = ⊤
 KeepsBound (Some bound) c held None = ⊤
@@ -85,14 +85,14 @@ pub record Helps (options : Options) (bound : Option ℕ) (held : List ℕ) (c :
   pub prepared : IsPrepared c held found.set found.prepared
   pub report : found.report ≡ report_over held c found.set
 
--- what is found in c, if anything helps; a certificate of the set is added where certificates are
+-- what is found in c, if anything helps; a certificate of the set is added if certificates are
 -- wanted
 pub record Finds (options : Options) (bound : Option ℕ) (held : List ℕ) (c : Netlist) (old new : Records) (result : Option Helping) : Type 0 where
   pub found : MatchOption result (NoneHelpsBy options bound held c) (Helps options bound held c)
   pub adds : AddsFound options bound held c old new
 
--- a frame over its set, which keeps the streams, says where the held latches stand then, and leaves
--- nothing to clean
+-- a frame over its set, which keeps the streams, says the positions of the held latches after it,
+-- and leaves nothing to clean
 pub record Moves (options : Options) (bound : Option ℕ) (held : List ℕ) (c : Netlist) (frame : Frame) : Type 0 where
   pub set : IsHelpingSetBy options bound held c frame.set
   pub cleaned : CleansTo (held_over held c frame.set) (moved_over held c frame.set) frame.cleaned.circuit frame.cleaned.kept_free frame.cleaned.keep

@@ -33,8 +33,8 @@ pub record IsRetimedTo (merge : Bool) (bound : Option ℕ) (choice : Choice) (c 
 abbrev pub IsRetimedHeld : Options → Netlist → Retimed → List ℕ → Type 0
 IsRetimedHeld options c r now = IsRetimedTo options.merge (bound_in options c) options.choice c (holding_in options) options.max_frames options.certify r now
 
--- c retimed under this bound, where the latches at these positions are held, without merging,
--- whatever the options say of that
+-- c retimed under this bound, with the latches at these positions held, without merging, whatever
+-- the options say of that
 abbrev pub IsRetimedAsIs : Options → Option ℕ → Netlist → List ℕ → Retimed → Type 0
 IsRetimedAsIs options bound c held r = IsRetimedOver bound options.choice c held options.max_frames options.certify r
 
@@ -46,20 +46,20 @@ NoneHelpsBy options bound held c = NoneHelps bound options.choice held c
 abbrev pub IsHelpingSetBy : Options → Option ℕ → List ℕ → Netlist → List ℕ → Type 0
 IsHelpingSetBy options bound held c s = IsHelpingSet bound options.choice held c s
 
--- what the next frame of c takes: the set that is found, where it counts less than c has known
--- latches; none where no set makes them fewer
+-- What the next frame of c takes: the set that is found, if it counts less than c has known
+-- latches. None if no set makes them fewer.
 abbrev pub IsNextSet : Options → Option ℕ → List ℕ → Netlist → Option (List ℕ) → Type 0
 IsNextSet options bound held c set = MatchOption set (NoneHelpsBy options bound held c) (IsHelpingSetBy options bound held c)
 
--- d has c's streams, its held latches stand at now in d, and nothing is left to clean there; kept
--- has the places of the free latches that stay
+-- d has c's streams, its held latches are at the positions `now` in d, and nothing is left to clean
+-- there. kept has the places of the free latches that stay.
 pub record KeepsStreamsAndHeld (held : List ℕ) (c d : Netlist) (kept now : List ℕ) : Type 0 where
   pub streams : SameStreams c d kept
   pub stays : StayHeld held c now d
   pub in_range : All (λ j. j < length d.aig.latches) now
   pub normalised : IsNormalised now d
 
--- d is c cleaned, where the latches at these positions are held
+-- d is c cleaned, with the latches at these positions held
 pub record IsCleanedBy (held : List ℕ) (c : Netlist) (d : Cleaned) : Type 0 where
   pub cleaned : CleansTo held c d.circuit d.kept_free d.keep
   pub keeps : KeepsStreamsAndHeld held c d.circuit d.kept_free d.keep

@@ -8,17 +8,17 @@ use Rattle.frames.specs.Certified.{AreCollected}
 use Rattle.frames.specs.declared.options.Options.{Options}
 use Rattle.frames.specs.Retiming.{KeepsStreamsAndHeld, NoneHelpsBy}
 
--- r is what n frames make of c, which is cleaned first, and its held latches stand at now then;
--- nothing is left to clean in it
+-- r is what n frames make of c, which is cleaned first. Its held latches are then at the positions
+-- `now`, and nothing is left to clean in it.
 pub record IsUnderway (options : Options) (bound : Option ℕ) (c : Netlist) (held : List ℕ) (n : ℕ) (r : Retimed) (now : List ℕ) : Type 0 where
   pub frames : AfterFrames bound options.choice held c n r.circuit r.kept_free now r.frames
   pub read_latches : r.read_latches ≡ length c.aig.latches
   pub none_merged : r.merged ≡ None
   pub keeps : KeepsStreamsAndHeld held c r.circuit r.kept_free now
 
--- the run took `taken` frames, and ended at their limit or since no set helps; certificates were
--- collected of the circuits that were looked at, the last one among them if the limit didn't end
--- the run
+-- The run took `taken` frames, and ended at their limit or since no set helps. Certificates were
+-- collected of the circuits that were looked at. The last one is among them if the limit didn't end
+-- the run.
 pub record IsWholeRun (options : Options) (bound : Option ℕ) (c : Netlist) (held : List ℕ) (records : Records) (r : Retimed) (now : List ℕ) : Type 0 where
   pub taken : ℕ
   pub underway : IsUnderway options bound c held taken r now

@@ -1,4 +1,5 @@
--- The files of a batch, one after another: their outcomes beside their outputs, and that each circuit was written.
+-- The files of a batch, one after another: their outcomes beside their outputs, and that each
+-- circuit was written.
 use Rattle.std.proofs.Common.{ℕ, ◌+◌, ◌<◌, ◌≤◌, ◌≡◌, Bool, List, [], ◌∷◌, ◌++◌, All, Result, Ok, Err, length, map, take, get_or, refl, sym, ap, ap₂, ◌∙◌, subst, arith}
 use Rattle.std.specs.Prelude.{IfOk, OnOk}
 use Rattle.std.proofs.lemmas.List.{get_or_default, map-append, map_more, take_all, take_more}

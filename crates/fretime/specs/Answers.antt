@@ -1,4 +1,5 @@
--- The files of a batch: which outcome goes to which path, that a circuit was written, and which of them a failure is of.
+-- The files of a batch: which outcome goes to which path, that a circuit was written, and which of
+-- them a failure is of.
 use Rattle.std.specs.Prelude.{ℕ, ◌≡◌, ◌⊎◌, All, Contains, List, map, codes}
 use Rattle.circuit_files.specs.declared.entry.Entry.{Entry}
 use Rattle.batch_pool.specs.declared.job.Outcome.{Outcome as JobOutcome}
@@ -19,7 +20,8 @@ pub record AreAnswersOf (entries : List Entry) (outcomes : List JobOutcome) (ans
 abbrev pub report_at : Answer → JobReport
 report_at answer = report_of answer.outcome.now
 
--- a circuit that was retimed was written to this path, by what it means that a file was given a text
+-- a circuit that was retimed was written to this path, by what it means that a file was given a
+-- text
 abbrev pub IsWrittenTo : (List ℕ → List ℕ → Type 0) → List ℕ → JobOutcome → Type 0
 IsWrittenTo FileGiven path (jobs.Done text before after frames) = FileGiven path text.items
 IsWrittenTo FileGiven path (jobs.Refused fault) = Unit {0}

@@ -45,7 +45,8 @@ abbrev pub after : Outcome → JobReport → Outcome
 after Done report = end_of report
 after ended report = ended
 
--- what is printed of the files of a batch that ends so: an object on a line where that is asked for, else lines
+-- what is printed of the files of a batch that ends so: an object on a line if that is asked for,
+-- else lines
 abbrev pub files_text : Bool → List JobReport → Outcome → List ℕ
 files_text true files ended = json_line (batch_data files (status_of ended))
 files_text false files ended = job_lines files
@@ -60,8 +61,8 @@ pub record PrintsFiles (json : Bool) (ended : Outcome) (old new : Output) : Type
   pub files : List JobReport
   pub printed : Printed json files ended old new
 
--- a batch prints all its files, or, where it was refused or memory was wanting before that, what a failure prints; nothing, where two files of a
--- line are one
+-- A batch prints all its files. If it was refused or memory was wanting before that, it prints what
+-- a failure prints. It prints nothing if two files of a line are one.
 abbrev pub PrintsList : Bool → Outcome → Output → Output → Type 0
 PrintsList json Done old new = PrintsFiles json Done old new
 PrintsList json Refused old new = PrintsFailure json Refused old new ⊎ PrintsFiles json Refused old new

@@ -1,12 +1,13 @@
--- What is printed where a command failed.
+-- What is printed if a command failed.
 use Rattle.std.specs.Prelude.{ℕ, ◌≡◌, ◌⊎◌, Bool, true, false, List, Option, Some, None, Result, Ok, Err, codes, if◌then◌else◌}
 use Rattle.std.specs.Borrow.{Bor}
 use Rattle.std.specs.Str.{bytes_eq}
 use Rattle.counted_io.specs.Output.{Output}
+use Rattle.command_line.specs.Asking.{move_name}
 use Rattle.command_line.specs.StreamUses.{moving_takes_stdout, takes_stdout}
 use Rattle.command_line.specs.declared.task.Drawing.{Drawing}
 use Rattle.command_line.specs.declared.task.Task.{Task}
-use Rattle.command_line.specs.declared.task.Task.TheVariants.{Retime, Backward, Batch, Stat, Convert, Sim, Same, Verify, Check, Miter, Product, Lift, Dot, Witness, Explain}
+use Rattle.command_line.specs.declared.task.Task.TheVariants.{Retime, Move, Batch, Stat, Convert, Sim, Same, Verify, Check, Miter, Product, Lift, Dot, Witness, Explain}
 use Rattle.circuit_files.specs.Codes.{status_of}
 use Rattle.circuit_files.specs.Outcomes.{outcome_of}
 use Rattle.circuit_files.specs.declared.outcome.Outcome.{Outcome}
@@ -14,7 +15,7 @@ use Rattle.circuit_files.specs.declared.outcome.Failure.{Failure}
 use Rattle.circuit_files.specs.declared.outcome.Failure.TheVariants as fails
 use Rattle.command_endings.specs.Objects.{PrintsRefusal, SaysRefusal, refusal_of}
 
--- what a failure gives standard output, where an object is asked for and where it isn't
+-- what a failure gives standard output, if an object is asked for and if it isn't
 abbrev pub PrintsFailure : Bool → Outcome → Output → Output → Type 0
 PrintsFailure true outcome old new = PrintsRefusal (status_of outcome) old new
 PrintsFailure false outcome old new = new ≡ old
@@ -33,10 +34,10 @@ pub record SaysFailureBy (json : Bool) (name : List ℕ) (failure : Failure) (ol
 abbrev pub if_json : Bool → List ℕ → Option (List ℕ)
 if_json json name = if json then Some name else None
 
--- the name of a task's command, where its failures are printed as objects; a batch prints its own
+-- the name of a task's command, if its failures are printed as objects; a batch prints its own
 abbrev pub object_command : Task → Option (List ℕ)
 object_command (Retime retiming) = if_json retiming.json (codes "retime")
-object_command (Backward moving) = if_json moving.json (codes "backward")
+object_command (Move moving) = if_json moving.json (move_name moving.kind)
 object_command (Stat counting) = if_json counting.json (codes "stat")
 object_command (Same comparison) = if_json comparison.json (codes "same")
 object_command (Verify verification) = if_json verification.json (codes "verify")
@@ -54,7 +55,7 @@ object_command (Explain name) = None
 -- whether objects go to standard error, since standard output is given a circuit or certificates
 abbrev pub prints_aside : Task → Bool
 prints_aside (Retime retiming) = takes_stdout retiming
-prints_aside (Backward moving) = moving_takes_stdout moving
+prints_aside (Move moving) = moving_takes_stdout moving
 prints_aside (Batch batch) = false
 prints_aside (Stat counting) = false
 prints_aside (Convert input output spelling) = false
@@ -79,7 +80,7 @@ SaysOn false (Some name) failure old new = SaysFailureBy true name failure old n
 abbrev pub SaysWhy : Task → Failure → Output → Output → Type 0
 SaysWhy task failure old new = SaysOn (prints_aside task) (object_command task) failure old new
 
--- a failure prints so where a command failed, and else nothing more is printed
+-- a failure prints so if a command failed, and else nothing more is printed
 abbrev pub PrintsEnd : Bool → Result Outcome Failure → Output → Output → Type 0
 PrintsEnd json (Ok outcome) old new = new ≡ old
 PrintsEnd json (Err failure) old new = PrintsFailure json (outcome_of failure) old new

@@ -6,7 +6,7 @@ use Rattle.reports.specs.Differences.{shapes_text}
 use Rattle.json_reports.specs.Differences.{shapes_data}
 use Rattle.json_reports.specs.Lines.{json_line}
 use Rattle.command_line.specs.declared.task.Task.{Task}
-use Rattle.command_line.specs.declared.task.Task.TheVariants.{Retime, Backward, Batch, Stat, Convert, Sim, Same, Verify, Check, Miter, Product, Lift, Dot, Witness, Explain}
+use Rattle.command_line.specs.declared.task.Task.TheVariants.{Retime, Move, Batch, Stat, Convert, Sim, Same, Verify, Check, Miter, Product, Lift, Dot, Witness, Explain}
 use Rattle.circuit_files.specs.Codes.{status_of}
 use Rattle.circuit_files.specs.Outcomes.{outcome_of}
 use Rattle.circuit_files.specs.declared.outcome.Outcome.{Outcome}
@@ -16,7 +16,7 @@ use Rattle.simulation_commands.specs.Comparing.{PrintsFinding}
 use Rattle.map_commands.specs.Checking.{PrintsCheck}
 use Rattle.map_commands.specs.Products.{PrintsAsked}
 use Rattle.map_commands.specs.Lifted.{PrintsLift}
-use Rattle.backward_command.specs.Moving.{PrintsMoves}
+use Rattle.moving_commands.specs.Moving.{PrintsMoves}
 use Rattle.commands.specs.Drawings.{PrintsPicture}
 use Rattle.simulation_commands.specs.Verdicts.{PrintsVerdict}
 use Rattle.commands.specs.Pipes.{Converts, IsPipe, PrintsRetiming, WritesPipe}
@@ -35,12 +35,13 @@ abbrev pub MayGive : Result Outcome Failure → Output → Output → Type 0
 MayGive (Ok outcome) old new = MayPrint outcome old new
 MayGive (Err failure) old new = Prints (outcome_of failure) old new
 
--- what a task gives standard output and its files where it didn't fail, by what it means that a file was given a text, whether standard error is a
--- terminal, what standard input had and has left, and what standard error was given in the end
+-- What a task gives standard output and its files if it didn't fail. It is by what it means that a
+-- file was given a text, and whether standard error is a terminal. It is also by what standard
+-- input had and has left, and what standard error was given in the end.
 abbrev pub Does : (List ℕ → List ℕ → Type 0) → Task → Bool → Input → Input → Output → Output → Output → Outcome → Type 0
 Does FileGiven (Retime retiming) is_terminal before after old new said ended = PrintsRetiming FileGiven retiming is_terminal before old new said (Ok ended)
     × (IsPipe retiming → WritesPipe retiming before old new)
-Does FileGiven (Backward moving) is_terminal before after old new said ended = PrintsMoves FileGiven moving is_terminal before after old new said ended
+Does FileGiven (Move moving) is_terminal before after old new said ended = PrintsMoves FileGiven moving is_terminal before after old new said ended
 Does FileGiven (Batch batch) is_terminal before after old new said ended = PrintsList batch.json ended old new
 Does FileGiven (Stat counting) is_terminal before after old new said ended = PrintsStatistics counting before after old new ended
 Does FileGiven (Convert input output spelling) is_terminal before after old new said ended = Converts FileGiven spelling input output before old new

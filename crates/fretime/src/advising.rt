@@ -1,4 +1,5 @@
-//! What a terminal is told where a command did its work, and what it found may be owed to how it was called.
+//! What a terminal is told if a command did its work, and what it found may be due to how it was
+//! called.
 use circuit_files::{Fault, Outcome, tell_page, tell_spelling};
 use command_line::{Shown, Task, Verification};
 use counted_io::{Buffered, CountedWrite, Target};
@@ -6,7 +7,8 @@ use file_words::Spelling;
 use frames::PathBound;
 use std::rt::Files;
 
-/// The options of `retime` that bear on certificates and that 'verify' wasn't given; `None` where it has all of them.
+/// Returns the options of `retime` that bear on certificates and that 'verify' wasn't given, or
+/// `None` if it has all of them.
 fn missing_options(task: &Verification<'_>) -> Option<&'static [u8]> {
     let options = &task.options;
     let holds = !options.keep.as_slice().is_empty() | !options.keep_latches.as_slice().is_empty();
@@ -23,7 +25,7 @@ fn missing_options(task: &Verification<'_>) -> Option<&'static [u8]> {
     }
 }
 
-/// Says which options may be missing where a certificate is rejected.
+/// Says which options may be missing if a certificate is rejected.
 fn tell_missing<E: CountedWrite>(task: &Verification<'_>, err: &mut E) {
     if let Some(options) = missing_options(task) {
         let mut out = Buffered::new(err);
@@ -34,7 +36,7 @@ fn tell_missing<E: CountedWrite>(task: &Verification<'_>, err: &mut E) {
     }
 }
 
-/// The file of a circuit whose spelling wasn't chosen.
+/// Returns the file of a circuit whose spelling wasn't chosen.
 fn unchosen<'a>(output: Target<'a>, spelling: Option<Spelling>) -> Option<&'a str> {
     match (output, spelling) {
         (Target::File(path), None) => Some(path),
@@ -42,12 +44,13 @@ fn unchosen<'a>(output: Target<'a>, spelling: Option<Spelling>) -> Option<&'a st
     }
 }
 
-/// Whether a run of frames tells more than its lines.
+/// Returns true if a run of frames tells more than its lines.
 fn tells(shown: Shown, json: bool) -> bool {
     shown != Shown::Nothing && !json
 }
 
-/// The file of the circuit that a task writes, where its spelling wasn't chosen, and neither quiet nor an object was asked for.
+/// Returns the file of the circuit that a task writes, if its spelling wasn't chosen, and neither
+/// quiet nor an object was asked for.
 fn unchosen_of<'a>(task: &Task<'a>) -> Option<&'a str> {
     match task {
         Task::Retime(retiming) => {
@@ -57,7 +60,7 @@ fn unchosen_of<'a>(task: &Task<'a>) -> Option<&'a str> {
                 None
             }
         }
-        Task::Backward(moving) => {
+        Task::Move(moving) => {
             if tells(moving.shown, moving.json) {
                 unchosen(moving.output, moving.options.spelling)
             } else {

@@ -1,5 +1,6 @@
-//! What becomes of the files of a batch, each beside the path of the file that its circuit is written to. A batch finishes its files
-//! by these pairs alone, so no circuit can go to the file of another.
+//! The outcomes of the files of a batch, each beside the path of the file that its circuit is
+//! written to. A batch finishes its files by these pairs alone, so no circuit can go to the file of
+//! another.
 ghost use Rattle.std.specs.Prelude.{◌≡◌, All, IfErr, IfOk, OnOk, length};
 ghost use Rattle.circuit_files.specs.WrittenFiles.{IsFileGiven};
 ghost use Rattle.fretime.specs.Answers.{AreAnswersOf, FailsAt, IsOfOutput, IsWritten};
@@ -16,7 +17,7 @@ pub struct Answer<'a> {
     pub outcome: &'a Outcome,
 }
 
-/// Each outcome beside the output of its entry.
+/// Returns each outcome beside the output of its entry.
 pub fn answers_of<'a>(
     alloc: Global,
     entries: &'a [Entry<'a>],

@@ -73,7 +73,7 @@ fn read_jobs<'a, R: Files>(
     Ok(jobs)
 }
 
-/// As many workers as are asked for.
+/// Returns a crew of as many workers as are asked for.
 fn crew(task: &Batch<'_>) -> Crew<OpenGate>
     ensures { 0 < task.now.workers → task.now.workers ≤ 64
         → result.workers ≡ task.now.workers }
@@ -81,7 +81,7 @@ fn crew(task: &Batch<'_>) -> Crew<OpenGate>
     Crew::new(task.workers.clamp(1, MOST_WORKERS), OpenGate)
 }
 
-/// What becomes of the jobs.
+/// Returns the outcomes of the jobs.
 fn run_jobs<'a, R: Threads + Sync>(
     rt: &R,
     alloc: Global,
@@ -103,7 +103,7 @@ fn run_jobs<'a, R: Threads + Sync>(
     }
 }
 
-/// What becomes of the files of the entries.
+/// Returns the outcomes of the files of the entries.
 fn outcomes<'a, R: Files + Threads + Sync>(
     rt: &R,
     alloc: Global,
@@ -122,7 +122,7 @@ fn outcomes<'a, R: Files + Threads + Sync>(
     }
 }
 
-/// What is printed of an outcome.
+/// Returns what is printed of an outcome.
 pub(crate) fn report_of(outcome: &batch_pool::Outcome) -> JobReport
     ensures { result ≡ wanted.report_of outcome.now }
 {
@@ -176,7 +176,7 @@ fn finish_job<'a, R: OutputFiles, O: CountedWrite>(
     }
 }
 
-/// How a batch ends after one more job.
+/// Returns how a batch ends after one more job.
 pub(crate) fn after(ended: Outcome, report: JobReport) -> Outcome
     ensures { result ≡ wanted.after ended report }
 {
@@ -192,7 +192,8 @@ pub(crate) fn after(ended: Outcome, report: JobReport) -> Outcome
     }
 }
 
-/// Writes the circuits and prints the lines of all jobs in their order, and returns how the batch ends.
+/// Writes the circuits and prints the lines of all jobs in their order, and returns how the batch
+/// ends.
 fn finish_jobs<'a, R: OutputFiles, O: CountedWrite>(
     rt: &R,
     answers: &[Answer<'a>],
@@ -212,7 +213,8 @@ fn finish_jobs<'a, R: OutputFiles, O: CountedWrite>(
     Ok(ended)
 }
 
-/// Writes the circuits of all jobs, prints the files as an object of JSON or in lines, and returns how the batch ends.
+/// Writes the circuits of all jobs, prints the files as an object of JSON or in lines, and returns
+/// how the batch ends.
 fn finish<'a, R: OutputFiles, O: CountedWrite>(
     rt: &R,
     alloc: Global,
@@ -262,7 +264,8 @@ fn finish_entries<'a, R: OutputFiles, O: CountedWrite>(
     }
 }
 
-/// Reports why the batch ended, also as an object of JSON where that is asked for, and with a hint on a terminal.
+/// Reports why the batch ended, also as an object of JSON if that is asked for, and with a hint on
+/// a terminal.
 fn refuse<R: Files, I, O: CountedWrite, E: CountedWrite>(
     rt: &R,
     alloc: Global,
@@ -409,10 +412,10 @@ fn retime_lines<R: Files + OutputFiles + Threads + Sync, I, O: CountedWrite, E: 
     }
 }
 
-/// Reads a list and all its files, of which `-` is one as any other, and retimes them; then, job by
+/// Reads a list and all its files, of which `-` is one as any other, and retimes them. Then, job by
 /// job, writes its circuit and prints its line, or writes all and prints one object. Reports why it
-/// ended before that, also if two files of a line are one, so that something would be lost, and
-/// returns how the run ends.
+/// ended before that, also if two files of a line are one, so that something would be lost. Returns
+/// how the run ends.
 pub fn retime_list<
     R: Files + OutputFiles + Threads + Sync,
     I: CountedRead,

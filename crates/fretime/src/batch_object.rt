@@ -15,7 +15,7 @@ use counted_io::CountedWrite;
 use reports::JobReport;
 use std::alloc::{AllocError, Global};
 
-/// What is printed of the files.
+/// Returns what is printed of the files.
 fn reports_of(alloc: Global, answers: &[Answer<'_>]) -> Result<Vec<JobReport>, AllocError>
     ensures { IfOk result (λ reports. reports.items ≡ map report_at answers.now) }
 {
@@ -26,7 +26,7 @@ fn reports_of(alloc: Global, answers: &[Answer<'_>]) -> Result<Vec<JobReport>, A
     Ok(reports)
 }
 
-/// How the batch of these files ends.
+/// Returns how the batch of these files ends.
 fn end_of(reports: &[JobReport]) -> Outcome
     ensures { result ≡ fold wanted.after Done reports.now }
 {
@@ -52,7 +52,8 @@ fn print_files<'a, O: CountedWrite>(
     print_batch(alloc, reports, ended, out)
 }
 
-/// Writes the circuits of all jobs in their order, then prints the files as an object, and returns how the batch ends.
+/// Writes the circuits of all jobs in their order, then prints the files as an object, and returns
+/// how the batch ends.
 pub fn finish_as_object<'a, R: OutputFiles, O: CountedWrite>(
     rt: &R,
     alloc: Global,

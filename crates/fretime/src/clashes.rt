@@ -14,7 +14,7 @@ use file_identities::{FileClash, find_clash, find_list_clash};
 use std::alloc::Global;
 use std::rt::Files;
 
-/// A clash as an error of the command with this name.
+/// Returns a clash as an error of the command with this name.
 fn error_of(alloc: Global, command: &str, clash: FileClash<'_>) -> Error
     ensures { (kind_of result ≡ ArgumentConflict) ⊎ (kind_of result ≡ OutOfMemory) }
 {
@@ -29,7 +29,8 @@ fn error_of(alloc: Global, command: &str, clash: FileClash<'_>) -> Error
     }
 }
 
-/// Why a task isn't begun: two of its files are one, and something would be lost, or memory is refused.
+/// Returns why a task isn't begun: two of its files are one, and something would be lost, or memory
+/// is refused.
 pub(crate) fn clash_error<R: Files>(rt: &R, alloc: Global, task: &Task<'_>) -> Option<Error>
     ensures apart { IfNone result (IsClashOf task.now None) }
     ensures kind { IfSome result (λ error. (kind_of error ≡ ArgumentConflict)
@@ -42,7 +43,7 @@ pub(crate) fn clash_error<R: Files>(rt: &R, alloc: Global, task: &Task<'_>) -> O
     }
 }
 
-/// Why no line of a list is begun: so of the files of a line.
+/// Returns why no line of a list is begun, by the files of a line.
 pub(crate) fn list_clash_error<R: Files>(
     rt: &R,
     alloc: Global,

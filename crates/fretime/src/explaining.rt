@@ -13,7 +13,7 @@ use circuit_files::{Failure, Fault, Message, Outcome};
 use counted_io::{Buffered, CountedWrite, Streams, WriteError};
 use std::alloc::Global;
 
-/// Puts a byte of a file, and four spaces where it ends a line.
+/// Puts a byte of a file, and four spaces if it ends a line.
 fn put_indented<W: CountedWrite>(out: &mut Buffered<'_, W>, byte: u8)
     ensures { Puts W.output out.old out.new (indented_byte byte) }
 {
@@ -85,7 +85,7 @@ fn print_page<O: CountedWrite>(fault: Fault, out: &mut O) -> Result<(), WriteErr
     out.flush()
 }
 
-/// Puts the fault whose name is the nearest, where one is near.
+/// Puts the fault whose name is the nearest, if one is near.
 fn put_nearest<E: CountedWrite>(message: &mut Message<'_, E>, nearest: Option<Fault>) {
     if let Some(fault) = nearest {
         message.put(b"; the nearest is '");
@@ -94,7 +94,8 @@ fn put_nearest<E: CountedWrite>(message: &mut Message<'_, E>, nearest: Option<Fa
     }
 }
 
-/// Reports that no fault has the name, and the fault whose name is the nearest, if one is near. A failed write changes nothing.
+/// Reports that no fault has the name, and the fault whose name is the nearest, if one is near. A
+/// failed write changes nothing.
 fn report_missing<'a, E: CountedWrite>(
     alloc: Global,
     name: &str,

@@ -1,5 +1,6 @@
-//! The program `fretime`: reads AIGER circuits, moves latches forward over gates so that fewer are left, one or
-//! many at once, checks certificates, carries witnesses back, simulates, compares and converts.
+//! The program `fretime` reads AIGER circuits and moves latches over gates so that fewer are left,
+//! in one circuit or in many at once. It checks certificates, carries witnesses back, simulates,
+//! compares and converts.
 #![tactic(auto)]
 
 mod advising;
@@ -24,12 +25,12 @@ use std::thread::Threads;
 use std::time::Clock;
 use std::{env, io};
 
-/// The command-line arguments, the program's own name first.
+/// Returns the command-line arguments, the program's own name first.
 fn words<R: Env + AllocGlobal>(rt: &R) -> io::Result<Vec<String>> {
     Ok(env::args(rt)?.collect(rt.alloc())?)
 }
 
-/// Whether the terminal knows no sequence that steers it.
+/// Returns true if the terminal knows no sequence that steers it.
 fn is_dumb<R: Env + AllocGlobal>(rt: &R) -> bool {
     match env::var(rt, "TERM") {
         Ok(term) => term.as_str() == "dumb",

@@ -1,4 +1,5 @@
-//! Why a command failed, on standard error, and as an object of JSON where that is asked for.
+//! The reason why a command failed, on standard error, and as an object of JSON if that is asked
+//! for.
 ghost use Rattle.std.specs.Prelude.{◌≡◌, ◌⊎◌, true, false, IfErr, option_map};
 ghost use Rattle.circuit_files.specs.Outcomes.{outcome_of};
 ghost use Rattle.command_endings.specs.Printing.{ending};
@@ -29,7 +30,8 @@ pub fn report_failure<E: CountedWrite>(
     failure.outcome()
 }
 
-/// Prints why this command failed as an object of JSON, where that is asked for. A failed write changes nothing.
+/// Prints why this command failed as an object of JSON, if that is asked for. A failed write
+/// changes nothing.
 fn print_failure_as<O: CountedWrite>(
     alloc: Global,
     command: &str,
@@ -47,8 +49,8 @@ fn print_failure_as<O: CountedWrite>(
     }
 }
 
-/// Reports a failure of this command on one line, and prints it as an object of JSON where that is asked for; returns how the run
-/// ends. A failed write changes nothing.
+/// Reports a failure of this command on one line, and prints it as an object of JSON if that is
+/// asked for. Returns how the run ends. A failed write changes nothing.
 pub fn report_failure_as<I, O: CountedWrite, E: CountedWrite>(
     alloc: Global,
     command: &str,
@@ -66,13 +68,14 @@ pub fn report_failure_as<I, O: CountedWrite, E: CountedWrite>(
     report_failure(failure, streams.is_terminal, &mut streams.err)
 }
 
-/// The name of a task's command, where its failures are printed as objects; a batch prints its own.
+/// Returns the name of a task's command, if its failures are printed as objects; a batch prints its
+/// own.
 fn command_with_objects(task: &Task<'_>) -> Option<&'static str>
     ensures { option_map (λ name. name.now) result ≡ object_command task.now }
 {
     match task {
         Task::Retime(retiming) if retiming.json => Some("retime"),
-        Task::Backward(moving) if moving.json => Some("backward"),
+        Task::Move(moving) if moving.json => Some(moving.kind.command()),
         Task::Stat(counting) if counting.json => Some("stat"),
         Task::Same(comparison) if comparison.json => Some("same"),
         Task::Verify(verification) if verification.json => Some("verify"),
@@ -80,18 +83,20 @@ fn command_with_objects(task: &Task<'_>) -> Option<&'static str>
     }
 }
 
-/// Whether a task gives standard output a circuit or certificates, so that objects go to standard error.
+/// Returns true if a task gives standard output a circuit or certificates. Objects then go to
+/// standard error.
 fn prints_aside(task: &Task<'_>) -> bool
     ensures { result ≡ wanted.prints_aside task.now }
 {
     match task {
         Task::Retime(retiming) => retiming.takes_stdout(),
-        Task::Backward(moving) => moving.takes_stdout(),
+        Task::Move(moving) => moving.takes_stdout(),
         _ => false,
     }
 }
 
-/// Prints why a task failed as an object of JSON, where the task asks for objects. A failed write changes nothing.
+/// Prints why a task failed as an object of JSON, if the task asks for objects. A failed write
+/// changes nothing.
 fn print_object<O: CountedWrite, E: CountedWrite>(
     alloc: Global,
     task: &Task<'_>,
@@ -114,7 +119,7 @@ fn print_object<O: CountedWrite, E: CountedWrite>(
     }
 }
 
-/// Whether a picture is of the neighbourhood of this name.
+/// Returns true if a picture is of the neighbourhood of this name.
 fn is_around(drawing: &Drawing<'_>, name: &str) -> bool
     ensures { result ≡ wanted.is_around drawing.now name.now }
 {
@@ -124,7 +129,7 @@ fn is_around(drawing: &Drawing<'_>, name: &str) -> bool
     }
 }
 
-/// Whether a failure is that nothing has the name whose neighbourhood the picture is of.
+/// Returns true if a failure is that nothing has the name whose neighbourhood the picture is of.
 fn lacks_middle(drawing: &Drawing<'_>, failure: Failure<'_>) -> bool
     ensures { result ≡ wanted.lacks_middle drawing.now failure.entry }
 {
@@ -134,7 +139,8 @@ fn lacks_middle(drawing: &Drawing<'_>, failure: Failure<'_>) -> bool
     }
 }
 
-/// Whether the name that a failure is about may be that of anything, and not of a latch alone.
+/// Returns true if the name that a failure is about may be that of anything, and not of a latch
+/// alone.
 fn is_of_all(task: &Task<'_>, failure: Failure<'_>) -> bool
     ensures { result ≡ wanted.is_of_all task.now failure.entry }
 {
@@ -144,7 +150,7 @@ fn is_of_all(task: &Task<'_>, failure: Failure<'_>) -> bool
     }
 }
 
-/// Whether a failure is of a file that the task writes.
+/// Returns true if a failure is of a file that the task writes.
 fn is_of_written(task: &Task<'_>, failure: Failure<'_>) -> bool {
     match failure {
         Failure::Device(path) => is_written(task, path),
@@ -152,7 +158,7 @@ fn is_of_written(task: &Task<'_>, failure: Failure<'_>) -> bool {
     }
 }
 
-/// What is known of a failure beside its fixed text.
+/// Returns what is known of a failure beside its fixed text.
 pub fn told_of<'a>(failure: Failure<'a>, of_all: bool, is_written: bool) -> Told<'a> {
     let fault = fault_of(failure);
     Told {
@@ -164,7 +170,7 @@ pub fn told_of<'a>(failure: Failure<'a>, of_all: bool, is_written: bool) -> Told
     }
 }
 
-/// Tells on a terminal where the lines of a batch's list end with carriage returns.
+/// Tells on a terminal if the lines of a batch's list end with carriage returns.
 fn tell_of_list<R: Files, E: CountedWrite>(
     rt: &R,
     task: &Task<'_>,
@@ -176,7 +182,8 @@ fn tell_of_list<R: Files, E: CountedWrite>(
     }
 }
 
-/// Tells on a terminal of each file of names whose lines end with carriage returns, where a file was refused.
+/// Tells on a terminal of each file of names whose lines end with carriage returns, if a file was
+/// refused.
 fn tell_of_name_files<R: Files, E: CountedWrite>(
     rt: &R,
     task: &Task<'_>,
@@ -191,7 +198,8 @@ fn tell_of_name_files<R: Files, E: CountedWrite>(
     }
 }
 
-/// How a task ends. Where it failed, reports why: as an object too where the task asks for objects, and with a hint on a terminal.
+/// Returns how a task ends. If it failed, reports why: as an object too if the task asks for
+/// objects, and with a hint on a terminal.
 pub fn reported<'a, R: Files, I, O: CountedWrite, E: CountedWrite>(
     rt: &R,
     alloc: Global,

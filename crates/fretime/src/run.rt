@@ -1,5 +1,5 @@
-//! All of a run but the process: streams, files, clock and threads are the caller's, so that clauses can say what a run leaves in
-//! them.
+//! All of a run but the process. Streams, files, clock and threads are the caller's, so clauses can
+//! say what a run leaves in them.
 ghost use Rattle.std.specs.Prelude.{◌≡◌, ◌≢◌, ◌⊎◌, ◌≤◌, IfOk};
 ghost use Rattle.std.specs.IoError.{error_kind};
 ghost use Rattle.std.specs.declared.io.ErrorKind.TheVariants as kinds;
@@ -7,6 +7,7 @@ ghost use Rattle.circuit_files.specs.WrittenFiles.{IsFileGiven};
 ghost use Rattle.circuit_files.specs.declared.outcome.Outcome.TheVariants.{Refused, Memory};
 ghost use Rattle.command_endings.specs.Printing.{Prints, ending};
 ghost use Rattle.commands.specs.Verifying.{PrintsAuditOf};
+ghost use Rattle.map_commands.specs.Checking.{PrintsCheck};
 ghost use Rattle.fretime.specs.Runs.{Does, MayGive, MayPrint, PrintsFilesOrRefusal, PrintsShapes};
 
 use crate::batch::retime_list;
@@ -14,10 +15,10 @@ use crate::clashes::clash_error;
 use crate::explaining::explain;
 use crate::reporting::{report_failure, reported};
 use crate::usage::refuse_line;
-use backward_command::print_moves;
+use moving_commands::print_moves;
 use circuit_files::{Failure, Message, Outcome, OutputFiles};
 use command_endings::{NameFile, hold_names, read_name_files};
-use command_line::{Task, Verification, parse_arguments};
+use command_line::{Checking, Task, Verification, parse_arguments};
 use commands::{convert, print_retimed, print_statistics, print_verification, write_picture};
 use counted_io::{Buffered, CountedRead, CountedWrite, Streams};
 use map_commands::{print_check, write_lifted, write_miter};
@@ -53,6 +54,35 @@ fn verify<'a, R: Files, I: CountedRead, O: CountedWrite, E: CountedWrite>(
     printed
 }
 
+/// Checks a circuit against another one; on a terminal it is shown how far that came.
+fn check<'a, R: Files, I: CountedRead, O: CountedWrite, E: CountedWrite>(
+    rt: &R,
+    alloc: Global,
+    task: &Checking<'a>,
+    streams: &mut Streams<I, O, E>,
+) -> Result<Outcome, Failure<'a>>
+    ensures check { IfOk result (PrintsCheck task.now (I.input streams.old.stdin) (I.input streams.new.stdin)
+        (O.output streams.old.out) (O.output streams.new.out)) }
+    ensures prints { Prints (ending result) (O.output streams.old.out) (O.output streams.new.out) }
+{
+    let mut told = String::new(alloc);
+    let printed = print_check(
+        rt,
+        alloc,
+        task,
+        &mut streams.stdin,
+        &mut streams.out,
+        &mut told,
+    );
+    if streams.is_terminal {
+        let mut message = Message::new(&mut streams.err, true);
+        let _ = message.write_str(told.as_str());
+        message.send();
+    }
+    drop(told);
+    printed
+}
+
 /// Does what the command line asks for.
 fn run_task<
     'a,
@@ -75,7 +105,7 @@ fn run_task<
     let out = &mut streams.out;
     match task {
         Task::Retime(retiming) => print_retimed(rt, alloc, retiming, streams),
-        Task::Backward(moving) => print_moves(rt, alloc, moving, streams),
+        Task::Move(moving) => print_moves(rt, alloc, moving, streams),
         Task::Batch(batch) => Ok(retime_list(rt, alloc, batch, streams)),
         Task::Stat(counting) => print_statistics(rt, alloc, counting, stdin, out),
         Task::Convert(input, output, spelling) => {
@@ -84,7 +114,7 @@ fn run_task<
         Task::Sim(simulation) => print_simulation(rt, alloc, simulation, stdin, out),
         Task::Same(comparison) => print_comparison(rt, alloc, comparison, stdin, out),
         Task::Verify(verification) => verify(rt, alloc, verification, streams),
-        Task::Check(checking) => print_check(rt, alloc, checking, stdin, out),
+        Task::Check(checking) => check(rt, alloc, checking, streams),
         Task::Miter(asking) => write_miter(rt, alloc, asking, stdin, out),
         Task::Product(asking) => write_miter(rt, alloc, asking, stdin, out),
         Task::Lift(lifting) => write_lifted(rt, alloc, lifting, stdin, out),
@@ -94,8 +124,8 @@ fn run_task<
     }
 }
 
-/// Reports that the command-line arguments can't be read (out of memory, or not UTF-8), and returns the exit status. A
-/// failed write changes nothing.
+/// Reports that the command-line arguments can't be read (out of memory, or not UTF-8), and returns
+/// the exit status. A failed write changes nothing.
 pub fn report_unreadable_arguments<E: CountedWrite>(error: &io::Error, err: &mut E) -> u8
     ensures memory { error_kind error.now ≡ kinds.OutOfMemory → result ≡ 4 }
     ensures mistake { error_kind error.now ≢ kinds.OutOfMemory → result ≡ 2 }
@@ -109,7 +139,8 @@ pub fn report_unreadable_arguments<E: CountedWrite>(error: &io::Error, err: &mut
     Outcome::CommandLine.status()
 }
 
-/// Does a task, unless the names that it holds couldn't be had, reports why it failed, and returns how the run ends.
+/// Does a task, unless the names that it holds couldn't be had, reports why it failed, and returns
+/// how the run ends.
 fn finish_task<
     'a,
     R: Files + OutputFiles + Threads + Sync + Clock,
@@ -134,7 +165,7 @@ fn finish_task<
     }
 }
 
-/// A task with the names of these files held too, or why it can't hold them.
+/// Returns a task with the names of these files held too, or why it can't hold them.
 fn with_names<'a>(
     files: &'a [NameFile<'a>],
     task: Task<'a>,
@@ -187,7 +218,8 @@ fn run_apart<
     }
 }
 
-/// The words, but for a flag that asks for the help of `help`, which is that of the program.
+/// Returns the words, but for a flag that asks for the help of `help`, which is that of the
+/// program.
 fn without_flag_of_help(words: &[String]) -> &[String] {
     if words.len() != 3 {
         return words;
@@ -212,13 +244,16 @@ fn run_line<
     }
 }
 
-/// Runs the program on these arguments, its own name first, and returns the exit status: 0 done, 1 a file that is refused, or
-/// circuits that can't be compared, 2 command line, 3 device, 4 memory, 5 circuits that differ, or a certificate that is rejected.
+/// Runs the program on these arguments, its own name first, and returns the exit status. It is 0
+/// for done, 1 for a file that is refused, or circuits that can't be compared. It is 2 for the
+/// command line, 3 for a device, 4 for memory. It is 5 for circuits that differ, or a certificate
+/// that is rejected.
 ///
-/// What was done is printed to standard output once the file is written; of a batch, file by file. Where a circuit or certificates
-/// are written there, that is printed to standard error. Why nothing was done goes to standard error, and so do help and the version;
-/// a failed write there doesn't change the status. On a terminal a refused circuit's line at fault follows, and a retiming shows how
-/// far it is. The texts on standard error are only tested.
+/// What was done is printed to standard output once the file is written; of a batch, file by file.
+/// If a circuit or certificates are written there, that is printed to standard error. Why nothing
+/// was done goes to standard error, and so do help and the version. A failed write there doesn't
+/// change the status. On a terminal a refused circuit's line at fault follows, and a retiming shows
+/// what it does. The texts on standard error are only tested.
 pub fn run_words<
     R: Files + OutputFiles + Threads + Sync + Clock,
     I: CountedRead,

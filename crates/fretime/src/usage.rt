@@ -11,8 +11,8 @@ use clap::error::ErrorKind;
 use counted_io::CountedWrite;
 use std::fmt::Write;
 
-/// Prints help, the version, or what is wrong with the arguments, and returns how the run ends. A failed write changes
-/// nothing.
+/// Prints help, the version, or what is wrong with the arguments, and returns how the run ends. A
+/// failed write changes nothing.
 pub(crate) fn report_usage<E: CountedWrite>(
     error: &Error,
     is_terminal: bool,
@@ -38,7 +38,7 @@ pub(crate) fn report_usage<E: CountedWrite>(
     }
 }
 
-/// The same, and lets it go.
+/// Prints a command line's error as [`report_usage`] does, and drops it.
 pub(crate) fn refuse_line<E: CountedWrite>(error: Error, is_terminal: bool, err: &mut E) -> Outcome
     ensures { (result ≡ Done) ⊎ (result ≡ CommandLine) ⊎ (result ≡ Memory) }
 {

@@ -1,8 +1,9 @@
-//! Which files a task writes: why one failed is asked for in another way than of a file that is read.
+//! The files that a task writes. Why one failed is asked for in another way than of a file that is
+//! read.
 use command_line::Task;
 use counted_io::{Source, Target};
 
-/// Whether a file with this path is written here.
+/// Returns true if a file with this path is written here.
 fn is_to(target: Target<'_>, path: &str) -> bool {
     match target {
         Target::File(file) => file == path,
@@ -17,7 +18,7 @@ fn is_to_some(target: Option<Target<'_>>, path: &str) -> bool {
     }
 }
 
-/// Whether a file with this path is read here.
+/// Returns true if a file with this path is read here.
 fn is_from(source: Source<'_>, path: &str) -> bool {
     match source {
         Source::File(file) => file == path,
@@ -25,14 +26,14 @@ fn is_from(source: Source<'_>, path: &str) -> bool {
     }
 }
 
-/// Whether the task writes a file with this path, and doesn't read it first.
+/// Returns true if the task writes a file with this path, and doesn't read it first.
 pub(crate) fn is_written(task: &Task<'_>, path: &str) -> bool {
     match task {
         Task::Retime(retiming) => {
             let beside = is_to_some(retiming.certificates, path) | is_to_some(retiming.map, path);
             !is_from(retiming.input, path) & (is_to(retiming.output, path) | beside)
         }
-        Task::Backward(moving) => {
+        Task::Move(moving) => {
             let written = is_to(moving.output, path) | is_to_some(moving.map, path);
             !is_from(moving.input, path) & written
         }

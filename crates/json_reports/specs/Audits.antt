@@ -30,12 +30,14 @@ objection_at BlocksFollow = None
 abbrev pub block_data : Certificate → Data
 block_data block = count block.count
 
--- whether a file is the text of the circuit that the blocks end in, and where it differs first
+-- whether a file is the text of the circuit that the blocks end in, and the offset of the first
+-- difference
 abbrev pub agreement_data : Agreement → Data
 agreement_data Same = object (member (codes "offset") null (member (codes "result") (string (codes "Same")) no_members))
 agreement_data (DiffersAt offset) = object (member (codes "offset") (count offset) (member (codes "result") (string (codes "Differs")) no_members))
 
--- the bound on levels, where there is one, the counts of the confirmed blocks, in order, how the audit ended, and what came of comparing a file
+-- The bound on levels, if there is one, and the counts of the confirmed blocks, in order. Also how
+-- the audit ended, and the outcome of comparing a file.
 abbrev pub audit_data : List Certificate → Audit → Option Agreement → Option ℕ → ℕ → Data
 audit_data blocks audit agreement bound status =
     object (member (codes "bound") (or_null count bound)

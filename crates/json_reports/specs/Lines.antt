@@ -18,13 +18,14 @@ pub record IsPlain (d : Data) : Type 0 where
   pub whole : has_float d ≡ false
   pub nests : depth d ≤ max_depth
 
--- all of the line is written, and its value is read back; a beginning of it where a write failed; nothing where memory was refused
+-- all of the line is written, and its value is read back; a beginning of it if a write failed;
+-- nothing if memory was refused
 abbrev pub PrintsLine : {T : Type 0} → Data → Output → Output → Result T PrintError → Type 0
 PrintsLine d old new (Ok x) = WritesAll old new (json_line d) × (read (compact_text d) ≡ Some d)
 PrintsLine d old new (Err Device) = WritesPart old new (json_line d)
 PrintsLine d old new (Err NoMemory) = new ≡ old
 
--- the same of a value that was to be made, where it is plain; where it wasn't made, memory was refused
+-- so for a value that was to be made, if it is plain; if it wasn't made, memory was refused
 abbrev pub PrintsMade : {T E : Type 0} → Result Value E → Output → Output → Result T PrintError → Type 0
 PrintsMade (Ok value) old new result = IsPlain (view value) → PrintsLine (view value) old new result
 PrintsMade (Err e) old new result = (result ≡ Err NoMemory) × (new ≡ old)

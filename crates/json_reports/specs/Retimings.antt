@@ -16,12 +16,13 @@ use Rattle.json_reports.specs.declared.times.Times.{Times}
 abbrev pub frame_data : FrameReport → Data
 frame_data f = object (member (codes "after") (count f.after) (member (codes "before") (count f.before) (member (codes "gates") (count f.moved) no_members)))
 
--- all latches of the circuit that was read, and its levels, where they were counted
+-- all latches of the circuit that was read, and its levels, if they were counted
 abbrev pub before_data : ℕ → Option ℕ → Data
 before_data latches levels = object (member (codes "latches") (count latches) (member (codes "levels") (or_null count levels) no_members))
 
--- how many latches stay and for what, how many gates are passable, and whether no set of gates leaves fewer latches; those that a gate on too
--- long a path reads are counted under a bound alone
+-- The numbers of latches that stay and for what, and of passable gates. Also whether no set of
+-- gates leaves fewer latches. Those that a gate on too long a path reads are counted under a bound
+-- alone.
 abbrev pub held_back_data : HeldBack → Bool → Data
 held_back_data h is_least =
     object (member (codes "free") (count h.free)
@@ -31,12 +32,12 @@ held_back_data h is_least =
     (member (codes "read_elsewhere") (count h.read_elsewhere)
     (member (codes "too_long") (or_null count h.too_long) no_members))))))
 
--- how many sets a network found, where that was measured with the times
+-- the number of sets that a network found, if that was measured with the times
 abbrev pub networks_of : Option Times → Option ℕ
 networks_of times = option_map (λ t. t.networks) times
 
--- each frame, what the written circuit has, the latches that were read, the free latches that
--- stayed, what holds latches, and the time of each part
+-- Each frame, what the written circuit has, the latches that were read and the free latches that
+-- stayed. Also what holds latches, and the time of each part.
 abbrev pub retiming_data : Retimed → ReadLevels → Remaining → Option Times → Option MapCounts → Data
 retiming_data r levels left times mapped =
     object (member (codes "after") (circuit_data left.counts)

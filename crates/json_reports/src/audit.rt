@@ -46,7 +46,7 @@ fn counts_array(alloc: Global, blocks: &[Certificate]) -> Result<Value, AllocErr
     Ok(Value::Array(list))
 }
 
-/// The first blocks, so many as are confirmed.
+/// Returns the first `confirmed` blocks.
 fn first_blocks(blocks: &[Certificate], confirmed: usize) -> &[Certificate]
     ensures { result.now ≡ take confirmed blocks.now }
 {
@@ -73,7 +73,7 @@ fn agreement_object(alloc: Global, agreement: Agreement) -> Result<Value, AllocE
     )
 }
 
-/// What came of comparing a file, or null where none was compared.
+/// Returns the outcome of comparing a file, or null if none was compared.
 fn agreement_value(alloc: Global, agreement: Option<Agreement>) -> Result<Value, AllocError>
     ensures { IfOk result (λ v. view v ≡ or_null agreement_data agreement) }
 {
@@ -118,8 +118,9 @@ fn put_audit(
     )
 }
 
-/// What `verify` prints of the audit of a file's blocks under a bound on levels, or none, and of a file that was compared with the circuit
-/// that they end in, where it ends with this status.
+/// Returns what `verify` prints of an audit that ends with this status. It is of the audit of a
+/// file's blocks under a bound on levels, or none. A file may have been compared with the circuit
+/// that they end in.
 ///
 /// # Errors
 ///

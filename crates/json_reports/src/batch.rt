@@ -13,7 +13,7 @@ use reports::JobReport;
 use serde_json::Value;
 use std::alloc::{AllocError, Global};
 
-/// All latches before and after.
+/// Returns the numbers of all latches before and after.
 fn latches_object(alloc: Global, before: u32, after: u32) -> Result<Value, AllocError>
     ensures { IfOk result (λ v. view v ≡ latches_data before after) }
 {
@@ -26,7 +26,7 @@ fn latches_object(alloc: Global, before: u32, after: u32) -> Result<Value, Alloc
     )
 }
 
-/// A file that was retimed, from so many latches to so many.
+/// Returns the object of a file that was retimed, from `before` latches to `after`.
 fn done_object(alloc: Global, before: u32, after: u32) -> Result<Value, AllocError>
     ensures { IfOk result (λ v. view v ≡ file_data null (latches_data before after)) }
 {
@@ -64,7 +64,8 @@ fn jobs_array(alloc: Global, reports: &[JobReport]) -> Result<Value, AllocError>
     Ok(Value::Array(list))
 }
 
-/// What `batch` prints of the files of its list, in their order, where it ends with this status.
+/// Returns what `batch` prints of the files of its list, in their order, if it ends with this
+/// status.
 ///
 /// # Errors
 ///

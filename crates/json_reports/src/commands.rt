@@ -29,7 +29,8 @@ use std::alloc::Global;
 ///
 /// # Errors
 ///
-/// Those of [`print_object`](crate::print_object), and `NoMemory` where there is no room for the object.
+/// Those of [`print_object`](crate::print_object), and `NoMemory` if there is no room for the
+/// object.
 pub fn print_retiming<W: CountedWrite>(
     alloc: Global,
     retimed: &Retimed,
@@ -54,7 +55,8 @@ pub fn print_retiming<W: CountedWrite>(
 ///
 /// # Errors
 ///
-/// Those of [`print_object`](crate::print_object), and `NoMemory` where there is no room for the object.
+/// Those of [`print_object`](crate::print_object), and `NoMemory` if there is no room for the
+/// object.
 pub fn print_statistics<W: CountedWrite>(
     alloc: Global,
     statistics: &Statistics,
@@ -71,7 +73,8 @@ pub fn print_statistics<W: CountedWrite>(
 ///
 /// # Errors
 ///
-/// Those of [`print_object`](crate::print_object), and `NoMemory` where there is no room for the object.
+/// Those of [`print_object`](crate::print_object), and `NoMemory` if there is no room for the
+/// object.
 pub fn print_difference<W: CountedWrite>(
     alloc: Global,
     found: Option<Place>,
@@ -86,7 +89,8 @@ pub fn print_difference<W: CountedWrite>(
 ///
 /// # Errors
 ///
-/// Those of [`print_object`](crate::print_object), and `NoMemory` where there is no room for the object.
+/// Those of [`print_object`](crate::print_object), and `NoMemory` if there is no room for the
+/// object.
 pub fn print_shapes_differ<W: CountedWrite>(alloc: Global, writer: &mut W) -> Result<(), PrintError>
     ensures { PrintsLine shapes_data (W.output writer.old) (W.output writer.new) result }
 {
@@ -97,7 +101,8 @@ pub fn print_shapes_differ<W: CountedWrite>(alloc: Global, writer: &mut W) -> Re
 ///
 /// # Errors
 ///
-/// Those of [`print_object`](crate::print_object), and `NoMemory` where there is no room for the object.
+/// Those of [`print_object`](crate::print_object), and `NoMemory` if there is no room for the
+/// object.
 pub fn print_audit<W: CountedWrite>(
     alloc: Global,
     blocks: &[Certificate],
@@ -121,7 +126,8 @@ pub fn print_audit<W: CountedWrite>(
 ///
 /// # Errors
 ///
-/// Those of [`print_object`](crate::print_object), and `NoMemory` where there is no room for the object.
+/// Those of [`print_object`](crate::print_object), and `NoMemory` if there is no room for the
+/// object.
 pub fn print_batch<W: CountedWrite>(
     alloc: Global,
     reports: &[JobReport],
@@ -138,7 +144,8 @@ pub fn print_batch<W: CountedWrite>(
 ///
 /// # Errors
 ///
-/// Those of [`print_object`](crate::print_object), and `NoMemory` where there is no room for the object.
+/// Those of [`print_object`](crate::print_object), and `NoMemory` if there is no room for the
+/// object.
 pub fn print_refusal<W: CountedWrite>(
     alloc: Global,
     refusal: &Refusal<'_>,

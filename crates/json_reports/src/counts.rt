@@ -11,7 +11,7 @@ use reports::{Counts, Statistics};
 use serde_json::{Map, Value};
 use std::alloc::{AllocError, Global};
 
-/// How many there are of each kind in a circuit, and its levels.
+/// Returns the counts of each kind in a circuit, and its levels.
 ///
 /// # Errors
 ///
@@ -52,9 +52,9 @@ fn merge_object(alloc: Global, counts: MergeCounts) -> Result<Value, AllocError>
 /// What is told of the levels of the circuit that was read.
 #[derive(Clone, Copy)]
 pub struct ReadLevels {
-    /// How many it has, where they were counted.
+    /// Its levels, if they were counted.
     pub counted: Option<u32>,
-    /// The bound on levels that its run has, where there is one.
+    /// The bound on levels that its run has, if there is one.
     pub bound: Option<u32>,
 }
 
@@ -77,7 +77,7 @@ fn map_object(alloc: Global, counts: MapCounts) -> Result<Value, AllocError>
     )
 }
 
-/// What a map has, or null where none was written.
+/// Returns what a map has, or null if none was written.
 pub(crate) fn map_value(alloc: Global, map: Option<MapCounts>) -> Result<Value, AllocError>
     ensures { IfOk result (λ v. view v ≡ or_null map_data map) }
 {
@@ -87,7 +87,8 @@ pub(crate) fn map_value(alloc: Global, map: Option<MapCounts>) -> Result<Value, 
     }
 }
 
-/// How many latches are merged, and how many of these with a constant, or null where none were to be.
+/// Returns the number of latches that are merged, and of these with a constant, or null if none
+/// were to be.
 pub(crate) fn merged_value(alloc: Global, merged: Option<MergeCounts>) -> Result<Value, AllocError>
     ensures { IfOk result (λ v. view v ≡ or_null merge_data merged) }
 {
@@ -121,7 +122,8 @@ fn put_statistics(
     )
 }
 
-/// What `stat` tells of a circuit, and how many of its latches are merged, where that was asked for.
+/// Returns what `stat` tells of a circuit, and the number of its latches that are merged, if that
+/// was asked for.
 ///
 /// # Errors
 ///

@@ -41,7 +41,8 @@ fn finding_object(
     )
 }
 
-/// What `same` prints of the first place where two circuits differ, or that there is none.
+/// Returns what `same` prints of the first place at which two circuits differ, or that there is
+/// none.
 ///
 /// # Errors
 ///
@@ -58,8 +59,8 @@ pub fn difference_object(alloc: Global, found: Option<Place>) -> Result<Value, A
     }
 }
 
-/// What `same` prints of two circuits that can't be compared, since they differ in their numbers of inputs, free latches or
-/// properties.
+/// Returns what `same` prints of two circuits that can't be compared, since they differ in their
+/// numbers of inputs, free latches or properties.
 ///
 /// # Errors
 ///

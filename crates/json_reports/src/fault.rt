@@ -1,4 +1,5 @@
-//! Why a command failed, over the faults of all kinds of files: each has its name and offset where it is declared.
+//! The reasons why a command failed, over the faults of all kinds of files. Each has its name and
+//! offset in the crate that declares it.
 ghost use Rattle.std.specs.Prelude.{◌≡◌, IfOk};
 ghost use Rattle.serde_json.specs.View.{view};
 ghost use Rattle.json_reports.specs.Faults.{fault_data};
@@ -35,7 +36,8 @@ pub enum Fault {
     TooManySteps,
     /// A circuit of a map has a latch, a bad state, a justice property or a fairness constraint.
     NotAMap,
-    /// A name of a witness circuit says a literal that its circuit hasn't, or one that another name says.
+    /// A name of a witness circuit says a literal that its circuit hasn't, or one that another name
+    /// says.
     NoSuchLiteral,
     /// A file couldn't be opened, created, read or written.
     Device,
@@ -44,7 +46,7 @@ pub enum Fault {
 impl Fault {
     ghost use Rattle.json_reports.specs.Faults.{fault_name, fault_offset};
 
-    /// Its name, as in the message on standard error.
+    /// Returns its name, as in the message on standard error.
     pub fn name(self) -> &'static str
         ensures { result.now ≡ fault_name self }
     {
@@ -64,7 +66,7 @@ impl Fault {
         }
     }
 
-    /// The offset of the first byte of the line or delta at fault, where it has one.
+    /// Returns the offset of the first byte of the line or delta at fault, if it has one.
     pub fn offset(self) -> Option<u64>
         ensures { result ≡ fault_offset self }
     {
@@ -85,7 +87,7 @@ impl Fault {
     }
 }
 
-/// The name of a fault, and its offset.
+/// Returns the name of a fault, and its offset.
 pub(crate) fn fault_object(alloc: Global, fault: Fault) -> Result<Value, AllocError>
     ensures { IfOk result (λ v. view v ≡ fault_data fault) }
 {

@@ -1,5 +1,6 @@
-//! What the program prints on standard output for other programs: an object of JSON for each command, on one line. The members of
-//! an object stand in the order of their names, and every number is whole.
+//! What the program prints on standard output for other programs: an object of JSON for each
+//! command, on one line. The members of an object stand in the order of their names, and every
+//! number is whole.
 #![tactic(auto)]
 
 mod audit;

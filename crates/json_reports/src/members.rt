@@ -1,4 +1,4 @@
-//! Members of objects. An object that grows is borrowed, so that no member waits while another is made.
+//! Members of objects. An object that grows is borrowed, so no member waits while another is made.
 ghost use Rattle.std.specs.Prelude.{◌≡◌, IfOk, OnOk};
 ghost use Rattle.serde_json.specs.Data.{Data, no_members, object, put, string};
 ghost use Rattle.serde_json.specs.View.{view, members_view};
@@ -13,14 +13,14 @@ pub(crate) enum Scalar<'a> {
     Null,
     Flag(bool),
     Count(u64),
-    /// Null where there is none.
+    /// Null if there is none.
     CountIfAny(Option<u64>),
     Text(&'a str),
-    /// Null where there is none.
+    /// Null if there is none.
     TextIfAny(Option<&'a str>),
 }
 
-/// The number in 64 bits, where there is one.
+/// Returns the number in 64 bits, if there is one.
 pub fn wide(number: Option<u32>) -> Option<u64>
     ensures { result ≡ number }
 {
@@ -30,7 +30,7 @@ pub fn wide(number: Option<u32>) -> Option<u64>
     }
 }
 
-/// The number, or null where there is none.
+/// Returns the number, or null if there is none.
 pub fn count_value(number: Option<u64>) -> Value
     ensures { view result ≡ or_null count number }
 {
@@ -62,7 +62,7 @@ fn scalar_value(alloc: Global, scalar: Scalar<'_>) -> Result<Value, AllocError>
     }
 }
 
-/// Puts a value that was to be made under its name; where it wasn't made, nothing is put.
+/// Puts a value that was to be made under its name. If it wasn't made, nothing is put.
 pub(crate) fn put_made(
     members: &mut Map<String, Value>,
     alloc: Global,
@@ -93,7 +93,7 @@ pub(crate) fn put_scalars(
     Ok(())
 }
 
-/// The object of values that have names.
+/// Returns the object of values that have names.
 pub(crate) fn scalars_object(
     alloc: Global,
     scalars: &[(&str, Scalar<'_>)],
@@ -105,7 +105,7 @@ pub(crate) fn scalars_object(
     Ok(Value::Object(members))
 }
 
-/// The object of one more value, which is put in first, and of values that have names.
+/// Returns the object of one more value, which is put in first, and of values that have names.
 pub(crate) fn object_with(
     alloc: Global,
     name: &str,

@@ -52,8 +52,8 @@ fn write_line<W: CountedWrite>(text: &[u8], writer: &mut W) -> Result<(), WriteE
 ///
 /// # Errors
 ///
-/// `NoMemory` where there is no room for the text: the writer isn't called then. `Device` where a write failed: a beginning of the
-/// line was written then, and the writer isn't called again.
+/// `NoMemory` if there is no room for the text: the writer isn't called then. `Device` if a write
+/// failed: a beginning of the line was written then, and the writer isn't called again.
 pub fn print_object<W: CountedWrite>(
     alloc: Global,
     object: &Value,
@@ -73,7 +73,7 @@ pub fn print_object<W: CountedWrite>(
 ///
 /// # Errors
 ///
-/// `NoMemory` where it wasn't made; those of [`print_object`].
+/// `NoMemory` if it wasn't made; those of [`print_object`].
 pub(crate) fn print_made<W: CountedWrite>(
     alloc: Global,
     made: Result<Value, AllocError>,

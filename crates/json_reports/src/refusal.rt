@@ -15,7 +15,7 @@ pub struct Refusal<'a> {
     pub command: &'a str,
     /// What is wrong.
     pub fault: Fault,
-    /// The name that is that of no latch.
+    /// Returns the name that is that of no latch.
     pub latch: Option<&'a str>,
     /// The path of the file, as it was given.
     pub path: Option<&'a str>,
@@ -23,7 +23,7 @@ pub struct Refusal<'a> {
     pub status: u8,
 }
 
-/// What a command prints that failed.
+/// Returns what a command prints that failed.
 ///
 /// # Errors
 ///

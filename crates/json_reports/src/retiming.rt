@@ -135,11 +135,11 @@ fn put_retiming(
     )
 }
 
-/// What `retime` prints: each frame, the levels of the circuit that was read and the bound on
-/// levels, what the written one has and why no more latches go, the places of the free latches that
-/// stayed among those of the circuit that was read, what the map of states has and how many latches
-/// were merged, where these were asked for, and how long the parts of the run took and how many
-/// sets a network found, where that was measured.
+/// Returns what `retime` prints. It has each frame, the levels of the circuit that was read and the
+/// bound on levels. It has what the written one has and why no more latches go. The free latches
+/// that stayed have their places among those of the circuit that was read. If they were asked for,
+/// it has what the map of states has and the number of merged latches. If it was measured, it has
+/// the time of the parts of the run and the number of sets that a network found.
 ///
 /// # Errors
 ///

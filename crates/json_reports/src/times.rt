@@ -14,7 +14,7 @@ use std::alloc::{AllocError, Global};
 pub struct FrameTimes {
     /// Looking for the set: the network, its flow, the cut.
     pub looking: u64,
-    /// Moving latches over it, and cleaning; 0 where no frame was taken.
+    /// Moving latches over it, and cleaning; 0 if no frame was taken.
     pub moving: u64,
 }
 
@@ -25,8 +25,8 @@ pub struct Times {
     pub reading: u64,
     /// Cleaning it.
     pub cleaning: u64,
-    /// Those of each circuit of which a set was looked for: of the frames, and of the last circuit where the limit of frames didn't end
-    /// the run.
+    /// Those of each circuit of which a set was looked for. They are of the frames, and of the last
+    /// circuit unless the limit of frames ended the run.
     pub frames: Sequence<FrameTimes>,
     /// Writing the circuit.
     pub writing: u64,
@@ -73,7 +73,7 @@ fn times_object(alloc: Global, times: &Times) -> Result<Value, AllocError>
     )
 }
 
-/// The times, or null where none were taken.
+/// Returns the times, or null if none were taken.
 pub(crate) fn times_value(alloc: Global, times: Option<&Times>) -> Result<Value, AllocError>
     ensures { IfOk result (λ v. view v
         ≡ or_null times_data (option_map (λ t. t.now) times.entry)) }

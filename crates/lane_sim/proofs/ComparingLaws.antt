@@ -14,7 +14,7 @@ use Rattle.lane_sim.specs.Blocks.{in_lane, row_in, block_of}
 use Rattle.lane_sim.specs.Traces.{row_of}
 use Rattle.lane_sim.specs.Comparing.{AreSame, AreSameAt, Compares, ComparesAt, IsFirstAt, IsFirstIn, IsFirstOf, lanes_before, later_or, rows_by, steps_below, steps_of}
 
--- rows whose lanes are the same at each place
+-- rows whose lanes are equal at each place
 pub rows_same : (k : ℕ) (xs ys : List (List ℕ)) → length ys ≡ length xs → ((q : ℕ) → q < length xs → lane (get_or xs q []) k ≡ lane (get_or ys q []) k) → row_in k xs ≡ row_in k ys
 rows_same k [] [] long each = refl
 rows_same k [] (y ∷ ys) long each = absurd (omega arith)
@@ -24,7 +24,7 @@ rows_same k (x ∷ xs) (y ∷ ys) long each = ap₂ (λ (b : Bool) bs. b ∷ bs)
 row_at : (k : ℕ) (xs : List (List ℕ)) (q : ℕ) → q < length xs → slice_get (row_in k xs) q ≡ Some (lane (get_or xs q []) k)
 row_at k xs q h = slice_get-map (λ lanes. lane lanes k) xs q ∙ ap (λ o. elim o [ None ↦ None | Some lanes ↦ Some (lane lanes k) ]) (slice_get-get_or xs q [] h)
 
--- where lanes differ at a place, and are the same before it, rows in that lane first differ there
+-- if lanes differ at a place, and are equal before it, rows in that lane first differ there
 pub first_in_row : (k : ℕ) (xs ys : List (List ℕ)) (p : ℕ) → length ys ≡ length xs → p < length xs
     → lane (get_or xs p []) k ≢ lane (get_or ys p []) k → ((q : ℕ) → q < p → lane (get_or xs q []) k ≡ lane (get_or ys q []) k)
     → IsFirstIn (row_in k xs) (row_in k ys) p
@@ -40,7 +40,7 @@ beq_apart true false differs same = false≢true (sym same)
 beq_apart false true differs same = false≢true same
 beq_apart false false differs same = false≢true differs
 
--- rows that are the same are as long
+-- equal rows are as long
 pub as_long : (k : ℕ) (xs ys : List (List ℕ)) (u v : List Bool) → row_in k xs ≡ u → row_in k ys ≡ v → length v ≡ length u → length ys ≡ length xs
 as_long k xs ys u v first second long =
     sym (length-map ys (λ lanes. lane lanes k)) ∙ ap length second ∙ long ∙ sym (ap length first) ∙ length-map xs (λ lanes. lane lanes k)
@@ -113,7 +113,7 @@ module _ (n : ℕ) (steps : ℕ → ℕ) (f g : ℕ → ℕ → List Bool) where
     sequences_before = λ s u low high within. first.sequences_before s u low high (omega (arith, within, all s (omega (arith, high, first.below_high))));
   }
 
--- the same rows, read otherwise
+-- equal rows, read otherwise
 pub compares-rows : (high t : ℕ) (steps : ℕ → ℕ) (f g u v : ℕ → List Bool) (found : Option Place) → ((s : ℕ) → s < high → f s ≡ u s) → ((s : ℕ) → s < high → g s ≡ v s)
     → ComparesAt high t steps f g found → ComparesAt high t steps u v found
 compares-rows high t steps f g u v None first second same = λ s within has. sym (first s within) ∙ same s within has ∙ second s within
@@ -145,7 +145,7 @@ module _ (c d : Netlist) (sequences others : List InputSequence) (b : ℕ) where
       → rows_by c sequences (256 * b + k) t ≡ rows_by d others (256 * b + k) t
   same_at k t h same = sym (first_row k t h) ∙ same ∙ second_row k t h
 
-  -- the same of the sequences below a lane
+  -- equal for the sequences below a lane
   same_below : (n : ℕ) → n ≤ length (block_of sequences b)
       → AreSame 0 n (steps_of (block_of sequences b)) (rows_by c (block_of sequences b)) (rows_by d (block_of others b))
       → AreSame (256 * b) (256 * b + n) (steps_of sequences) (rows_by c sequences) (rows_by d others)

@@ -43,12 +43,12 @@ module _ (sequences : List InputSequence) (f g : ℕ → ℕ → List Bool) (fou
   same_where_none s t inside step none =
       in_block (s / 256) None none (omega arith) s t (omega arith) (omega (arith, part_end (s / 256))) step
 
-  -- where no block has a difference, all sequences have the same rows
+  -- if no block has a difference, all sequences have equal rows
   pub none_found : ((i : ℕ) → i < length found → get_or found i None ≡ None) → ((i : ℕ) → 256 * i < length sequences → i < length found)
       → AreSame 0 (length sequences) (steps_of sequences) f g
   none_found none all s t low high step = same_where_none s t high step (none (s / 256) (all (s / 256) (omega arith)))
 
-  -- where no block before has a difference, that of the next block is the first of all sequences
+  -- if no block before has a difference, that of the next block is the first of all sequences
   pub some_found : (p : Place) (i : ℕ) → 256 * i < length sequences → get_or found i None ≡ Some p → ((j : ℕ) → j < i → get_or found j None ≡ None)
       → IsFirstOf 0 (length sequences) (steps_of sequences) f g p
   some_found p i inside here before =
@@ -110,7 +110,7 @@ module _ (c d : Netlist) (sequences others : List InputSequence) (alike : AreAli
   other_step : (s t p : ℕ) → s < length sequences → t < steps_of sequences s → at_place (trace d others) s t p ≡ slice_get (rows_by d others s t) p
   other_step s t p inside step = at_step d others s t p (omega (arith, inside, alike.many)) (step_of_other s t step)
 
-  -- where no row differs at any step of any sequence, the traces are the same
+  -- if no row differs at any step of any sequence, the traces are equal
   pub traces_same : AreSame 0 (length sequences) (steps_of sequences) (rows_by c sequences) (rows_by d others) → trace c sequences ≡ trace d others
   unfolding trace
   traces_same same =
@@ -171,7 +171,7 @@ module _ (c d : Netlist) (sequences others : List InputSequence) (alike : AreAli
   answered found (Some p) each all first =
       difference p (some_found sequences (rows_by c sequences) (rows_by d others) found each p first.0 (all first.0 first.1) first.2 first.3)
 
--- the same sequences, and those for the free latches that were kept
+-- these sequences, and those for the free latches that were kept
 pub alike_itself : (sequences : List InputSequence) → AreAlike sequences sequences
 alike_itself sequences = record { many = refl; long = λ k. refl }
 

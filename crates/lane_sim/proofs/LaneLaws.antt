@@ -100,14 +100,15 @@ lane-with_one words p k four inside within =
           ∙ ap (λ a. a || lane words k) (sym (ne_eqb k p (λ h. other (ap (λ q. q / 64) h))))
     ] refl
 
--- a word with one bit set, where the value is true
+-- a word with one bit set, if the value is true
 abbrev pub with_value : ℕ → Bool → ℕ → ℕ
 with_value word value i = bit_or word (bool_byte value * 2 ^ i % 18446744073709551616)
 
 with-false : (word i : ℕ) → with_value word false i ≡ word
 with-false word i = let none : 0 * 2 ^ i % 18446744073709551616 ≡ 0 = omega arith in ap (bit_or word) none ∙ or_zero_r word
 
--- words with one lane's bit set to a value that is 1 have it in that lane alone, beside what they had
+-- words with one lane's bit set to a value that is 1 have it in that lane alone, beside what they
+-- had
 pub lane-with : (words : List ℕ) (p k : ℕ) (value : Bool) → length words ≡ 4 → p < 256 → k < 256
     → lane (set words (p / 64) (with_value (get_or words (p / 64) 0) value (p % 64))) k ≡ (((k == p) && value) || lane words k)
 lane-with words p k true four inside within =
@@ -123,7 +124,7 @@ and_words-lt : (neg_a neg_b : Bool) (a b : ℕ) → a < 2 ^ 64 → and_words neg
 and_words-lt true neg_b a b small = let h = and_le_l (bit_not w64 a) (negated_if neg_b b) in omega (arith, h)
 and_words-lt false neg_b a b small = let h = and_le_l a (negated_if neg_b b) in omega (arith, h)
 
--- words are small where those in range are
+-- words are small if those in range are
 small_everywhere : (words : List ℕ) → ((i : ℕ) → i < length words → get_or words i 0 < 2 ^ 64) → (i : ℕ) → get_or words i 0 < 2 ^ 64
 small_everywhere words small i =
     elim (nat_lt i (length words)) as (λ b. nat_lt i (length words) ≡ b → get_or words i 0 < 2 ^ 64) [

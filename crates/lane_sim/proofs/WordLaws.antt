@@ -21,7 +21,8 @@ pub xor_flip : (negated : Bool) (x : ℕ) → x < 2 ^ 64 → bit_xor x (cond neg
 xor_flip true x small = xor_ones x small
 xor_flip false x small = xor_zero_r x
 
--- the AND of words XORed with ones where they are to be negated is that of the words, each perhaps negated
+-- the AND of words XORed with ones if they are to be negated is that of the words, each perhaps
+-- negated
 pub and_flips : (neg_a neg_b : Bool) (a b : ℕ) → a < 2 ^ 64 → b < 2 ^ 64
     → bit_and (bit_xor a (cond neg_a 18446744073709551615 0)) (bit_xor b (cond neg_b 18446744073709551615 0)) ≡ and_words neg_a neg_b a b
 and_flips neg_a neg_b a b small_a small_b = ap₂ bit_and (xor_flip neg_a a small_a) (xor_flip neg_b b small_b)

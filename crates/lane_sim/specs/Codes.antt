@@ -20,7 +20,7 @@ name_of (Width at) = codes "Width"
 name_of (TooMany at) = codes "TooMany"
 name_of NoMemory = codes "NoMemory"
 
--- the offset of what is at fault, where it has one
+-- the offset of what is at fault, if it has one
 abbrev pub offset_of : StimError → Option ℕ
 offset_of (BadLine at) = Some at
 offset_of (Width at) = Some at

@@ -9,16 +9,16 @@ use Rattle.lane_sim.specs.declared.stimulus.InputSequence.{InputSequence}
 use Rattle.lane_sim.specs.Blocks.{in_lane, block_of}
 use Rattle.lane_sim.specs.Traces.{row_of}
 
--- the first place where two rows differ
+-- the first place at which two rows differ
 pub record IsFirstIn (xs ys : List Bool) (p : ℕ) : Type 0 where
   pub differs : slice_get xs p ≢ slice_get ys p
   pub before : (q : ℕ) → q < p → slice_get xs q ≡ slice_get ys q
 
--- the rows f and g, by sequence and step, are the same for the sequences from low up to high
+-- the rows f and g, by sequence and step, are equal for the sequences from low up to high
 abbrev pub AreSame : ℕ → ℕ → (ℕ → ℕ) → (ℕ → ℕ → List Bool) → (ℕ → ℕ → List Bool) → Type 0
 AreSame low high steps f g = (s t : ℕ) → low ≤ s → s < high → t < steps s → f s t ≡ g s t
 
--- the first place where rows differ
+-- the first place at which rows differ
 pub record IsFirstOf (low high : ℕ) (steps : ℕ → ℕ) (f g : ℕ → ℕ → List Bool) (p : Place) : Type 0 where
   pub from_low : low ≤ p.sequence
   pub below_high : p.sequence < high
@@ -27,7 +27,7 @@ pub record IsFirstOf (low high : ℕ) (steps : ℕ → ℕ) (f g : ℕ → ℕ �
   pub steps_before : (t : ℕ) → t < p.step → f p.sequence t ≡ g p.sequence t
   pub sequences_before : AreSame low p.sequence steps f g
 
--- the first place where they differ, or none
+-- the first place at which they differ, or none
 abbrev pub Compares : ℕ → ℕ → (ℕ → ℕ) → (ℕ → ℕ → List Bool) → (ℕ → ℕ → List Bool) → Option Place → Type 0
 Compares low high steps f g found = MatchOption found (AreSame low high steps f g) (IsFirstOf low high steps f g)
 
@@ -46,11 +46,12 @@ pub record AreAlike (sequences others : List InputSequence) : Type 0 where
 
 -- ---- a step after another
 
--- the rows f and g of a step, by sequence, are the same for the sequences below high that have the step
+-- the rows f and g of a step, by sequence, are equal for the sequences below high that have the
+-- step
 abbrev pub AreSameAt : ℕ → ℕ → (ℕ → ℕ) → (ℕ → List Bool) → (ℕ → List Bool) → Type 0
 AreSameAt high t steps f g = (s : ℕ) → s < high → t < steps s → f s ≡ g s
 
--- the first place in the step where they differ
+-- the first place in the step at which they differ
 pub record IsFirstAt (high t : ℕ) (steps : ℕ → ℕ) (f g : ℕ → List Bool) (p : Place) : Type 0 where
   pub below_high : p.sequence < high
   pub step_is : p.step ≡ t

@@ -1,4 +1,4 @@
--- Where two circuits differ under a stimulus.
+-- The differences of two circuits under a stimulus.
 use Rattle.std.specs.Prelude.{ℕ, ◌<◌, ◌≡◌, ◌≢◌, ◌⊎◌, Bool, List, Option, length}
 use Rattle.aig_graph.specs.Circuits.{Netlist}
 use Rattle.aig_graph.specs.Graph.{free_latches}
@@ -6,7 +6,8 @@ use Rattle.aig_graph.specs.Streams.{SameShape}
 use Rattle.lane_sim.specs.declared.difference.Place.{Place}
 use Rattle.lane_sim.specs.Traces.{at_place}
 
--- as many inputs, free latches and properties of each kind, and justice properties of the same sizes
+-- equal numbers of inputs, free latches and properties of each kind, and justice properties of
+-- equal sizes
 pub record HaveSameShape (c d : Netlist) : Type 0 where
   pub shape : SameShape c d
   pub free : free_latches d.aig ≡ free_latches c.aig
@@ -15,7 +16,7 @@ pub record HaveSameShape (c d : Netlist) : Type 0 where
 abbrev pub DifferInShape : Netlist → Netlist → Type 0
 DifferInShape c d = HaveSameShape c d → ⊥
 
--- the same, where d has these free latches of c alone
+-- of such a shape, if d has these free latches of c alone
 pub record HaveKeptShape (kept : List ℕ) (c d : Netlist) : Type 0 where
   pub shape : SameShape c d
   pub free : length kept ≡ free_latches d.aig
@@ -34,7 +35,7 @@ IsBefore p q =
 abbrev pub at : List (List (List Bool)) → Place → Option Bool
 at t p = at_place t p.sequence p.step p.place
 
--- the first place where two traces differ
+-- the first place at which two traces differ
 pub record IsFirstDifference (s t : List (List (List Bool))) (p : Place) : Type 0 where
   pub differs : at s p ≢ at t p
   pub first : (q : Place) → IsBefore q p → at s q ≡ at t q

@@ -1,4 +1,5 @@
--- Which free latches of a circuit another one has: the list of them, and what a stimulus of the first is for the other.
+-- The free latches of a circuit that another one has: the list of them, and the stimulus for the
+-- other by that of the first.
 use Rattle.std.specs.Prelude.{ℕ, ◌+◌, ◌-◌, ◌<◌, ◌++◌, ◌||◌, ◌==◌, List, [], ◌∷◌, Option, Some, None, Result, Ok, Err, All, length, map, nat_lt, nat_le, slice_get, if◌then◌else◌}
 use Rattle.std.specs.List.Sorted.{IsStrictlyIncreasing}
 use Rattle.file_words.specs.Answering.{◌>>=◌}
@@ -10,11 +11,12 @@ use Rattle.lane_sim.specs.declared.stimulus.InputSequence.{InputSequence}
 use Rattle.lane_sim.specs.declared.fault.StimError.{StimError}
 use Rattle.lane_sim.specs.declared.fault.StimError.TheVariants.{BadLine, Width}
 
--- the sequence for a circuit whose free latches are these of the first one's: the values that they have there, and the same steps
+-- the sequence for a circuit whose free latches are these of the first one's: the values that they
+-- have there, and its steps
 abbrev pub for_kept : List ℕ → InputSequence → InputSequence
 for_kept kept s = record { choice = map (choice_of s) kept; steps = s.steps }
 
--- places among so many free latches, rising
+-- places among `free` free latches, rising
 pub record ArePlaces (free : ℕ) (kept : List ℕ) : Type 0 where
   pub rising : IsStrictlyIncreasing kept
   pub below : All (λ place. place < free) kept
@@ -34,14 +36,14 @@ with_place free at kept None = Err (BadLine at)
 with_place free at kept (Some place) =
     if nat_le free place || nat_lt place (next_place kept) then Err (BadLine at) else Ok (kept ++ place ∷ [])
 
--- a line is the number of a place among so many free latches, above the places before it
+-- a line is the number of a place among `free` free latches, above the places before it
 abbrev pub read_place : ℕ → ℕ → List ℕ → List ℕ → Result (List ℕ) StimError
 read_place free at kept line = with_place free at kept (number_of line)
 
--- all places, where there are so many
+-- all places, if they are as many as the count
 abbrev pub counted : ℕ → ℕ → List ℕ → Result (List ℕ) StimError
 counted count end kept = if length kept == count then Ok kept else Err (Width end)
 
--- the places of a text, a line each, of which there have to be so many, or its first fault
+-- the places of a text, a line each, in the number of the count, or its first fault
 abbrev pub read_kept : ℕ → ℕ → List ℕ → Result (List ℕ) StimError
 read_kept free count bytes = read_lines (read_place free) 0 [] (lines bytes) >>= counted count (length bytes)

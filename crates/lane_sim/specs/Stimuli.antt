@@ -34,7 +34,7 @@ abbrev pub step : ℕ → ℕ → List InputSequence → List ℕ → Result (Li
 step inputs at sequences digits =
     if length sequences == 0 then Err (BadLine at) else (if length digits == inputs then Ok (continued sequences (values_of digits)) else Err (Width at))
 
--- the same of any line: `=` begins a sequence, `:` is a step, and only digits may follow
+-- the sequences after any line: `=` begins a sequence, `:` is a step, and only digits may follow
 abbrev pub read_line : ℕ → ℕ → ℕ → List InputSequence → List ℕ → Result (List InputSequence) StimError
 read_line inputs free at sequences [] = Err (BadLine at)
 read_line inputs free at sequences (kind ∷ digits) =

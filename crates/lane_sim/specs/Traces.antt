@@ -30,6 +30,6 @@ abbrev pub then_at : {X : Type 0} → Option (List X) → ℕ → Option X
 then_at None k = None
 then_at (Some xs) k = slice_get xs k
 
--- what stands at a place of a step of a sequence, where there is such a place
+-- the value at a place of a step of a sequence, if there is such a place
 abbrev pub at_place : List (List (List Bool)) → ℕ → ℕ → ℕ → Option Bool
 at_place t sequence step place = then_at (then_at (slice_get t sequence) step) place

@@ -14,7 +14,7 @@ use std::thread::Threads;
 /// For each step of a block, the values of the literals.
 pub(crate) type Block = Sequence<Sequence<Lanes>>;
 
-/// The number of steps of the longest sequence.
+/// Returns the number of steps of the longest sequence.
 pub(crate) fn longest(sequences: &[InputSequence]) -> usize
     ensures { (k : ℕ) → k < length sequences.now → length (in_lane sequences.now k).steps ≤ result }
 {
@@ -59,7 +59,7 @@ pub(crate) fn simulate_block(
     Ok(Sequence::from_vec(rows))
 }
 
-/// The sequences of a block.
+/// Returns the sequences of a block.
 pub(crate) fn block(sequences: &[InputSequence], number: usize) -> &[InputSequence]
     requires { 256 * number ≤ length sequences.now }
     ensures value { result.now ≡ block_of sequences.now number }

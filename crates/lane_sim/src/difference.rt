@@ -1,4 +1,5 @@
-//! The first place where two circuits differ.
+//! The first place at which two circuits differ, by sequence, then by step, then by property
+//! literal.
 ghost use Rattle.std.specs.Prelude.{ℕ, ◌≡◌, ◌≢◌, ◌+◌, ◌*◌, ◌^◌, ◌<◌, ◌≤◌, ◌↔◌, MatchOption, IfNone, IfSome, IsSomeAnd, IsErrOf, Some, None, IfOk, IsTrue, option_map, length, map, slice_get, All, OnOk};
 ghost use Rattle.std.specs.List.{slice_index_or};
 ghost use Rattle.aig_graph.specs.Streams.{SameShape};
@@ -37,7 +38,7 @@ struct Side<'a> {
     sequences: &'a [InputSequence],
 }
 
-/// The first place where two rows differ in a lane.
+/// Returns the first place at which two rows differ in a lane.
 fn row_difference(xs: &[Lanes], ys: &[Lanes], lane: usize) -> Option<usize>
     requires lane { lane < 256 }
     requires places { length ys.now ≡ length xs.now }
@@ -52,7 +53,8 @@ fn row_difference(xs: &[Lanes], ys: &[Lanes], lane: usize) -> Option<usize>
     None
 }
 
-/// The first place where two rows of a step differ in the lane of a sequence, where it has the step.
+/// Returns the first place at which two rows of a step differ in the lane of a sequence, if that
+/// has the step.
 fn sequence_difference(
     xs: &[Lanes],
     ys: &[Lanes],
@@ -74,7 +76,8 @@ fn sequence_difference(
     }
 }
 
-/// The first place where the rows of a step differ in the lanes before one, among the sequences that have the step.
+/// Returns the first place at which the rows of a step differ in the lanes before `lanes`, among
+/// the sequences that have the step.
 fn step_difference(
     xs: &[Lanes],
     ys: &[Lanes],
@@ -100,7 +103,7 @@ fn step_difference(
     None
 }
 
-/// The first place where two circuits differ in a step, in the lanes before one.
+/// Returns the first place at which two circuits differ in a step, in the lanes before `lanes`.
 fn next_difference(
     alloc: Global,
     a: &Side<'_>,
@@ -126,7 +129,7 @@ fn next_difference(
     Ok(step_difference(xs.as_slice(), ys.as_slice(), a.sequences, lanes, step))
 }
 
-/// How many sequences there are before the one that differs first, so far.
+/// Returns the number of sequences before the one that differs first, so far.
 fn lanes_before(all: usize, found: Option<Place>) -> usize
     ensures { result ≡ lanes_before all found }
 {
@@ -136,7 +139,7 @@ fn lanes_before(all: usize, found: Option<Place>) -> usize
     }
 }
 
-/// What was found later, where that is something: it is in an earlier sequence.
+/// Returns what was found later, if there is something: that is in an earlier sequence.
 fn later_or(found: Option<Place>, later: Option<Place>) -> Option<Place>
     ensures { result ≡ later_or found later }
 {
@@ -146,7 +149,7 @@ fn later_or(found: Option<Place>, later: Option<Place>) -> Option<Place>
     }
 }
 
-/// The first place where two circuits differ, before whose first steps they stand.
+/// Returns the first place at which two circuits differ; both are before their first steps.
 fn runs_difference(
     alloc: Global,
     a: &Side<'_>,
@@ -168,7 +171,8 @@ fn runs_difference(
     Ok(found)
 }
 
-/// The first place where two circuits differ under the sequences of a block. Nothing is kept of a step but what the latches hold.
+/// Returns the first place at which two circuits differ under the sequences of a block. Nothing is
+/// kept of a step but what the latches hold.
 fn block_difference(alloc: Global, a: &Side<'_>, b: &Side<'_>) -> Result<Option<Place>, NoMemory>
     requires { CanCompare a.now b.now }
     ensures { IfOk result (ComparesSides a.now b.now) }
@@ -178,7 +182,7 @@ fn block_difference(alloc: Global, a: &Side<'_>, b: &Side<'_>) -> Result<Option<
     runs_difference(alloc, a, &mut first, b, &mut second)
 }
 
-/// The first place where two circuits differ in a block, each under its own sequences.
+/// Returns the first place at which two circuits differ in a block, each under its own sequences.
 fn compare_block(
     alloc: Global,
     a: &Circuit,
@@ -204,7 +208,7 @@ fn compare_block(
     Ok(after(found, LANES * number))
 }
 
-/// The place, with its sequence counted from a later one on.
+/// Returns the place, with its sequence counted from a later one on.
 fn after(found: Option<Place>, first: usize) -> Option<Place>
     requires { IfSome found (λ p. first + p.sequence < 2 ^ 64) }
     ensures { result ≡ option_map (λ p. record {
@@ -224,7 +228,7 @@ fn after(found: Option<Place>, first: usize) -> Option<Place>
     }
 }
 
-/// What comparing each block finds, in parallel, in order.
+/// Returns what comparing each block finds, in order. Blocks are compared in parallel.
 fn compare_blocks(
     rt: &(impl Threads + Sync),
     alloc: Global,
@@ -257,7 +261,7 @@ fn compare_blocks(
     found
 }
 
-/// The first that was found.
+/// Returns the first place that was found.
 fn first_found(found: &[Option<Place>]) -> Option<Place>
     ensures { MatchOption result ((i : ℕ) → i < length found.now
         → slice_index_or found.now i None ≡ None)
@@ -272,7 +276,8 @@ fn first_found(found: &[Option<Place>]) -> Option<Place>
     None
 }
 
-/// The first place where the traces of two circuits differ, each under its own sequences.
+/// Returns the first place at which the traces of two circuits differ, each under its own
+/// sequences.
 fn difference(
     rt: &(impl Threads + Sync),
     alloc: Global,
@@ -291,9 +296,9 @@ fn difference(
     Ok(first_found(found.as_slice()))
 }
 
-/// The first place, by sequence, then by step, then by place, where the traces of two circuits differ, and `None` where
-/// they agree. `Shape` where the circuits differ in the number of inputs, free latches or properties of a kind, or in the
-/// size of a justice property.
+/// Returns the first place at which the traces of two circuits differ, by sequence, then by step,
+/// then by place. Gives `None` if they agree. Gives `Shape` if the circuits differ in the number of
+/// inputs, free latches or properties of a kind, or in a justice property's size.
 pub fn first_difference(
     rt: &(impl Threads + Sync),
     alloc: Global,
@@ -316,8 +321,9 @@ pub fn first_difference(
     Ok(found)
 }
 
-/// The same where the second circuit has these free latches of the first one's, each of which holds at step 0 what it holds there.
-/// `Shape` where the circuits differ in the number of inputs or properties of a kind, or in the size of a justice property, or the
+/// Compares as [`first_difference`] does, if the second circuit has these free latches of the first
+/// one's, each with its value at step 0. Gives `Shape` if the circuits differ in the number of
+/// inputs or properties of a kind, or in the size of a justice property. Gives it also if the
 /// second one has another number of free latches. Takes room for the stimulus once more.
 pub fn first_difference_kept(
     rt: &(impl Threads + Sync),

@@ -1,4 +1,5 @@
-//! Why a stimulus isn't read, and why circuits aren't compared. What a report says of a fault, its name and offset, stands here.
+//! Faults of a stimulus, and of circuits that can't be compared. A report's words for a fault, its
+//! name and offset, stand here.
 ghost use Rattle.std.specs.Prelude.{◌≡◌};
 
 use aig_graph::NoMemory;
@@ -7,7 +8,8 @@ use std::fmt::{Debug, Display, Formatter};
 use std::{error, fmt};
 use thiserror::Error;
 
-/// Why bytes were not read as a stimulus. The number is the offset of the first byte of the line at fault.
+/// Why bytes were not read as a stimulus. The number is the offset of the first byte of the line at
+/// fault.
 #[derive(Clone, Copy)]
 pub enum StimError {
     /// A line is not a mark and digits, or it is a step before the first sequence.
@@ -23,7 +25,7 @@ pub enum StimError {
 impl StimError {
     ghost use Rattle.lane_sim.specs.Codes.{stim_error_code, name_of, offset_of};
 
-    /// The number of the kind of fault.
+    /// Returns the number of the kind of fault.
     pub fn code(self) -> u8
         ensures { result ≡ stim_error_code self }
     {
@@ -35,7 +37,7 @@ impl StimError {
         }
     }
 
-    /// The name, as messages and reports have it.
+    /// Returns the name that messages and reports have for it.
     pub fn name(self) -> &'static str
         ensures { result.now ≡ name_of self }
     {
@@ -47,7 +49,7 @@ impl StimError {
         }
     }
 
-    /// The offset of the first byte of the line at fault, where it has one.
+    /// Returns the offset of the first byte of the line at fault, if it has one.
     pub fn offset(self) -> Option<u64>
         ensures { result ≡ offset_of self }
     {
@@ -104,8 +106,8 @@ impl<T: Drop> From<AllocFailed<T>> for StimError {
 /// Why two circuits were not compared.
 #[derive(Clone, Copy, Debug, Error)]
 pub enum SimError {
-    /// The circuits differ in the number of inputs, free latches or properties of a kind, or in the size of a justice
-    /// property.
+    /// The circuits differ in the number of inputs, free latches or properties of a kind, or in the
+    /// size of a justice property.
     #[error("shapes differ")]
     Shape,
     /// Memory was refused.
@@ -116,7 +118,7 @@ pub enum SimError {
 impl SimError {
     ghost use Rattle.lane_sim.specs.Codes.{sim_error_code};
 
-    /// The number of the kind of fault.
+    /// Returns the number of the kind of fault.
     pub fn code(self) -> u8
         ensures { result ≡ sim_error_code self }
     {

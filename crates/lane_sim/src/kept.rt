@@ -1,4 +1,5 @@
-//! Which free latches of a circuit another one has: reading a list of them, and the stimulus of the first for the other.
+//! The free latches of a circuit that another one has: reading a list of them, and the stimulus of
+//! the first for the other.
 ghost use Rattle.std.specs.Prelude.{◌≡◌, IfOk, false, map, length};
 ghost use Rattle.std.specs.List.{slice_index_or};
 ghost use Rattle.file_words.specs.Answering.{Gives};
@@ -13,12 +14,14 @@ use aig_graph::{NoMemory, Sequence};
 use file_words::{Line, Lines, number};
 use std::alloc::Global;
 
-/// Reads which of so many free latches were kept, as many as `count`: a line for each, with its place from 0 among them, in order.
+/// Reads the `count` free latches that were kept, of `free`. There is a line for each, with its
+/// place from 0 among the free latches, in order.
 ///
 /// # Errors
 ///
-/// `BadLine` of the first line that isn't a number, no such place, or no place above those before; else `Width`, with the length of
-/// the text, for another number of lines than `count`. `NoMemory` may come before it. The time is linear in the bytes.
+/// `BadLine` of the first line that isn't a number, no such place, or no place above those before.
+/// Otherwise `Width`, with the length of the text, for another number of lines than `count`.
+/// `NoMemory` may come before it. The time is linear in the bytes.
 pub fn read_kept(
     alloc: Global,
     bytes: &[u8],
@@ -54,7 +57,7 @@ fn take_place(kept: &mut Vec<u32>, line: &Line<'_>, free: u32) -> Result<(), Sti
     Ok(())
 }
 
-/// The least place that may follow.
+/// Returns the least place that may follow.
 fn next_place(kept: &[u32]) -> u64
     ensures { result ≡ next_place kept.now }
 {
@@ -64,7 +67,7 @@ fn next_place(kept: &[u32]) -> u64
     }
 }
 
-/// The sequences for a circuit whose free latches are these of the first one's.
+/// Returns the sequences for a circuit whose free latches are these of the first one's.
 pub(crate) fn sequences_for_kept(
     alloc: Global,
     sequences: &[InputSequence],
@@ -91,7 +94,7 @@ fn sequence_for_kept(
     Ok(InputSequence { choice, steps })
 }
 
-/// The digit at a place, and false where there is none.
+/// Returns the digit at a place, or false if there is none.
 fn digit_at(choice: &[bool], place: usize) -> bool
     ensures { result ≡ slice_index_or choice.now place false }
 {
@@ -102,7 +105,7 @@ fn digit_at(choice: &[bool], place: usize) -> bool
     }
 }
 
-/// What these free latches hold at step 0.
+/// Returns the values of these free latches at step 0.
 fn choice_for_kept(
     alloc: Global,
     sequence: &InputSequence,
@@ -118,7 +121,7 @@ fn choice_for_kept(
     Ok(Sequence::from_vec(values))
 }
 
-/// The same steps.
+/// Returns a copy of the steps.
 fn copied(alloc: Global, steps: &[Sequence<bool>]) -> Result<Sequence<Sequence<bool>>, NoMemory>
     ensures { IfOk result (λ copy. copy ≡ steps.now) }
 {

@@ -7,8 +7,8 @@ use std::simd::prelude::*;
 /// The words of one vector.
 const CHUNK: usize = 4;
 
-/// Puts into each word of `out` the AND of the words of `a` and `b` at its place, each first negated where the flag is
-/// set. Chunks of four words are one vector operation.
+/// Puts into each word of `out` the AND of the words of `a` and `b` at its place. Each is first
+/// negated if its flag is set. Chunks of four words are one vector operation.
 pub fn and_lanes(out: &mut [u64], a: &[u64], b: &[u64], neg_a: bool, neg_b: bool)
     requires as_many_a { length a.now ≡ length out.old }
     requires as_many_b { length b.now ≡ length out.old }
@@ -28,7 +28,7 @@ pub fn and_lanes(out: &mut [u64], a: &[u64], b: &[u64], neg_a: bool, neg_b: bool
     }
 }
 
-/// The four words from a place on.
+/// Computes the four words from a place on.
 #[inline(always)]
 fn and_chunk(out: &mut [u64], a: &[u64], b: &[u64], at: usize, neg_a: bool, neg_b: bool)
     requires as_many_a { length a.now ≡ length out.old }
@@ -43,7 +43,7 @@ fn and_chunk(out: &mut [u64], a: &[u64], b: &[u64], at: usize, neg_a: bool, neg_
     (x & y).copy_to_slice(&mut out[at..]);
 }
 
-/// What a word is XORed with to be negated where the flag is set.
+/// Returns the word by which an XOR negates another one if the flag is set.
 #[inline(always)]
 fn flip(negated: bool) -> u64
     ensures { result ≡ (if negated then 2 ^ 64 - 1 else 0) }

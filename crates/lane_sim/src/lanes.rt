@@ -29,14 +29,14 @@ impl Model for Lanes {
 }
 
 impl Lanes {
-    /// False in each lane.
+    /// Returns false in each lane.
     pub(crate) fn none() -> Lanes
         ensures { (k : ℕ) → k < 256 → lane result k ≡ false }
     {
         Lanes { words: [0; 4] }
     }
 
-    /// True in each lane.
+    /// Returns true in each lane.
     pub(crate) fn all() -> Lanes
         ensures { (k : ℕ) → k < 256 → lane result k ≡ true }
     {
@@ -45,7 +45,7 @@ impl Lanes {
         }
     }
 
-    /// The value in a lane.
+    /// Returns the value in a lane.
     pub(crate) fn get(self, place: usize) -> bool
         requires { place < 256 }
         ensures { result ≡ lane self place }
@@ -53,7 +53,7 @@ impl Lanes {
         (self.words[place / 64] >> (place % 64)) & 1 == 1
     }
 
-    /// The same lanes, but that this one is true also where the value is.
+    /// Returns these lanes, with lane `place` true if `value` is, else as it was.
     pub(crate) fn with(self, place: usize, value: bool) -> Lanes
         requires { place < 256 }
         ensures { (k : ℕ) → k < 256 → lane result k ≡ ((k == place && value) || lane self k) }
@@ -63,7 +63,7 @@ impl Lanes {
         Lanes { words }
     }
 
-    /// The AND in each lane, each side first negated where the flag is set.
+    /// Returns the AND in each lane, each side first negated if its flag is set.
     pub(crate) fn and(self, other: Lanes, negated: bool, other_negated: bool) -> Lanes
         ensures { (k : ℕ) → k < 256 → lane result k
             ≡ (signed_if negated (lane self k) && signed_if other_negated (lane other k)) }
@@ -75,7 +75,7 @@ impl Lanes {
         Lanes { words }
     }
 
-    /// The same lanes, each negated where the flag is set.
+    /// Returns these lanes, each negated if the flag is set.
     pub(crate) fn signed(self, negated: bool) -> Lanes
         ensures { (k : ℕ) → k < 256 → lane result k ≡ signed_if negated (lane self k) }
     {

@@ -15,13 +15,15 @@ use std::alloc::{AllocError, Global};
 /// The sequences that a stimulus may have.
 const MAX_SEQUENCES: usize = 1 << 20;
 
-/// Reads a stimulus for a circuit with this many inputs and free latches.
+/// Reads a stimulus for a circuit with `inputs` inputs and `free` free latches.
 ///
-/// The text is lines: `=` followed by a digit 0 or 1 for each free latch begins a sequence, and `:` followed by a digit
-/// for each input is its next step. The empty text has no sequence. An error is the first line's with a fault:
-/// `BadLine` for another first byte, a byte that is no digit, or a step before the first sequence; else `Width` for
-/// another number of digits; else `TooMany` for the line that begins sequence number 2^20, from 0. `NoMemory` may come
-/// before it. The time is linear in the bytes.
+/// The text is lines. A line of `=` and a digit 0 or 1 for each free latch begins a sequence. A
+/// line of `:` and a digit for each input is its next step. The empty text has no sequence.
+///
+/// An error is that of the first line with a fault. It is `BadLine` for another first byte, a byte
+/// that is no digit, or a step before the first sequence. Otherwise it is `Width` for another
+/// number of digits, else `TooMany` for the line that begins sequence number 2^20, from 0.
+/// `NoMemory` may come before it. The time is linear in the bytes.
 pub fn read_stimulus(
     alloc: Global,
     bytes: &[u8],
@@ -109,7 +111,7 @@ fn add_step(
     Ok(())
 }
 
-/// The sequence with one more step.
+/// Returns the sequence with one more step.
 fn longer(sequence: InputSequence, row: Sequence<bool>) -> Result<InputSequence, AllocError>
     ensures { IfOk result (λ more. more ≡ record {
       choice = sequence.choice;
@@ -126,14 +128,14 @@ fn longer(sequence: InputSequence, row: Sequence<bool>) -> Result<InputSequence,
     })
 }
 
-/// Whether each byte is 0 or 1.
+/// Returns true if each byte is 0 or 1.
 fn are_digits(bytes: &[u8]) -> bool
     ensures { result ≡ list_all is_digit bytes.now }
 {
     bytes.iter().all(|byte| *byte == b'0' || *byte == b'1')
 }
 
-/// The values that digits spell.
+/// Returns the values that digits spell.
 fn values(alloc: Global, digits: &[u8]) -> Result<Sequence<bool>, AllocError>
     ensures { IfOk result (λ row. row ≡ values_of digits.now) }
 {

@@ -10,7 +10,7 @@ use crate::stimulus::InputSequence;
 use aig_graph::{Circuit, Lit, NoMemory, Sequence, property_literals};
 use std::alloc::Global;
 
-/// The property literals of a circuit, and where it stands.
+/// The property literals of a circuit, and its state.
 #[derive(Drop)]
 pub(crate) struct Run {
     literals: Vec<Lit>,
@@ -19,7 +19,7 @@ pub(crate) struct Run {
 }
 
 impl Run {
-    /// Before the first step of the sequences.
+    /// Returns a run before the first step of the sequences.
     pub(crate) fn open(
         alloc: Global,
         circuit: &Circuit,
@@ -40,7 +40,7 @@ impl Run {
         })
     }
 
-    /// The values of the property literals in the next step, which has this number.
+    /// Returns the values of the property literals in the next step, which has the number `step`.
     pub(crate) fn next(
         &mut self,
         alloc: Global,

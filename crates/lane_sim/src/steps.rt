@@ -1,4 +1,5 @@
-//! A circuit under up to 256 sequences, a step after another: what its latches hold goes from step to step, and nothing else is kept.
+//! A circuit under up to 256 sequences, a step after another. What its latches hold goes from step
+//! to step, and nothing else is kept.
 ghost use Rattle.std.specs.Prelude.{ℕ, ◌≡◌, ◌+◌, ◌<◌, ◌≤◌, All, IfOk, List, length, map};
 ghost use Rattle.aig_graph.specs.Graph.{Graph, variable, variables_end};
 ghost use Rattle.lane_sim.specs.declared.stimulus.InputSequence.{InputSequence as Sequenced};
@@ -25,7 +26,7 @@ pub struct Values {
 }
 
 impl State {
-    /// Room for what the latches of a graph hold.
+    /// Returns room for the values of the latches of a graph.
     pub fn new(alloc: Global, aig: &Aig) -> Result<State, NoMemory>
         ensures { IfOk result (IsStateFor aig.now) }
     {
@@ -33,7 +34,7 @@ impl State {
         Ok(State { latches })
     }
 
-    /// What the latches hold before the first step of sequences. Takes no memory.
+    /// Sets the latches to their values before the first step of sequences. Takes no memory.
     pub fn open(&mut self, aig: &Aig, sequences: &[InputSequence])
         requires lanes { length sequences.now ≤ 256 }
         requires room { IsStateFor aig.now self.old }
@@ -42,7 +43,8 @@ impl State {
         open_state(self.latches.as_mut_slice(), aig, sequences);
     }
 
-    /// What the latches hold after the step in which all variables have these values. Takes no memory.
+    /// Sets the latches to their values after the step in which all variables have these values.
+    /// Takes no memory.
     pub fn advance(&mut self, aig: &Aig, values: &Values)
         requires room { IsStateFor aig.now self.old }
         requires values { AreFor aig.now values.now }
@@ -55,7 +57,7 @@ impl State {
 }
 
 impl Values {
-    /// Room for the values of all variables of a graph.
+    /// Returns room for the values of all variables of a graph.
     pub fn new(alloc: Global, aig: &Aig) -> Result<Values, NoMemory>
         ensures { IfOk result (AreFor aig.now) }
     {
@@ -63,7 +65,8 @@ impl Values {
         Ok(Values { table })
     }
 
-    /// The values in a step of sequences, by what the latches hold there. Takes no memory.
+    /// Computes the values in a step of sequences, by the values of the latches there. Takes no
+    /// memory.
     pub fn evaluate(&mut self, aig: &Aig, state: &State, sequences: &[InputSequence], step: usize)
         requires lanes { length sequences.now ≤ 256 }
         requires room { AreFor aig.now self.old }
@@ -79,7 +82,7 @@ impl Values {
         );
     }
 
-    /// The value of a literal in the lane of a sequence.
+    /// Returns the value of a literal in the lane of a sequence.
     pub fn get(&self, lane: usize, lit: Lit) -> bool
         requires lane { lane < 256 }
         requires literal { variable lit < length self.now.table.items }
@@ -89,7 +92,7 @@ impl Values {
         literal_lanes(self.table.as_slice(), lit).get(lane)
     }
 
-    /// The values of literals.
+    /// Returns the values of literals.
     pub(crate) fn read(&self, alloc: Global, literals: &[Lit]) -> Result<Sequence<Lanes>, NoMemory>
         requires { All (λ lit. variable lit < length self.now.table.items) literals.now }
         ensures { IfOk result (λ row. (g : Graph) (sequences : List Sequenced) (k t : ℕ) → k < 256
@@ -100,7 +103,7 @@ impl Values {
     }
 }
 
-/// The values of literals in a step, after which the state is that of the next one.
+/// Returns the values of literals in a step. The state is then that of the next one.
 pub(crate) fn simulate_step(
     alloc: Global,
     state: &mut State,

@@ -35,21 +35,21 @@ impl Model for Stimulus {
 }
 
 impl Stimulus {
-    /// The stimulus of these sequences, which may be of any widths. Takes no memory.
+    /// Returns the stimulus of these sequences, which may be of any widths. Takes no memory.
     pub fn new(sequences: Vec<InputSequence>) -> Stimulus
         ensures { result ≡ sequences.items }
     {
         Stimulus { sequences }
     }
 
-    /// The number of sequences.
+    /// Returns the number of sequences.
     pub fn sequences(&self) -> usize
         ensures { result ≡ length self.now }
     {
         self.sequences.len()
     }
 
-    /// The number of steps of a sequence, and `None` for a number that no sequence has.
+    /// Returns the number of steps of a sequence, or `None` for a number that no sequence has.
     pub fn steps(&self, sequence: usize) -> Option<usize>
         ensures { result ≡ option_map (λ s. length s.steps) (slice_get self.now sequence) }
     {
@@ -59,7 +59,7 @@ impl Stimulus {
         }
     }
 
-    /// The sequences.
+    /// Returns the sequences.
     pub fn as_slice(&self) -> &[InputSequence]
         ensures { result.now ≡ self.now }
     {

@@ -1,8 +1,10 @@
 //! A table of lanes by variable: one step of a block.
 //!
-//! A table has a row for each variable, of 256 bits: bit k is that of sequence k of the block. The row of the constant is never
-//! written; those of the latches are filled at each step from the state, which is a row for each latch, those of the inputs are cleared
-//! and filled, and those of the gates written in order, since fan-ins come first. Then the state is written from the next literals.
+//! A table has a row for each variable, of 256 bits: bit k is that of sequence k of the block. The
+//! row of the constant is never written. At each step the rows of the latches are filled from the
+//! state, which is a row for each latch. Those of the inputs are cleared and filled, and those of
+//! the gates written in order, since fan-ins come first. Then the state is written from the next
+//! literals.
 ghost use Rattle.std.specs.Prelude.{ℕ, ◌≡◌, ◌+◌, ◌<◌, ◌≤◌, ◌==◌, ◌&&◌, ◌||◌, false, [], length, All, IfOk, map};
 ghost use Rattle.std.specs.List.{slice_index_or};
 ghost use Rattle.aig_graph.specs.Graph.{IsGraph, variable, variables_end, first_latch, first_gate};
@@ -16,7 +18,7 @@ use crate::stimulus::InputSequence;
 use aig_graph::{Aig, Gate, Lit, NoMemory, Reset, Sequence};
 use std::alloc::Global;
 
-/// The digit of each sequence for a free latch.
+/// Returns the digit of each sequence for a free latch.
 fn choice_lanes(sequences: &[InputSequence], place: usize) -> Lanes
     requires { length sequences.now ≤ 256 }
     ensures { (k : ℕ) → k < 256 → lane result k ≡ choice_of (in_lane sequences.now k) place }
@@ -31,7 +33,7 @@ fn choice_lanes(sequences: &[InputSequence], place: usize) -> Lanes
     lanes
 }
 
-/// Puts the digits of a step into a lane of the inputs, where there is none yet.
+/// Puts the digits of a step into a lane of the inputs, which are false there.
 fn load_row(table: &mut [Lanes], inputs: usize, row: &[bool], place: usize)
     requires inputs { inputs < length table.old }
     requires lane { place < 256 }
@@ -90,7 +92,7 @@ fn load_inputs(table: &mut [Lanes], aig: &Aig, sequences: &[InputSequence], step
     }
 }
 
-/// The AND of a gate's literals.
+/// Returns the AND of a gate's literals.
 fn gate_lanes(table: &[Lanes], gate: Gate) -> Lanes
     requires first { variable gate.rhs0 < length table.now }
     requires second { variable gate.rhs1 < length table.now }
@@ -138,7 +140,7 @@ pub(crate) fn fill(
     evaluate(table, aig);
 }
 
-/// The value of a literal.
+/// Returns the value of a literal.
 pub(crate) fn literal_lanes(table: &[Lanes], lit: Lit) -> Lanes
     requires { variable lit < length table.now }
     ensures { (k : ℕ) → k < 256 → lane result k ≡ signed lit (held table.now (variable lit) k) }
@@ -146,7 +148,7 @@ pub(crate) fn literal_lanes(table: &[Lanes], lit: Lit) -> Lanes
     table[lit.var() as usize].signed(lit.is_negated())
 }
 
-/// The values of literals.
+/// Returns the values of literals.
 pub(crate) fn read_literals(
     alloc: Global,
     table: &[Lanes],
@@ -176,7 +178,8 @@ pub(crate) fn advance(state: &mut [Lanes], table: &[Lanes], aig: &Aig)
     }
 }
 
-/// What a latch holds at step 0, where it is the free latch with this place if it is free.
+/// Returns the value of a latch at step 0. If it is free, `place` is its place among the free
+/// latches.
 fn opening_lanes(reset: Reset, sequences: &[InputSequence], place: usize) -> Lanes
     requires { length sequences.now ≤ 256 }
     ensures { (k : ℕ) → k < 256 → lane result k ≡ opening reset
@@ -189,7 +192,8 @@ fn opening_lanes(reset: Reset, sequences: &[InputSequence], place: usize) -> Lan
     }
 }
 
-/// Puts into the state what each latch holds before the first step: its reset, and the choice where it is free.
+/// Puts into the state the value of each latch before the first step: its reset, or the choice if
+/// it is free.
 pub(crate) fn open_state(state: &mut [Lanes], aig: &Aig, sequences: &[InputSequence])
     requires lanes { length sequences.now ≤ 256 }
     requires latches { length state.old ≡ length aig.now.latches }

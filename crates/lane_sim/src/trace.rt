@@ -12,7 +12,9 @@ use std::alloc::Global;
 use std::marker::Model;
 use std::thread::Threads;
 
-/// The values of a circuit's property literals under a stimulus, by sequence, step and place. The places go over outputs, bad states, constraints, the literals of the justice properties in order, and fairness.
+/// The values of a circuit's property literals under a stimulus, by sequence, step and place. The
+/// places go over outputs, bad states, constraints, the literals of the justice properties in
+/// order, and fairness.
 #[derive(Drop)]
 pub struct Trace {
     steps: Vec<usize>,
@@ -29,7 +31,8 @@ impl Model for Trace {
 }
 
 impl Trace {
-    /// The value at a place of a step of a sequence, and `None` where the trace has no such place.
+    /// Returns the value at a place of a step of a sequence, or `None` if the trace has no such
+    /// place.
     pub fn get(&self, sequence: usize, step: usize, place: usize) -> Option<bool>
         ensures { result ≡ at_place self.now sequence step place }
     {
@@ -38,14 +41,14 @@ impl Trace {
         value_in_block(rows, sequence % LANES, steps, step, place)
     }
 
-    /// The number of sequences.
+    /// Returns the number of sequences.
     pub fn sequences(&self) -> usize
         ensures { result ≡ length self.now }
     {
         self.steps.as_slice().len()
     }
 
-    /// The number of steps of a sequence, and 0 for a number that no sequence has.
+    /// Returns the number of steps of a sequence, or 0 for a number that no sequence has.
     pub fn steps(&self, sequence: usize) -> usize
         ensures { result ≡ length (slice_index_or self.now sequence []) }
     {
@@ -56,7 +59,7 @@ impl Trace {
         rows.len().min(*steps)
     }
 
-    /// The number of places of a step of a sequence, and 0 where the trace has no such step.
+    /// Returns the number of places of a step of a sequence, or 0 if the trace has no such step.
     pub fn places(&self, sequence: usize, step: usize) -> usize
         ensures { result ≡ length (slice_index_or (slice_index_or self.now sequence []) step []) }
     {
@@ -71,7 +74,7 @@ impl Trace {
     }
 }
 
-/// The rows of a block, and none of a block that there isn't.
+/// Returns the rows of a block, or none if there is no such block.
 fn rows_of(blocks: &[Block], number: usize) -> &[Sequence<Lanes>]
     ensures { result.now ≡ slice_index_or blocks.now number [] }
 {
@@ -81,7 +84,7 @@ fn rows_of(blocks: &[Block], number: usize) -> &[Sequence<Lanes>]
     }
 }
 
-/// The value at a place of a step of a lane that has this many steps.
+/// Returns the value at a place of a step of a lane that has `steps` steps.
 fn value_in_block(
     rows: &[Sequence<Lanes>],
     lane: usize,
@@ -100,7 +103,7 @@ fn value_in_block(
     Some(lanes.get(lane))
 }
 
-/// The number of steps of each sequence.
+/// Returns the number of steps of each sequence.
 fn lengths(alloc: Global, sequences: &[InputSequence]) -> Result<Vec<usize>, NoMemory>
     ensures { IfOk result (λ lengths. lengths.items ≡ map (λ s. length s.steps) sequences.now) }
 {
@@ -111,8 +114,8 @@ fn lengths(alloc: Global, sequences: &[InputSequence]) -> Result<Vec<usize>, NoM
     Ok(lengths)
 }
 
-/// Simulates the circuit under each sequence. Blocks of 256 sequences are simulated in parallel. A digit that a sequence
-/// doesn't have is false.
+/// Simulates the circuit under each sequence. Blocks of 256 sequences are simulated in parallel. A
+/// digit that a sequence doesn't have is false.
 pub fn simulate(
     rt: &(impl Threads + Sync),
     alloc: Global,

@@ -1,4 +1,4 @@
--- The rounds of a merged circuit are those of the circuit, so they end in the same reading.
+-- The rounds of a merged circuit are those of the circuit, so they end in one reading.
 use Rattle.std.proofs.Common.{ℕ, ◌+◌, ◌<◌, ◌≡◌, inl, inr, suc, zero, List, length, Some, slice_get, refl, arith, ap, sym, ◌∙◌, subst}
 use Rattle.std.proofs.lemmas.Bool.{cases_lt}
 use Rattle.aig_graph.specs.declared.graph.Latch.{Latch}
@@ -62,7 +62,8 @@ module _ (g : Graph) (held reads : List ℕ) (valid : IsGraph g) (coarsest : IsC
           ap (λ (xs : List ℕ). signature xs (replaced_latch (substitutes_by g reads) latch)) substitutes-same
           ∙ ap (from_reset latch.reset) (literal-same latch.next (valid.latches j latch there))
 
-      -- the next round of the merged circuit is the next round of the circuit, from any coarser reading
+      -- the next round of the merged circuit is the next round of the circuit, from any coarser
+      -- reading
       pub next-same : next_round (replaced_graph (substitutes_by g reads) g) held other ≡ next_round g held other
       next-same = round-same g held (substitutes_by g reads) other signature-same
 
@@ -115,7 +116,8 @@ module _ (g : Graph) (held reads : List ℕ) (valid : IsGraph g) (coarsest : IsC
         to-the-end (suc (merged_latches g (first_round g held))) (first_round g held) (first-reading g held) (λ q is. first-coarser g held q is.reading)
         (subst P (first_round-same g held (substitutes_by g reads)) (first-coarser (replaced_graph (substitutes_by g reads) g) held other kept.reading)) (omega arith)
 
-  -- the coarsest inductive reading of a circuit is the coarsest one of what merging by it makes of the circuit
+  -- the coarsest inductive reading of a circuit is the coarsest one of what merging by it makes of
+  -- the circuit
   pub still-coarsest : IsCoarsest (replaced_graph (substitutes_by g reads) g) held reads
   still-coarsest = record { kept = still-kept; coarser = λ other kept. ends-finer other kept }
 

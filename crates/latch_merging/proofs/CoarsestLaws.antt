@@ -1,4 +1,5 @@
--- Rounds end in the coarsest inductive reading: each inductive reading stays finer, and a round that parts no class shows that the reading is inductive.
+-- Rounds end in the coarsest inductive reading: each inductive reading stays finer, and a round
+-- that parts no class shows that the reading is inductive.
 use Rattle.std.proofs.Common.{zero-add, ℕ, ◌+◌, ◌<◌, ◌≤◌, ◌≡◌, inl, inr, suc, zero, List, length, Bool, true, false, not, nat_eq, Some, slice_get, refl, arith, ap, sym, ◌∙◌, subst}
 use Rattle.std.proofs.lemmas.Bool.{cases_Bool, cases_eq, eq-eqb, eqb-true, not-true, cond-true, cond-false}
 use Rattle.std.proofs.lemmas.Option.{same_Some, slice_get_within}
@@ -79,7 +80,8 @@ module _ (g : Graph) (held : List ℕ) where
   pub leaves-own : (reads : List ℕ) (j : ℕ) → replaced (leaves g reads) (own_literal g j) ≡ read reads j
   leaves-own reads j = replaced-latch_literal g held reads (own_literal g j) j (omega arith) ∙ own-even j (read reads j)
 
-  -- what a reading makes of a latch's literal, negated by resets, is what the latch reads as, negated by the same resets
+  -- what a reading makes of a latch's literal, negated by resets, is the latch's reading, negated
+  -- by these resets
   pub leaves-first : (reads : List ℕ) (a b : Reset) (i : ℕ) → replaced (leaves g reads) (from_reset a (from_reset b (own_literal g i))) ≡ from_reset a (from_reset b (read reads i))
   leaves-first reads a b i =
       replaced-signed (leaves g reads) (constant_of a) (from_reset b (own_literal g i))
@@ -150,7 +152,8 @@ module _ (g : Graph) (held : List ℕ) where
 
   -- the latches that a reading holds together are of one class and signature
   pub record HaveOneSignature (other : List ℕ) (keys : ℕ → Latch → Signature) : Type 0 where
-    -- a latch that reads as the constant of its reset is of the constant's class, and its signature is 0
+    -- a latch that reads as the constant of its reset is of the constant's class, and its signature
+    -- is 0
     pub zero : (j : ℕ) (latch : Latch) → slice_get g.latches j ≡ Some latch → read other j ≡ constant_of latch.reset → keys j latch ≡ constant_signature
     -- a latch that reads as another is of the other's class and signature
     pub same : (j i : ℕ) (latch first : Latch) → slice_get g.latches j ≡ Some latch → slice_get g.latches i ≡ Some first

@@ -1,5 +1,6 @@
--- Names by which gates agree with their fan-ins' names: what merging by an inductive reading makes of a literal has the literal's name, where that
--- holds of what latches read as. So latches that an inductive reading holds together have one signature, and no turn parts them.
+-- Names by which gates agree with their fan-ins' names. What merging by an inductive reading makes
+-- of a literal has the literal's name, if that holds of the readings of latches. So latches that an
+-- inductive reading holds together have one signature, and no turn parts them.
 use Rattle.std.proofs.Common.{ℕ, ◌+◌, ◌-◌, ◌*◌, ◌<◌, ◌≤◌, ◌≡◌, inl, inr, suc, List, [], ◌∷◌, length, Bool, true, false, not, ◌&&◌, nat_eq, cond, Option, Some, None, slice_get, get_or, refl, arith, ap, sym, ◌∙◌, subst}
 use Rattle.std.specs.Map.{lookup}
 use Rattle.std.proofs.lemmas.Bool.{cases_Bool, cases_lt, cases_eq, cond-true, cond-false, eq-eqb}
@@ -231,7 +232,7 @@ module _ (g : Graph) (held names signatures : List ℕ) (pairs : List (Gate × �
       let low : replaced (leaves g names) 0 ≡ 0 = ap (signed_as 0) (leaf-low g held names 0 (omega arith)) in
       signature-name j latch there ∙ ap (replaced (leaves g names)) zero_signature ∙ low
 
-  -- the same of two latches
+  -- so for two latches
   pub signature-same : (j i : ℕ) (latch first : Latch) → slice_get g.latches j ≡ Some latch → slice_get g.latches i ≡ Some first
       → read other j ≡ from_reset latch.reset (from_reset first.reset (own_literal g i)) → signature (leaves g names) latch ≡ signature (leaves g names) first
   signature-same j i latch first there first_there e =
@@ -270,7 +271,8 @@ module _ (g : Graph) (held names signatures signatures_new : List ℕ) (pairs : 
     (agrees : (i : ℕ) (gate : Gate) → slice_get g.gates i ≡ Some gate → known_substitute pairs (replaced_gate (leaves g names) gate) ≡ Some (read names (length g.latches + i)))
     (left : AreLeaving g held names signatures signatures_new leaving) (group : Signature → ℕ) (names_new : List ℕ)
     (each : (j : ℕ) (latch : Latch) → slice_get g.latches j ≡ Some latch → read names_new j ≡ regrouped leaving names signatures_new group j latch) where
-  -- after a turn latches that an inductive reading holds together are still of one class and signature
+  -- after a turn latches that an inductive reading holds together are still of one class and
+  -- signature
   pub turn-alike : AreAlike g held (key_of names signatures) → AreAlike g held (key_of names_new signatures_new)
   turn-alike alike other kept =
       let before : HaveOneSignature g other (key_of names signatures) = alike other kept in

@@ -1,4 +1,4 @@
--- The readers of a variable, over links that each lead to the last fan-in before that reads the same variable.
+-- The readers of a variable, over links that each lead to the last fan-in before that reads it too.
 use Rattle.std.proofs.Common.{ℕ, ◌+◌, ◌-◌, ◌*◌, ◌/◌, ◌<◌, ◌≤◌, ◌≡◌, ◌⊎◌, inl, inr, suc, zero, List, [], ◌∷◌, ◌++◌, length, Bool, true, nat_eq, Some, slice_get, get_or, set, refl, arith, ap, sym, ◌∙◌, subst, add-one}
 use Rattle.std.proofs.lemmas.Bool.{cases_Bool, cases_lt, cases_eq, cond-true, cond-false, eqb-true, eq-eqb}
 use Rattle.std.proofs.lemmas.Option.{same_Some, slice_get_within}

@@ -1,4 +1,5 @@
--- One round: the first of each class and signature, latch after latch, and what latches read as after it.
+-- One round: the first of each class and signature, latch after latch, and what latches read as
+-- after it.
 use Rattle.std.proofs.Common.{zero-add, ℕ, ◌+◌, ◌<◌, ◌≤◌, ◌≡◌, inl, inr, suc, zero, List, [], ◌∷◌, ◌++◌, length, Bool, true, false, ◌&&◌, cond, nat_eq, Option, Some, None, slice_get, refl, arith, ap, sym, ◌∙◌, subst, add-one}
 use Rattle.std.specs.Map.{lookup}
 use Rattle.std.proofs.lemmas.Bool.{cases_Bool, cases_eq, and_parts, and_from, and_left, eq-eqb, eqb-true, cond-true, cond-false}
@@ -121,7 +122,8 @@ module _ (g : Graph) (held : List ℕ) (keys : ℕ → Latch → Signature) wher
     pub leader : ℕ
     -- after the round the latch reads as the leader, negated where the latch's reset is 1
     pub reads_as : read (round_by g held keys) j ≡ from_reset latch.reset leader
-    -- the leader is the first of the constant and the latches up to this one that is of the latch's class and signature
+    -- the leader is the first of the constant and the latches up to this one that is of the latch's
+    -- class and signature
     pub first_one : first (keys j latch) (suc j) ≡ Some leader
 
   -- each latch that may be merged has a leader

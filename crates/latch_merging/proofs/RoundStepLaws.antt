@@ -43,7 +43,7 @@ pub first-end : (g : Graph) (held : List ℕ) (k : ℕ) (xs : List ℕ) → k �
 unfolding first_round
 first-end g held k xs h l filled = table-end 0 k (length g.latches) (λ j. first_read g held j (slice_get g.latches j)) xs h l filled
 
--- the same after a round
+-- so after a round
 pub next-more : (g : Graph) (held : List ℕ) (keys : ℕ → Latch → Signature) (k : ℕ) (old new : List ℕ) (lit : ℕ) → old ≡ table 0 k (λ j. next_read g held keys j (slice_get g.latches j))
     → lit ≡ next_read g held keys k (slice_get g.latches k) → new ≡ old ++ lit ∷ [] → new ≡ table 0 (k + 1) (λ j. next_read g held keys j (slice_get g.latches j))
 next-more g held keys k old new lit before is pushed =

@@ -1,4 +1,4 @@
--- A round over latches that read something else is the round, where they have the same signatures.
+-- A round over latches that read something else is the round, if they have equal signatures.
 use Rattle.std.proofs.Common.{ℕ, ◌≡◌, suc, zero, List, length, ◌&&◌, cond, Option, Some, None, slice_get, refl, ap, sym, ◌∙◌}
 use Rattle.aig_graph.specs.declared.graph.Latch.{Latch}
 use Rattle.aig_graph.specs.Graph.{Graph}
@@ -66,7 +66,8 @@ module _ (g : Graph) (held substitutes : List ℕ) where
             ∙ ap (λ (l : ℕ). first_of_signature g held (signature_of g other) (record { class = class; literal = l }) j) (same j latch e))
             ∙ sym (ap (next_read g held (signature_of g other) j) e)
 
-    -- a round is the same of a circuit and of its replaced one, where all latches have the same signatures in both
+    -- a round of a circuit is that of its replaced one, if all latches have equal signatures in
+    -- both
     pub round-same : next_round (replaced_graph substitutes g) held other ≡ next_round g held other
     unfolding round_by
     round-same =

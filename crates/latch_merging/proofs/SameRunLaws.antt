@@ -1,4 +1,5 @@
--- Over gates that read what a finer reading made of their literals, a coarser one makes what it makes over the gates.
+-- Over gates that read what a finer reading made of their literals, a coarser one makes what it
+-- makes over the gates.
 use Rattle.std.proofs.Common.{ℕ, ◌+◌, ◌<◌, ◌≤◌, ◌≡◌, inl, inr, suc, List, [], ◌∷◌, length, map, Some, slice_get, get_or, refl, arith, ap, sym, ◌∙◌, subst}
 use Rattle.std.proofs.lemmas.Bool.{cases_lt}
 use Rattle.aig_graph.specs.declared.graph.Gate.{Gate}

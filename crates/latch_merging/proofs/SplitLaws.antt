@@ -1,4 +1,5 @@
--- Steps of splitting: a variable gets another name, a gate is named, latches get new signatures and leave those that they had.
+-- Steps of splitting: a variable gets another name, a gate is named, latches get new signatures and
+-- leave those that they had.
 use Rattle.std.proofs.Common.{ℕ, ◌+◌, ◌-◌, ◌<◌, ◌≤◌, ◌≡◌, ◌⊎◌, inl, inr, List, [], ◌++◌, length, length-append, replicate, Bool, true, false, not, ◌&&◌, nat_eq, Some, slice_get, get_or, set, refl, arith, ap, sym, ◌∙◌}
 use Rattle.std.proofs.lemmas.Bool.{cases_Bool, cases_lt, cases_eq, cond-true, cond-false, eq-eqb}
 use Rattle.std.proofs.lemmas.Option.{same_Some, slice_get_within}
@@ -186,7 +187,8 @@ pub record AreUpdating (g : Graph) (held names old new : List ℕ) (latches leav
   pub long_latches : length latches ≡ length g.latches
   -- each latch has an entry among the marks of those that leave their signatures
   pub long_leaving : length leaving ≡ length g.latches
-  -- each latch either waits, has its signature as before and isn't marked as leaving, or has its new signature, and is marked so exactly if it leaves
+  -- Each latch waits, or has its signature as before and isn't marked as leaving. Or it has its new
+  -- signature, and is marked so exactly if it leaves.
   pub each : (j : ℕ) (latch : Latch) → slice_get g.latches j ≡ Some latch
       → ((is_marked latches j ≡ true) × (read new j ≡ read old j) × (is_marked leaving j ≡ false))
       ⊎ ((read new j ≡ signature (leaves g names) latch) × (is_marked leaving j ≡ is_leaving g held names old j latch))
@@ -275,13 +277,16 @@ module _ (g : Graph) (held names old : List ℕ) where
 
 -- latches that are still to get the names of their groups, and those that have them
 pub record AreRenaming (g : Graph) (signatures : List ℕ) (group : Signature → ℕ) (names names_new : List ℕ) (leaving leaving_new latches latches_new gates gates_new : List Bool) : Type 0 where
-  -- names and marks are as many as before, and the signatures of unmarked latches still agree with the names
+  -- names and marks are as many as before, and the signatures of unmarked latches still agree with
+  -- the names
   pub carried : AreCarried g names names_new latches latches_new gates gates_new
-  -- if unmarked gates had the names of their fan-ins' names before, the gates that are unmarked now have theirs too
+  -- if unmarked gates had the names of their fan-ins' names before, the gates that are unmarked now
+  -- have theirs too
   pub named : (pairs : List (Gate × ℕ)) → AreNamed g names pairs gates → AreNamed g names_new pairs gates_new
   -- the list of the marks of latches that leave is as long as before
   pub long_leaving : length leaving_new ≡ length leaving
-  -- each latch either waits, marked and named as before, or is unmarked, with its group's name if it was marked, else its old name
+  -- each latch either waits, marked and named as before, or is unmarked, with its group's name if
+  -- it was marked, else its old name
   pub each : (j : ℕ) (latch : Latch) → slice_get g.latches j ≡ Some latch
       → ((is_marked leaving_new j ≡ true) × (is_marked leaving j ≡ true) × (read names_new j ≡ read names j))
       ⊎ ((is_marked leaving_new j ≡ false) × (read names_new j ≡ regrouped leaving names signatures group j latch))
@@ -359,7 +364,7 @@ module _ (g : Graph) (signatures : List ℕ) (group : Signature → ℕ) (names 
     | inr done ↦ done.1
   ]
 
--- the same names of latches make the same classes
+-- equal names of latches make equal classes
 alike-same : (g : Graph) (held names names_new signatures : List ℕ) → ((j : ℕ) → j < length g.latches → read names_new j ≡ read names j) → AreAlike g held (key_of names signatures) → AreAlike g held (key_of names_new signatures)
 alike-same g held names names_new signatures same alike other kept =
     let before : HaveOneSignature g other (key_of names signatures) = alike other kept in

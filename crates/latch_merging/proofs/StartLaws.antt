@@ -33,7 +33,8 @@ merged-in_range held positions c d merged in_range =
     subst (λ (n : ℕ). All (λ j. j < n) positions) (sym many) in_range
 
 module _ {E : Type 0} (held : List ℕ) (c : Netlist) (d : Cleaned) where
-  -- what merging the cleaned circuit returned is what the circuit is cleaned and merged to, with its held latches, kept free latches and counts
+  -- what merging the cleaned circuit returned is what the circuit is cleaned and merged to, with
+  -- its held latches, kept free latches and counts
   pub merges-by : (r : Result MergedStart E) → CleansTo held c d.circuit d.kept_free d.keep → IfOk r (λ m. IsMerged d.keep d.circuit m.circuit)
       → IfOk r (λ m. AreCounts d.circuit.aig d.keep m.counts) → IfOk r (λ m. m.keep ≡ d.keep) → IfOk r (λ m. m.kept_free ≡ d.kept_free)
       → IfOk r (λ m. MergesIn held c m.circuit m.kept_free m.keep m.counts)
@@ -43,13 +44,15 @@ module _ {E : Type 0} (held : List ℕ) (c : Netlist) (d : Cleaned) where
       (subst (λ (positions : List ℕ). MergesIn held c m.circuit d.kept_free positions m.counts) (sym stay) whole)
   merges-by (Err e) cleans merged counted stay kept = tt
 
-  -- what merging the cleaned circuit returned has the streams of the circuit before cleaning, under its kept free latches
+  -- what merging the cleaned circuit returned has the streams of the circuit before cleaning, under
+  -- its kept free latches
   pub streams-by : (r : Result MergedStart E) → SameStreams c d.circuit d.kept_free → IfOk r (λ m. SameStreams d.circuit m.circuit (all_free d.circuit.aig))
       → IfOk r (λ m. m.kept_free ≡ d.kept_free) → IfOk r (λ m. SameStreams c m.circuit m.kept_free)
   streams-by (Ok m) first second kept = subst (λ (places : List ℕ). SameStreams c m.circuit places) (sym kept) (streams-both c d.circuit m.circuit d.kept_free first second)
   streams-by (Err e) first second kept = tt
 
-  -- in what merging the cleaned circuit returned, the held latches are those of the circuit before cleaning
+  -- in what merging the cleaned circuit returned, the held latches are those of the circuit before
+  -- cleaning
   pub stay-by : (r : Result MergedStart E) → StayHeld held c d.keep d.circuit → IfOk r (λ m. IsMerged d.keep d.circuit m.circuit) → IfOk r (λ m. m.keep ≡ d.keep)
       → IfOk r (λ m. StayHeld held c m.keep m.circuit)
   stay-by (Ok m) first merged stay =

@@ -33,8 +33,7 @@ abbrev pub IsTaken : List Bool → List Bool → Option ℕ → Type 0
 IsTaken old new None = (new ≡ old) × ((k : ℕ) → is_marked new k ≡ false)
 IsTaken old new (Some place) = (place < length old) × (is_marked old place ≡ true) × (new ≡ slice_set old place false)
 
--- the last of the first n fan-ins that read a variable, by one more than its place; 0 where there
--- is none
+-- the last of the first n fan-ins that read a variable, by its place plus one; 0 if there is none
 unfoldable pub last_reader : List ℕ → ℕ → ℕ → ℕ
 last_reader sources v zero = 0
 last_reader sources v (suc n) = if slice_index_or sources n 0 == v then suc n else last_reader sources v n
@@ -107,8 +106,8 @@ AreNamed g names pairs marks =
     (i : ℕ) (gate : Gate) → slice_get g.gates i ≡ Some gate
     → (is_marked marks i ≡ true) ⊎ (known_substitute pairs (replaced_gate (leaves g names) gate) ≡ Some (read names (length g.latches + i)))
 
--- the signature of a latch that isn't marked is the name of its next literal, negated where its
--- reset is 1
+-- the signature of a latch that isn't marked is the name of its next literal, negated if its reset
+-- is 1
 abbrev pub AreSignatures : Graph → List ℕ → List ℕ → List Bool → Type 0
 AreSignatures g names signatures marks = (j : ℕ) (latch : Latch) → slice_get g.latches j ≡ Some latch → (is_marked marks j ≡ true) ⊎ (read signatures j ≡ signature (leaves g names) latch)
 
@@ -154,11 +153,11 @@ pub record AreLeaving (g : Graph) (held names old new : List ℕ) (leaving : Lis
   pub signature : (j : ℕ) (latch : Latch) → slice_get g.latches j ≡ Some latch → read new j ≡ signature (leaves g names) latch
   pub marked : (j : ℕ) (latch : Latch) → slice_get g.latches j ≡ Some latch → is_marked leaving j ≡ is_leaving g held names old j latch
 
--- the class of latch j by its name, negated where its reset is 1, and its signature by the names
+-- the class of latch j by its name, negated if its reset is 1, and its signature by the names
 abbrev pub signature_by : Graph → List ℕ → ℕ → Latch → Signature
 signature_by g names j latch = record { class = from_reset latch.reset (read names j); literal = signature (leaves g names) latch }
 
--- the class of latch j by its name, negated where its reset is 1, and the signature that it had
+-- the class of latch j by its name, negated if its reset is 1, and the signature that it had
 abbrev pub key_of : List ℕ → List ℕ → ℕ → Latch → Signature
 key_of names signatures j latch = record { class = from_reset latch.reset (read names j); literal = read signatures j }
 
@@ -184,7 +183,7 @@ group_name places names key = slice_index_or names (place_or (lookup (has_signat
 abbrev pub renamed_latch : List (Signature × ℕ) → List ℕ → ℕ → ℕ → Latch → ℕ
 renamed_latch places names class signature latch = from_reset latch.reset (group_name places names (record { class = from_reset latch.reset class; literal = signature }))
 
--- what latch j is named where the groups have these names: as before where it isn't marked
+-- the name of latch j if the groups have these names: as before if it isn't marked
 abbrev pub regrouped : List Bool → List ℕ → List ℕ → (Signature → ℕ) → ℕ → Latch → ℕ
 regrouped leaving names signatures group j latch = if is_marked leaving j then from_reset latch.reset (group (key_of names signatures j latch)) else read names j
 

@@ -8,7 +8,8 @@ use Rattle.state_maps.specs.MapCircuits.{IsMapCircuit, is_kept, mapped}
 use Rattle.state_maps.proofs.MapLaws.{maps-give-streams}
 use Rattle.map_checks.specs.Answers.{AreFitting, MapsFirstStates, KeepsStates}
 
--- a fitting map that begins at first states and keeps steps is a map of states, and both circuits have the same streams
+-- a fitting map that begins at first states and keeps steps is a map of states, and both circuits
+-- have equal streams
 pub shows : (c d m : Netlist) (kept : List ℕ) → IsGraph m.aig → IsNetlist m → m.aig.latches ≡ [] → AreFitting c d m → MapsFirstStates c d m kept → KeepsStates c d m → IsMapCircuit c d kept m × SameStreams c d kept
 shows c d m kept graph netlist combinational fitting begins keeps =
     let maps : IsStateMap c d kept (is_kept m) (mapped m) = record { holds_first = begins.holds; first = begins.states; keeps = keeps.keeps; steps = keeps.steps; reads = keeps.reads } in (

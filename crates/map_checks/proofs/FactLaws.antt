@@ -9,7 +9,7 @@ use Rattle.aig_graph.proofs.KindLaws.{GatePlace, gate_place}
 use Rattle.aig_graph.specs.Gates.{IsNegated, Respects, gates_of}
 use Rattle.map_checks.specs.Facts.{IsFact}
 
--- the literal of the same variable with the other sign
+-- the literal of this variable with the other sign
 pub negated-literal : (own : ℕ → Bool) → IsNegated own → (lit other : ℕ) → other / 2 ≡ lit / 2 → other % 2 ≢ lit % 2 → own other ≡ not (own lit)
 negated-literal own negated lit other same sign = elim (cases_eq (lit % 2) 0) [
   | inl even ↦ (
@@ -62,7 +62,8 @@ module _ (g : Graph) (valid : IsGraph g) (lit : ℕ) (both above below : Gate) (
       ∙ sym (gate-value g own respects (variable lit) both here) ∙ ap own (sym at) ∙ is in
       unequal p q whole ∙ sym (negated-literal own respects.negation above.rhs1 side same2 sign2)
 
-  -- an exclusive or of two literals, made of three gates, says that one of them is the other negated
+  -- an exclusive or of two literals, made of three gates, says that one of them is the other
+  -- negated
   pub is-compared : IsFact g lit (above.rhs0, side)
   is-compared =
       let place : GatePlace g (variable both.rhs0) above = gate_place g (variable both.rhs0) above one in

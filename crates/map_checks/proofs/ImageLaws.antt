@@ -15,12 +15,12 @@ use Rattle.state_maps.proofs.WithinLaws.{within_laws}
 use Rattle.std.proofs.lemmas.List.Elements.{All-map}
 use Rattle.aig_graph.proofs.ListLaws.{map-map, map-same}
 use Rattle.aig_graph.specs.Gates.{Gates, Grows, IsNegated, Respects, gates_end, gates_of}
-use Rattle.map_checks.specs.Shared.{IsSharedLiteral}
-use Rattle.map_checks.specs.Equal.{Equal, IsRight, StaysRight}
-use Rattle.map_checks.specs.Copies.{AreShared, Copy, CopiesValues, IsCopy, copied_end, copy_of}
+use Rattle.gate_sharing.specs.Shared.{IsSharedLiteral}
+use Rattle.gate_sharing.specs.Equal.{Equal, IsRight, StaysRight}
+use Rattle.gate_sharing.specs.Copies.{AreShared, Copy, CopiesValues, IsCopy, copied_end, copy_of}
 use Rattle.map_checks.specs.Images.{StandForLatches, Assumes, IsFaithfulCopy, Learns, Views, in_first, in_map, in_map_later, in_second_mapped, nexts_of, copy_of_literals}
-use Rattle.map_checks.proofs.SharedLaws.{respects-fewer, shared-more}
-use Rattle.map_checks.proofs.CopyLaws.{copy-from, copy-low}
+use Rattle.gate_sharing.proofs.SharedLaws.{respects-fewer, shared-more}
+use Rattle.gate_sharing.proofs.CopyLaws.{copy-from, copy-low, leaves-shared}
 
 none : ℕ → Bool
 none = λ j. false
@@ -48,23 +48,13 @@ leaves-follow leaves n values own negated own_negated end low each lit less = el
       ∙ sym (value_signed own own_negated lit))
 ]
 
--- literals of leaves are shared where each listed one is, and all variables before the first are
-pub leaves-shared : (k : Gates) (leaves : Copy) → leaves.first ≤ gates_end k → ((j : ℕ) → j < length leaves.literals → IsSharedLiteral k (get_or leaves.literals j 0)) → AreShared k leaves
-leaves-shared k leaves few each lit less = elim (cases_lt (variable lit) leaves.first) [
-  | inl before ↦ (let P : ℕ → Type 0 = λ n. IsSharedLiteral k n in subst P (sym (copy-low leaves lit before)) (omega (arith, before, few)))
-  | inr from ↦ (
-      let here : IsSharedLiteral k (get_or leaves.literals (variable lit - leaves.first) 0) = each (variable lit - leaves.first) (omega (arith, less, from)) in
-      let P : ℕ → Type 0 = λ n. IsSharedLiteral k n in
-      let inside : IsSharedLiteral k (signed_as lit (get_or leaves.literals (variable lit - leaves.first) 0)) = omega (arith, here) in
-      subst P (sym (copy-from leaves lit from)) inside)
-]
-
 -- what stands for each latch is shared
 pub latches-shared : (k : Gates) (e : Equal) (c : Graph) (first : ℕ) (leaves : Copy) → k.first ≡ first_gate c → first ≤ first_latch c → StandForLatches e c first leaves → AreShared k leaves
 latches-shared k e c first leaves after few are =
     leaves-shared k leaves (omega (arith, are.from, few, after)) (λ j less. omega (arith, are.below j (omega (arith, less, are.long)), are.long, less, after))
 
--- values of the shared literals remain such with fewer gates, and with equalities that are right where the old ones are
+-- values of the shared literals remain such with fewer gates, and with equalities that are right if
+-- the old ones are
 pub views-fewer : (k l : Gates) (e f : Equal) (c : Graph) (x : Digits) (s : State) (values : ℕ → Bool) → Grows k l → StaysRight e f → Views l e c x s values → Views k f c x s values
 views-fewer k l e f c x s values grows stays views = record {
   respects = respects-fewer k l grows values views.respects;

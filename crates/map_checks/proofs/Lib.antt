@@ -1,6 +1,3 @@
-pub mod SharedLaws
-pub mod EqualLaws
-pub mod CopyLaws
 pub mod FactLaws
 pub mod ImageLaws
 pub mod StepLaws

@@ -12,8 +12,8 @@ use Rattle.aig_graph.proofs.ShapeLaws.{as-many}
 use Rattle.state_maps.specs.States.{Digits, State}
 use Rattle.state_maps.specs.MapCircuits.{is_kept}
 use Rattle.map_checks.specs.Answers.{AreFitting}
-use Rattle.map_checks.specs.Copies.{Copy, copy_of}
-use Rattle.map_checks.specs.Equal.{Equal}
+use Rattle.gate_sharing.specs.Copies.{Copy, copy_of}
+use Rattle.gate_sharing.specs.Equal.{Equal}
 use Rattle.map_checks.specs.Images.{AreComparedCopies, Views, in_first, in_map_later, in_second_mapped, nexts_of}
 use Rattle.map_checks.specs.Parts.{ArePairs, given, given_literals, parts, wanted, wanted_literals}
 use Rattle.map_checks.proofs.ImageLaws.{copied-list, nexts-within}

@@ -1,4 +1,5 @@
--- Properties of two circuits have the same values, kind by kind, where all their values in one list are the same.
+-- Properties of two circuits have equal values, kind by kind, if all their values in one list are
+-- equal.
 use Rattle.std.proofs.Common.{ℕ, ◌+◌, ◌≡◌, suc, Bool, List, [], ◌∷◌, ◌++◌, length, map, refl, arith, ap, ap₂, sym, ◌∙◌, length-append}
 use Rattle.std.specs.List.{flat_map}
 use Rattle.std.proofs.lemmas.List.{length-map, map-append}
@@ -29,7 +30,7 @@ abbrev flat : List (List ℕ) → List ℕ
 flat xss = flat_map (λ (xs : List ℕ). xs) xss
 
 module _ (f g : ℕ → Bool) where
-  -- the same of lists that are mapped
+  -- so for lists that are mapped
   map-parts : (xs ys zs ws : List ℕ) → length xs ≡ length ys → map f (xs ++ zs) ≡ map g (ys ++ ws) → (map f xs ≡ map g ys) × (map f zs ≡ map g ws)
   map-parts xs ys zs ws long same =
       append-parts (map f xs) (map g ys) (map f zs) (map g ws) (length-map xs f ∙ long ∙ sym (length-map ys g)) (sym (map-append f xs zs) ∙ same ∙ map-append g ys ws)
@@ -53,7 +54,7 @@ module _ (f g : ℕ → Bool) where
       let parts = map-parts xs ys (flat xss) (flat yss) one same in
       ap₂ (λ (bs : List Bool) bss. bs ∷ bss) parts.0 (flat-parts xss yss more parts.1)
 
--- properties whose values in one list are the same are read alike
+-- properties whose values in one list are equal are read alike
 pub reads-of : (c d : Netlist) (x : Digits) (s t : State) → SameShape c d → map (value_within d.aig x t) (property_literals d.props) ≡ map (value_within c.aig x s) (property_literals c.props) → SameReads c d x s t
 reads-of c d x s t shape same =
     let p : Props = d.props in

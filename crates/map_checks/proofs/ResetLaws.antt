@@ -9,12 +9,13 @@ use Rattle.aig_graph.proofs.KindLaws.{element}
 use Rattle.state_maps.specs.States.{opening_state}
 use Rattle.state_maps.proofs.WithinLaws.{within_laws}
 use Rattle.aig_graph.specs.Gates.{AreGates, Gates, IsNegated, gates_end}
-use Rattle.map_checks.specs.Shared.{IsSharedLiteral}
-use Rattle.map_checks.specs.Equal.{Equal}
-use Rattle.map_checks.specs.Copies.{AreShared, Copy, IsCopy}
+use Rattle.gate_sharing.specs.Shared.{IsSharedLiteral}
+use Rattle.gate_sharing.specs.Equal.{Equal}
+use Rattle.gate_sharing.specs.Copies.{AreShared, Copy, IsCopy}
 use Rattle.map_checks.specs.Images.{Views}
 use Rattle.map_checks.specs.Starts.{AreOpeningLiterals, IsResetImage}
-use Rattle.map_checks.proofs.ImageLaws.{constant-same, graph-respects, leaves-follow, leaves-shared}
+use Rattle.gate_sharing.proofs.CopyLaws.{leaves-shared}
+use Rattle.map_checks.proofs.ImageLaws.{constant-same, graph-respects, leaves-follow}
 use Rattle.map_checks.proofs.StepLaws.{graph_of, views-there}
 
 opening-within : (n own : ℕ) → variable own < n → (r : Reset) → variable (opening_literal r own) < n

@@ -3,10 +3,10 @@ use Rattle.std.proofs.Common.{ℕ, Bool}
 use Rattle.aig_graph.specs.Circuits.{Netlist}
 use Rattle.aig_graph.specs.Gates.{Gates, Grows, IsNegated}
 use Rattle.state_maps.specs.States.{Digits, State}
-use Rattle.map_checks.specs.Equal.{Equal, StaysRight}
-use Rattle.map_checks.specs.Copies.{AreShared, Copy}
+use Rattle.gate_sharing.specs.Equal.{Equal, StaysRight}
+use Rattle.gate_sharing.specs.Copies.{AreShared, Copy}
 use Rattle.map_checks.specs.Images.{AreComparedCopies, IsFaithfulCopy, Learns, Views, in_first, in_map, in_map_later, in_second_mapped}
-use Rattle.map_checks.proofs.SharedLaws.{grows-transitive}
+use Rattle.gate_sharing.proofs.SharedLaws.{grows-transitive}
 use Rattle.map_checks.proofs.ImageLaws.{shared-later, view-later, views-fewer}
 
 -- what is right stays right where nothing changes
@@ -17,7 +17,8 @@ stays-same e = λ values negated right. right
 pub stays-then : (e f h : Equal) → StaysRight e f → StaysRight f h → StaysRight e h
 stays-then e f h one two = λ values negated right. two values negated (one values negated right)
 
--- k1 and e1 after the constraints were learnt, then the map's image, the first circuit, the map a step later and the second circuit
+-- k1 and e1 after the constraints were learnt, then the map's image, the first circuit, the map a
+-- step later and the second circuit
 module _ (c d m : Netlist) (k1 k2 k3 k4 k5 : Gates) (e0 e1 e2 e3 e4 e5 : Equal) (image before later after : Copy)
     (learns : Learns k1 c.aig m e0 e1)
     (one : Grows k1 k2) (first : StaysRight e1 e2) (image_view : IsFaithfulCopy k2 e1 c.aig m.aig (in_map m) image)
@@ -41,7 +42,8 @@ module _ (c d m : Netlist) (k1 k2 k3 k4 k5 : Gates) (e0 e1 e2 e3 e4 e5 : Equal) 
   early : (values : ℕ → Bool) (x : Digits) (s : State) → Views k5 e0 c.aig x s values → Views k1 e0 c.aig x s values
   early values x s views = views-fewer k1 k5 e0 e0 c.aig x s values (grows-transitive k1 k2 k5 one (grows-transitive k2 k3 k5 two (grows-transitive k3 k4 k5 three four))) (stays-same e0) views
 
-  -- once all are copied, the first circuit, the map a step later and the second circuit have their values in their copies
+  -- once all are copied, the first circuit, the map a step later and the second circuit have their
+  -- values in their copies
   pub are-sides : AreComparedCopies k5 e0 e5 c d m before later after
   are-sides = record {
     long = record { of_first = before_view.long; of_map = later-is.long; of_second = after-is.long };

@@ -21,7 +21,7 @@ use Rattle.aig_graph.specs.Counting.{count_below}
 use Rattle.aig_graph.proofs.PlacesLaws.{count-lt}
 use Rattle.state_maps.specs.States.{opening_state}
 use Rattle.state_maps.specs.MapCircuits.{mapped}
-use Rattle.map_checks.specs.Copies.{Copy, copy_of}
+use Rattle.gate_sharing.specs.Copies.{Copy, copy_of}
 use Rattle.map_checks.specs.Starts.{AreRising, AreStarts, IsFreeLatch, IsOpening, IsResetImage, StartsAs, Takes}
 use Rattle.map_checks.specs.Answers.{MapsFirstStates}
 use Rattle.map_checks.proofs.ImageLaws.{copied-ones}
@@ -51,7 +51,8 @@ below-push xs g n below here k h = elim (cases_lt k (length xs)) [
       omega (arith, this, here))
 ]
 
--- places that rise, with one more that isn't before the next one, rise and lie before what follows that place
+-- places that rise, with one more that isn't before the next one, rise and lie before what follows
+-- that place
 pub rising-push : (xs new : List ℕ) (next place after : ℕ) → AreRising xs next → next ≤ place → new ≡ xs ++ place ∷ [] → after ≡ place + 1 → AreRising new after
 rising-push xs new next place after are from pushed is =
     let P : List ℕ → Type 0 = λ ys. AreRising ys after in
@@ -195,7 +196,8 @@ module _ (c d m : Netlist) (image : Copy) (kept : List ℕ) (is : IsResetImage c
             ∙ latch-starts latch.reset (copy_of image (get_or m.props.outputs j 0)) (get_or kept (free_before d.aig j) 0) (starts.starts j latch within e)
             ∙ sym (ap (opening_at d.aig (chosen kept f) j) e)
 
-  -- where the map's constraints are 1 at step 0 and the places say as what each latch starts, first states go to first states
+  -- if the map's constraints are 1 at step 0 and the places say as what each latch starts, first
+  -- states go to first states
   pub begins : MapsFirstStates c d m kept
   begins = record {
     places = record {

@@ -1,4 +1,5 @@
--- What is shown of the parts of a step, and that a step of the first circuit is one of the second where all are.
+-- What is shown of the parts of a step, and that a step of the first circuit is one of the second
+-- if all are.
 use Rattle.std.proofs.Common.{ℕ, ◌+◌, ◌*◌, ◌<◌, ◌≡◌, suc, zero, Bool, true, false, List, [], ◌∷◌, ◌++◌, length, map, replicate, get_or, slice_get, Some, refl, arith, ap, sym, ◌∙◌, subst, length-append}
 use Rattle.std.specs.List.{All}
 use Rattle.std.proofs.lemmas.List.{ext_get_or, get_or-map, length-map, length-replicate}
@@ -15,7 +16,7 @@ use Rattle.state_maps.specs.MapCircuits.{is_kept, mapped}
 use Rattle.state_maps.proofs.WithinLaws.{within_laws}
 use Rattle.aig_graph.proofs.ListLaws.{from_map}
 use Rattle.aig_graph.specs.Gates.{AreGates, Gates}
-use Rattle.map_checks.specs.Equal.{Equal}
+use Rattle.gate_sharing.specs.Equal.{Equal}
 use Rattle.map_checks.specs.Images.{Views, in_first, in_map_later, in_second_mapped, nexts_of}
 use Rattle.map_checks.specs.Answers.{AreFitting, KeepsStates}
 use Rattle.map_checks.specs.Parts.{AreMarkedEqual, ArePairs, AreShownWhere, AssumesCase, IsMarked, IsShownWhere, given, parts, wanted}

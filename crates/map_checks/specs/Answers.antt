@@ -11,8 +11,8 @@ use Rattle.map_checks.specs.declared.checking.Opening.{Opening}
 use Rattle.map_checks.specs.declared.checking.Opening.TheVariants.{LeftOpen, Kept}
 use Rattle.map_checks.specs.declared.errors.CheckError.{CheckError}
 use Rattle.map_checks.specs.declared.errors.CheckError.TheVariants.{NoMemory, TooLarge}
-use Rattle.map_checks.specs.declared.errors.SharingError.{SharingError}
-use Rattle.map_checks.specs.declared.errors.SharingError.TheVariants.{NoMemory as NoRoom, TooLarge as Full}
+use Rattle.gate_sharing.specs.declared.errors.SharingError.{SharingError}
+use Rattle.gate_sharing.specs.declared.errors.SharingError.TheVariants.{NoMemory as NoRoom, TooLarge as Full}
 
 abbrev pub check_error : SharingError → CheckError
 check_error NoRoom = NoMemory
@@ -25,8 +25,8 @@ pub record IsMap (m : Netlist) : Type 0 where
   pub justice : m.props.justice ≡ []
   pub fairness : m.props.fairness ≡ []
 
--- an input and a property of d for each of c, an input of the map for each latch of c, and an
--- output for each latch of d
+-- An input and a property of d for each of c. The map has an input for each latch of c, and an
+-- output for each latch of d.
 pub record AreFitting (c d m : Netlist) : Type 0 where
   pub shape : SameShape c d
   pub inputs : m.aig.inputs ≡ length c.aig.latches
@@ -43,13 +43,13 @@ abbrev pub IsOpeningOf : Netlist → Netlist → Netlist → Opening → Type 0
 IsOpeningOf c d m (Kept kept) = MapsFirstStates c d m kept
 IsOpeningOf c d m (LeftOpen obligation) = Unit {0}
 
--- a step of c is one of d, where the constraints hold, which they go on to do
+-- a step of c is one of d, if the constraints hold, which they go on to do
 pub record KeepsStates (c d m : Netlist) : Type 0 where
   pub keeps : (x : Digits) (s : State) → is_kept m s → is_kept m (after_step c.aig x s)
   pub steps : (x : Digits) (s : State) → is_kept m s → mapped m (after_step c.aig x s) ≡ after_step d.aig x (mapped m s)
   pub reads : (x : Digits) (s : State) → is_kept m s → SameReads c d x s (mapped m s)
 
--- the map is one of the states of c to those of d, and so their properties have the same values at
+-- the map is one of the states of c to those of d, and so their properties have equal values at
 -- each step
 abbrev pub IsAnswer : Netlist → Netlist → Netlist → Answer → Type 0
 IsAnswer c d m (Retiming kept) = IsMapCircuit c d kept m × SameStreams c d kept

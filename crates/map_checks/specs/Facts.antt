@@ -3,7 +3,7 @@ use Rattle.std.specs.Prelude.{ℕ, ◌≡◌, Bool, true}
 use Rattle.aig_graph.specs.Graph.{Graph, IsLiteralOf}
 use Rattle.aig_graph.specs.Gates.{Respects, gates_of}
 
--- two literals that are equal where this one is 1
+-- two literals that are equal if this one is 1
 pub record IsFact (g : Graph) (lit : ℕ) (sides : ℕ × ℕ) : Type 0 where
   pub first : IsLiteralOf g sides.0
   pub second : IsLiteralOf g sides.1

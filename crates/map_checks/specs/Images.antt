@@ -8,8 +8,8 @@ use Rattle.aig_graph.specs.Value.{value_within}
 use Rattle.state_maps.specs.States.{Digits, State, after_step}
 use Rattle.state_maps.specs.MapCircuits.{is_kept, mapped}
 use Rattle.aig_graph.specs.Gates.{Gates, IsNegated, Respects, gates_of}
-use Rattle.map_checks.specs.Equal.{Equal, IsRight}
-use Rattle.map_checks.specs.Copies.{AreShared, Copy, CopiesValues, copied_end, copy_of}
+use Rattle.gate_sharing.specs.Equal.{Equal, IsRight}
+use Rattle.gate_sharing.specs.Copies.{AreShared, Copy, CopiesValues, copied_end, copy_of}
 
 -- the next literals of latches
 abbrev pub nexts_of : List Latch → List ℕ
@@ -19,8 +19,8 @@ nexts_of latches = map (λ latch. latch.next) latches
 abbrev pub copy_of_literals : ℕ → Copy → List ℕ → Copy
 copy_of_literals first c lits = record { first = first; literals = map (copy_of c) lits }
 
--- values of the shared literals, where the inputs and latches of c have these, and what stands for
--- a variable has its value
+-- values of the shared literals, if the inputs and latches of c have these, and the substitute of a
+-- variable has its value
 pub record Views (k : Gates) (e : Equal) (c : Graph) (x : Digits) (s : State) (values : ℕ → Bool) : Type 0 where
   pub respects : Respects k values
   pub right : IsRight e values
@@ -58,12 +58,12 @@ in_map_later c m x s = value_within m.aig (after_step c.aig x s) (λ j. false)
 abbrev pub in_second_mapped : Netlist → Netlist → Digits → State → ℕ → Bool
 in_second_mapped d m x s = value_within d.aig x (mapped m s)
 
--- where the constraints are 1, what stands for a variable has its value
+-- if the constraints are 1, the substitute of a variable has its value
 abbrev pub Assumes : Netlist → Copy → Equal → Equal → Type 0
 Assumes m image e f = (values own : ℕ → Bool) → IsNegated values → Respects (gates_of m.aig) own → CopiesValues image (variables_end m.aig) values own
     → All (λ lit. own lit ≡ true) m.props.constraints → IsRight e values → IsRight f values
 
--- the same, of the map over the latches of c
+-- learnt of the map over the latches of c
 abbrev pub Learns : Gates → Graph → Netlist → Equal → Equal → Type 0
 Learns k c m e f = (values : ℕ → Bool) (x : Digits) (s : State) → Views k e c x s values → is_kept m s → IsRight f values
 
@@ -73,8 +73,8 @@ pub record AreWholeCopies (c d m : Netlist) (before later after : Copy) : Type 0
   pub of_map : copied_end later ≡ variables_end m.aig
   pub of_second : copied_end after ≡ variables_end d.aig
 
--- the copies that are compared: where the constraints hold, each has the values of what it is a
--- copy of, and what stands for a variable then has its value
+-- The copies that are compared. If the constraints hold, each has the values of what it is a copy
+-- of, and the substitute of a variable then has its value.
 pub record AreComparedCopies (k : Gates) (e f : Equal) (c d m : Netlist) (before later after : Copy) : Type 0 where
   pub long : AreWholeCopies c d m before later after
   pub right : (values : ℕ → Bool) (x : Digits) (s : State) → Views k e c.aig x s values → is_kept m s → IsRight f values

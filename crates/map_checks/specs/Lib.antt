@@ -1,6 +1,3 @@
-pub mod Shared
-pub mod Equal
-pub mod Copies
 pub mod Facts
 pub mod Images
 pub mod Parts

@@ -1,4 +1,4 @@
--- What a step has to show, part by part, and what shows a part where some literals are 1.
+-- What a step has to show, part by part, and what shows a part if some literals are 1.
 use Rattle.std.specs.Prelude.{ℕ, ◌+◌, ◌≡◌, ◌++◌, Bool, true, false, List, [], length, map, replicate, All}
 use Rattle.std.specs.List.{slice_index_or}
 use Rattle.aig_graph.specs.Circuits.{Netlist}
@@ -7,8 +7,8 @@ use Rattle.aig_graph.specs.Graph.{Graph}
 use Rattle.aig_graph.specs.Streams.{property_literals}
 use Rattle.state_maps.specs.States.{Digits, State}
 use Rattle.state_maps.specs.MapCircuits.{is_kept}
-use Rattle.map_checks.specs.Copies.{Copy, copy_of}
-use Rattle.map_checks.specs.Equal.{Equal, IsRight}
+use Rattle.gate_sharing.specs.Copies.{Copy, copy_of}
+use Rattle.gate_sharing.specs.Equal.{Equal, IsRight}
 use Rattle.map_checks.specs.Images.{Views, in_first, in_map_later, in_second_mapped, nexts_of}
 
 -- how many parts there are: the constraints and outputs of the map, and the properties
@@ -43,13 +43,14 @@ pub record AreShownWhere (c d m : Netlist) (lits : List ℕ) (marks : List Bool)
 abbrev pub given_literals : Netlist → Netlist → Copy → Copy → List ℕ
 given_literals d m later after = map (copy_of later) m.props.constraints ++ map (copy_of later) m.props.outputs ++ map (copy_of after) (property_literals d.props)
 
--- for each part the literal that it is compared with: 1 for a constraint of the map, for a latch that of
--- the second circuit's next literal, and for a property that of the first circuit's
+-- For each part the literal that it is compared with. It is 1 for a constraint of the map. For a
+-- latch it is that of the second circuit's next literal, for a property that of the first
+-- circuit's.
 abbrev pub wanted_literals : Netlist → Netlist → Netlist → Copy → Copy → List ℕ
 wanted_literals c d m before after = replicate (length m.props.constraints) 1 ++ map (copy_of after) (nexts_of d.aig.latches) ++ map (copy_of before) (property_literals c.props)
 
--- shared literals for the parts: where the constraints hold, they have the values of the parts, and
--- what stands for a variable has its value
+-- Shared literals for the parts. If the constraints hold, they have the values of the parts, and
+-- the substitute of a variable has its value.
 pub record ArePairs (k : Gates) (e f : Equal) (c d m : Netlist) (lits others : List ℕ) : Type 0 where
   pub long : length lits ≡ parts d m
   pub as_long : length others ≡ parts d m
@@ -65,7 +66,7 @@ AreEqualAt k f lits others place = (values : ℕ → Bool) → Respects k values
 abbrev pub AreMarkedEqual : Gates → Equal → List ℕ → List ℕ → List Bool → Type 0
 AreMarkedEqual k f lits others marks = (place : ℕ) → IsMarked marks place → AreEqualAt k f lits others place
 
--- where these literals of the first circuit are 1, what stands for a variable has its value
+-- if these literals of the first circuit are 1, the substitute of a variable has its value
 abbrev pub AssumesCase : Gates → Netlist → List ℕ → Equal → Equal → Type 0
 AssumesCase k c lits e f = (values : ℕ → Bool) (x : Digits) (s : State) → Views k e c.aig x s values → AreOne (in_first c x s) lits → IsRight f values
 

@@ -9,7 +9,7 @@ use Rattle.aig_graph.specs.Graph.{Graph, first_latch, free_before, free_latches,
 use Rattle.aig_graph.specs.Value.{Choice, opening_literal, value_within}
 use Rattle.state_maps.specs.States.{opening_state}
 use Rattle.aig_graph.specs.Gates.{IsNegated}
-use Rattle.map_checks.specs.Copies.{Copy, CopiesValues, copied_end}
+use Rattle.gate_sharing.specs.Copies.{Copy, CopiesValues, copied_end}
 
 -- the literals of what the latches hold at step 0
 pub record AreOpeningLiterals (g : Graph) (leaves : Copy) : Type 0 where
@@ -40,7 +40,7 @@ pub record IsFreeLatch (g : Graph) (lit place : ℕ) : Type 0 where
   pub literal : lit ≡ 2 * (first_latch g + position)
   pub place_is : place ≡ free_before g position
 
--- the literal is what the latch holds at step 0, where a free one is g's free latch at this place
+-- the literal is what the latch holds at step 0, if a free one is g's free latch at this place
 abbrev pub StartsAs : Graph → Reset → ℕ → ℕ → Type 0
 StartsAs g Zero lit place = lit ≡ 0
 StartsAs g One lit place = lit ≡ 1
@@ -51,7 +51,7 @@ pub record AreRising (places : List ℕ) (next : ℕ) : Type 0 where
   pub rising : IsStrictlyIncreasing places
   pub below : (k : ℕ) → k < length places → slice_index_or places k 0 < next
 
--- the places, where a latch with this reset and literal was taken
+-- the places, if a latch with this reset and literal was taken
 abbrev pub Takes : Graph → Reset → ℕ → List ℕ → List ℕ → Type 0
 Takes g Zero lit old new = (lit ≡ 0) × (new ≡ old)
 Takes g One lit old new = (lit ≡ 1) × (new ≡ old)

@@ -7,7 +7,7 @@ pub enum Answer {
     /// The second circuit is a retiming of the first, by this map. Of each free latch of the second
     /// its place, from 0, among the free latches of the first.
     Retiming(Sequence<u32>),
-    /// The first that sharing gates doesn't show. The circuit may be a retiming all the same.
+    /// The first that sharing gates doesn't show. The circuit may still be a retiming.
     NotShown(Obligation),
 }
 
@@ -16,27 +16,28 @@ pub enum Answer {
 pub enum Obligation {
     /// At step 0 this constraint of the map is 1.
     ConstraintAtReset(usize),
-    /// At step 0 this output of the map is what this latch of the second circuit holds; where the
-    /// latch is free, it is a free latch of the first, which comes after those of the free latches
-    /// before it.
+    /// At step 0 this output of the map is what this latch of the second circuit holds. If the
+    /// latch is free, the output is a free latch of the first, which comes after those of the free
+    /// latches before it.
     LatchAtReset(usize),
     /// This constraint of the map stays 1.
     Constraint(usize),
     /// After a step this output of the map is what this latch of the second circuit holds.
     Latch(usize),
-    /// This output of the circuits is the same.
+    /// This output has one value in both circuits.
     Output(usize),
-    /// This bad state is the same.
+    /// This bad state has one value in both circuits.
     Bad(usize),
-    /// This invariant constraint of the circuits is the same.
+    /// This invariant constraint has one value in both circuits.
     Invariant(usize),
-    /// This justice property is the same.
+    /// This justice property has one value in both circuits.
     Justice(usize),
-    /// This fairness constraint is the same.
+    /// This fairness constraint has one value in both circuits.
     Fairness(usize),
 }
 
-/// The place among this many, if it is one of them; else what is left of it after them.
+/// Returns the place among `count`, if it is one of them. Otherwise it becomes what is left of it
+/// after them.
 fn among(place: &mut usize, count: usize) -> Option<usize> {
     if *place < count {
         return Some(*place);
@@ -46,8 +47,8 @@ fn among(place: &mut usize, count: usize) -> Option<usize> {
 }
 
 impl Obligation {
-    /// The part with this number of a step: of the map's constraints and outputs, and then of the
-    /// properties, kind after kind.
+    /// Returns the part with this number of a step: of the map's constraints and outputs, and then
+    /// of the properties, kind after kind.
     pub(crate) fn of_part(props: &Props, map: &Props, part: usize) -> Obligation {
         let mut left = part;
         if let Some(place) = among(&mut left, map.constraints.len()) {
@@ -56,6 +57,12 @@ impl Obligation {
         if let Some(place) = among(&mut left, map.outputs.len()) {
             return Obligation::Latch(place);
         }
+        Obligation::of_property(props, left)
+    }
+
+    /// The property literal with this number, kind after kind.
+    pub fn of_property(props: &Props, number: usize) -> Obligation {
+        let mut left = number;
         if let Some(place) = among(&mut left, props.outputs.len()) {
             return Obligation::Output(place);
         }

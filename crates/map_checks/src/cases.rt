@@ -1,6 +1,6 @@
 //! One case: a step in which some inputs and latches of the first circuit have given values. Gates
-//! are shared anew in it, and what the map's constraints say is learnt anew, since other gates are
-//! one where a variable is a constant.
+//! are shared anew in it, since other gates are one if a variable is a constant. What the map's
+//! constraints say is learnt anew too.
 ghost use Rattle.std.specs.Prelude.{◌≡◌, ◌≤◌, [], IfOk, OnOk, length};
 ghost use Rattle.aig_graph.specs.Gates.{Gates};
 ghost use Rattle.aig_graph.specs.Graph.{first_gate};
@@ -9,12 +9,10 @@ ghost use Rattle.map_checks.specs.Parts.{AreMarkedEqual, AreShownWhere, AssumesC
 
 use crate::choosing::chosen;
 use crate::comparing::{first_unmarked, is_marked, mark_equal};
-use crate::equalities::Equalities;
-use crate::errors::SharingError;
 use crate::pairs::{Pairs, pairs_of};
 use crate::refuting::mark_refuted;
-use crate::shared::SharedGates;
 use aig_graph::{Aig, Circuit, Lit, NoMemory};
+use gate_sharing::{Equalities, SharedGates, SharingError};
 use std::alloc::Global;
 
 /// What is shown in a case.
@@ -36,7 +34,7 @@ impl Drop for Asked {
 }
 
 impl Asked {
-    /// The marks.
+    /// Returns the marks.
     pub(crate) fn into_marks(self) -> Vec<bool>
         ensures { result ≡ self.marks }
     {
@@ -60,7 +58,7 @@ fn assume_case(equal: &mut Equalities, first: &Circuit, case: &[Lit]) -> Result<
     Ok(())
 }
 
-/// An input or latch to make cases of for this part, if there is one and it is open.
+/// Returns an input or latch to make cases of for this part, if there is one and it is open.
 fn split_for(
     alloc: Global,
     aig: &Aig,
@@ -75,8 +73,8 @@ fn split_for(
     }
 }
 
-/// Which of these pairs propagation shows to be equal, by probing too if no part is asked for; and
-/// where to go on if that is open.
+/// Asks which of these pairs propagation shows to be equal, by probing too if no part is asked for.
+/// Returns also an input or latch to go on with if that is open.
 fn look_further(
     alloc: Global,
     shared: &SharedGates,
@@ -90,14 +88,15 @@ fn look_further(
     ensures equal { IfOk result (λ asked. AreMarkedEqual shared.now equal.old pairs.now.lits.items
         pairs.now.others.items asked.marks.items) }
 {
-    let aig = shared.graph(alloc)?;
+    let aig = shared.graph(alloc, Vec::new(alloc))?;
     let (lits, others) = (pairs.lits.as_slice(), pairs.others.as_slice());
     let marks = mark_refuted(alloc, &aig, equal, lits, others, part.is_none())?;
     let split = split_for(alloc, &aig, equal, pairs, marks.as_slice(), part)?;
     Ok(Asked { marks, split })
 }
 
-/// Which of these pairs are equal, and where to go on if this part is open.
+/// Asks which of these pairs are equal. Returns also an input or latch to go on with if this part
+/// is open.
 fn asked_of(
     alloc: Global,
     shared: &SharedGates,
@@ -118,8 +117,8 @@ fn asked_of(
     look_further(alloc, shared, equal, pairs, part)
 }
 
-/// Which parts are shown where these literals of the first circuit are 1; and where this part is
-/// open, an input or latch to make cases of. Linear.
+/// Asks which parts are shown if these literals of the first circuit are 1. Returns also an input
+/// or latch to make cases of if this part is open. Linear.
 pub(crate) fn ask(
     alloc: Global,
     first: &Circuit,

@@ -3,20 +3,22 @@
 //! value are one, or are shown to be equal, they have it in every state in which the constraints
 //! hold, so the map is one of states.
 ghost use Rattle.std.specs.Prelude.{◌≡◌, ◌↔◌, [], length, IfOk, IfNone, IsErrOf, OnOk};
+ghost use Rattle.aig_graph.specs.Streams.{SameShape};
 ghost use Rattle.map_checks.specs.Answers.{AreFitting, IsAnswer, IsOpeningOf, IsMap, KeepsStates};
 
 use crate::answer::{Answer, Obligation};
 use crate::comparing::first_open;
-use crate::errors::{CheckError, SharingError};
+use crate::errors::CheckError;
 use crate::kept::KeptPlaces;
 use crate::openings::{Start, start_of};
 use crate::settling::first_open_part;
 use crate::shapes::{are_fitting, is_map};
 use crate::starting::reset_image;
-use aig_graph::{Circuit, Sequence};
+use aig_graph::{Circuit, Sequence, have_same_shape};
+use gate_sharing::SharingError;
 use std::alloc::Global;
 
-/// The first part of a step that isn't shown.
+/// Returns the first part of a step that isn't shown.
 fn obligation_of_step(
     alloc: Global,
     first: &Circuit,
@@ -38,7 +40,7 @@ pub(crate) enum Opening {
     LeftOpen(Obligation),
 }
 
-/// Whether the map gives the first states of the second circuit.
+/// Tells if the map gives the first states of the second circuit.
 fn opening_of(
     alloc: Global,
     first: &Circuit,
@@ -64,7 +66,7 @@ fn opening_of(
     }
 }
 
-/// The check of circuits that fit together.
+/// Checks circuits that fit together.
 fn checked(
     alloc: Global,
     first: &Circuit,
@@ -94,8 +96,10 @@ fn checked(
 /// # Errors
 ///
 /// `NotAMap` where the map has a latch, a bad state, a justice property or a fairness constraint;
-/// else `ShapesDiffer` where the circuits don't fit together; `NoMemory` where memory is refused,
-/// and `TooLarge` where there would be more gates than a graph may have.
+/// else `ShapesDiffer` where the circuits differ in their inputs or properties; else `DoesNotFit`
+/// where the map hasn't an input for each latch of the first and an output for each of the second;
+/// `NoMemory` where memory is refused, and `TooLarge` where there would be more gates than a graph
+/// may have.
 pub fn check_map(
     alloc: Global,
     first: &Circuit,
@@ -106,13 +110,18 @@ pub fn check_map(
     ensures fitting { OnOk result (IsMap map.now × AreFitting first.now second.now map.now) }
     ensures not_a_map { IsErrOf result CheckError.NotAMap ↔ (IsMap map.now → ⊥) }
     ensures shapes { IsErrOf result CheckError.ShapesDiffer ↔ (IsMap map.now
-        × (AreFitting first.now second.now map.now → ⊥)) }
+        × (SameShape first.now second.now → ⊥)) }
+    ensures fits { IsErrOf result CheckError.DoesNotFit ↔ (IsMap map.now
+        × SameShape first.now second.now × (AreFitting first.now second.now map.now → ⊥)) }
 {
     if !is_map(map) {
         return Err(CheckError::NotAMap);
     }
-    if !are_fitting(first, second, map) {
+    if !have_same_shape(first, second) {
         return Err(CheckError::ShapesDiffer);
+    }
+    if !are_fitting(first, second, map) {
+        return Err(CheckError::DoesNotFit);
     }
     let answer = checked(alloc, first, second, map)?;
     Ok(answer)

@@ -1,10 +1,10 @@
-//! Which input or latch to make cases of: the one that gates read most often in the cones of all
-//! open parts, among those on which one open part rests. So an enable or a reset is found without
-//! knowing what one is. Nothing that is proved rests on the choice.
+//! The input or latch to make cases of. It is the one that gates read most often in the cones of
+//! all open parts, among those on which one open part depends. So an enable or a reset is found
+//! without knowing what one is. Nothing that is proved depends on the choice.
 use crate::comparing::is_marked;
-use crate::equalities::Equalities;
 use crate::pairs::Pairs;
 use aig_graph::{Aig, Lit, NoMemory};
+use gate_sharing::Equalities;
 use std::alloc::Global;
 
 /// Marks the variable of a literal.
@@ -43,7 +43,7 @@ fn count(counts: &mut [u32], lit: Lit) {
     }
 }
 
-/// By variable before the gates, how many of the marked gates read it.
+/// Counts by variable before the gates the marked gates that read it.
 fn readers(alloc: Global, aig: &Aig, marks: &[bool]) -> Result<Vec<u32>, NoMemory> {
     let first = aig.first_gate() as usize;
     let mut counts = vec![in alloc; 0u32; first]?;
@@ -57,7 +57,8 @@ fn readers(alloc: Global, aig: &Aig, marks: &[bool]) -> Result<Vec<u32>, NoMemor
     Ok(counts)
 }
 
-/// The marked input or latch that is read most often, the first of those that are read as often.
+/// Returns the marked input or latch that is read most often, the first of those that are read as
+/// often.
 fn most_read(aig: &Aig, counts: &[u32], marks: &[bool]) -> Option<Lit> {
     let mut best = None;
     let mut most = 0;
@@ -74,8 +75,8 @@ fn most_read(aig: &Aig, counts: &[u32], marks: &[bool]) -> Option<Lit> {
     best
 }
 
-/// The input or latch to make cases of for an open part, by the marks of the parts that are shown.
-/// Linear.
+/// Returns the input or latch to make cases of for an open part, by the marks of the parts that are
+/// shown. Linear.
 pub(crate) fn chosen(
     alloc: Global,
     aig: &Aig,

@@ -3,16 +3,15 @@ ghost use Rattle.std.specs.Prelude.{ℕ, ◌≡◌, ◌<◌, false, All, IfNone,
 ghost use Rattle.std.specs.List.{slice_index_or};
 ghost use Rattle.aig_graph.specs.Gates.{Gates};
 ghost use Rattle.aig_graph.specs.Graph.{variable};
-ghost use Rattle.map_checks.specs.Copies.{copied_end, copy_of};
-ghost use Rattle.map_checks.specs.Equal.{StaysRight};
+ghost use Rattle.gate_sharing.specs.Copies.{copied_end, copy_of};
+ghost use Rattle.gate_sharing.specs.Equal.{StaysRight};
 ghost use Rattle.map_checks.specs.Parts.{AreMarkedEqual, IsMarked};
 
-use crate::copied::Copied;
-use crate::equalities::Equalities;
 use aig_graph::{Lit, NoMemory};
+use gate_sharing::{Copied, Equalities};
 use std::alloc::Global;
 
-/// The first of these literals that isn't 1.
+/// Returns the first of these literals that isn't 1.
 pub(crate) fn first_open(copied: &Copied, lits: &[Lit]) -> Option<usize>
     requires { All (λ lit. variable lit < copied_end copied.now) lits.now }
     ensures { IfNone result (All (λ lit. copy_of copied.now lit ≡ 1) lits.now) }
@@ -25,7 +24,7 @@ pub(crate) fn first_open(copied: &Copied, lits: &[Lit]) -> Option<usize>
     None
 }
 
-/// Whether there is a mark at a place.
+/// Returns true if there is a mark at a place.
 pub(crate) fn is_marked(marks: &[bool], place: usize) -> bool
     ensures { result ≡ slice_index_or marks.now place false }
 {
@@ -35,7 +34,7 @@ pub(crate) fn is_marked(marks: &[bool], place: usize) -> bool
     }
 }
 
-/// The first place without a mark.
+/// Returns the first place without a mark.
 pub(crate) fn first_unmarked(marks: &[bool]) -> Option<usize>
     ensures { IfNone result ((place : ℕ) → place < length marks.now → IsMarked marks.now place) }
 {
@@ -47,7 +46,7 @@ pub(crate) fn first_unmarked(marks: &[bool]) -> Option<usize>
     None
 }
 
-/// By place, whether the literals of two lists come down to one.
+/// Marks the places at which the literals of two lists come down to one.
 pub(crate) fn mark_equal(
     alloc: Global,
     equal: &mut Equalities,

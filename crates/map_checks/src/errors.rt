@@ -1,6 +1,6 @@
 ghost use Rattle.std.specs.Prelude.{◌≡◌};
 
-use std::alloc::{AllocError, AllocFailed};
+use gate_sharing::SharingError;
 use std::error::Error;
 use std::fmt;
 use std::fmt::{Display, Formatter};
@@ -14,9 +14,10 @@ pub enum CheckError {
     TooLarge,
     /// The map has a latch, a bad state, a justice property or a fairness constraint.
     NotAMap,
-    /// The circuits differ in their inputs or properties, or the map in its inputs or outputs from
-    /// their latches.
+    /// The circuits differ in their inputs or properties.
     ShapesDiffer,
+    /// The map differs in its inputs or outputs from the latches of the circuits.
+    DoesNotFit,
 }
 
 impl CheckError {
@@ -26,6 +27,7 @@ impl CheckError {
             CheckError::TooLarge => "too many variables",
             CheckError::NotAMap => "not a map",
             CheckError::ShapesDiffer => "shapes differ",
+            CheckError::DoesNotFit => "map does not fit",
         }
     }
 }
@@ -39,12 +41,6 @@ impl Display for CheckError {
 
 impl Error for CheckError {}
 
-/// Why gates aren't shared.
-pub(crate) enum SharingError {
-    NoMemory,
-    TooLarge,
-}
-
 impl From<SharingError> for CheckError {
     ghost use Rattle.map_checks.specs.Answers.{check_error};
 
@@ -55,23 +51,5 @@ impl From<SharingError> for CheckError {
             SharingError::NoMemory => CheckError::NoMemory,
             SharingError::TooLarge => CheckError::TooLarge,
         }
-    }
-}
-
-impl From<AllocError> for SharingError {
-    fn from(_error: AllocError) -> SharingError {
-        SharingError::NoMemory
-    }
-}
-
-impl From<aig_graph::NoMemory> for SharingError {
-    fn from(_error: aig_graph::NoMemory) -> SharingError {
-        SharingError::NoMemory
-    }
-}
-
-impl<T: Drop> From<AllocFailed<T>> for SharingError {
-    fn from(_error: AllocFailed<T>) -> SharingError {
-        SharingError::NoMemory
     }
 }

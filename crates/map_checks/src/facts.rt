@@ -6,7 +6,7 @@ ghost use Rattle.map_checks.specs.Facts.{IsFact};
 
 use aig_graph::{Aig, Lit};
 
-/// The two literals whose equality a literal says: that neither is 1 without the other.
+/// Returns the two literals whose equality a literal says: that neither is 1 without the other.
 fn compared(aig: &Aig, lit: Lit) -> Option<(Lit, Lit)>
     ensures { IfSome result (IsFact aig.now lit) }
 {
@@ -27,7 +27,7 @@ fn compared(aig: &Aig, lit: Lit) -> Option<(Lit, Lit)>
     }
 }
 
-/// Two literals that are equal where this one is 1.
+/// Returns two literals that are equal if this one is 1.
 pub(crate) fn fact(aig: &Aig, lit: Lit) -> (Lit, Lit)
     requires { IsLiteralOf aig.now lit }
     ensures { IsFact aig.now lit result }

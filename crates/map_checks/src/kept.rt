@@ -30,7 +30,7 @@ impl Model for KeptPlaces {
 impl KeptPlaces {
     ghost use Rattle.std.specs.List.Sorted.{IsStrictlyIncreasing};
 
-    /// No places.
+    /// Returns a list of no places.
     pub(crate) fn none(alloc: Global) -> KeptPlaces
         ensures { result ≡ [] }
     {
@@ -40,22 +40,22 @@ impl KeptPlaces {
         }
     }
 
-    /// What holds of all places. Costs nothing.
+    /// States what holds of all places. Costs nothing.
     pub(crate) fn known(&self)
         ensures { IsStrictlyIncreasing self.now }
     {
         let _places = self.places.as_slice();
     }
 
-    /// The places.
+    /// Returns the places.
     pub(crate) fn into_vec(self) -> Vec<u32>
         ensures { result.items ≡ self }
     {
         self.places
     }
 
-    /// Takes what a latch is at step 0, by its literal: its reset, or a free latch of the first
-    /// circuit after those that were taken. Whether it is that.
+    /// Takes what a latch is at step 0, by its literal. That is its reset, or a free latch of the
+    /// first circuit after those that were taken. Returns true if it is that.
     pub(crate) fn take(
         &mut self,
         first: &Aig,

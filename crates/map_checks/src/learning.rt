@@ -1,27 +1,24 @@
 //! What the constraints of a map say, taken as equalities of shared literals. A constraint speaks
-//! of functions of the latches, so the map is copied first; what is learnt may make more of its
+//! of functions of the latches, so the map is copied first. What is learnt may make more of its
 //! gates one, and so say more.
 ghost use Rattle.std.specs.Prelude.{◌≡◌, [], length, IfOk, OnOk};
 ghost use Rattle.aig_graph.specs.Graph.{first_gate, variables_end};
 ghost use Rattle.aig_graph.specs.Gates.{Grows};
-ghost use Rattle.map_checks.specs.Equal.{StaysRight};
-ghost use Rattle.map_checks.specs.Copies.{copied_end};
+ghost use Rattle.gate_sharing.specs.Equal.{StaysRight};
+ghost use Rattle.gate_sharing.specs.Copies.{copied_end};
 ghost use Rattle.map_checks.specs.Images.{Assumes, IsFaithfulCopy, Learns, in_map};
 
-use crate::copied::{Copied, copy};
-use crate::equalities::Equalities;
-use crate::errors::SharingError;
 use crate::facts::fact;
 use crate::leaves::latch_leaves;
-use crate::shared::SharedGates;
 use aig_graph::{Aig, Circuit, NoMemory};
+use gate_sharing::{Copied, Equalities, SharedGates, SharingError, copy};
 use std::alloc::Global;
 
-/// How often the constraints are taken, where each time says something new. In the maps of a
-/// retiming the second time doesn't.
+/// The number of times that the constraints are taken, if each time says something new. In the maps
+/// of a retiming the second time doesn't.
 const ROUNDS: u32 = 4;
 
-/// The map over the latches of a circuit.
+/// Returns the map over the latches of a circuit.
 pub(crate) fn image(
     alloc: Global,
     shared: &mut SharedGates,

@@ -2,16 +2,15 @@
 ghost use Rattle.std.specs.Prelude.{◌≡◌, ◌≤◌, ◌<◌, ◌++◌, All, IfOk, OnOk, map};
 ghost use Rattle.aig_graph.specs.declared.literal.TheConstants.{MAX_VARIABLES};
 ghost use Rattle.aig_graph.specs.Graph.{variable};
-ghost use Rattle.map_checks.specs.Equal.{StaysRight};
-ghost use Rattle.map_checks.specs.Copies.{copied_end, copy_of};
+ghost use Rattle.gate_sharing.specs.Equal.{StaysRight};
+ghost use Rattle.gate_sharing.specs.Copies.{copied_end, copy_of};
 ghost use Rattle.map_checks.specs.Images.{StandForLatches, nexts_of, copy_of_literals};
 
-use crate::copied::Copied;
-use crate::equalities::Equalities;
 use aig_graph::{Aig, Lit, NoMemory};
+use gate_sharing::{Copied, Equalities};
 use std::alloc::Global;
 
-/// What stands for each latch, from a variable on.
+/// Returns the substitute of each latch, from a variable on.
 pub(crate) fn latch_leaves(
     alloc: Global,
     equal: &mut Equalities,
@@ -29,7 +28,7 @@ pub(crate) fn latch_leaves(
     Ok(Copied::of(first, literals))
 }
 
-/// The next literals of all latches.
+/// Returns the next literals of all latches.
 pub(crate) fn nexts(alloc: Global, aig: &Aig) -> Result<Vec<Lit>, NoMemory>
     ensures { IfOk result (λ lits. lits.items ≡ nexts_of aig.now.latches) }
 {
@@ -57,7 +56,7 @@ pub(crate) fn push_copies(
     Ok(())
 }
 
-/// The shared literals of these, from a variable on.
+/// Returns the shared literals of these, from a variable on.
 pub(crate) fn picked(
     alloc: Global,
     first: u32,

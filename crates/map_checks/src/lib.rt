@@ -1,5 +1,5 @@
-//! Checks that a map of states shows a circuit to be a retiming of another one: by sharing gates,
-//! by propagation over them, and by cases of inputs and latches.
+//! Checks that a map of states shows a circuit to be a retiming of another one. It shares gates,
+//! propagates over them, and makes cases of inputs and latches.
 #![tactic(auto)]
 
 mod answer;
@@ -7,8 +7,6 @@ mod cases;
 mod checking;
 mod choosing;
 mod comparing;
-mod copied;
-mod equalities;
 mod errors;
 mod facts;
 mod kept;
@@ -19,7 +17,6 @@ mod pairs;
 mod refuting;
 mod settling;
 mod shapes;
-mod shared;
 mod sides;
 mod starting;
 mod trees;
@@ -28,3 +25,4 @@ pub use answer::{Answer, Obligation};
 pub use checking::check_map;
 pub use errors::CheckError;
 pub use shapes::{are_fitting, is_map};
+pub use starting::free_places;

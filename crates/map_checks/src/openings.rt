@@ -2,13 +2,13 @@
 ghost use Rattle.std.specs.Prelude.{◌≡◌, ◌<◌, All, IfOk, length};
 ghost use Rattle.std.specs.List.{slice_index_or};
 ghost use Rattle.aig_graph.specs.Graph.{variable};
-ghost use Rattle.map_checks.specs.Copies.{copied_end, copy_of};
+ghost use Rattle.gate_sharing.specs.Copies.{copied_end, copy_of};
 ghost use Rattle.map_checks.specs.Openings.{IsLookAtStart};
 
-use crate::copied::Copied;
 use crate::kept::KeptPlaces;
 use crate::starting::free_places;
 use aig_graph::{Aig, Lit, NoMemory};
+use gate_sharing::Copied;
 use std::alloc::Global;
 
 /// What a look at step 0 finds.
@@ -20,8 +20,8 @@ pub(crate) enum Start {
     Differs(usize),
 }
 
-/// How the latches of the second circuit begin, by the literals of the map over the resets of the
-/// first.
+/// Returns how the latches of the second circuit begin, by the literals of the map over the resets
+/// of the first.
 pub(crate) fn start_of(
     alloc: Global,
     first: &Aig,

@@ -1,21 +1,18 @@
-//! The copies that are compared among shared gates, and what is compared of them: two literals for
-//! each part of what a step has to show.
+//! The copies that are compared among shared gates. Two literals are compared for each part of what
+//! a step has to show.
 ghost use Rattle.std.specs.Prelude.{◌≡◌, [], IfOk, OnOk};
 ghost use Rattle.aig_graph.specs.Gates.{Grows};
 ghost use Rattle.aig_graph.specs.Graph.{first_gate, variables_end};
 ghost use Rattle.map_checks.specs.Answers.{AreFitting};
-ghost use Rattle.map_checks.specs.Copies.{copied_end};
+ghost use Rattle.gate_sharing.specs.Copies.{copied_end};
 ghost use Rattle.map_checks.specs.Images.{AreComparedCopies, AreWholeCopies};
 ghost use Rattle.map_checks.specs.Parts.{ArePairs, given_literals, wanted_literals};
 
-use crate::copied::Copied;
-use crate::equalities::Equalities;
-use crate::errors::SharingError;
 use crate::learning::{image, learn_all};
 use crate::leaves::{nexts, push_copies};
-use crate::shared::SharedGates;
 use crate::sides::{first_side, later_side, second_side};
 use aig_graph::{Circuit, Lit, NoMemory, property_literals};
+use gate_sharing::{Copied, Equalities, SharedGates, SharingError};
 use std::alloc::Global;
 
 /// The copies that are compared.
@@ -52,7 +49,7 @@ impl Drop for Pairs {
     }
 }
 
-/// The copies that are compared, among these gates.
+/// Returns the copies that are compared, among these gates.
 fn sides_of(
     alloc: Global,
     shared: &mut SharedGates,
@@ -80,7 +77,7 @@ fn sides_of(
     })
 }
 
-/// What a step gives for each part.
+/// Returns what a step gives for each part.
 fn given_literals(
     alloc: Global,
     second: &Circuit,
@@ -100,7 +97,7 @@ fn given_literals(
     Ok(lits)
 }
 
-/// What it must be.
+/// Returns what each part must be.
 fn wanted_literals(
     alloc: Global,
     first: &Circuit,
@@ -121,7 +118,7 @@ fn wanted_literals(
     Ok(lits)
 }
 
-/// The literals of all parts, as they stand in the copies.
+/// Returns the literals of all parts, as they stand in the copies.
 fn pairs_of_sides(
     alloc: Global,
     first: &Circuit,
@@ -142,8 +139,8 @@ fn pairs_of_sides(
     })
 }
 
-/// Two literals for each part of what a step has to show, among these gates, where what stands for
-/// a literal may be taken for it.
+/// Returns two literals for each part of what a step has to show, among these gates. A literal's
+/// substitute may be taken for it.
 pub(crate) fn pairs_of(
     alloc: Global,
     shared: &mut SharedGates,

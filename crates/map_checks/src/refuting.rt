@@ -2,11 +2,11 @@
 //! without the other.
 ghost use Rattle.std.specs.Prelude.{◌≡◌, Bool, true, IfOk, OnOk, length};
 ghost use Rattle.aig_graph.specs.Gates.{AreEqualIn, gates_of};
-ghost use Rattle.map_checks.specs.Equal.{StaysRight};
+ghost use Rattle.gate_sharing.specs.Equal.{StaysRight};
 ghost use Rattle.map_checks.specs.Parts.{AreMarkedEqual};
 
-use crate::equalities::Equalities;
 use aig_graph::{Aig, Lit, NoMemory};
+use gate_sharing::Equalities;
 use std::alloc::Global;
 use unit_refutations::{Propagation, equal_by_probing};
 
@@ -27,7 +27,7 @@ const PROBING: Effort = Effort {
     all: 2_000_000,
 };
 
-/// Whether propagation shows that two literals are equal, if this is wanted with probing.
+/// Returns true if propagation shows that two literals are equal, with probing if `probes` is true.
 fn is_shown(
     alloc: Global,
     propagation: &mut Propagation,
@@ -45,8 +45,8 @@ fn is_shown(
     }
 }
 
-/// By place, whether propagation shows that what stands for the literals of two lists is equal.
-/// Linear.
+/// Marks the places at which propagation shows that the substitutes of the literals of two lists
+/// are equal. Linear.
 pub(crate) fn mark_refuted(
     alloc: Global,
     aig: &Aig,

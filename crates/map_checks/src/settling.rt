@@ -1,15 +1,15 @@
-//! Whether all parts of a step are shown: by sharing gates alone if that is enough, as it is for
-//! the maps of this program's retimings, else by cases. What cases show beside the part for which
-//! they were made counts too.
+//! The parts of a step are shown by sharing gates alone if that is enough, as it is for the maps of
+//! this program's retimings. Else they are shown by cases. What cases show beside the part for
+//! which they were made counts too.
 ghost use Rattle.std.specs.Prelude.{◌≡◌, [], IfNone, IfOk, OnOk};
 ghost use Rattle.map_checks.specs.Answers.{AreFitting, KeepsStates};
 ghost use Rattle.map_checks.specs.Parts.{AreShownWhere};
 
 use crate::cases::ask;
 use crate::comparing::{first_unmarked, is_marked};
-use crate::errors::SharingError;
 use crate::trees::{Tree, step};
 use aig_graph::Circuit;
+use gate_sharing::SharingError;
 use std::alloc::Global;
 
 /// How many cases are asked for one part at most.
@@ -43,7 +43,7 @@ fn settle(
     Ok(())
 }
 
-/// The first part of a step that isn't shown.
+/// Returns the first part of a step that isn't shown.
 pub(crate) fn first_open_part(
     alloc: Global,
     first: &Circuit,

@@ -4,7 +4,7 @@ ghost use Rattle.map_checks.specs.Answers.{AreFitting, IsMap};
 
 use aig_graph::{Circuit, have_same_shape};
 
-/// Whether the circuit is a map: without latches, with outputs and constraints alone.
+/// Returns true if the circuit is a map: without latches, with outputs and constraints alone.
 pub fn is_map(map: &Circuit) -> bool
     ensures { IsTrue result ↔ IsMap map.now }
 {
@@ -15,8 +15,8 @@ pub fn is_map(map: &Circuit) -> bool
         && props.fairness.is_empty()
 }
 
-/// Whether the circuits have the same shape, and the map an input for each latch of the first and
-/// an output for each of the second.
+/// Returns true if the circuits have one shape, and the map fits them. It has an input for each
+/// latch of the first and an output for each of the second.
 pub fn are_fitting(first: &Circuit, second: &Circuit, map: &Circuit) -> bool
     ensures { IsTrue result ↔ AreFitting first.now second.now map.now }
 {

@@ -1,21 +1,18 @@
-//! The circuits that are compared, among the same gates: a step of the first circuit, the map after
-//! it, and a step of the second circuit from what the map gives before it.
+//! The circuits that are compared, among shared gates. They are a step of the first circuit, the
+//! map after it, and a step of the second circuit. That step is from what the map gives before it.
 ghost use Rattle.std.specs.Prelude.{◌≡◌, [], length, IfOk, OnOk};
 ghost use Rattle.aig_graph.specs.Graph.{first_gate, variables_end};
 ghost use Rattle.aig_graph.specs.Gates.{Grows};
-ghost use Rattle.map_checks.specs.Equal.{Equal, StaysRight};
-ghost use Rattle.map_checks.specs.Copies.{AreShared, copied_end};
+ghost use Rattle.gate_sharing.specs.Equal.{Equal, StaysRight};
+ghost use Rattle.gate_sharing.specs.Copies.{AreShared, copied_end};
 ghost use Rattle.map_checks.specs.Images.{IsFaithfulCopy, in_first, in_map, in_map_later, in_second_mapped};
 
-use crate::copied::{Copied, copy};
-use crate::equalities::Equalities;
-use crate::errors::SharingError;
 use crate::leaves::{latch_leaves, nexts, picked};
-use crate::shared::SharedGates;
 use aig_graph::{Aig, Circuit};
+use gate_sharing::{Copied, Equalities, SharedGates, SharingError, copy};
 use std::alloc::Global;
 
-/// The gates of the first circuit.
+/// Adds the gates of the first circuit.
 pub(crate) fn first_side(
     alloc: Global,
     shared: &mut SharedGates,
@@ -32,7 +29,7 @@ pub(crate) fn first_side(
     copy(shared, equal, first.aig(), leaves)
 }
 
-/// The map, over the next literals of the first circuit.
+/// Adds the map, over the next literals of the first circuit.
 pub(crate) fn later_side(
     alloc: Global,
     shared: &mut SharedGates,
@@ -58,7 +55,7 @@ pub(crate) fn later_side(
     Ok(copied)
 }
 
-/// The gates of the second circuit, over the outputs of the map.
+/// Adds the gates of the second circuit, over the outputs of the map.
 pub(crate) fn second_side(
     alloc: Global,
     shared: &mut SharedGates,

@@ -1,18 +1,15 @@
 //! Step 0: the map over the resets, of which each free latch is any value. Its outputs must be the
-//! resets of the second circuit, where a free latch is one of the first's.
+//! resets of the second circuit. For a free latch that is one of the first's.
 ghost use Rattle.std.specs.Prelude.{◌≡◌, ◌≤◌, [], IfOk, IfSome, length, if◌then◌else◌};
 ghost use Rattle.aig_graph.specs.Graph.{free_before, is_free};
 ghost use Rattle.aig_graph.specs.Tables.{table};
 ghost use Rattle.map_checks.specs.Starts.{AreOpeningLiterals, IsFreeLatch, IsResetImage};
 
-use crate::copied::{Copied, copy};
-use crate::equalities::Equalities;
-use crate::errors::SharingError;
-use crate::shared::SharedGates;
 use aig_graph::{Aig, Circuit, Latch, Lit, NoMemory, Reset, opening_literal};
+use gate_sharing::{Copied, Equalities, SharedGates, SharingError, copy};
 use std::alloc::Global;
 
-/// What each latch holds at step 0.
+/// Returns the value of each latch at step 0.
 fn reset_leaves(alloc: Global, aig: &Aig) -> Result<Copied, NoMemory>
     ensures { IfOk result (AreOpeningLiterals aig.now) }
 {
@@ -25,7 +22,7 @@ fn reset_leaves(alloc: Global, aig: &Aig) -> Result<Copied, NoMemory>
     Ok(Copied::of(1, literals))
 }
 
-/// The map over what the latches of a circuit hold at step 0.
+/// Returns the map over the values of a circuit's latches at step 0.
 pub(crate) fn reset_image(alloc: Global, first: &Aig, map: &Circuit) -> Result<Copied, SharingError>
     requires inputs { map.now.aig.inputs ≡ length first.now.latches }
     requires latches { map.now.aig.latches ≡ [] }
@@ -39,7 +36,7 @@ pub(crate) fn reset_image(alloc: Global, first: &Aig, map: &Circuit) -> Result<C
     Ok(image)
 }
 
-/// 1 where the latch is free, else 0.
+/// Returns 1 if the latch is free, else 0.
 fn one_if_free(latch: &Latch) -> u32
     ensures value { result ≡ (if is_free latch.now then 1 else 0) }
     ensures small { result ≤ 1 }
@@ -48,7 +45,7 @@ fn one_if_free(latch: &Latch) -> u32
 }
 
 /// Of each latch how many free ones come before it.
-pub(crate) fn free_places(alloc: Global, aig: &Aig) -> Result<Vec<u32>, NoMemory>
+pub fn free_places(alloc: Global, aig: &Aig) -> Result<Vec<u32>, NoMemory>
     ensures { IfOk result (λ places. places.items
         ≡ table 0 (length aig.now.latches) (free_before aig.now)) }
 {
@@ -61,7 +58,7 @@ pub(crate) fn free_places(alloc: Global, aig: &Aig) -> Result<Vec<u32>, NoMemory
     Ok(places)
 }
 
-/// The place among the free latches of the one with this literal.
+/// Returns the place among the free latches of the one with this literal.
 pub(crate) fn free_place(aig: &Aig, places: &[u32], lit: Lit) -> Option<u32>
     requires { places.now ≡ table 0 (length aig.now.latches) (free_before aig.now) }
     ensures { IfSome result (IsFreeLatch aig.now lit) }

@@ -8,8 +8,8 @@ ghost use Rattle.map_checks.specs.Parts.{AreShownWhere, IsMarked, IsTree, parts}
 
 use crate::cases::{Asked, ask};
 use crate::comparing::is_marked;
-use crate::errors::SharingError;
 use aig_graph::{Circuit, Lit, NoMemory, Sequence};
+use gate_sharing::SharingError;
 use std::alloc::Global;
 
 /// How many variables a case is of at most.
@@ -34,7 +34,7 @@ impl Drop for Tree {
     }
 }
 
-/// A case with one more literal.
+/// Returns a case with one more literal.
 fn with_literal(alloc: Global, case: &[Lit], lit: Lit) -> Result<Sequence<Lit>, NoMemory>
     ensures { IfOk result (λ more. more ≡ lit ∷ case.now) }
 {
@@ -87,7 +87,7 @@ fn widen(marks: &mut [bool], shown: &[bool])
 }
 
 impl Tree {
-    /// One case, of no variable, for this number of parts.
+    /// Returns one case, of no variable, for `count` parts.
     pub(crate) fn begun(alloc: Global, count: usize, left: u32) -> Result<Tree, NoMemory>
         ensures { IfOk result (λ tree. (c d m : Netlist) → count ≡ parts d m
             → IsTree c d m tree.pending.items tree.shown.items) }

@@ -14,7 +14,7 @@ use Rattle.map_circuits.specs.Instances.{AreAll}
 pub record AreFirst (g : Graph) (lits : List ℕ) (n lit : ℕ) : Type 0 where
   -- the literal is one of the graph
   pub within : IsLiteralOf g lit
-  -- the literal is 1 just where the first n are
+  -- the literal is 1 just if the first n are
   pub is : (z : Digits) (u : State) → (value_within g z u lit ≡ true) ↔ ((j : ℕ) → j < n → value_within g z u (get_or lits j 0) ≡ true)
 
 -- the constant 1 is the conjunction of the first none of the literals

@@ -97,7 +97,7 @@ adds-equality g h old new a b lit in_a in_b more is pushed =
           );
     })
 
--- two literals that are the same need no constraint to be equal
+-- two equal literals need no constraint to be equal
 pub adds-nothing : (g : Graph) (old : List ℕ) (a b : ℕ) → IsGraph g → a ≡ b → AddsEquality g g old old a b
 adds-nothing g old a b valid same = record {
   extends = extends-itself g valid;
@@ -114,7 +114,8 @@ module _ (g : Graph) (first : ℕ) (functions substitutes old : List ℕ) where
     says = λ s. (λ ones. (ones, λ j less. absurd (omega (arith, less))), λ both. both.0);
   }
 
-  -- constraints that also equate the next latch's function with that of what stands for the latch say so of one latch more
+  -- constraints that also equate the next latch's function with that of what stands for the latch
+  -- say so of one latch more
   pub substitutes-more : (h i : Graph) (mid new : List ℕ) (n : ℕ) → IsLiteralOf g (get_or functions n 0) → IsLiteralOf g (substitute_function first functions (get_or substitutes n 0))
       → AddsSubstitutes g first functions substitutes n h old mid → AddsEquality h i mid new (get_or functions n 0) (substitute_function first functions (get_or substitutes n 0))
       → AddsSubstitutes g first functions substitutes (n + 1) i old new

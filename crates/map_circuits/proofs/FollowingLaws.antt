@@ -90,7 +90,8 @@ fan_ins-covered g held set valid closed v first gate literals there starts long 
       (omega (arith, starts, from1), omega (arith, starts, from1, at.below, at.ordered, place.below, long)),
     )
 
--- what stands for a literal whose variable has an entry is a literal of the graph, where all entries are
+-- the substitute of a literal whose variable has an entry is a literal of the graph, if all entries
+-- are
 pub literal-within : (h : Graph) (first : ℕ) (literals : List ℕ) (lit : ℕ) → All (λ l. IsLiteralOf h l) literals → variable lit - first < length literals → IsLiteralOf h (literal_at first literals lit)
 literal-within h first literals lit all less =
     let same : variable (literal_at first literals lit) ≡ variable (entry_of first literals (variable lit)) = variable-signed_as lit (entry_of first literals (variable lit)) in
@@ -115,7 +116,8 @@ fan_ins-within h c held set valid closed v first gate literals there starts memb
     subst P (sym starts) (source-within h c set v literals gate.rhs0 all at.below sources.0, source-within h c set v literals gate.rhs1 all (omega (arith, at.below, at.ordered)) sources.1)
 
 module _ (c : Graph) (held set : List ℕ) (closed : IsClosedSet c held set) where
-  -- before the first gate the entries are literals where they are the functions of the latches, whatever stands for the gates
+  -- before the first gate the entries are literals if they are the functions of the latches,
+  -- whatever those of the gates
   pub within-start : (h : Graph) (functions literals : List ℕ) → ((j : ℕ) → j < length functions → get_or literals j 0 ≡ get_or functions j 0) → length functions ≡ length c.latches
       → All (λ l. IsLiteralOf h l) functions → AreWithin h c set (first_gate c) literals
   within-start h functions literals front many all v less source = elim source [
@@ -129,7 +131,7 @@ module _ (c : Graph) (held set : List ℕ) (closed : IsClosedSet c held set) whe
         absurd (omega (arith, place.from, less)))
   ]
 
-  -- where no member lies from n up to m, what holds below n holds below m
+  -- if no member lies from n up to m, what holds below n holds below m
   within-skip : (h : Graph) (literals : List ℕ) (n m : ℕ) → first_gate c ≤ n → ((w : ℕ) → n ≤ w → w < m → Contains set w → ⊥) → AreWithin h c set n literals → AreWithin h c set m literals
   within-skip h literals n m from none_there p w less source = elim (cases_lt w n) [
     | inl below ↦ p w below source
@@ -181,7 +183,8 @@ module _ (g c : Graph) (functions held set : List ℕ) (valid : IsGraph c) (clos
   abbrev none : ℕ → Bool
   none = λ j. false
 
-  -- before the first gate the functions of the latches follow the circuit, whatever stands for the gates
+  -- before the first gate the functions of the latches follow the circuit, whatever stands for the
+  -- gates
   pub follows-start : (literals : List ℕ) → ((j : ℕ) → j < length functions → get_or literals j 0 ≡ get_or functions j 0) → first_latch c + length literals ≡ variables_end c
       → length functions ≡ length c.latches → All (λ l. IsLiteralOf g l) functions → Follows g functions c set (first_gate c) g literals
   follows-start literals front long many all = record {
@@ -202,7 +205,7 @@ module _ (g c : Graph) (functions held set : List ℕ) (valid : IsGraph c) (clos
     ];
   }
 
-  -- where no member lies from n up to m, entries that follow below n follow below m
+  -- if no member lies from n up to m, entries that follow below n follow below m
   follows-skip : (h : Graph) (literals : List ℕ) (n m : ℕ) → first_gate c ≤ n → ((w : ℕ) → n ≤ w → w < m → Contains set w → ⊥) → Follows g functions c set n h literals
       → Follows g functions c set m h literals
   follows-skip h literals n m from none_there p = record {
@@ -233,7 +236,8 @@ module _ (g c : Graph) (functions held set : List ℕ) (valid : IsGraph c) (clos
       ∙ ap (signed lit) (p.values s (variable lit) less source)
       ∙ sym (value_signed (value_within c none (state_of g functions s)) (within_laws c valid none (state_of g functions s)).negation lit)
 
-  -- with the conjunction of a member's fan-ins' literals as its entry, the entries follow below the next variable
+  -- with the conjunction of a member's fan-ins' literals as its entry, the entries follow below the
+  -- next variable
   follows-one : (h i : Graph) (literals new : List ℕ) (v lit : ℕ) (gate : Gate) → gate_at c v ≡ Some gate → Contains set v → IsGraph h → Follows g functions c set v h literals → Extends h i
       → IsConjunction i (literal_at (first_latch c) literals gate.rhs0) (literal_at (first_latch c) literals gate.rhs1) lit
       → new ≡ put literals (v - first_latch c) lit → Follows g functions c set (v + 1) i new

@@ -38,7 +38,8 @@ module _ (latches : List Latch) (lits : List ℕ) (k : ℕ) (latch : Latch) (the
       let at : k + 1 ≡ suc k = omega arith in
       ap (λ (n : ℕ). free_outputs (take n latches) (take n lits)) at ∙ free-suc latches lits k latch there less
 
-  -- where latch k is free, the outputs for free latches among the first k + 1 are those among the first k, then output k
+  -- if latch k is free, the outputs for free latches among the first k + 1 are those among the
+  -- first k, then output k
   pub free-more : (old new : List ℕ) (lit : ℕ) → is_free latch ≡ true → lit ≡ get_or lits k 0 → old ≡ free_outputs (take k latches) (take k lits) → new ≡ old ++ lit ∷ []
       → new ≡ free_outputs (take (k + 1) latches) (take (k + 1) lits)
   free-more old new lit free here before pushed =
@@ -47,7 +48,8 @@ module _ (latches : List Latch) (lits : List ℕ) (k : ℕ) (latch : Latch) (the
       ∙ ap (λ (ls : List ℕ). free_outputs (take k latches) (take k lits) ++ ls) (sym (only-free (is_free latch) (get_or lits k 0) free))
       ∙ sym next
 
-  -- where latch k isn't free, the outputs for free latches among the first k + 1 are those among the first k
+  -- if latch k isn't free, the outputs for free latches among the first k + 1 are those among the
+  -- first k
   pub known-more : (old : List ℕ) → is_free latch ≡ false → old ≡ free_outputs (take k latches) (take k lits) → old ≡ free_outputs (take (k + 1) latches) (take (k + 1) lits)
   known-more old known before =
       before ∙ sym (append-nil (free_outputs (take k latches) (take k lits)))

@@ -30,7 +30,7 @@ front-cut kept long xs rest back items is inside within =
     ∙ take-append-le kept (xs ++ rest) (drop (length back) items) (omega (arith, inside, length-append xs rest))
     ∙ take-append-le kept xs rest inside
 
--- where a table becomes longer, and its first entries are lent, it begins with what it began with
+-- if a table becomes longer, and its first entries are lent, it begins with what it began with
 pub front-read : (old new entries : List ℕ) (few long : ℕ) → few ≤ length old → few ≤ long → entries ≡ new → take (length old) new ≡ old
     → (j : ℕ) → j < length (take few old) → get_or (take long entries) j 0 ≡ get_or (take few old) j 0
 front-read old new entries few long within more is same j less =
@@ -139,12 +139,12 @@ module _ (first : ℕ) (p : ℕ → Bool) (old : List ℕ) where
       let step : IsGathered first p (n + 1) old xs kept = gathered-left n kept xs g (none n (omega arith) (omega arith)) in
       subst (λ (e : ℕ). IsGathered first p e old xs kept) (omega arith) (gathered-more k (n + 1) kept xs step (λ v from less. none v (omega arith) (omega arith)))
 
-  -- where none of those from n up to m moves, those below m have moved where those below n have
+  -- if none of those from n up to m moves, those below m have moved where those below n have
   pub gathered-skip : (n m kept : ℕ) (xs : List ℕ) → IsGathered first p n old xs kept → n ≤ m → ((v : ℕ) → n ≤ v → v < m → p v ≡ false) → IsGathered first p m old xs kept
   gathered-skip n m kept xs g before none =
       subst (λ (e : ℕ). IsGathered first p e old xs kept) (omega arith) (gathered-more (m - n) n kept xs g (λ v from less. none v from (omega arith)))
 
-  -- where all from n on pass, each adds one to the count of those that do
+  -- if all from n on pass, each adds one to the count of those that do
   count-run : (k n : ℕ) → ((v : ℕ) → n ≤ v → v < n + k → p v ≡ true) → count_below p (n + k) ≡ count_below p n + k
   count-run zero n pass =
       let same : n + 0 ≡ n = omega arith in

@@ -90,7 +90,7 @@ conjunction-gate g h a b lit valid same grown at =
           ∙ value-gate_of (value_within (with_gate g (gate_of a b)) x s) a b;
     })
 
--- the literal of the same variable with the other sign
+-- the literal of this variable with the other sign
 pub negated-value : (g : Graph) → IsGraph g → (x : Digits) (s : State) (lit other : ℕ) → other / 2 ≡ lit / 2 → other % 2 ≢ lit % 2 → value_within g x s other ≡ not (value_within g x s lit)
 negated-value g valid x s lit other same sign =
     let laws = within_laws g valid x s in

@@ -13,14 +13,15 @@ use Rattle.state_maps.proofs.WithinLaws.{within_laws}
 use Rattle.map_circuits.specs.Growing.{Extends, IsConjunction}
 use Rattle.map_circuits.specs.Instances.{HaveValues, StandTo, substitute}
 
--- what stands for a literal is one, and has its value where the literals have those of the variables
+-- the substitute of a literal is a literal, and has its value if the literals have those of the
+-- variables
 pub substitute-within : (h : Graph) (literals : List ℕ) (lit : ℕ) → AreLiteralsOf h literals → variable lit < length literals → IsLiteralOf h (substitute literals lit)
 substitute-within h literals lit all less =
     let same : variable (substitute literals lit) ≡ variable (get_or literals (variable lit) 0) = variable-signed_as lit (get_or literals (variable lit) 0) in
     let here : IsLiteralOf h (get_or literals (variable lit) 0) = all (variable lit) 0 less in
     omega (arith, same, here)
 
--- what stands for a literal has the literal's value, where what stands for each variable has the variable's
+-- the substitute of a literal has the literal's value, if that of each variable has the variable's
 pub substitute-value : (h c : Graph) (literals : List ℕ) → IsGraph h → IsGraph c → (z x : Digits) (u s : State) → HaveValues h literals z u (value_within c x s) → (lit : ℕ) → variable lit < length literals
     → value_within h z u (substitute literals lit) ≡ value_within c x s lit
 substitute-value h c literals graph valid z x u s have lit less =

@@ -16,7 +16,8 @@ use Rattle.map_circuits.specs.Steps.{MergingStep}
 use Rattle.map_circuits.proofs.ReadsSubstituteLaws.{reads-below, reads-hold}
 use Rattle.aig_graph.proofs.StreamLaws.{funext, composed-every}
 
--- the constraints of what latches read as make a map to a circuit one to what the circuit is merged to
+-- the constraints of what latches read as make a map to a circuit one to what the circuit is merged
+-- to
 pub merging-step : (c d e : Netlist) (held kept : List ℕ) (g h : Graph) (functions old new : List ℕ) → MergingStep c d e held kept g h functions old new
 merging-step c d e held kept g h functions old new valid netlist merged graph all many free p adds =
     let reads : List ℕ = merged.reads in

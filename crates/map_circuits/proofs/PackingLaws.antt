@@ -130,7 +130,7 @@ module _ (inputs count : ℕ) (bytes more : List ℕ) (a b : ℕ) (old : ArePack
       let it : IsGateAt (first_gate (with_gate g gate) + k) other = packed-grown.gates k other there in
       record { ordered = it.ordered; below = omega (arith, it.below) })
 
-  -- the same of the graph
+  -- packed more, of the graph
   pub packed-more : packed inputs more ≡ with_gate g gate
   packed-more = ap (gates_over inputs) read-more
 
@@ -152,7 +152,7 @@ delta-start at number old small =
 
 module _ (at end number rest byte : ℕ) (old bytes : List ℕ) (from : at ≤ end) (few : end ≤ at + 4) (within : end < length bytes)
     (spells : Spells (take at old) (take end bytes) (end - at) rest number) where
-  -- where the number has more than seven bits left, its last byte is still to come
+  -- if the number has more than seven bits left, its last byte is still to come
   pub delta-few : 128 ≤ rest → end < at + 4
   delta-few high = elim (cases_lt end (at + 4)) [
     | inl less ↦ less

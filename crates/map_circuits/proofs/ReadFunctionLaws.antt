@@ -1,4 +1,5 @@
--- The functions of what latches read as are those of the latches, where the constraints of a merging hold.
+-- The functions of latches' readings are those of the latches, if the constraints of a merging
+-- hold.
 use Rattle.std.proofs.Common.{ℕ, ◌<◌, ◌≡◌, Bool, false, List, length, map, get_or, arith, ap, sym, ◌∙◌, subst}
 use Rattle.std.proofs.lemmas.List.{ext_get_or, get_or-map, length-map}
 use Rattle.aig_graph.specs.Circuits.{AreLiteralsOf, Netlist}
@@ -40,7 +41,7 @@ module _ (d : Graph) (held reads functions : List ℕ) (reading : IsReading d he
         adds.extends.values s (λ i. false) (function (get_or reads j 0)) (each-within j less)
         ∙ sym (((adds.says s).0 ones).1 j less) ∙ sym (adds.extends.values s (λ i. false) (get_or functions j 0) own)
 
-    -- where the constraints hold they have the values of the functions of the latches
+    -- if the constraints hold they have the values of the functions of the latches
     pub read-state : state_of h read s ≡ state_of h functions s
     read-state =
         let one : length (map there read) ≡ length reads = length-map read there ∙ length-map reads function in
@@ -61,7 +62,8 @@ same-states c d kept holds to on same p = record {
   reads = λ x s here. subst (λ (t : State). SameReads c d x s t) (sym (same s here)) (p.reads x s here);
 }
 
--- a map to a circuit, with the constraints of a merging, is one to what the circuit is merged to, each latch by the function of what it reads as
+-- A map to a circuit, with the constraints of a merging, is one to what the circuit is merged to.
+-- Each latch has the function of its reading.
 pub merged-step : (c d e : Netlist) (held kept : List ℕ) (g h : Graph) (functions old new : List ℕ) → MergedStep c d e held kept g h functions old new
 merged-step c d e held kept g h functions old new valid netlist merged graph all many free p adds =
     same-states c e kept (AreOne h new) (state_of h functions) (state_of h (read_functions (first_latch d.aig) functions merged.reads))

@@ -50,14 +50,16 @@ module _ (d : Graph) (held reads functions : List ℕ) (reading : IsReading d he
     substitute-here : (j : ℕ) → j < length d.latches → here (substitute_function first functions (get_or reads j 0)) ≡ there (read reads j)
     substitute-here j less = substitute-value d valid functions many g graph s (read reads j) (read-substitute j less)
 
-    -- where latches hold what they read as in the state of the functions, each function has the value of what its latch reads as
+    -- if latches hold what they read as in the state of the functions, each function has the value
+    -- of what its latch reads as
     pub reads-below : ReadsHold d reads (state_of g functions s) → SubstitutesBelow g first functions reads (length reads) s
     reads-below holds j less =
         let below : j < length d.latches = omega (arith, less, reading.long) in
         let latch = element d.latches j below in
         value-of-function j (omega (arith, below, many)) ∙ sym (holds (λ i. false) j latch.0 latch.1) ∙ sym (substitute-here j below)
 
-    -- where each function has the value of what its latch reads as by an inductive reading, latches hold what they read as
+    -- if each function has the value of what its latch reads as by an inductive reading, latches
+    -- hold what they read as
     pub reads-hold : IsInductive d held reads → SubstitutesBelow g first functions reads (length reads) s → ReadsHold d reads (state_of g functions s)
     reads-hold kept below x j latch at =
         let less : j < length d.latches = slice_get_within d.latches j latch at in

@@ -62,7 +62,8 @@ module _ (g : Graph) (functions : List ℕ) (m : Move) (h : Graph) (literals : L
       let from : first ≤ v = source-from m.circuit.aig m.held m.set set v (latched-source v kept) in
       (from, omega (arith, from, below, follows.long))
 
-  -- the entries of the variables that latches of the moved circuit hold are the functions of these latches
+  -- the entries of the variables that latches of the moved circuit hold are the functions of these
+  -- latches
   pub are-moved : (latched new : List ℕ) → latched ≡ places (is_latched m) end → new ≡ map (entry_of first literals) latched → AreMoved g functions m h new
   are-moved latched new are picked =
       let vars : List ℕ = places (is_latched m) end in

@@ -27,8 +27,9 @@ literal_at first literals lit = signed_as lit (entry_of first literals (variable
 abbrev pub AreWithin : Graph → Graph → List ℕ → ℕ → List ℕ → Type 0
 AreWithin h c set n literals = (v : ℕ) → v < n → IsLatchOrIn c set v → IsLiteralOf h (entry_of (first_latch c) literals v)
 
--- There is an entry for each latch and gate of c, that of a latch being its function; those of latches and of gates of the set below n are
--- literals of h that are what these are, where c's latches hold what the functions are in g.
+-- There is an entry for each latch and gate of c; a latch has its function. Those of latches and of
+-- gates of the set below n are literals of h. They have the values of these, if c's latches hold
+-- what the functions are in g.
 pub record Follows (g : Graph) (functions : List ℕ) (c : Graph) (set : List ℕ) (n : ℕ) (h : Graph) (literals : List ℕ) : Type 0 where
   pub long : first_latch c + length literals ≡ variables_end c
   pub latches : (j : ℕ) → j < length c.latches → slice_index_or literals j 0 ≡ slice_index_or functions j 0

@@ -14,8 +14,8 @@ substitute literals lit = signed_as lit (slice_index_or literals (variable lit) 
 abbrev pub HaveValues : Graph → List ℕ → Digits → State → (ℕ → Bool) → Type 0
 HaveValues g literals z u own = (v : ℕ) → v < length literals → value_within g z u (slice_index_or literals v 0) ≡ own (2 * v)
 
--- Literals of h stand for the first n variables of c: where those of the constant, the inputs and the latches have in g the values that
--- these have in a step of c, all have.
+-- Literals of h stand for the first n variables of c. Let those of the constant, the inputs and the
+-- latches have in g the values that these have in a step of c. Then all have.
 pub record StandTo (g c : Graph) (leaves : List ℕ) (n : ℕ) (h : Graph) (literals : List ℕ) : Type 0 where
   pub many : length literals ≡ n
   pub within : AreLiteralsOf h literals

@@ -11,12 +11,14 @@ abbrev pub with_low_bits : ℕ → List ℕ → List ℕ
 with_low_bits byte [] = []
 with_low_bits byte (n ∷ ns) = (byte - 128 + 128 * n) ∷ ns
 
--- the numbers whose deltas the bytes are, one after the other: a byte below 128 is the last of its delta
+-- the numbers whose deltas the bytes are, one after the other: a byte below 128 is the last of its
+-- delta
 abbrev pub numbers_in : List ℕ → List ℕ
 numbers_in [] = []
 numbers_in (byte ∷ bytes) = if nat_lt byte 128 then byte ∷ numbers_in bytes else with_low_bits byte (numbers_in bytes)
 
--- the gate of a variable whose first fan-in is so far below its own literal, and whose second so far below the first
+-- the gate of a variable whose first fan-in is this far below its own literal, and whose second
+-- this far below the first
 abbrev pub gate_apart : ℕ → ℕ → ℕ → Gate
 gate_apart v a b = record { rhs0 = 2 * v - a; rhs1 = 2 * v - a - b }
 
@@ -34,7 +36,7 @@ gates_in first bytes = gates_apart first (numbers_in bytes)
 abbrev pub packed : ℕ → List ℕ → Graph
 packed inputs bytes = gates_over inputs (gates_in (1 + inputs) bytes)
 
--- the bytes are those of so many gates over inputs alone
+-- the bytes are those of `count` gates over inputs alone
 pub record ArePacked (inputs count : ℕ) (bytes : List ℕ) : Type 0 where
   pub graph : IsGraph (packed inputs bytes)
   pub spell : bytes ≡ numbered_lines gate_deltas (1 + inputs) (gates_in (1 + inputs) bytes)

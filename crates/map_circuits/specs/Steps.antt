@@ -12,7 +12,8 @@ use Rattle.state_maps.specs.States.{IsStateMap}
 abbrev pub IsSomeReading : Graph → List ℕ → Type 0
 IsSomeReading g reads = (held : List ℕ) × IsReading g held reads
 
--- what was a map to d, with constraints of what each latch reads as, is a map to what d is merged to
+-- a map to d, with the constraints that each latch is equal to its reading, becomes one to what d
+-- is merged to
 abbrev pub MergingStep : Netlist → Netlist → Netlist → List ℕ → List ℕ → Graph → Graph → List ℕ → List ℕ → List ℕ → Type 0
 MergingStep c d e held kept g h functions old new = IsGraph d.aig → IsNetlist d → (merged : IsMerged held d e) → IsGraph g → AreLiteralsOf g functions
     → length functions ≡ length d.aig.latches → length kept ≡ free_latches d.aig → IsStateMap c d kept (AreOne g old) (state_of g functions)

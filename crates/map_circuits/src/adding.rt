@@ -9,13 +9,13 @@ use crate::errors::MapError;
 use crate::map_gates::MapGates;
 use aig_graph::{Aig, Lit};
 
-/// Adds the constraints that each latch of a graph is equal to what it reads as, by the functions of the latches: none for a latch that
-/// reads as itself.
+/// Adds the constraints that each latch of a graph is equal to its reading, by the functions of the
+/// latches. A latch that is its own reading has none.
 ///
 /// # Errors
 ///
-/// `NoMemory` where memory is refused, `TooLarge` where there would be more gates than a graph may have; some gates and constraints
-/// may have been added then.
+/// `NoMemory` if memory is refused, `TooLarge` if there would be more gates than a graph may have.
+/// Some gates and constraints may then have been added.
 pub fn add_readings(
     gates: &mut MapGates,
     constraints: &mut Vec<Lit>,

@@ -7,7 +7,8 @@ ghost use Rattle.map_circuits.specs.Instances.{AreAll};
 use crate::gates::add_conjunction;
 use aig_graph::{AigBuilder, BuildError, Lit};
 
-/// The conjunction of two literals: the second where the first is the constant 1, else that of a gate, which is added.
+/// Returns the conjunction of two literals: the second if the first is the constant 1, else that of
+/// a gate, which is added.
 fn add_both(gates: &mut AigBuilder, a: Lit, b: Lit) -> Result<Lit, BuildError>
     requires graph { IsGraph gates.old }
     requires a { IsLiteralOf gates.old a }
@@ -22,12 +23,13 @@ fn add_both(gates: &mut AigBuilder, a: Lit, b: Lit) -> Result<Lit, BuildError>
     }
 }
 
-/// What says that all literals are 1: the constant 1 where there are none. A gate is added for each but the first.
+/// Returns the conjunction of all literals, which is the constant 1 if there are none. A gate is
+/// added for each but the first.
 ///
 /// # Errors
 ///
-/// `NoMemory` where memory is refused, `TooLarge` where the graph has as many variables as it may; some of the gates may have been
-/// added then.
+/// `NoMemory` if memory is refused, `TooLarge` if the graph has as many variables as it may. Some
+/// of the gates may then have been added.
 pub fn add_conjunction_of(gates: &mut AigBuilder, lits: &[Lit]) -> Result<Lit, BuildError>
     requires graph { IsGraph gates.old }
     requires within { AreLiteralsOf gates.old lits.now }

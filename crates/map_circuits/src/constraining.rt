@@ -9,7 +9,7 @@ use crate::map_gates::MapGates;
 use crate::standing::standing;
 use aig_graph::Lit;
 
-/// The function of what stands for a latch: a constant, or a literal of a latch.
+/// Returns the function of a latch's substitute: a constant, or a literal of a latch.
 fn function_of(functions: &[Lit], first: u32, substitute: Lit) -> Lit
     requires { IsSubstitute first functions.now substitute }
     ensures { result ≡ substitute_function first functions.now substitute }
@@ -42,13 +42,14 @@ fn add_constraint(
     Ok(())
 }
 
-/// Adds the constraints that each latch is equal to what stands for it, by the functions of the latches: none for a latch that stands for
-/// itself. The latches begin with the variable `first`.
+/// Adds the constraints that each latch is equal to its substitute, by the functions of the
+/// latches. A latch that is its own substitute has none. The latches begin with the variable
+/// `first`.
 ///
 /// # Errors
 ///
-/// `NoMemory` where memory is refused, `TooLarge` where there would be more gates than a graph may have; some gates and constraints
-/// may have been added then.
+/// `NoMemory` if memory is refused, `TooLarge` if there would be more gates than a graph may have.
+/// Some gates and constraints may then have been added.
 pub fn add_constraints(
     gates: &mut MapGates,
     constraints: &mut Vec<Lit>,

@@ -1,5 +1,5 @@
-//! Free latches. Which of the first circuit's a free latch of the second one is can't be asked of values, since both may start as
-//! anything: it is what its output reads.
+//! Free latches. The free latch of the first circuit that one of the second is can't be asked of
+//! values, since both may start as anything. It is the one that its output reads.
 ghost use Rattle.std.specs.Prelude.{◌≡◌, ◌↔◌, All, IfOk, IsTrue, length};
 ghost use Rattle.std.specs.List.Sorted.{IsStrictlyIncreasing};
 ghost use Rattle.aig_graph.specs.Graph.{is_free};
@@ -8,14 +8,14 @@ ghost use Rattle.state_maps.specs.MapCircuits.{FreeStay, IsFreeInput, free_outpu
 use aig_graph::{Aig, Circuit, ClosedSet, Latch, Lit, NoMemory, Reset};
 use std::alloc::Global;
 
-/// Whether the latch is free.
+/// Returns true if the latch is free.
 fn is_free(latch: &Latch) -> bool
     ensures { result ≡ is_free latch.now }
 {
     latch.reset == Reset::Free
 }
 
-/// The numbers of the outputs that stand for free latches.
+/// Returns the numbers of the outputs that stand for free latches.
 fn free_outputs(alloc: Global, latches: &[Latch], outputs: &[Lit]) -> Result<Vec<u32>, NoMemory>
     requires { length outputs.now ≡ length latches.now }
     ensures { IfOk result (λ codes. codes.items ≡ free_outputs latches.now outputs.now) }
@@ -29,7 +29,7 @@ fn free_outputs(alloc: Global, latches: &[Latch], outputs: &[Lit]) -> Result<Vec
     Ok(codes)
 }
 
-/// Whether the literal with this number is that of the input that stands for a free latch.
+/// Returns true if the literal with this number is the input that stands for a free latch.
 fn is_free_input(first: &Aig, code: u32) -> bool
     ensures { IsTrue result ↔ IsFreeInput first.now code }
 {
@@ -42,25 +42,26 @@ fn is_free_input(first: &Aig, code: u32) -> bool
     }
 }
 
-/// Whether all of these are.
+/// Returns true if each of the literals with these numbers is an input that stands for a free
+/// latch.
 fn are_free_inputs(first: &Aig, codes: &[u32]) -> bool
     ensures { IsTrue result ↔ All (IsFreeInput first.now) codes.now }
 {
     codes.iter().all(|code| is_free_input(first, *code))
 }
 
-/// Whether the numbers rise.
+/// Returns true if the numbers rise.
 fn do_rise(codes: Vec<u32>) -> bool
     ensures { IsTrue result ↔ IsStrictlyIncreasing codes.items }
 {
     ClosedSet::new(codes).is_some()
 }
 
-/// Whether each free latch of the second circuit is one of the first, in their order.
+/// Returns true if each free latch of the second circuit is one of the first, in their order.
 ///
 /// # Errors
 ///
-/// `NoMemory` where memory is refused.
+/// `NoMemory` if memory is refused.
 pub fn free_stay(
     alloc: Global,
     first: &Circuit,

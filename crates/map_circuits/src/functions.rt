@@ -1,5 +1,6 @@
-//! What the latches of a merged circuit hold: each what it reads as. Where the constraints hold that is what it held before, so a map may
-//! as well say so, and a cleaning that follows finds a merged latch and the one that it reads as to be one function, which takes no constraint.
+//! The functions of the latches of a merged circuit: each is that of its reading. Under the
+//! constraints that is what the latch held before, so a map may use it. A cleaning that follows
+//! then finds a merged latch and its reading to be one function, which takes no constraint.
 ghost use Rattle.std.specs.Prelude.{◌≡◌, IfOk, length};
 ghost use Rattle.aig_graph.specs.Graph.{first_latch};
 ghost use Rattle.map_circuits.specs.Constraining.{IsSubstitute, substitute_function};
@@ -8,7 +9,7 @@ ghost use Rattle.map_circuits.specs.Steps.{IsSomeReading, read_functions};
 use aig_graph::{Aig, Lit, NoMemory};
 use std::alloc::Global;
 
-/// The function of what a latch reads as: a constant, or a literal of a latch.
+/// Returns the function of a latch's reading: a constant, or a literal of a latch.
 fn read_function(functions: &[Lit], first: u32, reads: Lit) -> Lit
     requires { IsSubstitute first functions.now reads }
     ensures { result ≡ substitute_function first functions.now reads }
@@ -20,11 +21,11 @@ fn read_function(functions: &[Lit], first: u32, reads: Lit) -> Lit
     }
 }
 
-/// The function of what each latch of a graph reads as, by the functions of the latches.
+/// Returns the function of the reading of each latch of a graph, by the functions of the latches.
 ///
 /// # Errors
 ///
-/// `NoMemory` where memory is refused.
+/// `NoMemory` if memory is refused.
 pub fn read_functions(
     alloc: Global,
     functions: &[Lit],

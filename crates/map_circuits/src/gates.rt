@@ -9,7 +9,8 @@ use aig_graph::{AigBuilder, BuildError, Lit};
 ///
 /// # Errors
 ///
-/// `NoMemory` where memory is refused, `TooLarge` where the graph has as many variables as it may; it is as it was then.
+/// `NoMemory` if memory is refused, `TooLarge` if the graph has as many variables as it may. The
+/// graph is then as it was.
 pub fn add_conjunction(gates: &mut AigBuilder, a: Lit, b: Lit) -> Result<Lit, BuildError>
     requires graph { IsGraph gates.old }
     requires a { IsLiteralOf gates.old a }
@@ -35,13 +36,13 @@ fn add_comparison(gates: &mut AigBuilder, a: Lit, b: Lit) -> Result<Lit, BuildEr
     Ok(both)
 }
 
-/// What says that two literals are equal: a literal of the first, where the second is a constant, else that of the last of three
-/// gates, which are added.
+/// Returns the literal that says that two literals are equal. It is a literal of the first if the
+/// second is a constant, else that of the last of three gates, which are added.
 ///
 /// # Errors
 ///
-/// `NoMemory` where memory is refused, `TooLarge` where the graph has as many variables as it may; some of the gates may have been
-/// added then.
+/// `NoMemory` if memory is refused, `TooLarge` if the graph has as many variables as it may. Some
+/// of the gates may then have been added.
 pub fn add_equality(gates: &mut AigBuilder, a: Lit, b: Lit) -> Result<Lit, BuildError>
     requires graph { IsGraph gates.old }
     requires a { IsLiteralOf gates.old a }

@@ -1,6 +1,7 @@
-//! Entries of a table that move to its front, in their order: the table of functions before a step becomes that after it in place. Whether
-//! a latch stays in a step is mostly as it is for those beside it. So marks of latches are looked at in blocks, and a block whose marks are
-//! all alike costs no more than a few of them.
+//! Entries of a table that move to its front, in their order: the table of functions before a step
+//! becomes that after it in place. A latch mostly stays in a step if those beside it do. So marks
+//! of latches are looked at in blocks, and a block whose marks are all alike costs no more than a
+//! few of them.
 ghost use Rattle.std.specs.Prelude.{ℕ, Bool, ◌≡◌, ◌+◌, ◌-◌, ◌≤◌, length};
 ghost use Rattle.std.specs.List.{CopiedTo, SameBelow, SameFrom};
 ghost use Rattle.aig_graph.specs.Closed.{IsClosedSet};
@@ -31,8 +32,8 @@ fn move_run(entries: &mut [Lit], from: usize, to: usize, kept: usize)
     }
 }
 
-/// Moves those of the entries from one place up to another that are marked, one by one, to where `kept` entries have moved, and says how
-/// many have moved then.
+/// Moves the marked entries from `from` up to `to`, one by one, behind the `kept` entries that have
+/// moved. Returns the number of entries that have then moved.
 fn gather_each(entries: &mut [Lit], marks: &[bool], from: usize, to: usize, kept: usize) -> usize
     requires before { kept ≤ from }
     requires ordered { from ≤ to }
@@ -51,7 +52,7 @@ fn gather_each(entries: &mut [Lit], marks: &[bool], from: usize, to: usize, kept
     after
 }
 
-/// The same, where all or none are marked at once.
+/// Moves the marked entries as [`gather_each`] does, but in one step if all or none are marked.
 fn gather_block(entries: &mut [Lit], marks: &[bool], from: usize, to: usize, kept: usize) -> usize
     requires before { kept ≤ from }
     requires ordered { from ≤ to }
@@ -71,7 +72,8 @@ fn gather_block(entries: &mut [Lit], marks: &[bool], from: usize, to: usize, kep
     }
 }
 
-/// Moves those of the first entries that are marked to the front, and says how many they are. Both tables begin with the same variable.
+/// Moves the marked ones of the first entries to the front, and returns their number. Both tables
+/// begin with one variable.
 pub(crate) fn gather_marked(entries: &mut [Lit], marks: &[bool], count: usize) -> usize
     requires marks { count ≤ length marks.now }
     requires entries { length marks.now ≤ length entries.old }
@@ -89,8 +91,9 @@ pub(crate) fn gather_marked(entries: &mut [Lit], marks: &[bool], count: usize) -
     kept
 }
 
-/// Moves the entries of the variables that have a latch after a move to the front, by the marks of these, and says how many they are. Of
-/// the gates it looks at the members of the set alone, of which many are marked, here and there.
+/// Moves the entries of the variables that have a latch after a move to the front, by the marks of
+/// these. Returns their number. Of the gates it looks at the members of the set alone; many of
+/// these are marked, here and there.
 pub(crate) fn gather_latched(
     entries: &mut [Lit],
     circuit: &Circuit,

@@ -1,4 +1,5 @@
-//! A table has a literal for each variable, the constant's first, so that no kind of variable is a case of its own.
+//! A table has a literal for each variable, the constant's first, so that no kind of variable is a
+//! case of its own.
 ghost use Rattle.std.specs.Prelude.{◌≡◌, ◌<◌, ◌++◌, ◌∷◌, [], IfOk, OnOk, length};
 ghost use Rattle.aig_graph.specs.Circuits.{AreLiteralsOf};
 ghost use Rattle.aig_graph.specs.Graph.{IsGraph, first_gate, variable};
@@ -24,14 +25,14 @@ impl Model for Instance {
 }
 
 impl Instance {
-    /// These literals stand for the variables.
+    /// Returns the table of these literals, one for each variable.
     pub fn of(literals: Vec<Lit>) -> Instance
         ensures { result ≡ literals.items }
     {
         Instance { literals }
     }
 
-    /// What stands for a literal.
+    /// Returns the literal that stands for `lit`.
     pub fn literal(&self, lit: Lit) -> Lit
         requires { variable lit < length self.now }
         ensures { result ≡ substitute self.now lit }
@@ -39,7 +40,7 @@ impl Instance {
         self.literals[lit.var() as usize].signed_as(lit)
     }
 
-    /// One more literal, that of the next variable.
+    /// Adds the literal of the next variable.
     fn push(&mut self, lit: Lit) -> Result<(), BuildError>
         ensures { OnOk result (self.new ≡ self.old ++ lit ∷ []) }
     {
@@ -48,12 +49,13 @@ impl Instance {
     }
 }
 
-/// Adds the gates of a circuit, over literals that stand for the constant, its inputs and its latches. Linear in the circuit.
+/// Adds the gates of a circuit, over literals that stand for the constant, its inputs and its
+/// latches. Linear in the circuit.
 ///
 /// # Errors
 ///
-/// `NoMemory` where memory is refused, `TooLarge` where there would be more variables than a graph may have; some gates may have been
-/// added then.
+/// `NoMemory` if memory is refused, `TooLarge` if there would be more variables than a graph may
+/// have. Some gates may then have been added.
 pub fn add_instance(
     gates: &mut AigBuilder,
     aig: &Aig,

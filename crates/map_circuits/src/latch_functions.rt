@@ -1,5 +1,6 @@
-//! What latches hold stands at the front of a table that only grows. Behind it is room for what gates stand for in a move: from move to move it
-//! is neither made nor cleared, and what the latches hold is copied nowhere.
+//! The functions of latches stand at the front of a table that only grows. Behind them is room for
+//! those of gates in a move. From move to move it is neither made nor cleared, and the functions of
+//! latches are copied nowhere.
 ghost use Rattle.std.specs.Prelude.{ℕ, ◌≡◌, ◌+◌, ◌≤◌, Bool, All, IfOk, OnOk, length, take};
 ghost use Rattle.aig_graph.specs.Closed.{IsClosedSet};
 ghost use Rattle.aig_graph.specs.Graph.{Graph, IsGraph, IsLiteralOf, first_latch};
@@ -49,7 +50,7 @@ fn lengthen(table: &mut Vec<Lit>, long: usize) -> Result<(), AllocError>
     Ok(())
 }
 
-/// Moves those of the first entries of a table that are marked to the front, and says how many they are.
+/// Moves the marked ones of the first entries of a table to the front, and returns their number.
 fn pass_front(table: &mut Vec<Lit>, count: usize, stays: &[bool]) -> usize
     requires within { count ≤ length table.old.items }
     requires many { length stays.now ≡ count }
@@ -63,8 +64,9 @@ fn pass_front(table: &mut Vec<Lit>, count: usize, stays: &[bool]) -> usize
     gather_marked(&mut entries[0..count], stays, count)
 }
 
-/// Puts the functions of the latches after a move at the front of a table that begins with those of the latches before it, and says how
-/// many they are. The table grows to have an entry for each latch and gate.
+/// Puts the functions of the latches after a move at the front of a table that begins with those of
+/// the latches before it. Returns their number. The table grows to have an entry for each latch and
+/// gate.
 fn move_front(
     table: &mut Vec<Lit>,
     gates: &mut MapGates,
@@ -94,7 +96,7 @@ fn move_front(
 }
 
 impl LatchFunctions {
-    /// These literals, one for each latch.
+    /// Returns the functions with these literals, one for each latch.
     pub fn of(literals: Vec<Lit>) -> LatchFunctions
         ensures { result ≡ literals.items }
     {
@@ -105,14 +107,14 @@ impl LatchFunctions {
         }
     }
 
-    /// The literals, by latch.
+    /// Returns the literals, by latch.
     pub fn as_slice(&self) -> &[Lit]
         ensures { result.now ≡ self.now }
     {
         &self.table.as_slice()[..self.count]
     }
 
-    /// The literals, by latch, as a list. None is copied.
+    /// Returns the literals, by latch, as a list. None is copied.
     pub fn into_vec(self) -> Vec<Lit>
         ensures { result.items ≡ self }
     {
@@ -121,8 +123,8 @@ impl LatchFunctions {
         table
     }
 
-    /// Becomes the functions of the latches after a pass of cleaning, by marks of those that stay: each holds what it held. Linear; takes no
-    /// memory.
+    /// Becomes the functions of the latches after a pass of cleaning, by marks of those that stay:
+    /// each holds what it held. Linear; takes no memory.
     pub fn follow_pass(&mut self, stays: &[bool])
         requires { length stays.now ≡ length self.old }
         ensures { (g c : Graph) (reached : ℕ → Bool) → All (λ lit. IsLiteralOf g lit) self.old
@@ -132,13 +134,15 @@ impl LatchFunctions {
         self.count = pass_front(&mut self.table, self.count, stays);
     }
 
-    /// Becomes the functions of the latches after a move, by the marks of the move. A gate is added for each gate of the set. Linear in the
-    /// latches and the set, but for what the table grows; inputs cost nothing.
+    /// Becomes the functions of the latches after a move, by the marks of the move. A gate is added
+    /// for each gate of the set. Linear in the latches and the set, but for the growth of the
+    /// table; inputs cost nothing.
     ///
     /// # Errors
     ///
-    /// `NoMemory` where memory is refused, `TooLarge` where there would be more gates than a graph may have; some gates may have been
-    /// added then, and the functions are no longer those of any latches.
+    /// `NoMemory` if memory is refused, `TooLarge` if there would be more gates than a graph may
+    /// have. Some gates may then have been added, and the functions are no longer those of any
+    /// latches.
     pub fn follow_move(
         &mut self,
         gates: &mut MapGates,

@@ -1,9 +1,11 @@
-//! State maps as circuits: gates over the latches of a circuit, which say what the latches of another one hold, step for step.
+//! State maps as circuits: gates over the latches of a circuit give the values of another one's
+//! latches, step for step.
 //!
-//! A step of a state map that merges latches: each latch is equal to what it reads as, as constraints, and the functions of the latches stay, or
-//! are those of what they read as.
+//! A step of a state map that merges latches adds constraints: each latch is equal to its reading.
+//! The functions of the latches stay, or become those of their readings.
 //!
-//! Circuits as parts of larger ones: their gates once more, over literals that stand for their inputs and latches.
+//! A circuit may be a part of a larger one: its gates once more, over literals that stand for its
+//! inputs and latches.
 #![tactic(auto)]
 
 mod adding;

@@ -1,5 +1,5 @@
-//! The gates of a map: over inputs alone, as the bytes that they are written as. Those of a set are added in room that is asked for
-//! before.
+//! The gates of a map: over inputs alone, as the bytes that they are written as. Those of a set are
+//! added in room that is asked for before.
 ghost use Rattle.std.specs.Prelude.{ℕ, ◌≡◌, ◌+◌, ◌*◌, ◌<◌, ◌≤◌, ◌↔◌, [], All, IfOk, IsErrOf, List, OnOk, length, vec_capacity};
 ghost use Rattle.aig_graph.specs.Building.{gate_of, with_gate, without_gates};
 ghost use Rattle.aig_graph.specs.Closed.{IsClosedSet};
@@ -24,8 +24,8 @@ use std::marker::Model;
 /// How many bytes of gates are gathered before they are appended.
 const CHUNK: usize = 640;
 
-/// Gates over inputs alone, that grow. They stand as the deltas of the binary form: it costs some three bytes a gate to have them, and
-/// nothing to write them.
+/// Gates over inputs alone, in growing number. They are kept as the deltas of the binary form: it
+/// costs some three bytes a gate to have them, and nothing to write them.
 #[derive(Drop)]
 pub struct MapGates {
     inputs: u32,
@@ -45,7 +45,7 @@ impl Model for MapGates {
 }
 
 impl MapGates {
-    /// So many inputs, and no gate.
+    /// Returns an empty list of gates over `inputs` inputs.
     pub fn new(alloc: Global, inputs: u32) -> MapGates
         requires { inputs < MAX_VARIABLES }
         ensures { result ≡ without_gates inputs [] }
@@ -58,7 +58,8 @@ impl MapGates {
         }
     }
 
-    /// What holds of all such gates. Costs nothing: a caller sees the value alone, and has its invariant by this call.
+    /// States what holds of all such gates. Costs nothing: a caller sees the value alone, and has
+    /// its invariant by this call.
     pub fn known(&self)
         ensures graph { IsGraph self.now }
         ensures latches { self.now.latches ≡ [] }
@@ -66,28 +67,29 @@ impl MapGates {
         let _deltas = self.deltas.as_slice();
     }
 
-    /// The number of inputs.
+    /// Returns the number of inputs.
     pub fn inputs(&self) -> u32
         ensures { result ≡ self.now.inputs }
     {
         self.inputs
     }
 
-    /// The number of gates.
+    /// Returns the number of gates.
     pub fn count(&self) -> u32
         ensures { result ≡ length self.now.gates }
     {
         self.count
     }
 
-    /// The bytes of the gates in the binary form.
+    /// Returns the bytes of the gates in the binary form.
     pub fn deltas(&self) -> &[u8]
         ensures { result.now ≡ numbered_lines gate_deltas (first_gate self.now) self.now.gates }
     {
         self.deltas.as_slice()
     }
 
-    /// Adds the gate of two literals, and returns its literal. After an `Err` the gates are as they were.
+    /// Adds the gate of two literals, and returns its literal. After an `Err` the gates are as they
+    /// were.
     fn and(&mut self, a: Lit, b: Lit) -> Result<Lit, BuildError>
         requires a { IsLiteralOf self.old a }
         requires b { IsLiteralOf self.old b }
@@ -134,7 +136,8 @@ impl MapGates {
         Ok(both)
     }
 
-    /// What says that two literals are equal, as [`add_equality`](crate::add_equality) adds it.
+    /// Returns the literal that says that two literals are equal, as
+    /// [`add_equality`](crate::add_equality) does.
     pub(crate) fn add_equality(&mut self, a: Lit, b: Lit) -> Result<Lit, BuildError>
         requires graph { IsGraph self.old }
         requires a { IsLiteralOf self.old a }
@@ -152,8 +155,8 @@ impl MapGates {
         }
     }
 
-    /// Adds the functions of the gates of a set, beside those of the latches, by variable from the first latch on. What stands there for
-    /// other gates, which no member reads, stays.
+    /// Adds the functions of the gates of a set, beside those of the latches, by variable from the
+    /// first latch on. The entries of other gates, which no member reads, stay.
     pub(crate) fn add_functions(
         &mut self,
         literals: &mut [Lit],
@@ -191,8 +194,9 @@ impl MapGates {
     }
 }
 
-/// The same, in bytes that have room for those of as many gates as the set has members; there are so many gates before. The compiler keeps
-/// it a function of its own, whose loop has the registers for itself.
+/// Adds the functions as [`MapGates::add_functions`] does, in bytes that have room for a gate for
+/// each member of the set. `count` is the number of gates before. The compiler keeps it a function
+/// of its own, whose loop has the registers for itself.
 #[inline(never)]
 fn add_in_room(
     deltas: &mut Vec<u8>,

@@ -1,5 +1,6 @@
-//! What the latches hold after a move: those that stay what they held, and a new one the value of its gate. A gate of the set has
-//! its function before any that reads it is met.
+//! The functions of the latches after a move. Those that stay have the functions that they had, and
+//! a new one has that of its gate. A gate of the set has its function before any that reads it is
+//! met.
 ghost use Rattle.std.specs.Prelude.{ℕ, ◌≡◌, ◌+◌, ◌≤◌, IfOk, List, OnOk, length, take};
 ghost use Rattle.aig_graph.specs.Closed.{IsClosedSet};
 ghost use Rattle.aig_graph.specs.Graph.{IsGraph, first_gate, first_latch, variables_end};
@@ -14,8 +15,8 @@ use crate::map_gates::MapGates;
 use aig_graph::{BuildError, Circuit, ClosedSet, Keep, Lit};
 use rebuild::MoveMarks;
 
-/// The functions of the latches after a move, at the front of a table that begins with those of the latches before it and has an entry
-/// for each gate; how many they are.
+/// Puts the functions of the latches after a move at the front of a table that begins with those of
+/// the latches before it. The table has an entry for each gate. Returns the number of latches.
 pub(crate) fn moved_front(
     gates: &mut MapGates,
     table: &mut [Lit],

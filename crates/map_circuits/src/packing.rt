@@ -1,6 +1,7 @@
-//! A gate of a map waits to be written, and is read by nothing until then: so it stands as the bytes that it is written as, some three in
-//! place of the eight of a gate. Less memory is touched, which costs more than the bytes do. The bytes of many gates are gathered in a
-//! small chunk, whose place is at hand, before they are appended.
+//! A gate of a map waits to be written, and nothing reads it until then. So it is kept as its bytes
+//! in the file, some three in place of the eight of a gate. Less memory is touched, which costs
+//! more than the bytes do. The bytes of many gates are gathered in a small chunk, which stays in
+//! the cache, before they are appended.
 ghost use Rattle.std.specs.Prelude.{◌≡◌, ◌+◌, ◌≤◌, ◌<◌, ◌*◌, ◌++◌, OnOk, is_ok, length, take, vec_capacity, if◌then◌else◌};
 ghost use Rattle.aig_graph.specs.Graph.{IsGateAt};
 ghost use Rattle.aig_graph.specs.declared.literal.TheConstants.{MAX_VARIABLES};
@@ -16,10 +17,12 @@ pub(crate) const GATE_BYTES: usize = 10;
 /// For how many sets as large as the first there is room at first.
 const SETS: usize = 8;
 
-/// The bytes of a block that is asked for and given back, and twice as many, for which there is room at first at least.
+/// The size in bytes of a block that is asked for and given back. At first there is room for two
+/// blocks at least.
 const BLOCK: usize = 4 * 1024 * 1024;
 
-/// Puts the delta of a number at this place, in as few bytes as can be, and says where it ends.
+/// Puts the delta of a number at index `at`, in as few bytes as can be. Returns the index of its
+/// end.
 #[inline(always)]
 fn put_delta(bytes: &mut [u8], at: usize, number: u32) -> usize
     requires { at + 5 ≤ length bytes.old }
@@ -38,7 +41,7 @@ fn put_delta(bytes: &mut [u8], at: usize, number: u32) -> usize
     end + 1
 }
 
-/// Puts the deltas of the gate of a variable at this place, and says where they end.
+/// Puts the deltas of the gate of a variable at index `at`. Returns the index of their end.
 #[inline(always)]
 #[tactic(auto, unfolding(aig_binary::specs::Text::gate_deltas))]
 pub(crate) fn put_gate(bytes: &mut [u8], at: usize, var: u32, gate: Gate) -> usize
@@ -67,17 +70,18 @@ pub(crate) fn append_gate(deltas: &mut Vec<u8>, var: u32, gate: Gate) -> Result<
     deltas.extend_from_slice(&bytes[..end])
 }
 
-/// Asks for a block and gives it back. The C library then keeps up to twice as much at the end of the heap (`M_TRIM_THRESHOLD` of mallopt(3)
-/// follows the largest block with a mapping of its own that is given back). Else it gives the end of the heap to the kernel after many a
-/// frame, and the next frame has the kernel find and clear the same pages anew.
+/// Asks for a block and gives it back. The C library then keeps up to twice as much at the end of
+/// the heap. `M_TRIM_THRESHOLD` of mallopt(3) follows the largest block that had a mapping of its
+/// own and was given back. Otherwise the end of the heap goes to the kernel after many a frame. The
+/// next frame then has the kernel find and clear those pages anew.
 pub(crate) fn keep_heap(alloc: Global) {
     let mut block: Vec<u8> = Vec::new(alloc);
     let _granted = block.reserve(BLOCK);
 }
 
-/// Makes room for the bytes of so many gates: the first time for those of eight times as many, where memory allows, since as many sets of
-/// that size are likely to follow, and for so many that they have a mapping of their own, since such bytes never move. Room that isn't used
-/// costs nothing.
+/// Makes room for the bytes of `gates` gates. The first time it makes room for `SETS` sets as
+/// large, if memory allows, since such sets are likely to follow. It is at least two blocks: such
+/// bytes have a mapping of their own, and never move. Room that isn't used costs nothing.
 pub(crate) fn reserve_gates(deltas: &mut Vec<u8>, gates: usize) -> Result<(), AllocError>
     requires { gates < MAX_VARIABLES }
     ensures items { deltas.new.items ≡ deltas.old.items }
@@ -100,8 +104,8 @@ pub(crate) fn append_reserved(deltas: &mut Vec<u8>, bytes: &[u8])
     let _appended = deltas.extend_from_slice(bytes);
 }
 
-/// Appends the first bytes of the chunk, for which there is room, where a gate's may find none beside them in the chunk, and says how
-/// many still wait in it.
+/// Appends the first bytes of the chunk if those of a gate may find no room beside them. There is
+/// room for them in `deltas`. Returns the number of bytes that still wait in the chunk.
 #[inline(always)]
 pub(crate) fn leave_room(deltas: &mut Vec<u8>, chunk: &[u8], waiting: usize) -> usize
     requires long { GATE_BYTES ≤ length chunk.now }

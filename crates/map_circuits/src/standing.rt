@@ -4,7 +4,7 @@ ghost use Rattle.map_circuits.specs.Following.{literal_at};
 
 use aig_graph::Lit;
 
-/// What stands for a literal of a variable that has an entry.
+/// Returns the literal that stands for one of a variable with an entry.
 pub(crate) fn standing(literals: &[Lit], first: u32, lit: Lit) -> Lit
     requires from { first ≤ variable lit }
     requires below { variable lit - first < length literals.now }

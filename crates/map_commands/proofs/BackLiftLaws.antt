@@ -29,6 +29,6 @@ lifted-back-by c d m w k r law graph netlist second none shares lifted = record 
   shows = λ kept maps passes. law kept graph netlist second none maps shares passes lifted;
 }
 
--- the same of what the names of the witness say
+-- so for what the names of the witness say
 pub lifted-back-of : (c d m w : Netlist) (k : Sharing) (result : Result Netlist Failure) → IsSharedBy d w k → IfOk result (IsLiftedBackBy c d m w k) → IfOk result (IsBackLiftOf c d m w)
 lifted-back-of c d m w k result shared by = IfOk-weaker result _ _ (λ r is. record { sharing = k; shared = shared; lifted = is }) by

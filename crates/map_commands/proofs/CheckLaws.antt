@@ -7,11 +7,13 @@ use Rattle.command_endings.specs.Printing.{EndsPrinting, Prints, ending}
 use Rattle.command_endings.proofs.PrintingLaws.{lines_print}
 use Rattle.map_commands.specs.Checking.{outcome_of_verdict, verdict_text}
 use Rattle.map_commands.specs.declared.check.Verdict.{Verdict}
-use Rattle.map_commands.specs.declared.check.Verdict.TheVariants.{Retiming, NotShown, ShapesDiffer}
+use Rattle.map_commands.specs.declared.check.Verdict.TheVariants.{Retiming, Equal, NotShown, Open, ShapesDiffer}
 
 verdict_may_be_printed : (verdict : Verdict) (old new : Output) → WritesAll old new (verdict_text verdict) → Prints (outcome_of_verdict verdict) old new
 verdict_may_be_printed Retiming old new written = tt
+verdict_may_be_printed Equal old new written = tt
 verdict_may_be_printed (NotShown obligation) old new written = tt
+verdict_may_be_printed (Open obligation shown all) old new written = tt
 verdict_may_be_printed ShapesDiffer old new written = inl written
 
 -- a run that prints a verdict, or fails at that, gives standard output what a run that ends so may

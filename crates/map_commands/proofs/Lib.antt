@@ -3,3 +3,4 @@ mod CheckLaws
 mod LiftLaws
 mod MiterLaws
 mod ProductLaws
+mod PairLaws

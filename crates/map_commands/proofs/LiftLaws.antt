@@ -42,7 +42,7 @@ lifted-by c d m w k r law graph netlist lifted_graph shares lifted = record {
   shows = λ kept maps passes. law kept graph netlist lifted_graph maps shares passes lifted;
 }
 
--- the same of what the names of the witness say
+-- so for what the names of the witness say
 pub lifted-of : (c d m w : Netlist) (k : Sharing) (result : Result Netlist Failure) → IsSharedBy d w k → IfOk result (IsLiftedBy c d m w k) → IfOk result (IsLiftOf c d m w)
 lifted-of c d m w k result shared by = IfOk-weaker result _ _ (λ r is. record { sharing = k; shared = shared; lifted = is }) by
 

@@ -23,7 +23,8 @@ IsMadeOf mapped (Circuit r) = IsMap mapped.map.circuit × AreFitting mapped.pair
     × IsMiter mapped.pair.first.circuit mapped.pair.second.circuit mapped.map.circuit r
 IsMadeOf mapped ShapesDiffer = IsMap mapped.map.circuit × (AreFitting mapped.pair.first.circuit mapped.pair.second.circuit mapped.map.circuit → ⊥)
 
--- why nothing is made of them: the map isn't one, or what would be made has too many variables; memory may run out
+-- why nothing is made of them: the map isn't one, or what would be made has too many variables;
+-- memory may run out
 abbrev pub IsFailureToAsk : Asking → Mapped → Failure → Type 0
 IsFailureToAsk task mapped (fails.NotAMap path) = (path.now ≡ source_name task.map) × (IsMap mapped.map.circuit → ⊥)
 IsFailureToAsk task mapped (fails.Refused path fault) = (path.now ≡ target_name task.output) × (fault ≡ TooLarge 0)
@@ -36,7 +37,8 @@ pub record AreMapped (task : Asking) (before after : Input) (mapped : Mapped) : 
   pub pair : ArePair task.input task.retimed before circuits mapped.pair
   pub mapping : IsCircuitAt task.map circuits after mapped.map
 
--- what is made of the files that are read is written, in the spelling that is chosen, else in that of the map
+-- what is made of the files that are read is written, in the spelling that is chosen, else in that
+-- of the map
 pub record PrintsMiter (FileGiven : List ℕ → List ℕ → Type 0) (task : Asking) (before after : Input) (old new : Output) (ended : Outcome) : Type 0 where
   pub mapped : Mapped
   pub read : AreMapped task before after mapped

@@ -1,7 +1,9 @@
 -- What `check` finds of two circuits and a map, and what is printed of it.
-use Rattle.std.specs.Prelude.{ℕ, List}
+use Rattle.std.specs.Prelude.{ℕ, ◌≡◌, ◌≢◌, List, Option, Some, None}
 use Rattle.aig_graph.specs.Circuits.{Netlist}
-use Rattle.aig_graph.specs.Streams.{SameStreams}
+use Rattle.aig_graph.specs.Graph.{free_latches}
+use Rattle.aig_graph.specs.Laws.{all_free}
+use Rattle.aig_graph.specs.Streams.{AreKept, SameShape, SameStreams}
 use Rattle.state_maps.specs.MapCircuits.{IsMapCircuit}
 use Rattle.map_checks.specs.Answers.{AreFitting, IsMap}
 use Rattle.aig_binary.specs.declared.reading.SpeltCircuit.{SpeltCircuit}
@@ -14,12 +16,15 @@ use Rattle.circuit_files.specs.declared.outcome.Outcome.{Outcome}
 use Rattle.circuit_files.specs.declared.outcome.Outcome.TheVariants as ends
 use Rattle.command_endings.specs.Printing.{EndsWith}
 use Rattle.command_endings.specs.Sources.{IsCircuitAt}
-use Rattle.map_commands.specs.Obligations.{obligation_text, retiming_text}
+use Rattle.simulation_commands.specs.Keeping.{AreSharedAt}
+use Rattle.simulation_commands.specs.declared.kept.Shared.{Shared}
+use Rattle.simulation_commands.specs.declared.kept.Shared.TheVariants.{Each, Kept}
+use Rattle.map_commands.specs.Obligations.{equal_text, obligation_text, retiming_text}
 use Rattle.map_commands.specs.declared.check.Verdict.{Verdict}
-use Rattle.map_commands.specs.declared.check.Verdict.TheVariants.{Retiming, NotShown, ShapesDiffer}
+use Rattle.map_commands.specs.declared.check.Verdict.TheVariants.{Retiming, Equal, NotShown, Open, ShapesDiffer}
 
--- m maps the states of c to those of d, step for step, where these free latches of c are those of d; so the properties of both have the
--- same values at each step
+-- m maps the states of c to those of d, step for step, if these free latches of c are those of d.
+-- So the properties of both have equal values at each step.
 pub record IsRetimingBy (c d m : Netlist) : Type 0 where
   pub kept : List ℕ
   pub maps : IsMapCircuit c d kept m
@@ -28,19 +33,43 @@ pub record IsRetimingBy (c d m : Netlist) : Type 0 where
 -- what is found of two circuits and a map
 abbrev pub IsVerdict : Netlist → Netlist → Netlist → Verdict → Type 0
 IsVerdict c d m Retiming = IsRetimingBy c d m
+IsVerdict c d m Equal = ⊥
 IsVerdict c d m (NotShown obligation) = IsMap m × AreFitting c d m
-IsVerdict c d m ShapesDiffer = IsMap m × (AreFitting c d m → ⊥)
+IsVerdict c d m (Open obligation shown all) = ⊥
+IsVerdict c d m ShapesDiffer = IsMap m × (SameShape c d → ⊥)
+
+-- what is found of two circuits without a map, where these free latches of c are those of d
+abbrev pub IsVerdictKept : Netlist → Netlist → List ℕ → Verdict → Type 0
+IsVerdictKept c d kept Retiming = ⊥
+IsVerdictKept c d kept Equal = SameStreams c d kept
+IsVerdictKept c d kept (NotShown obligation) = ⊥
+IsVerdictKept c d kept (Open obligation shown all) = SameShape c d
+IsVerdictKept c d kept ShapesDiffer = SameShape c d → ⊥
+
+-- these free latches of c may be those of d
+abbrev pub IsSharedBy : Shared → Netlist → Netlist → Type 0
+IsSharedBy Each c d = Unit {0}
+IsSharedBy (Kept kept) c d = AreKept c d kept
+
+-- the same where d has these free latches of c, or each
+abbrev pub IsPairVerdict : Shared → Netlist → Netlist → Verdict → Type 0
+IsPairVerdict Each c d verdict = (free_latches d.aig ≡ free_latches c.aig → IsVerdictKept c d (all_free c.aig) verdict) × (free_latches d.aig ≢ free_latches c.aig → verdict ≡ ShapesDiffer)
+IsPairVerdict (Kept kept) c d verdict = IsVerdictKept c d kept verdict
 
 -- what is printed of it, and how the run ends
 abbrev pub verdict_text : Verdict → List ℕ
 verdict_text Retiming = retiming_text
+verdict_text Equal = equal_text
 verdict_text (NotShown obligation) = obligation_text obligation
+verdict_text (Open obligation shown all) = obligation_text obligation
 verdict_text ShapesDiffer = shapes_text
 
 -- how a run ends by the verdict
 abbrev pub outcome_of_verdict : Verdict → Outcome
 outcome_of_verdict Retiming = ends.Done
+outcome_of_verdict Equal = ends.Done
 outcome_of_verdict (NotShown obligation) = ends.Unconfirmed
+outcome_of_verdict (Open obligation shown all) = ends.Unconfirmed
 outcome_of_verdict ShapesDiffer = ends.ShapesDiffer
 
 -- what is found of two circuits and the map that is read
@@ -63,8 +92,33 @@ pub record IsVerdictOf (first second map : Source) (before after : Input) (verdi
   pub read : IsCircuitAt first before between spelt
   pub found : IsVerdictWith spelt.circuit second map between after verdict
 
+-- what is found of two circuits, and of the list of kept free latches that is read if there is one
+pub record IsPairVerdictUnder (c d : Netlist) (kept : Option Source) (before after : Input) (verdict : Verdict) : Type 0 where
+  pub shared : Shared
+  pub read : AreSharedAt kept c d before after shared
+  pub is : IsPairVerdict shared c d verdict
+
+-- what is found of a circuit and the one that is read, without a map
+pub record IsPairVerdictWith (c : Netlist) (task : Checking) (before after : Input) (verdict : Verdict) : Type 0 where
+  pub spelt : SpeltCircuit
+  pub between : Input
+  pub read : IsCircuitAt task.retimed before between spelt
+  pub found : IsPairVerdictUnder c spelt.circuit task.kept between after verdict
+
+-- what is found of the circuits that are read in this order, without a map
+pub record IsPairVerdictOf (task : Checking) (before after : Input) (verdict : Verdict) : Type 0 where
+  pub spelt : SpeltCircuit
+  pub between : Input
+  pub read : IsCircuitAt task.input before between spelt
+  pub found : IsPairVerdictWith spelt.circuit task between after verdict
+
+-- what is found, by a map where there is one
+abbrev pub IsFoundBy : Option Source → Checking → Input → Input → Verdict → Type 0
+IsFoundBy None task before after verdict = IsPairVerdictOf task before after verdict
+IsFoundBy (Some map) task before after verdict = IsVerdictOf task.input task.retimed map before after verdict
+
 -- that was printed, and the run ends by it
 pub record PrintsCheck (task : Checking) (before after : Input) (old new : Output) (ended : Outcome) : Type 0 where
   pub verdict : Verdict
-  pub found : IsVerdictOf task.input task.retimed task.map before after verdict
+  pub found : IsFoundBy task.map task before after verdict
   pub printed : EndsWith (outcome_of_verdict verdict) (verdict_text verdict) old new ended

@@ -25,31 +25,32 @@ use Rattle.map_commands.specs.declared.made.Made.TheVariants.{Circuit, ShapesDif
 use Rattle.map_commands.specs.Making.{EndsMaking}
 use Rattle.map_commands.specs.Reading.{ArePair}
 
--- r is the witness circuit for c that is made of w, which shares this with d: where m maps the states of c to those of d and w passes the
--- five checks for d, r passes them for c
+-- r is the witness circuit for c that is made of w, which shares this with d. If m maps the states
+-- of c to those of d and w passes the five checks for d, r passes them for c.
 pub record IsLiftedBy (c d m w : Netlist) (k : Sharing) (r : Netlist) : Type 0 where
   pub lifted : IsLifted c m w k r
   pub shows : (kept : List ℕ) → IsMapCircuit c d kept m → IsWitness d w k → IsSharing c r (first_shared c r) × IsWitness c r (first_shared c r)
 
--- the same by what w's names say
+-- it is so by what w's names say
 pub record IsLiftOf (c d m w r : Netlist) : Type 0 where
   pub sharing : Sharing
   pub shared : IsSharedBy d w sharing
   pub lifted : IsLiftedBy c d m w sharing r
 
--- r is the witness circuit for c that is made of w, where m maps the states of d to those of c: where w passes the five checks for d, r passes
--- them for c
+-- r is the witness circuit for c that is made of w, if m maps the states of d to those of c. If w
+-- passes the five checks for d, r passes them for c.
 pub record IsLiftedBackBy (c d m w : Netlist) (k : Sharing) (r : Netlist) : Type 0 where
   pub lifted : IsLiftedBack c d m w k r
   pub shows : (kept : List ℕ) → IsMapCircuit d c kept m → IsWitness d w k → IsSharing c r (first_shared c r) × IsWitness c r (first_shared c r)
 
--- the same by what w's names say
+-- it is so by what w's names say
 pub record IsBackLiftOf (c d m w r : Netlist) : Type 0 where
   pub sharing : Sharing
   pub shared : IsSharedBy d w sharing
   pub lifted : IsLiftedBackBy c d m w sharing r
 
--- circuits and a map fit together, where the map leads from the first to the second, or back to a first one that has no free latch
+-- Circuits and a map fit together. The map leads from the first to the second, or back to a first
+-- one that has no free latch.
 abbrev pub AreLiftable : Bool → Netlist → Netlist → Netlist → Type 0
 AreLiftable false c d m = AreFitting c d m
 AreLiftable true c d m = AreFitting d c m × (free_latches c.aig ≡ 0)
@@ -65,8 +66,8 @@ IsLiftedOf back given (Circuit r) = IsMap given.map.circuit × AreLiftable back 
     × IsLiftBy back given.pair.first.circuit given.pair.second.circuit given.map.circuit given.witness.circuit r
 IsLiftedOf back given ShapesDiffer = IsMap given.map.circuit × (AreLiftable back given.pair.first.circuit given.pair.second.circuit given.map.circuit → ⊥)
 
--- why nothing is made of them: the map isn't one, no inputs and latches of OUT are those that the names say, or what would be made has too many
--- variables; memory may run out
+-- Why nothing is made of them. The map isn't one, no inputs and latches of OUT are those that the
+-- names say, or what would be made has too many variables. Memory may run out.
 abbrev pub IsFailureToLift : Lifting → Given → Failure → Type 0
 IsFailureToLift task given (fails.NotAMap path) = (path.now ≡ source_name task.map) × (IsMap given.map.circuit → ⊥)
 IsFailureToLift task given (fails.NoSuchLiteral path) = (path.now ≡ source_name task.witness) × ((k : Sharing) → IsSharedBy given.pair.second.circuit given.witness.circuit k → ⊥)
@@ -82,7 +83,8 @@ pub record AreGiven (task : Lifting) (before after : Input) (given : Given) : Ty
   pub mapping : IsCircuitAt task.map circuits between given.map
   pub witness : IsCircuitAt task.witness between after given.witness
 
--- what is made of the files that are read is written, in the spelling that is chosen, else in that of the witness circuit
+-- what is made of the files that are read is written, in the spelling that is chosen, else in that
+-- of the witness circuit
 pub record PrintsLift (FileGiven : List ℕ → List ℕ → Type 0) (task : Lifting) (before after : Input) (old new : Output) (ended : Outcome) : Type 0 where
   pub given : Given
   pub read : AreGiven task before after given

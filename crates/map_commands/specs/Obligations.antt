@@ -3,7 +3,8 @@ use Rattle.std.specs.Prelude.{ℕ, List, [], ◌∷◌, ◌++◌, decimal, codes
 use Rattle.map_checks.specs.declared.answer.Obligation.{Obligation}
 use Rattle.map_checks.specs.declared.answer.Obligation.TheVariants.{ConstraintAtReset, LatchAtReset, Constraint, Latch, Output, Bad, Invariant, Justice, Fairness}
 
--- which question is open: of step 0, of the constraints a step later, of the latches a step later, or of the properties
+-- which question is open: of step 0, of the constraints a step later, of the latches a step later,
+-- or of the properties
 abbrev pub question_of : Obligation → List ℕ
 question_of (ConstraintAtReset place) = codes "reset"
 question_of (LatchAtReset place) = codes "reset"
@@ -47,3 +48,7 @@ obligation_text obligation =
 -- the line of a retiming
 abbrev pub retiming_text : List ℕ
 retiming_text = codes "retiming" ++ 10 ∷ []
+
+-- the line of circuits that are compared without a map, and are equal
+abbrev pub equal_text : List ℕ
+equal_text = codes "equal" ++ 10 ∷ []

@@ -25,7 +25,8 @@ use Rattle.map_commands.specs.declared.products.Shown.{Shown}
 use Rattle.map_commands.specs.declared.products.Shown.TheVariants as shows
 use Rattle.map_commands.specs.Asking.{AreMapped, PrintsMiter}
 
--- both circuits side by side: as a model whose bad state says that a property differs, and as its witness circuit by the map
+-- both circuits side by side: as a model whose bad state says that a property differs, and as its
+-- witness circuit by the map
 pub record AreMachinesOf (mapped : Mapped) (machines : Machines) : Type 0 where
   pub model : IsProduct Agree mapped.pair.first.circuit mapped.pair.second.circuit mapped.map.circuit machines.model
   pub witness : IsProduct IsMapped mapped.pair.first.circuit mapped.pair.second.circuit mapped.map.circuit machines.witness
@@ -40,7 +41,8 @@ abbrev pub target_for : Goal → Asking → Target → Target
 target_for Agree task certificate = task.output
 target_for IsMapped task certificate = certificate
 
--- why nothing is made: the map isn't one, or one of the machines would have too many variables; memory may run out
+-- why nothing is made: the map isn't one, or one of the machines would have too many variables;
+-- memory may run out
 abbrev pub IsFailureToShow : Asking → Target → Mapped → Failure → Type 0
 IsFailureToShow task certificate mapped (fails.NotAMap path) = (path.now ≡ source_name task.map) × (IsMap mapped.map.circuit → ⊥)
 IsFailureToShow task certificate mapped (fails.Refused path fault) = ((goal : Goal) × (path.now ≡ target_name (target_for goal task certificate))) × (fault ≡ TooLarge 0)
@@ -59,7 +61,8 @@ abbrev pub EndsShowing : (List ℕ → List ℕ → Type 0) → Shown → Spelli
 EndsShowing FileGiven (shows.Machines machines) spelling output certificate old new ended = EndsWritingBoth FileGiven machines spelling output certificate old new ended
 EndsShowing FileGiven shows.ShapesDiffer spelling output certificate old new ended = EndsWith ends.ShapesDiffer shapes_text old new ended
 
--- what is made of the files that are read is written, in the spelling that is chosen, else in that of the map
+-- what is made of the files that are read is written, in the spelling that is chosen, else in that
+-- of the map
 pub record PrintsProduct (FileGiven : List ℕ → List ℕ → Type 0) (certificate : Target) (task : Asking) (before after : Input) (old new : Output) (ended : Outcome) : Type 0 where
   pub mapped : Mapped
   pub read : AreMapped task before after mapped
@@ -67,7 +70,7 @@ pub record PrintsProduct (FileGiven : List ℕ → List ℕ → Type 0) (certifi
   pub is : IsShownOf mapped shown
   pub printed : EndsShowing FileGiven shown (unwrap_or task.spelling mapped.map.spelling) task.output certificate old new ended
 
--- a miter of the map, and where a certificate is asked for, both circuits side by side with that
+-- a miter of the map, and if a certificate is asked for, both circuits side by side with that
 abbrev pub PrintsAsked : (List ℕ → List ℕ → Type 0) → Option Target → Asking → Input → Input → Output → Output → Outcome → Type 0
 PrintsAsked FileGiven None task before after old new ended = PrintsMiter FileGiven task before after old new ended
 PrintsAsked FileGiven (Some certificate) task before after old new ended = PrintsProduct FileGiven certificate task before after old new ended

@@ -17,7 +17,8 @@ use map_miters::{back_lift_law, witness_lifted_back};
 use std::alloc::Global;
 use witness_circuits::{LiftError, Sharing, SharingError, sharing_of};
 
-/// The witness circuit for the first circuit, where it is known what the one for the second shares with that.
+/// Returns the witness circuit for the first circuit, by what the one for the second shares with
+/// that.
 fn lifted_back_by<'a>(
     alloc: Global,
     given: &Given,
@@ -56,7 +57,7 @@ fn lifted_back_by<'a>(
     }
 }
 
-/// The witness circuit for the first circuit, of circuits and a map that fit together.
+/// Returns the witness circuit for the first circuit, of circuits and a map that fit together.
 fn lifted_back_of<'a>(
     alloc: Global,
     given: &Given,
@@ -81,7 +82,8 @@ fn lifted_back_of<'a>(
     }
 }
 
-/// What is made of the witness circuit that is read, by a map from the second circuit to the first.
+/// Returns what is made of the witness circuit that is read, by a map from the second circuit to
+/// the first.
 pub(crate) fn lifted_back<'a>(
     alloc: Global,
     given: &Given,

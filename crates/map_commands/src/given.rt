@@ -19,7 +19,8 @@ pub(crate) struct Pair {
     pub(crate) second: SpeltCircuit,
 }
 
-/// These, a map of the states of the one to those of the other, and a witness circuit for the second.
+/// These, a map of the states of the one to those of the other, and a witness circuit for the
+/// second.
 #[derive(Drop)]
 pub(crate) struct Given {
     pub(crate) pair: Pair,

@@ -1,5 +1,5 @@
-//! The commands that read a map of states: `check` says whether it shows that a circuit is a retiming of another, `miter` writes what it has
-//! to meet as a circuit, and `lift` reads a witness circuit through it.
+//! The commands that read a map of states: `check` judges a circuit by it or without one, `miter`
+//! writes what it has to meet, and `lift` reads a witness circuit through it.
 #![tactic(auto)]
 
 mod back_lift;
@@ -9,6 +9,7 @@ mod lift;
 mod made;
 mod mitering;
 mod obligations;
+mod pair_check;
 mod products;
 
 pub use check::print_check;

@@ -23,7 +23,8 @@ use std::alloc::Global;
 use std::rt::Files;
 use witness_circuits::{LiftError, Sharing, SharingError, lift_law, lifted_witness, sharing_of};
 
-/// The witness circuit for the first circuit, where it is known what the one for the second shares with that.
+/// Returns the witness circuit for the first circuit, by what the one for the second shares with
+/// that.
 fn lifted_by<'a>(
     alloc: Global,
     given: &Given,
@@ -61,7 +62,7 @@ fn lifted_by<'a>(
     }
 }
 
-/// The witness circuit for the first circuit, of circuits and a map that fit together.
+/// Returns the witness circuit for the first circuit, of circuits and a map that fit together.
 fn lifted_of<'a>(alloc: Global, given: &Given, task: &Lifting<'a>) -> Result<Circuit, Failure<'a>>
     requires map { IsMap given.now.map.circuit }
     requires fitting { AreFitting given.now.pair.first.circuit given.now.pair.second.circuit
@@ -81,7 +82,8 @@ fn lifted_of<'a>(alloc: Global, given: &Given, task: &Lifting<'a>) -> Result<Cir
     }
 }
 
-/// What is made of the witness circuit that is read, by a map from the first circuit to the second.
+/// Returns what is made of the witness circuit that is read, by a map from the first circuit to the
+/// second.
 fn lifted_forth<'a>(alloc: Global, given: &Given, task: &Lifting<'a>) -> Result<Made, Failure<'a>>
     requires { IsMap given.now.map.circuit }
     ensures lifted { IfOk result (IsLiftedOf false given.now) }
@@ -100,7 +102,8 @@ fn lifted_forth<'a>(alloc: Global, given: &Given, task: &Lifting<'a>) -> Result<
     }
 }
 
-/// What is made of the witness circuit that is read. That the map isn't one is found first, then that it doesn't fit the circuits.
+/// Returns what is made of the witness circuit that is read. That the map isn't one is found first,
+/// then that it doesn't fit the circuits.
 fn lifted_for<'a>(alloc: Global, given: &Given, task: &Lifting<'a>) -> Result<Made, Failure<'a>>
     ensures lifted { IfOk result (IsLiftedOf task.now.back given.now) }
     ensures failed { IfErr result (IsFailureToLift task.now given.now) }
@@ -117,8 +120,9 @@ fn lifted_for<'a>(alloc: Global, given: &Given, task: &Lifting<'a>) -> Result<Ma
     }
 }
 
-/// Reads a circuit, the one that was made of it, a map of the states of the first to those of the second, and a witness circuit for the
-/// second, in this order, and writes the witness circuit for the first. A file is made once all that can be refused was found right.
+/// Reads a circuit, the one that was made of it, a map of their states, and a witness circuit for
+/// the second. They come in this order. Writes the witness circuit for the first. A file is made
+/// once all that can be refused was found right.
 pub fn write_lifted<'a, R: Files + OutputFiles, I: CountedRead, O: CountedWrite>(
     rt: &R,
     alloc: Global,

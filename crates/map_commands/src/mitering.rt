@@ -22,7 +22,7 @@ use map_miters::{MiterError, miter};
 use std::alloc::Global;
 use std::rt::Files;
 
-/// The miter of circuits and a map that fit together.
+/// Returns the miter of circuits and a map that fit together.
 fn miter_by<'a>(alloc: Global, mapped: &Mapped, task: &Asking<'a>) -> Result<Circuit, Failure<'a>>
     requires map { IsMap mapped.now.map.circuit }
     requires fitting { AreFitting mapped.now.pair.first.circuit mapped.now.pair.second.circuit
@@ -46,7 +46,8 @@ fn miter_by<'a>(alloc: Global, mapped: &Mapped, task: &Asking<'a>) -> Result<Cir
     }
 }
 
-/// What is made of the circuits and the map that are read. That the map isn't one is found first, then that it doesn't fit the circuits.
+/// Returns what is made of the circuits and the map that are read. That the map isn't one is found
+/// first, then that it doesn't fit the circuits.
 fn miter_for<'a>(alloc: Global, mapped: &Mapped, task: &Asking<'a>) -> Result<Made, Failure<'a>>
     ensures made { IfOk result (IsMadeOf mapped.now) }
     ensures failed { IfErr result (IsFailureToAsk task.now mapped.now) }
@@ -66,8 +67,9 @@ fn miter_for<'a>(alloc: Global, mapped: &Mapped, task: &Asking<'a>) -> Result<Ma
     }
 }
 
-/// Reads a circuit, the one that was made of it, and a map of the states of the first to those of the second, in this order, and writes
-/// the miter of the map. A file is made once all that can be refused was found right.
+/// Reads a circuit, the one that was made of it, and a map of the states of the first to those of
+/// the second. They come in this order. Writes the miter of the map. A file is made once all that
+/// can be refused was found right.
 fn write_questions<'a, R: Files + OutputFiles, I: CountedRead, O: CountedWrite>(
     rt: &R,
     alloc: Global,
@@ -93,7 +95,8 @@ fn write_questions<'a, R: Files + OutputFiles, I: CountedRead, O: CountedWrite>(
     }
 }
 
-/// Does what `miter` is to do: it writes the miter of a map or, where a certificate is asked for, both circuits side by side with that.
+/// Writes the miter of a map or, if a certificate is asked for, both circuits side by side with
+/// that.
 pub fn write_miter<'a, R: Files + OutputFiles, I: CountedRead, O: CountedWrite>(
     rt: &R,
     alloc: Global,

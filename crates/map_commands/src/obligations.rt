@@ -2,13 +2,14 @@
 ghost use Rattle.std.specs.Prelude.{◌≡◌};
 ghost use Rattle.counted_io.specs.Buffered.{Puts};
 ghost use Rattle.counted_io.specs.Output.{Writes};
-ghost use Rattle.map_commands.specs.Obligations.{obligation_text, retiming_text};
+ghost use Rattle.map_commands.specs.Obligations.{equal_text, obligation_text, retiming_text};
 ghost use Rattle.map_commands.specs.Obligations as wanted;
 
 use counted_io::{Buffered, CountedWrite, WriteError};
 use map_checks::Obligation;
 
-/// The question that is open: of step 0, of the constraints a step later, of the latches a step later, or of the properties.
+/// Returns the question that is open: of step 0, of the constraints a step later, of the latches a
+/// step later, or of the properties.
 fn question_of(obligation: Obligation) -> &'static str
     ensures { result.now ≡ wanted.question_of obligation }
 {
@@ -24,7 +25,7 @@ fn question_of(obligation: Obligation) -> &'static str
     }
 }
 
-/// What it is open of.
+/// Returns the kind that it is open of.
 fn kind_of(obligation: Obligation) -> &'static str
     ensures { result.now ≡ wanted.kind_of obligation }
 {
@@ -39,7 +40,7 @@ fn kind_of(obligation: Obligation) -> &'static str
     }
 }
 
-/// Its place among those of its kind, from 0.
+/// Returns its place among those of its kind, from 0.
 fn place_of(obligation: Obligation) -> usize
     ensures { result ≡ wanted.place_of obligation }
 {
@@ -72,7 +73,8 @@ fn put_obligation<W: CountedWrite>(out: &mut Buffered<'_, W>, obligation: Obliga
 ///
 /// # Errors
 ///
-/// `Device` where a write failed: a beginning of the text was written then, and the writer isn't called again.
+/// `Device` if a write failed: a beginning of the text was written then, and the writer isn't
+/// called again.
 pub(crate) fn print_obligation<W: CountedWrite>(
     obligation: Obligation,
     writer: &mut W,
@@ -88,11 +90,26 @@ pub(crate) fn print_obligation<W: CountedWrite>(
 ///
 /// # Errors
 ///
-/// `Device` where a write failed: a beginning of the text was written then, and the writer isn't called again.
+/// `Device` if a write failed: a beginning of the text was written then, and the writer isn't
+/// called again.
 pub(crate) fn print_retiming<W: CountedWrite>(writer: &mut W) -> Result<(), WriteError>
     ensures { Writes (W.output writer.old) (W.output writer.new) result retiming_text }
 {
     let mut out = Buffered::new(writer);
     out.put(b"retiming\n");
+    out.flush()
+}
+
+/// Prints that the properties of two circuits are the same.
+///
+/// # Errors
+///
+/// `Device` if a write failed: a beginning of the text was written then, and the writer isn't
+/// called again.
+pub(crate) fn print_equal<W: CountedWrite>(writer: &mut W) -> Result<(), WriteError>
+    ensures { Writes (W.output writer.old) (W.output writer.new) result equal_text }
+{
+    let mut out = Buffered::new(writer);
+    out.put(b"equal\n");
     out.flush()
 }

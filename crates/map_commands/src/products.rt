@@ -1,4 +1,5 @@
-//! The command `miter` with a certificate: both circuits side by side as a model, and a witness circuit for it.
+//! The command `miter` with a certificate: both circuits side by side as a model, and a witness
+//! circuit for it.
 ghost use Rattle.std.specs.Prelude.{◌≡◌, Err, IfErr, IfOk};
 ghost use Rattle.map_checks.specs.Answers.{AreFitting, IsMap};
 ghost use Rattle.map_miters.specs.Products.{IsProduct};
@@ -39,7 +40,7 @@ enum Shown {
     ShapesDiffer,
 }
 
-/// The name of what a machine is written to.
+/// Returns the name of the file that a machine is written to.
 fn name_for<'a>(goal: Goal, task: &Asking<'a>, certificate: Target<'a>) -> &'a str
     ensures { result.now ≡ target_name (target_for goal task.now certificate.entry) }
 {
@@ -49,7 +50,7 @@ fn name_for<'a>(goal: Goal, task: &Asking<'a>, certificate: Target<'a>) -> &'a s
     }
 }
 
-/// A product machine of circuits and a map that fit together.
+/// Returns a product machine of circuits and a map that fit together.
 fn machine_by<'a>(
     alloc: Global,
     goal: Goal,
@@ -76,7 +77,7 @@ fn machine_by<'a>(
     }
 }
 
-/// The model, and the witness circuit for it, of circuits and a map that fit together.
+/// Returns the model, and the witness circuit for it, of circuits and a map that fit together.
 fn machines_by<'a>(
     alloc: Global,
     mapped: &Mapped,
@@ -99,7 +100,8 @@ fn machines_by<'a>(
     }
 }
 
-/// What is made of the circuits and the map that are read. That the map isn't one is found first, then that it doesn't fit the circuits.
+/// Returns what is made of the circuits and the map that are read. That the map isn't one is found
+/// first, then that it doesn't fit the circuits.
 fn shown_for<'a>(
     alloc: Global,
     mapped: &Mapped,
@@ -168,8 +170,9 @@ fn write_shown<'a, R: OutputFiles, O: CountedWrite>(
     }
 }
 
-/// Reads a circuit, the one that was made of it, and a map of the states of the first to those of the second, in this order, and writes
-/// both side by side as a model, and the witness circuit for it. Files are made once all that can be refused was found right.
+/// Reads a circuit, the one that was made of it, and a map of the states of the first to those of
+/// the second. They come in this order. Writes both side by side as a model, and the witness
+/// circuit for it. Files are made once all that can be refused was found right.
 pub(crate) fn write_product<'a, R: Files + OutputFiles, I: CountedRead, O: CountedWrite>(
     rt: &R,
     alloc: Global,

@@ -1,4 +1,5 @@
--- Where the questions of a map have the answers that they should, both circuits have the same streams; a map of states by which free latches stay has them.
+-- If the questions of a map have the answers that they should, both circuits have equal streams. A
+-- map of states by which free latches stay has them.
 use Rattle.std.proofs.Common.{inl, inr, ℕ, suc, zero, ◌+◌, ◌-◌, ◌*◌, ◌/◌, ◌<◌, ◌≤◌, ◌≡◌, Bool, true, false, Option, Some, None, List, [], ◌∷◌, length, map, take, count_by, get_or, slice_get, cond, if◌then◌else◌, refl, arith, ap, sym, ◌∙◌, subst}
 use Rattle.std.proofs.Math.Seq.{take-length}
 use Rattle.std.proofs.lemmas.Bool.{cases_lt}
@@ -39,7 +40,7 @@ put-long : (b : Bool) (x : ℕ) (xs : List ℕ) → length (if b then x ∷ xs e
 put-long true x xs = omega arith
 put-long false x xs = omega arith
 
--- the output of a free latch stands where as many free latches come before it
+-- the output of a free latch stands at a place that as many free latches come before
 free-output : (latches : List Latch) (lits : List ℕ) (j : ℕ) (latch : Latch) → slice_get latches j ≡ Some latch → is_free latch ≡ true → j < length lits
     → get_or (free_outputs latches lits) (count_by is_free (take j latches)) 0 ≡ get_or lits j 0
 free-output [] lits j latch there free less = absurd (none-some latch there)

@@ -1,4 +1,5 @@
--- A miter that is never 1 says that the questions have the answers that they should: any digits and any state are what its inputs may be.
+-- A miter that is never 1 says that the questions have the answers that they should. Its inputs may
+-- be any digits and any state.
 use Rattle.std.proofs.Common.{ℕ, suc, zero, ◌+◌, ◌<◌, ◌≡◌, Bool, false, refl, arith, ap, sym, ◌∙◌, subst}
 use Rattle.aig_graph.specs.Circuits.{IsNetlist, Netlist}
 use Rattle.aig_graph.specs.Graph.{IsGraph}

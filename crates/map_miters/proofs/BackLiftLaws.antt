@@ -1,4 +1,5 @@
--- Over both circuits beside each other a witness circuit of the one is one of the other, by the map turned round.
+-- Over both circuits beside each other a witness circuit of the one is one of the other, by the map
+-- turned round.
 use Rattle.std.proofs.Common.{inl, inr, ℕ, ◌+◌, ◌<◌, ◌≤◌, ◌≡◌, Bool, true, false, List, length, slice_get, Some, refl, arith, ap, sym, ◌∙◌, subst}
 use Rattle.std.specs.List.{All}
 use Rattle.std.proofs.lemmas.Bool.{cases_lt}

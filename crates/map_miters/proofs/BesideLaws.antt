@@ -1,4 +1,5 @@
--- A circuit that is lifted as a witness circuit with latches of its own alone stands beside the other one.
+-- A circuit that is lifted as a witness circuit with latches of its own alone stands beside the
+-- other one.
 use Rattle.std.proofs.Common.{ℕ, suc, zero, ◌+◌, ◌<◌, ◌≤◌, ◌≡◌, Bool, List, length, take, slice_get, Option, Some, None, refl, arith, ap, sym, ◌∙◌, subst, if◌then◌else◌}
 use Rattle.std.proofs.Math.Seq.{take-length}
 use Rattle.std.proofs.lemmas.Bool.{le-ltb, lt-ltb}

@@ -23,7 +23,7 @@ says-grow g h lit holds more p = record {
       (λ e. (p.is z u).0 (sym same ∙ e), λ has. same ∙ (p.is z u).1 has);
 }
 
--- a literal that is 0 exactly where something holds stays so as the graph grows
+-- a literal that is 0 if and only if something holds stays so as the graph grows
 pub fails-grow : (g h : Graph) (lit : ℕ) (holds : Digits → State → Type 0) → Extends g h → FailsBut g lit holds → FailsBut h lit holds
 fails-grow g h lit holds more p = record {
   within = more.literals lit p.within;
@@ -32,7 +32,7 @@ fails-grow g h lit holds more p = record {
       (λ e. (p.is z u).0 (sym same ∙ e), λ has. same ∙ (p.is z u).1 has);
 }
 
--- it says whatever is the same
+-- it says whatever is equal
 pub fails-same : (h : Graph) (lit : ℕ) (one two : Digits → State → Type 0) → ((z : Digits) (u : State) → one z u ↔ two z u) → FailsBut h lit one → FailsBut h lit two
 fails-same h lit one two same p = record {
   within = p.within;
@@ -102,7 +102,8 @@ but-not true false = (λ e. absurd (cc), λ f. absurd (no (f refl)))
     no e = absurd (cc)
 but-not false b = (λ _ e. absurd (cc), λ _. refl)
 
--- the conjunction of a given literal and the negation of a wanted one is 0 exactly where the wanted one is 1 if the given one is
+-- the conjunction of a given literal and the negation of a wanted one is 0 just if the given one
+-- implies the wanted one
 pub failure-says : (g h : Graph) (given wanted other lit : ℕ) → IsGraph g → IsLiteralOf g given → IsLiteralOf g wanted → other / 2 ≡ wanted / 2 → other % 2 ≢ wanted % 2 → Extends g h
     → IsConjunction h given other lit → FailsBut h lit (λ z u. value_within g z u given ≡ true → value_within g z u wanted ≡ true)
 failure-says g h given wanted other lit valid of_given of_wanted same sign more is = record {
@@ -124,7 +125,7 @@ equal-same g h a b more of_a of_b long z u = (
   λ equal k less. more.values z u (get_or a k 0) (of_a k 0 less) ∙ equal k less ∙ sym (more.values z u (get_or b k 0) (of_b k 0 (omega (arith, less, long)))),
 )
 
--- a literal that says one thing says whatever holds in the same steps
+-- a literal that says one thing says whatever holds in those steps
 pub says-same : (h : Graph) (lit : ℕ) (one two : Digits → State → Type 0) → ((z : Digits) (u : State) → one z u ↔ two z u) → SaysThat h lit one → SaysThat h lit two
 says-same h lit one two same p = record {
   within = p.within;

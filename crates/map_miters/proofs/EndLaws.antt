@@ -34,7 +34,8 @@ flip-false : (a b : Bool) → a ≡ not b → (a ≡ false) ↔ (b ≡ true)
 flip-false a true e = (λ _. refl, λ _. e)
 flip-false a false e = (λ f. absurd (cc), λ f. absurd (cc))
 
--- properties with one bad state, which is the negation of what says that a state is good, and these constraints
+-- properties with one bad state, which is the negation of what says that a state is good, and these
+-- constraints
 pub props-are : (g h : Graph) (wanted : Wanted) (c d m : Netlist) (good bad : ℕ) (constraints : List ℕ) (p : Props) → Extends g h → SaysThat g good (good_of wanted.goal c d m)
     → bad / 2 ≡ good / 2 → bad % 2 ≢ good % 2 → AreConstraints h c d m wanted.tied constraints
     → p ≡ record { outputs = []; bad = bad ∷ []; constraints = constraints; justice = []; fairness = [] } → AreProductProps h wanted c d m p
@@ -167,7 +168,8 @@ module _ (g h : Graph) (wanted : Wanted) (c d m : Netlist) (sides : Sides) (prop
         let of : List Latch → List Reset = λ ls. map (λ (l : Latch). l.reset) ls in
         resets-with_nexts nexts h.latches ∙ ap of more.latches ∙ ap (λ (b : Graph). of b.latches) begun ∙ resets-begun (product_resets c.aig d.aig wanted.tied)
 
-    -- the graph whose latches have their next literals has both circuits side by side, and its properties
+    -- the graph whose latches have their next literals has both circuits side by side, and its
+    -- properties
     pub is-filled : IsFilled ended wanted c d m props
     is-filled = record {
       beside = record { inputs = has.inputs; resets = resets; first = first-goes; second = second-goes; started = start-goes };

@@ -18,7 +18,8 @@ module _ (latches : List Latch) (own : List ℕ) where
   pub first-none : AreFirstResets latches own 0 []
   first-none = record { many = refl; each = λ j latch less there. absurd (omega (arith, less)) }
 
-  -- the literals of the first n latches, then that of what latch n holds at step 0, are those of the first n + 1
+  -- the literals of the first n latches, then that of what latch n holds at step 0, are those of
+  -- the first n + 1
   pub first-more : (n lit : ℕ) (latch : Latch) (old new : List ℕ) → slice_get latches n ≡ Some latch → lit ≡ opening_literal latch.reset (get_or own n 0) → AreFirstResets latches own n old
       → new ≡ old ++ lit ∷ [] → AreFirstResets latches own (n + 1) new
   first-more n lit latch old new there here p pushed =

@@ -54,7 +54,8 @@ module _ (g : Graph) (c d : Netlist) (sides : Sides) (shape : SameShape c d) (ar
   pub agreement-says : (h : Graph) (lit : ℕ) → SaysThat h lit (AreEqualIn g sides.second.props.items sides.first.props.items) → SaysThat h lit (AgreeIn c d)
   agreement-says h lit says = says-same h lit (AreEqualIn g sides.second.props.items sides.first.props.items) (AgreeIn c d) props-same says
 
--- what says that the constraints of a map are 1 for a state, and that its outputs are what literals hold
+-- what says that the constraints of a map are 1 for a state, and that its outputs are what literals
+-- hold
 module _ (m : Netlist) (image : Image) (g h i : Graph) (given : List ℕ) (s t : Held) (long : length given ≡ length m.props.outputs) (is : IsImage g m s image) (held : HoldAs g given t) where
   outputs-same : (z : Digits) (u : State) → AreEqualIn g image.outputs.items given z u ↔ ((j : ℕ) → j < length m.props.outputs → mapped m (s z u) j ≡ t z u j)
   outputs-same z u = (

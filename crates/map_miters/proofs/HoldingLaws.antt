@@ -42,7 +42,7 @@ holds-none h lits x none = subst (λ (ls : List ℕ). HoldAs h ls x) (sym none) 
   values = λ z u k less. absurd (omega (arith, less));
 })
 
--- literals of a graph of so many variables are below that
+-- literals of a graph of n variables are below that
 pub below-end : (g : Graph) (lits given : List ℕ) (n : ℕ) → lits ≡ given → AreLiteralsOf g given → n ≡ variables_end g → All (λ lit. variable lit < n) lits
 below-end g lits given n same within long =
     subst (λ (ls : List ℕ). All (λ lit. variable lit < n) ls) (sym same) (λ k d less. omega (arith, within k d less, long))
@@ -133,7 +133,8 @@ module _ (h : Graph) (c : Netlist) (x s : Held) (part : List ℕ) (valid : IsGra
       one : (lit : ℕ) → IsLiteralOf c.aig lit → AreLiteralsOf c.aig (lit ∷ [])
       one lit within k d less = let at : k ≡ 0 = omega (arith, less) in subst (λ (n : ℕ). IsLiteralOf c.aig (get_or (lit ∷ []) n d)) (sym at) within
 
-  -- what stands for the latches' next literals and for the properties' literals is a step of the circuit from the state
+  -- what stands for the latches' next literals and for the properties' literals is a step of the
+  -- circuit from the state
   pub step-is : (step : Step) → AreLiteralsOf c.aig (property_literals c.props) → step.nexts.items ≡ map next_of c.aig.latches
       → step.props.items ≡ map (substitute part) (property_literals c.props) → IsStep h c x s step
   step-is step net nexts props = record {
@@ -155,7 +156,8 @@ opening-within h Zero own within = omega arith
 opening-within h One own within = omega arith
 opening-within h Free own within = within
 
--- the literals of resets hold what the latches hold at step 0, where the latches' own literals hold a state
+-- the literals of resets hold what the latches hold at step 0, if the latches' own literals hold a
+-- state
 pub resets-hold : (h : Graph) → IsGraph h → (latches : List Latch) (own lits : List ℕ) (s : Held) → length own ≡ length latches → AreResets latches own lits → HoldAs h own s
     → HoldAs h lits (λ z u. λ j. reset_at (s z u j) (slice_get latches j))
 resets-hold h valid latches own lits s long resets p = record {

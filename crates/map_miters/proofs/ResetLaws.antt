@@ -52,7 +52,7 @@ firsts-hold g d m t image latches own lits valid p many of_latches of_own resets
     resets-hold g valid d.aig.latches image.outputs.items lits (λ z u. mapped m (t z u)) (p.many ∙ many) here p.outputs
 
 module _ (c d m : Netlist) (s : Held) where
-  -- where the free latches stay, the negation of what says the rest
+  -- if the free latches stay, the negation of what says the rest
   pub begins-says : (h1 h2 h3 : Graph) (image : Image) (firsts : List ℕ) (equal begins other : ℕ) → length m.props.outputs ≡ length d.aig.latches → length firsts ≡ length d.aig.latches
       → IsImage h1 m (λ z u. reset_state c.aig (s z u)) image
       → HoldAs h1 firsts (λ z u. λ j. reset_at (mapped m (reset_state c.aig (s z u)) j) (slice_get d.aig.latches j))
@@ -83,15 +83,15 @@ module _ (c d m : Netlist) (s : Held) where
         );
   }
 
-  -- the same by the tests
+  -- it stays, by the tests
   pub stays : (b : Bool) → IsTrue b ↔ FreeStay c d m → b ≡ true → FreeStay c d m
   stays b is holds = is.0 holds
 
-  -- where the answer of the tests is false, the free latches don't stay
+  -- if the answer of the tests is false, the free latches don't stay
   pub stays-not : (b : Bool) → IsTrue b ↔ FreeStay c d m → b ≡ false → FreeStay c d m → ⊥
   stays-not b is fails stay = both_ways b fails (is.1 stay)
 
-  -- where they don't, the constant 1
+  -- if they don't, the constant 1
   pub never-begins : (h : Graph) → IsGraph h → (lit : ℕ) → lit ≡ 1 → (FreeStay c d m → ⊥) → FailsBut h lit (λ z u. Begins c d m (s z u))
   never-begins h valid lit one fails = record {
     within = omega (arith, one);

@@ -46,13 +46,14 @@ sides-are h1 h2 h3 h4 c d m sides one two three before image later after = recor
   after = after;
 }
 
--- a condition of what holds is one of what is the same
+-- a condition of what holds is one of what is equal
 where-same : (g : Graph) (sides : Sides) (z : Digits) (u : State) (holds : Digits → State → Type 0) (kept wanted : Type 0) → (value_within g z u sides.image.kept ≡ true) ↔ kept → holds z u ↔ wanted
     → WhereKept g sides holds z u ↔ (kept → wanted)
 where-same g sides z u holds kept wanted given same = (λ says k. same.0 (says (given.1 k)), λ says e. same.1 (says (given.0 e)))
 
 module _ (g : Graph) (c d m : Netlist) (sides : Sides) (askable : IsAskable c d m) (are : AreSides g c d m sides) where
-  -- what is compared of the sides are literals of the graph, as many on both sides, if the circuits can be asked
+  -- what is compared of the sides are literals of the graph, as many on both sides, if the circuits
+  -- can be asked
   pub comparable : AreComparable g sides
   comparable = record {
     image = are.image.within;
@@ -96,7 +97,8 @@ module _ (g : Graph) (c d m : Netlist) (sides : Sides) (askable : IsAskable c d 
               ∙ sym (are.before.props.values z u k (omega (arith, less, are.after.many_props, as_many, are.before.many_props))),
         )
 
-  -- literals that are 0 exactly where the sides compare well are 0 exactly where the map keeps, steps and reads
+  -- literals that are 0 just if the sides compare well are 0 if and only if the map keeps, steps
+  -- and reads
   pub step-failures : (h : Graph) (found : Compared) → AreCompared g h sides found → AreStepFailures h c d m (asked_state c.aig) found
   step-failures h found p = record {
     keep = fails-same h found.keep (WhereKept g sides (λ z u. value_within g z u sides.later.kept ≡ true)) (λ z u. Keeps c m z (asked_state c.aig z u))

@@ -183,7 +183,7 @@ module _ (c d m : Netlist) where
           by_value true e = absurd (cc)
           by_value false e = refl
 
-  -- no constraint where nothing is tied
+  -- no constraint if nothing is tied
   pub constraints-none : (h : Graph) (tied : Bool) (lits : List ℕ) → tied ≡ false → lits ≡ [] → AreConstraints h c d m tied lits
   constraints-none h tied lits free none = subst (λ (ls : List ℕ). AreConstraints h c d m tied ls) (sym none) (record {
     within = λ k x less. absurd (omega (arith, less));
@@ -194,7 +194,7 @@ module _ (c d m : Netlist) where
       clash true one none = absurd (cc)
       clash false one none = absurd (cc)
 
-  -- one where something is
+  -- one if something is
   pub constraints-one : (h : Graph) (tied : Bool) (lit : ℕ) (lits : List ℕ) → tied ≡ true → SaysThat h lit (λ z u. StartsAlike c d m true u) → lits ≡ lit ∷ [] → AreConstraints h c d m tied lits
   constraints-one h tied lit lits is says one =
       let P : List ℕ → Type 0 = λ ls. AreConstraints h c d m tied ls in

@@ -23,7 +23,7 @@ inputs-hold h valid before n fits = record {
       ap (value_within h z u) (table-at 0 n (λ j. 2 * (1 + before + j)) k 0 short ∙ at) ∙ input-value h valid z u (before + k) (omega (arith, short, fits));
 }
 
--- the same of the first inputs
+-- held, of the first inputs
 pub first-hold : (h : Graph) → IsGraph h → (n : ℕ) → n ≤ h.inputs → HoldAs h (table 0 n (λ j. 2 * (1 + j))) (λ z u. z)
 first-hold h valid n fits = record {
   within = table-within h 1 n (omega (arith, fits));

@@ -1,4 +1,5 @@
--- The product machine by a map passes the five checks for the model, where the map begins, keeps, steps and reads as it should.
+-- The product machine by a map passes the five checks for the model, if the map begins, keeps,
+-- steps and reads as it should.
 use Rattle.std.proofs.Common.{inl, inr, ℕ, suc, zero, ◌+◌, ◌-◌, ◌<◌, ◌≤◌, ◌≡◌, Bool, true, false, List, [], ◌∷◌, ◌++◌, length, map, count_by, get_or, slice_get, Some, cond, refl, arith, ap, sym, ◌∙◌, subst}
 use Rattle.std.specs.List.{All}
 use Rattle.std.proofs.Math.Seq.{take-length}

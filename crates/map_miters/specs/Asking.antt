@@ -49,7 +49,7 @@ pub record AreComparable (h : Graph) (sides : Sides) : Type 0 where
   pub props : AreLiteralsOf h sides.after.props.items
   pub first_props : AreLiteralsOf h sides.before.props.items
 
--- where the map's constraints are 1 before the step, the one and the other holds
+-- if the map's constraints are 1 before the step, the one and the other holds
 abbrev pub WhereKept : Graph → Sides → (Digits → State → Type 0) → Digits → State → Type 0
 WhereKept g sides holds z u = value_within g z u sides.image.kept ≡ true → holds z u
 

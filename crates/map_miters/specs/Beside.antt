@@ -12,11 +12,12 @@ use Rattle.witness_circuits.specs.Lifting.{GoesAs, in_circuit}
 use Rattle.witness_circuits.specs.Naming.{place_below}
 use Rattle.map_miters.specs.Products.{second_state}
 
--- the values of d's literals, where its latches stand after those of c
+-- the values of d's literals, with its latches after those of c
 abbrev pub in_second : Netlist → Netlist → Digits → State → ℕ → Bool
 in_second c d z u = value_within d.aig z (second_state c.aig u)
 
--- b has the inputs of c, and the latches of c and then those of d, with their resets and steps; its constraints are c's
+-- b has the inputs of c, and the latches of c and then those of d, with their resets and steps; its
+-- constraints are c's
 pub record IsBeside (c d b : Netlist) : Type 0 where
   pub inputs : b.aig.inputs ≡ c.aig.inputs
   pub latches : length b.aig.latches ≡ length c.aig.latches + length d.aig.latches

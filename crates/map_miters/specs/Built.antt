@@ -26,7 +26,7 @@ pub record IsFilled (h : Graph) (wanted : Wanted) (c d m : Netlist) (p : Props) 
 abbrev pub netlist_of : Built → Netlist
 netlist_of b = record { aig = b.gates; props = b.props; symbols = no_symbols }
 
--- so of some goal, where free latches are tied
+-- built for some goal, if free latches are tied
 pub record IsBuilt (goal : Goal) (c d m : Netlist) (b : Built) : Type 0 where
   pub tied : Bool
   pub ties : IsTrue tied ↔ AreTied c d m

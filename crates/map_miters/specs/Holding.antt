@@ -29,7 +29,7 @@ reset_at b (Some latch) = opening latch.reset b
 abbrev pub reset_state : Graph → State → State
 reset_state g s = λ j. reset_at (s j) (slice_get g.latches j)
 
--- the same of latches, whose own literals are these
+-- the resets of latches, whose own literals are these
 pub record AreResets (latches : List Latch) (own lits : List ℕ) : Type 0 where
   pub many : length lits ≡ length latches
   pub each : (j : ℕ) (latch : Latch) → slice_get latches j ≡ Some latch → slice_index_or lits j 0 ≡ opening_literal latch.reset (slice_index_or own j 0)
@@ -45,7 +45,8 @@ pub record IsImage (h : Graph) (m : Netlist) (state : Held) (image : Image) : Ty
   pub many : length image.outputs.items ≡ length m.props.outputs
   pub outputs : HoldAs h image.outputs.items (λ z u. mapped m (state z u))
 
--- a step of a circuit from a state: what the latches hold after it, and what the properties are in it
+-- a step of a circuit from a state: what the latches hold after it, and what the properties are in
+-- it
 pub record IsStep (h : Graph) (c : Netlist) (digits state : Held) (step : Step) : Type 0 where
   pub many_nexts : length step.nexts.items ≡ length c.aig.latches
   pub nexts : HoldAs h step.nexts.items (λ z u. after_step c.aig (digits z u) (state z u))

@@ -19,7 +19,7 @@ pub record MeetsQuestions (c d m : Netlist) : Type 0 where
   pub next : (x : Digits) (s : State) → Steps c d m x s
   pub read : (x : Digits) (s : State) → Reads c d m x s
 
--- where they have, the machine by the map is a witness circuit for the model
+-- if they have, the machine by the map is a witness circuit for the model
 abbrev pub ShowsAgreement : Netlist → Netlist → Netlist → Netlist → Netlist → Type 0
 ShowsAgreement c d m p w = IsGraph c.aig → IsGraph d.aig → IsNetlist d → IsGraph m.aig → IsNetlist m → IsGraph p.aig → IsGraph w.aig → IsNetlist w → IsAskable c d m → MeetsQuestions c d m
     → IsProduct Agree c d m p → IsProduct Mapped c d m w → IsSharing p w (first_shared p w) × IsWitness p w (first_shared p w)
@@ -28,11 +28,13 @@ ShowsAgreement c d m p w = IsGraph c.aig → IsGraph d.aig → IsNetlist d → I
 abbrev pub free_places : Graph → List ℕ → List ℕ
 free_places g lits = map (λ lit. free_before g (variable lit - 1)) lits
 
--- where they have, the properties of d have step by step the values of c's; a free latch of d holds at step 0 what the free latch of c does that the map gives for it
+-- If they have, the properties of d have step by step the values of c's. A free latch of d holds at
+-- step 0 what the free latch of c does that the map gives for it.
 abbrev pub GiveStreams : Netlist → Netlist → Netlist → Type 0
 GiveStreams c d m = IsGraph m.aig → IsAskable c d m → MeetsQuestions c d m → SameStreams c d (free_places c.aig (free_outputs d.aig.latches m.props.outputs))
 
--- a map of states has the answers, where it gives for each free latch of d a free latch of c, in their order
+-- a map of states has the answers if it gives for each free latch of d a free latch of c, in their
+-- order
 abbrev pub MapsMeetQuestions : Netlist → Netlist → List ℕ → Netlist → Type 0
 MapsMeetQuestions c d kept m = IsMapCircuit c d kept m → FreeStay c d m → MeetsQuestions c d m
 
@@ -44,6 +46,7 @@ IsNeverOne r = (z : Digits) (k : ℕ) → k < 4 → output_in r k z ≡ false
 abbrev pub MitersAnswer : Netlist → Netlist → Netlist → Netlist → Type 0
 MitersAnswer c d m r = IsGraph c.aig → IsNetlist c → IsGraph d.aig → IsNetlist d → IsAskable c d m → IsMiter c d m r → IsNeverOne r → MeetsQuestions c d m
 
--- the miter of a map of states is never 1, where the map gives for each free latch of d a free latch of c, in their order
+-- The miter of a map of states is never 1. For that the map has to give for each free latch of d a
+-- free latch of c, in their order.
 abbrev pub MapsAreNeverOne : Netlist → Netlist → List ℕ → Netlist → Netlist → Type 0
 MapsAreNeverOne c d kept m r = IsMapCircuit c d kept m → FreeStay c d m → IsMiter c d m r → IsNeverOne r

@@ -1,4 +1,4 @@
--- The miter of a map of states: a circuit without latches whose outputs are 1 where the map fails.
+-- The miter of a map of states: a circuit without latches whose outputs are 1 if the map fails.
 use Rattle.std.specs.Prelude.{ℕ, ◌+◌, ◌≡◌, ◌↔◌, Bool, false, List, [], ◌∷◌, length, codes}
 use Rattle.std.specs.List.{slice_index_or}
 use Rattle.aig_graph.specs.declared.properties.Symbol.{Symbol}
@@ -36,7 +36,7 @@ failure_list f = f.reset ∷ f.keep ∷ f.next ∷ f.read ∷ []
 abbrev pub miter_with : Graph → List ℕ → Symbols → Netlist
 miter_with g outputs symbols = record { aig = g; props = outputs_alone outputs; symbols = symbols }
 
--- a graph of the inputs of c and one for each of its latches, whose outputs are 1 where the map fails
+-- a graph of the inputs of c and one for each of its latches, whose outputs are 1 if the map fails
 pub record AsksIn (g : Graph) (c d m : Netlist) (outputs : List ℕ) : Type 0 where
   pub inputs : g.inputs ≡ c.aig.inputs + length c.aig.latches
   pub latches : g.latches ≡ []
@@ -48,7 +48,8 @@ pub record AsksIn (g : Graph) (c d m : Netlist) (outputs : List ℕ) : Type 0 wh
 abbrev pub IsAsked : Netlist → Netlist → Netlist → Asked → Type 0
 IsAsked c d m asked = AsksIn asked.gates c d m asked.outputs.items
 
--- r has the inputs of c, then one for each latch of c, and four outputs: each is 0 exactly where its question has the answer that it should
+-- r has the inputs of c, then one for each latch of c, and four outputs. Each output is 0 if and
+-- only if its question has the answer that it should.
 pub record IsMiter (c d m r : Netlist) : Type 0 where
   pub inputs : r.aig.inputs ≡ c.aig.inputs + length c.aig.latches
   pub latches : r.aig.latches ≡ []

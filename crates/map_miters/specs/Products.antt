@@ -1,4 +1,4 @@
--- Two circuits side by side over the same inputs, as a model of what they have in common.
+-- Two circuits side by side over shared inputs, as a model of what they have in common.
 use Rattle.std.specs.Prelude.{ℕ, ◌+◌, ◌<◌, ◌≡◌, ◌↔◌, ◌++◌, Bool, true, false, IsTrue, List, [], ◌∷◌, length, map, slice_get}
 use Rattle.aig_graph.specs.declared.graph.Reset.{Reset}
 use Rattle.aig_graph.specs.declared.graph.Reset.TheVariants.{Zero}
@@ -16,7 +16,7 @@ use Rattle.map_miters.specs.declared.goals.Goal.TheVariants.{Agree, Mapped}
 abbrev pub second_state : Graph → State → State
 second_state c u = λ j. u (length c.latches + j)
 
--- the resets of both, and of a latch that tells the first step where free latches are tied
+-- the resets of both, and of a latch that tells the first step if free latches are tied
 abbrev pub start_resets : Bool → List Reset
 start_resets true = Zero ∷ []
 start_resets false = []
@@ -43,7 +43,8 @@ FreeAgree c d m u = (j : ℕ) → is_free_latch (slice_get d.aig.latches j) ≡ 
 abbrev pub StartsAlike : Netlist → Netlist → Netlist → Bool → State → Type 0
 StartsAlike c d m tied u = tied ≡ true → u (length c.aig.latches + length d.aig.latches) ≡ false → FreeAgree c d m u
 
--- r has the inputs of c, and the latches of c and of d, with their resets and steps; where free latches are tied, one more
+-- r has the inputs of c, and the latches of c and of d, with their resets and steps. It has one
+-- more if free latches are tied.
 pub record GoesBeside (c d : Graph) (tied : Bool) (r : Graph) : Type 0 where
   pub inputs : r.inputs ≡ c.inputs
   pub resets : map (λ latch. latch.reset) r.latches ≡ product_resets c d tied
@@ -51,7 +52,7 @@ pub record GoesBeside (c d : Graph) (tied : Bool) (r : Graph) : Type 0 where
   pub second : (z : Digits) (u : State) (j : ℕ) → j < length d.latches → after_step r z u (length c.latches + j) ≡ after_step d z (second_state c u) j
   pub started : tied ≡ true → (z : Digits) (u : State) → after_step r z u (length c.latches + length d.latches) ≡ true
 
--- all properties of both have the same values
+-- all properties of both have equal values
 abbrev pub AgreeIn : Netlist → Netlist → Digits → State → Type 0
 AgreeIn c d z u = map (value_within d.aig z (second_state c.aig u)) (property_literals d.props) ≡ map (value_within c.aig z u) (property_literals c.props)
 
@@ -63,13 +64,14 @@ GivesState m s t = is_kept m s × ((j : ℕ) → j < length m.props.outputs → 
 abbrev pub HoldsMapped : Netlist → Netlist → Netlist → State → Type 0
 HoldsMapped c d m u = is_kept m u × ((j : ℕ) → j < length d.aig.latches → mapped m u j ≡ second_state c.aig u j)
 
--- by the goal: all properties of both circuits have the same values, or the map's constraints are 1
--- and the latches of d hold what it gives
+-- By the goal: all properties of both circuits have equal values, or the map's constraints are 1
+-- and d's latches hold what it gives.
 abbrev pub good_of : Goal → Netlist → Netlist → Netlist → Digits → State → Type 0
 good_of Agree c d m z u = AgreeIn c d z u
 good_of Mapped c d m z u = HoldsMapped c d m u
 
--- r is c and d side by side: its constraint is that tied latches start alike, and its state is good where the goal is met
+-- r is c and d side by side. Its constraint is that tied latches start alike, and its state is good
+-- if the goal is met.
 pub record IsProduct (goal : Goal) (c d m r : Netlist) : Type 0 where
   pub tied : Bool
   pub ties : IsTrue tied ↔ AreTied c d m

@@ -1,4 +1,4 @@
--- The questions of a map of states: each is answered by a literal that is 1 where it fails.
+-- The questions of a map of states: each is answered by a literal that is 1 if it fails.
 use Rattle.std.specs.Prelude.{ℕ, ◌<◌, ◌≡◌, [], length, map, slice_get, Some}
 use Rattle.aig_graph.specs.declared.graph.Latch.{Latch}
 use Rattle.aig_graph.specs.Circuits.{Netlist}
@@ -12,7 +12,8 @@ use Rattle.map_miters.specs.Holding.{Held, reset_state}
 use Rattle.map_miters.specs.declared.questions.Compared.{Compared}
 use Rattle.map_miters.specs.declared.questions.Failures.{Failures}
 
--- circuits of one shape, and a circuit without latches that has an input for each latch of the one and an output for each latch of the other
+-- Circuits of one shape, and a circuit without latches. That has an input for each latch of the one
+-- and an output for each latch of the other.
 pub record IsAskable (c d m : Netlist) : Type 0 where
   pub shape : SameShape c d
   pub inputs : m.aig.inputs ≡ length c.aig.latches
@@ -29,15 +30,15 @@ pub record Begins (c d m : Netlist) (s : State) : Type 0 where
   pub kept : is_kept m (reset_state c.aig s)
   pub first : IsFirst d.aig (mapped m (reset_state c.aig s))
 
--- keep: where the map's constraints are 1, they are a step later
+-- keep: if the map's constraints are 1, they are a step later
 abbrev pub Keeps : Netlist → Netlist → Digits → State → Type 0
 Keeps c m x s = is_kept m s → is_kept m (after_step c.aig x s)
 
--- next: where they are, what the map gives a step later is what d's latches hold after its step
+-- next: if they are, what the map gives a step later is what d's latches hold after its step
 abbrev pub Steps : Netlist → Netlist → Netlist → Digits → State → Type 0
 Steps c d m x s = is_kept m s → (j : ℕ) → j < length d.aig.latches → mapped m (after_step c.aig x s) j ≡ after_step d.aig x (mapped m s) j
 
--- read: where they are, the properties of d have the values of c's
+-- read: if they are, the properties of d have the values of c's
 abbrev pub Reads : Netlist → Netlist → Netlist → Digits → State → Type 0
 Reads c d m x s = is_kept m s
     → map (value_within d.aig x (mapped m s)) (property_literals d.props) ≡ map (value_within c.aig x s) (property_literals c.props)

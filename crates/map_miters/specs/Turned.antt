@@ -9,14 +9,16 @@ use Rattle.state_maps.specs.States.{State}
 use Rattle.map_miters.specs.Comparing.{SaysThat}
 use Rattle.map_miters.specs.Products.{GivesState, second_state}
 
--- circuits of as many inputs, and a circuit without latches that has an input for each latch of d and an output for each of c
+-- Circuits of equal numbers of inputs, and a circuit without latches. That has an input for each
+-- latch of d and an output for each of c.
 pub record IsTurnable (c d m : Netlist) : Type 0 where
   pub inputs : d.aig.inputs ≡ c.aig.inputs
   pub map_inputs : m.aig.inputs ≡ length d.aig.latches
   pub map_latches : m.aig.latches ≡ []
   pub map_outputs : length m.props.outputs ≡ length c.aig.latches
 
--- t reads the latches of c and then those of d, and gives those of d; its constraint is that m holds of these, and gives those of c
+-- t reads the latches of c and then those of d, and gives those of d. Its constraint is that m
+-- holds of these, and gives those of c.
 pub record IsTurned (c d m t : Netlist) : Type 0 where
   pub inputs : t.aig.inputs ≡ length c.aig.latches + length d.aig.latches
   pub latches : t.aig.latches ≡ []
@@ -24,7 +26,7 @@ pub record IsTurned (c d m t : Netlist) : Type 0 where
   pub gives : (s : State) (j : ℕ) → j < length d.aig.latches → mapped t s j ≡ second_state c.aig s j
   pub kept : (s : State) → is_kept t s ↔ GivesState m (second_state c.aig s) s
 
--- the same as it is put together
+-- the map turned round, as it is put together
 pub record IsTurnedIn (h : Graph) (c d m : Netlist) (p : Props) : Type 0 where
   pub graph : IsGraph h
   pub inputs : h.inputs ≡ length c.aig.latches + length d.aig.latches

@@ -12,7 +12,7 @@ use crate::questions::{Failures, add_failures};
 use aig_graph::{AigBuilder, Circuit, Lit, NoMemory, Props, Sequence, Symbol, Symbols};
 use std::alloc::Global;
 
-/// A name at a position.
+/// Returns a name at a position.
 fn question_name(alloc: Global, position: u32, text: &str) -> Result<Symbol, NoMemory>
     ensures { IfOk result (λ symbol. symbol ≡ question_name position text.now) }
 {
@@ -49,7 +49,7 @@ fn push_names(alloc: Global, names: &mut Vec<Symbol>) -> Result<(), NoMemory>
     Ok(())
 }
 
-/// The names of the outputs.
+/// Returns the names of the outputs.
 fn question_names(alloc: Global) -> Result<Sequence<Symbol>, NoMemory>
     ensures { IfOk result (λ names. names ≡ question_names) }
 {
@@ -58,7 +58,7 @@ fn question_names(alloc: Global) -> Result<Sequence<Symbol>, NoMemory>
     Ok(Sequence::from_vec(names))
 }
 
-/// No names but those of the outputs.
+/// Returns a symbol table with the names of the outputs alone.
 fn symbols_of_questions(alloc: Global) -> Result<Symbols, NoMemory>
     ensures { IfOk result (λ symbols. symbols ≡ record no_symbols { outputs = question_names }) }
 {
@@ -68,7 +68,7 @@ fn symbols_of_questions(alloc: Global) -> Result<Symbols, NoMemory>
     Ok(symbols)
 }
 
-/// The outputs.
+/// Returns the outputs.
 fn failure_list(alloc: Global, failures: Failures) -> Result<Vec<Lit>, NoMemory>
     ensures { IfOk result (λ lits. lits.items ≡ failure_list failures) }
 {
@@ -77,7 +77,7 @@ fn failure_list(alloc: Global, failures: Failures) -> Result<Vec<Lit>, NoMemory>
     Ok(list)
 }
 
-/// The graph, its outputs and their names as a circuit. Takes no memory.
+/// Returns the graph, its outputs and their names as a circuit. Takes no memory.
 fn finished(alloc: Global, gates: AigBuilder, outputs: Vec<Lit>, symbols: Symbols) -> Circuit
     requires { IsNetlist (miter_with gates outputs.items symbols) }
     ensures { result ≡ miter_with gates outputs.items symbols }
@@ -111,7 +111,7 @@ fn outputs_of(
     Ok(outputs)
 }
 
-/// The graph of the questions.
+/// Returns the graph of the questions.
 fn assembled(
     alloc: Global,
     first: &Circuit,
@@ -131,13 +131,15 @@ fn assembled(
     }
 }
 
-/// The miter of a map of the first circuit's states to those of the second: a circuit without latches. Its inputs are those of the first
-/// circuit, then one for what each of its latches holds. Its outputs `reset`, `keep`, `next` and `read` are 1 where the map fails. Linear in
+/// Returns the miter of a map of the first circuit's states to those of the second: a circuit
+/// without latches. Its inputs are those of the first circuit, then one for the value of each of
+/// its latches. Its outputs `reset`, `keep`, `next` and `read` are 1 if the map fails. Linear in
 /// all three: the map stands three times in it.
 ///
 /// # Errors
 ///
-/// `NoMemory` where memory is refused, `TooLarge` where it would have more variables than a graph may have.
+/// `NoMemory` if memory is refused, `TooLarge` if it would have more variables than a graph may
+/// have.
 pub fn miter(
     alloc: Global,
     first: &Circuit,

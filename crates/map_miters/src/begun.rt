@@ -1,5 +1,5 @@
-//! The graph of both circuits without gates: the inputs of the first, its latches, those of the second, and one that tells the first step
-//! where that is asked for.
+//! The graph of both circuits without gates: the inputs of the first, its latches, and those of the
+//! second. A last latch tells the first step, if it is asked for.
 ghost use Rattle.std.specs.Prelude.{◌≡◌, ◌+◌, ◌*◌, ◌≤◌, ◌++◌, IfOk, OnOk, length};
 ghost use Rattle.aig_graph.specs.declared.literal.TheConstants.{MAX_VARIABLES};
 ghost use Rattle.aig_graph.specs.Building.{without_gates};
@@ -21,7 +21,7 @@ pub(crate) struct Leaves {
     pub(crate) second: Vec<Lit>,
 }
 
-/// The reset of what tells the first step, where it is asked for, is put after those before.
+/// Appends the reset of the latch that tells the first step, if it is asked for.
 fn push_start(resets: &mut Vec<Reset>, tied: bool) -> Result<(), NoMemory>
     ensures { OnOk result (resets.new.items ≡ resets.old.items ++ start_resets tied) }
 {
@@ -31,7 +31,7 @@ fn push_start(resets: &mut Vec<Reset>, tied: bool) -> Result<(), NoMemory>
     Ok(())
 }
 
-/// All resets.
+/// Returns all resets.
 fn resets_of(alloc: Global, first: &Aig, second: &Aig, tied: bool) -> Result<Vec<Reset>, NoMemory>
     ensures { IfOk result (λ resets. resets.items ≡ product_resets first.now second.now tied) }
 {
@@ -42,7 +42,7 @@ fn resets_of(alloc: Global, first: &Aig, second: &Aig, tied: bool) -> Result<Vec
     Ok(resets)
 }
 
-/// The graph without gates.
+/// Returns the graph without gates.
 pub(crate) fn begun(
     alloc: Global,
     first: &Aig,
@@ -58,7 +58,7 @@ pub(crate) fn begun(
     Ok(gates)
 }
 
-/// The literals of the inputs, and of the latches of either circuit.
+/// Returns the literals of the inputs, and of the latches of either circuit.
 pub(crate) fn leaves_of(alloc: Global, first: &Aig, second: &Aig) -> Result<Leaves, NoMemory>
     requires { first_latch first.now + length first.now.latches + length second.now.latches
         ≤ MAX_VARIABLES }

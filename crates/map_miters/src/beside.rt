@@ -1,5 +1,5 @@
-//! Two circuits beside each other over the same inputs, as a model of the first. The second is lifted as if it were a witness circuit that
-//! shares the inputs alone, so all its latches are its own.
+//! Two circuits beside each other over shared inputs, as a model of the first. The second is lifted
+//! as if it were a witness circuit that shares the inputs alone, so all its latches are its own.
 ghost use Rattle.std.specs.Prelude.{◌≡◌, [], IfOk, length};
 ghost use Rattle.aig_graph.specs.Circuits.{IsNetlist};
 ghost use Rattle.map_miters.specs.Beside.{IsBeside, beside_sharing, no_map};
@@ -9,7 +9,7 @@ use aig_graph::{Aig, AigBuilder, Circuit, NoMemory, Props, Sequence};
 use std::alloc::Global;
 use witness_circuits::{LiftError, Sharing, first_places, witness_lifted_over};
 
-/// A map of the latches that gives nothing: no latch is read through it.
+/// Returns a map of the latches that gives nothing: no latch is read through it.
 fn no_map(alloc: Global, first: &Aig) -> Result<Circuit, LiftError>
     ensures { IfOk result (λ map. map ≡ no_map (length first.now.latches)) }
 {
@@ -19,7 +19,8 @@ fn no_map(alloc: Global, first: &Aig) -> Result<Circuit, LiftError>
     Ok(circuit_of(alloc, gates, props))
 }
 
-/// The inputs of the second circuit are those of the first, and its latches are its own.
+/// Returns the sharing by which the inputs of the second circuit are those of the first, and its
+/// latches its own.
 fn beside_sharing(alloc: Global, first: &Aig, second: &Aig) -> Result<Sharing, NoMemory>
     ensures { IfOk result (λ sharing. sharing ≡ beside_sharing first.now second.now) }
 {
@@ -33,7 +34,7 @@ fn beside_sharing(alloc: Global, first: &Aig, second: &Aig) -> Result<Sharing, N
     })
 }
 
-/// The circuits beside each other: the latches of the first, and then those of the second.
+/// Returns the circuits beside each other: the latches of the first, and then those of the second.
 pub(crate) fn beside(alloc: Global, first: &Circuit, second: &Circuit) -> Result<Circuit, LiftError>
     requires { second.now.aig.inputs ≡ first.now.aig.inputs }
     ensures { IfOk result (IsBeside first.now second.now) }

@@ -1,4 +1,4 @@
-//! Whether lists of literals are equal, entry by entry, and what fails where it isn't so.
+//! Lists of literals that are to be equal, entry by entry, and the literals of failures.
 ghost use Rattle.std.specs.Prelude.{◌≡◌, IfOk, OnOk, length, true};
 ghost use Rattle.aig_graph.specs.Circuits.{AreLiteralsOf};
 ghost use Rattle.aig_graph.specs.Graph.{IsGraph, IsLiteralOf};
@@ -11,7 +11,7 @@ use aig_graph::{AigBuilder, Lit};
 use map_circuits::{add_conjunction, add_conjunction_of, add_equality};
 use std::alloc::Global;
 
-/// For each pair of literals what says that they are equal.
+/// Adds for each pair of literals one that says that they are equal.
 fn add_equalities(
     alloc: Global,
     gates: &mut AigBuilder,
@@ -33,11 +33,12 @@ fn add_equalities(
     Ok(equal)
 }
 
-/// What says that two lists of literals are equal, entry by entry.
+/// Adds a literal that says that two lists of literals are equal, entry by entry.
 ///
 /// # Errors
 ///
-/// `NoMemory` where memory is refused, `TooLarge` where the graph has as many variables as it may; some gates may have been added then.
+/// `NoMemory` if memory is refused, `TooLarge` if the graph has as many variables as it may. Some
+/// gates may then have been added.
 pub fn add_each_equal(
     alloc: Global,
     gates: &mut AigBuilder,
@@ -57,11 +58,12 @@ pub fn add_each_equal(
     Ok(all)
 }
 
-/// What is 1 where the one literal is and the other isn't.
+/// Adds a literal that is 1 if the literal `given` is and `wanted` isn't.
 ///
 /// # Errors
 ///
-/// `NoMemory` where memory is refused, `TooLarge` where the graph has as many variables as it may; some gates may have been added then.
+/// `NoMemory` if memory is refused, `TooLarge` if the graph has as many variables as it may. Some
+/// gates may then have been added.
 pub fn add_failure(gates: &mut AigBuilder, given: Lit, wanted: Lit) -> Result<Lit, MiterError>
     requires graph { IsGraph gates.old }
     requires given { IsLiteralOf gates.old given }

@@ -20,13 +20,14 @@ use std::alloc::Global;
 /// What is good.
 #[derive(Clone, Copy)]
 pub enum Goal {
-    /// That all properties of both circuits have the same values: what a model asks.
+    /// That all properties of both circuits have equal values: what a model asks.
     Agree,
-    /// That the map's constraints are 1, and the second circuit's latches hold what it gives: what goes on to be so, step by step.
+    /// That the map's constraints are 1, and the second circuit's latches hold what it gives. This
+    /// stays so, step by step.
     Mapped,
 }
 
-/// What says that all properties of both circuits have the same values.
+/// Adds a literal that says that all properties of both circuits have equal values.
 fn add_agreement(
     alloc: Global,
     gates: &mut AigBuilder,
@@ -48,11 +49,13 @@ fn add_agreement(
     add_each_equal(alloc, gates, sides.second.props.as_slice(), props)
 }
 
-/// What says that for the state that literals hold the map's constraints are 1, and that it gives the state that other literals hold.
+/// Adds a literal about the state that `state` holds. It says that the map's constraints are 1
+/// there, and that the map gives the state that `given` holds.
 ///
 /// # Errors
 ///
-/// `NoMemory` where memory is refused, `TooLarge` where the graph has as many variables as it may; some gates may have been added then.
+/// `NoMemory` if memory is refused, `TooLarge` if the graph has as many variables as it may. Some
+/// gates may then have been added.
 pub fn add_given(
     alloc: Global,
     gates: &mut AigBuilder,
@@ -77,7 +80,8 @@ pub fn add_given(
     Ok(both)
 }
 
-/// What says that the map's constraints are 1, and the second circuit's latches hold what it gives.
+/// Adds a literal that says that the map's constraints are 1, and the second circuit's latches hold
+/// what it gives.
 fn add_mapped(
     alloc: Global,
     gates: &mut AigBuilder,
@@ -105,7 +109,7 @@ fn add_mapped(
     )
 }
 
-/// What says that a state is good.
+/// Adds a literal that says that a state is good.
 pub(crate) fn add_good(
     alloc: Global,
     gates: &mut AigBuilder,

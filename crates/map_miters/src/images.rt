@@ -48,7 +48,7 @@ pub(crate) fn add_over(
     Ok(part)
 }
 
-/// What stands for each of these literals.
+/// Returns the literals that stand for these.
 pub(crate) fn substitutes_of(
     alloc: Global,
     part: &Instance,
@@ -66,7 +66,8 @@ pub(crate) fn substitutes_of(
 ///
 /// # Errors
 ///
-/// `NoMemory` where memory is refused, `TooLarge` where the graph has as many variables as it may; some gates may have been added then.
+/// `NoMemory` if memory is refused, `TooLarge` if the graph has as many variables as it may. Some
+/// gates may then have been added.
 pub fn add_image(
     alloc: Global,
     gates: &mut AigBuilder,

@@ -1,4 +1,5 @@
-//! What is asked for: the inputs of the first circuit, and after them one for what each of its latches holds.
+//! The inputs of a miter: those of the first circuit, and after them one for the value of each of
+//! its latches.
 ghost use Rattle.std.specs.Prelude.{◌≡◌, ◌+◌, ◌*◌, ◌<◌, [], IfOk, length};
 ghost use Rattle.aig_graph.specs.declared.literal.TheConstants.{MAX_VARIABLES};
 ghost use Rattle.aig_graph.specs.Building.{without_gates};
@@ -17,7 +18,7 @@ pub(crate) struct Leaves {
     pub(crate) latches: Vec<Lit>,
 }
 
-/// A graph of inputs alone: those of the first circuit, and one for each of its latches.
+/// Returns a graph of inputs alone: those of the first circuit, and one for each of its latches.
 pub(crate) fn begun(alloc: Global, first: &Aig) -> Result<AigBuilder, MiterError>
     ensures is { IfOk result (λ gates. gates
         ≡ without_gates (first.now.inputs + length first.now.latches) []) }
@@ -29,7 +30,7 @@ pub(crate) fn begun(alloc: Global, first: &Aig) -> Result<AigBuilder, MiterError
     Ok(gates)
 }
 
-/// The literals of these inputs.
+/// Returns the literals of these inputs.
 pub(crate) fn leaves_of(alloc: Global, first: &Aig) -> Result<Leaves, NoMemory>
     ensures inputs { IfOk result (λ leaves. leaves.inputs.items
         ≡ table 0 first.now.inputs (λ i. 2 * (1 + i))) }

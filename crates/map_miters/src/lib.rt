@@ -1,10 +1,13 @@
-//! Miters of maps of states: what a map has to meet, as circuits that any solver or model checker reads.
+//! Miters of state maps: the conditions on a map, as circuits that any solver or model checker
+//! reads.
 //!
-//! Product machines: two circuits side by side over the same inputs, as a model whose bad state says that a property of the one differs
-//! from that of the other; and, by a map of states, a witness circuit for that model.
+//! Product machines: two circuits side by side over shared inputs, as a model. Its bad state says
+//! that a property of the one differs from that of the other. By a state map it is also a witness
+//! circuit for that model.
 //!
-//! Proofs that come back against the direction of a map: where the states of a circuit give those of the one that it was made of, as a
-//! move of latches backward has it, a witness circuit of the first becomes one of the second.
+//! Lifted proofs, against the direction of a map. A move of latches backward gives the states of a
+//! circuit from those of its result. A witness circuit of the result then becomes one of the
+//! circuit.
 #![tactic(auto)]
 
 mod assembling;

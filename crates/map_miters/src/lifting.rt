@@ -1,6 +1,7 @@
-//! A witness circuit is lifted back in two steps: the circuits are put beside each other, and the witness circuit of the second is lifted
-//! over both by the map turned round. So the second one's latches become the witness's own. To replace them, as `lifted_witness` does, is
-//! not possible: what they hold is no function of what the first one's hold.
+//! A witness circuit is lifted back in two steps. The circuits are put beside each other, and the
+//! witness circuit of the second is lifted over both by the map turned round. So the second one's
+//! latches become the witness's own. They can't be replaced as `lifted_witness` does: what they
+//! hold is no function of the first one's latches.
 ghost use Rattle.std.specs.Prelude.{◌≡◌, IfOk};
 ghost use Rattle.map_miters.specs.Beside.{IsBeside};
 ghost use Rattle.map_miters.specs.Lifting.{IsLiftedBack};
@@ -15,7 +16,7 @@ use aig_graph::Circuit;
 use std::alloc::Global;
 use witness_circuits::{LiftError, Sharing, witness_lifted_over};
 
-/// The same refusal of a lift.
+/// Returns the refusal of a lift for that of a miter.
 fn lift_error(error: MiterError) -> LiftError {
     match error {
         MiterError::NoMemory => LiftError::NoMemory,
@@ -23,7 +24,7 @@ fn lift_error(error: MiterError) -> LiftError {
     }
 }
 
-/// The witness circuit over both circuits, by the map turned round.
+/// Returns the witness circuit over both circuits, by the map turned round.
 fn lifted_over(
     alloc: Global,
     both: &Circuit,
@@ -51,13 +52,15 @@ fn lifted_over(
     }
 }
 
-/// A witness circuit for a circuit, made of one for another circuit whose states a map maps to those of the circuit. It has the inputs and
-/// latches of the circuit, which its names say; after these the latches of the other circuit, and those that are the witness's own. Its
+/// Makes a witness circuit for a circuit, of one for another circuit whose states a map maps to
+/// those of the circuit. It has the inputs and latches of the circuit, which its names say. After
+/// these come the latches of the other circuit, and those that are the witness's own. Its
 /// constraints are the circuit's. Linear in all four.
 ///
 /// # Errors
 ///
-/// `NoMemory` where memory is refused, `TooLarge` where it would have more variables than a graph may have.
+/// `NoMemory` if memory is refused, `TooLarge` if it would have more variables than a graph may
+/// have.
 pub fn witness_lifted_back(
     alloc: Global,
     first: &Circuit,

@@ -94,7 +94,7 @@ fn filled(
     Ok(props)
 }
 
-/// The graph and its properties.
+/// Returns the graph and its properties.
 fn assembled(
     alloc: Global,
     goal: Goal,
@@ -116,7 +116,7 @@ fn assembled(
     }
 }
 
-/// The graph with its properties, as a circuit without names. Takes no memory.
+/// Returns the graph with its properties, as a circuit without names. Takes no memory.
 fn finished(alloc: Global, built: Built) -> Circuit
     requires { IsNetlist (netlist_of built) }
     ensures { result ≡ netlist_of built }
@@ -125,13 +125,16 @@ fn finished(alloc: Global, built: Built) -> Circuit
     Circuit::new(gates.finish(), props, Symbols::none(alloc))
 }
 
-/// The product machine of two circuits, with one bad state, which says that a state isn't good. It has the inputs of the first circuit, its
-/// latches, and after them those of the second. By the goal `Agree` it is a model, and by `Mapped` a witness circuit for that model, by places,
-/// where the map is one of the states of the first to those of the second. Linear in all three.
+/// Returns the product machine of two circuits, with one bad state, which says that a state isn't
+/// good. It has the inputs of the first circuit, its latches, and after them those of the second.
+/// By the goal `Agree` it is a model. By `Mapped` it is a witness circuit for that model, by
+/// places. For that the map has to go from the states of the first to those of the second. Linear
+/// in all three.
 ///
 /// # Errors
 ///
-/// `NoMemory` where memory is refused, `TooLarge` where it would have more variables than a graph may have.
+/// `NoMemory` if memory is refused, `TooLarge` if it would have more variables than a graph may
+/// have.
 pub fn product_machine(
     alloc: Global,
     goal: Goal,

@@ -16,7 +16,7 @@ use aig_graph::{AigBuilder, Circuit, Lit};
 use map_circuits::{add_conjunction, free_stay};
 use std::alloc::Global;
 
-/// What is 1 where the map fails.
+/// The literals that are 1 if the map fails.
 #[derive(Clone, Copy)]
 pub(crate) struct Failures {
     pub(crate) reset: Lit,
@@ -25,7 +25,7 @@ pub(crate) struct Failures {
     pub(crate) read: Lit,
 }
 
-/// What is 1 where it fails in a step.
+/// The literals that are 1 if the map fails in a step.
 #[derive(Clone, Copy)]
 pub(crate) struct Compared {
     pub(crate) keep: Lit,
@@ -33,7 +33,8 @@ pub(crate) struct Compared {
     pub(crate) read: Lit,
 }
 
-/// What is compared: a step of the first circuit, the map before and after it, and a step of the second from what the map gives.
+/// The two sides of a comparison. One is a step of the first circuit with the map before and after
+/// it. The other is a step of the second from what the map gives.
 #[derive(Drop)]
 pub(crate) struct Sides {
     pub(crate) before: Step,
@@ -42,7 +43,8 @@ pub(crate) struct Sides {
     pub(crate) after: Step,
 }
 
-/// What is 1 where the map gives no first state of the second circuit for one of the first.
+/// Adds a literal that is 1 if the map gives no first state of the second circuit for one of the
+/// first.
 fn add_reset_failure(
     alloc: Global,
     gates: &mut AigBuilder,
@@ -99,7 +101,7 @@ fn add_sides(
     })
 }
 
-/// What is 1 where a step fails.
+/// Adds the literals that are 1 if a step fails.
 fn add_compared(
     alloc: Global,
     gates: &mut AigBuilder,
@@ -121,7 +123,7 @@ fn add_compared(
     Ok(Compared { keep, next, read })
 }
 
-/// What is 1 where a step fails, of circuits and a map over these literals.
+/// Adds the literals that are 1 if a step fails, of circuits and a map over these literals.
 fn add_step_failures(
     alloc: Global,
     gates: &mut AigBuilder,

@@ -5,7 +5,7 @@ ghost use Rattle.map_miters.specs.Holding.{AreResets};
 use aig_graph::{Latch, Lit, NoMemory, opening_literal};
 use std::alloc::Global;
 
-/// The literals of what latches hold at step 0, whose own literals are these.
+/// Returns the literals of the values that latches hold at step 0. Their own literals are these.
 pub(crate) fn resets_of(alloc: Global, latches: &[Latch], own: &[Lit]) -> Result<Vec<Lit>, NoMemory>
     requires { length own.now ≡ length latches.now }
     ensures { IfOk result (λ lits. AreResets latches.now own.now lits.items) }

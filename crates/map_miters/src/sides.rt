@@ -47,7 +47,7 @@ pub(crate) fn add_sides(
     })
 }
 
-/// The next literal of what tells the first step, where it is asked for, is put after those before.
+/// Appends the next literal of the latch that tells the first step, if it is asked for.
 fn push_start(nexts: &mut Vec<Lit>, tied: bool) -> Result<(), NoMemory>
     ensures { OnOk result (nexts.new.items ≡ nexts.old.items ++ start_nexts tied) }
 {
@@ -57,7 +57,7 @@ fn push_start(nexts: &mut Vec<Lit>, tied: bool) -> Result<(), NoMemory>
     Ok(())
 }
 
-/// The next literals of all latches.
+/// Returns the next literals of all latches.
 pub(crate) fn nexts_of(alloc: Global, sides: &Sides, tied: bool) -> Result<Vec<Lit>, NoMemory>
     ensures { IfOk result (λ nexts. nexts.items ≡ product_nexts sides.now tied) }
 {

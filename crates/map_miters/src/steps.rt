@@ -22,7 +22,7 @@ pub struct Step {
     pub props: Vec<Lit>,
 }
 
-/// What stands for the next literals of latches.
+/// Returns the literals that stand for the next literals of latches.
 fn nexts_of(alloc: Global, part: &Instance, latches: &[Latch]) -> Result<Vec<Lit>, NoMemory>
     requires { All (λ latch. variable latch.next < length part.now) latches.now }
     ensures { IfOk result (λ nexts. nexts.items
@@ -33,7 +33,7 @@ fn nexts_of(alloc: Global, part: &Instance, latches: &[Latch]) -> Result<Vec<Lit
     Ok(nexts)
 }
 
-/// What stands for the literals of the properties.
+/// Returns the literals that stand for those of the properties.
 fn props_of(alloc: Global, part: &Instance, circuit: &Circuit) -> Result<Vec<Lit>, NoMemory>
     requires { length part.now ≡ variables_end circuit.now.aig }
     ensures { IfOk result (λ found. found.items
@@ -48,7 +48,8 @@ fn props_of(alloc: Global, part: &Instance, circuit: &Circuit) -> Result<Vec<Lit
 ///
 /// # Errors
 ///
-/// `NoMemory` where memory is refused, `TooLarge` where the graph has as many variables as it may; some gates may have been added then.
+/// `NoMemory` if memory is refused, `TooLarge` if the graph has as many variables as it may. Some
+/// gates may then have been added.
 pub fn add_step(
     alloc: Global,
     gates: &mut AigBuilder,

@@ -1,5 +1,5 @@
-//! Free latches. One of the second circuit starts as the one of the first that the map says that it is, which no reset of a file can say: a
-//! constraint does, of the first step alone.
+//! Free latches. One of the second circuit starts as the one of the first that the map gives for
+//! it. No reset of a file can say that, but a constraint of the first step can.
 ghost use Rattle.std.specs.Prelude.{◌≡◌, ◌<◌, ◌↔◌, IfOk, IsTrue, OnOk, length, true};
 ghost use Rattle.std.specs.List.{slice_index_or};
 ghost use Rattle.aig_graph.specs.Graph.{IsGraph, is_free};
@@ -16,7 +16,8 @@ use aig_graph::{AigBuilder, BuildError, Circuit, Latch, Lit, NoMemory, Reset};
 use map_circuits::{add_conjunction_of, add_equality, free_stay};
 use std::alloc::Global;
 
-/// Whether free latches are to start alike: the second circuit has some, and each is one of the first, in their order.
+/// Returns true if free latches are to start alike: the second circuit has some, and each is one of
+/// the first, in their order.
 pub(crate) fn are_tied(
     alloc: Global,
     first: &Circuit,
@@ -31,14 +32,15 @@ pub(crate) fn are_tied(
     Ok(some & stay)
 }
 
-/// Whether the latch is free.
+/// Returns true if the latch is free.
 fn is_free(latch: &Latch) -> bool
     ensures { result ≡ is_free latch.now }
 {
     latch.reset == Reset::Free
 }
 
-/// What says that a free latch of the second circuit holds what the one of the first does that its output of the map is.
+/// Adds a literal that says that a free latch of the second circuit holds what that of the first
+/// does. The latch of the first is this output of the map.
 fn add_tie(
     gates: &mut AigBuilder,
     first: &Circuit,
@@ -66,7 +68,8 @@ fn add_tie(
     Ok(tie)
 }
 
-/// What says that each free latch of the second circuit holds what the one of the first does.
+/// Adds for each free latch of the second circuit a literal that says that it holds what that of
+/// the first does.
 fn add_ties(
     alloc: Global,
     gates: &mut AigBuilder,
@@ -94,7 +97,8 @@ fn add_ties(
     Ok(ties)
 }
 
-/// What says that free latches start alike: it isn't the first step, or they hold the same.
+/// Adds a literal that says that free latches start alike: it isn't the first step, or they hold
+/// equal values.
 fn add_start(
     alloc: Global,
     gates: &mut AigBuilder,
@@ -117,7 +121,7 @@ fn add_start(
     Ok(failure.not())
 }
 
-/// The constraint where there is one.
+/// Adds the constraint, if there is one.
 pub(crate) fn add_constraints(
     alloc: Global,
     gates: &mut AigBuilder,

@@ -1,5 +1,5 @@
-//! A map turned round: over the latches of both circuits it gives those of the second, and its constraint is that the map gives those of the
-//! first for them.
+//! A map turned round. Over the latches of both circuits it gives those of the second. Its
+//! constraint is that the map gives those of the first for them.
 ghost use Rattle.std.specs.Prelude.{◌≡◌, ◌+◌, ◌*◌, ◌≤◌, ◌∷◌, [], IfOk, length};
 ghost use Rattle.aig_graph.specs.declared.literal.TheConstants.{MAX_VARIABLES};
 ghost use Rattle.aig_graph.specs.Building.{without_gates};
@@ -20,7 +20,7 @@ struct Leaves {
     second: Vec<Lit>,
 }
 
-/// A graph of an input for each latch of both circuits.
+/// Returns a graph of an input for each latch of both circuits.
 fn begun(alloc: Global, first: &Aig, second: &Aig) -> Result<AigBuilder, MiterError>
     ensures is { IfOk result (λ gates. gates
         ≡ without_gates (length first.now.latches + length second.now.latches) []) }
@@ -33,7 +33,7 @@ fn begun(alloc: Global, first: &Aig, second: &Aig) -> Result<AigBuilder, MiterEr
     Ok(gates)
 }
 
-/// The literals of these inputs.
+/// Returns the literals of these inputs.
 fn leaves_of(alloc: Global, first: &Aig, second: &Aig) -> Result<Leaves, NoMemory>
     requires { 1 + length first.now.latches + length second.now.latches ≤ MAX_VARIABLES }
     ensures first { IfOk result (λ leaves. leaves.first.items
@@ -50,7 +50,7 @@ fn leaves_of(alloc: Global, first: &Aig, second: &Aig) -> Result<Leaves, NoMemor
     })
 }
 
-/// The second circuit's latches as outputs, and a constraint.
+/// Returns the second circuit's latches as outputs, and a constraint.
 fn props_of(alloc: Global, leaves: Leaves, constraint: Lit) -> Result<Props, NoMemory>
     ensures { IfOk result (λ props. props ≡ record {
       outputs = leaves.second.items;
@@ -92,7 +92,7 @@ fn filled(
     Ok(props)
 }
 
-/// The map turned round.
+/// Returns the map turned round.
 pub(crate) fn turned(
     alloc: Global,
     first: &Circuit,

@@ -44,7 +44,7 @@ unheld options c (NoSuchLatch place) missing no_latch = no_latch place refl
 pub is-made : (options : Options) (c : Netlist) (m : Made) → AreLatchesBy options c → NoneMissingBy options c → IsRetimedMapped options c m → IsMade options c m
 is-made options c m latches none is = record { latches = latches; names = none; held = is.held; map = is.map; free = is.free }
 
--- of the same retiming the same is notified
+-- one retiming gives one list of notified stages
 pub same-notified : {W E : Type 0} (was_notified : W → List Notification → Type 0) (limit : ℕ) (a b : W) (r : Retimed) (result : Result Made E) → Notifies was_notified a b (looks_of limit r)
     → IfOk result (λ made. made.retimed ≡ r) → IfOk result (λ made. Notifies was_notified a b (looks_of limit made.retimed))
 same-notified was_notified limit a b r (Ok made) notified same = subst (λ (x : Retimed). Notifies was_notified a b (looks_of limit x)) (sym same) notified

@@ -115,7 +115,7 @@ begins-last more n byte tail rest bytes e low h = elim (shape more n tail bytes 
 
 -- after another byte the number without its low bits begins
 pub record IsFollowedBy (n byte : ℕ) (tail rest : List ℕ) : Type 0 where
-  -- so many bytes at most follow the first of what is left
+  -- n bytes at most follow the first of what is left
   pub less : ℕ
   -- the low bits and what is left are the number
   pub whole : byte - 128 + 128 * (n / 128) ≡ n
@@ -204,12 +204,12 @@ module _ {W : Type 0} {output : W → Output} where
 
 -- ---- one text written after another
 
--- where the first was written, the second
+-- if the first was written, the second
 pub writes-then : {T E : Type 0} (s t u : Output) (r : Result T E) (a b : List ℕ) → WritesAll s t a → Writes t u r b → Writes s u r (a ++ b)
 writes-then s t u (Ok x) a b before after = record { ok = all-then s t u a b before after.ok; err = tt }
 writes-then s t u (Err e) a b before after = record { ok = tt; err = part-then s t u a b before after.err }
 
--- where it wasn't, a beginning of both
+-- if it wasn't, a beginning of both
 pub writes-no-more : {T E : Type 0} (s t : Output) (e : E) (a b : List ℕ) → WritesPart s t a → Writes {T = T} s t (Err e) (a ++ b)
 writes-no-more s t e a b part = record { ok = tt; err = part-more s t a b part }
 

@@ -11,8 +11,8 @@ use Rattle.binary_file.specs.Deltas.{bytes_within}
 unfoldable pub before_gates : Netlist → List ℕ
 before_gates c = codes "aig " ++ line (header_row c) ++ numbered_rows next_row (first_latch c.aig) c.aig.latches ++ property_rows c.props
 
--- the bytes begin with those of n, a number of 32 bits, of which at most `more` follow the first,
--- and then come those of the tail
+-- The bytes begin with those of n, a number of 32 bits. At most `more` bytes follow the first one,
+-- and then come those of the tail.
 pub record BeginsWith (more n : ℕ) (tail bytes : List ℕ) : Type 0 where
   pub small : n < 128 ^ (suc more)
   pub word : n < 2 ^ 32

@@ -1,5 +1,5 @@
--- What becomes of a circuit that was read where a map is wanted: the answer, and the map from it to
--- the one that is written.
+-- What becomes of a circuit that was read if a map is wanted: the answer, and the map from it to
+-- the written circuit.
 use Rattle.std.specs.Prelude.{◌≡◌, ◌⊎◌, unwrap_or}
 use Rattle.counted_io.specs.Output.{Output, WritesAll, WritesPart}
 use Rattle.file_words.specs.declared.spelling.Spelling.{Spelling}
@@ -19,8 +19,8 @@ use Rattle.mapped_answers.specs.declared.mapped.Mapped.{Mapped}
 use Rattle.mapped_answers.specs.declared.errors.AnswerError.{AnswerError}
 use Rattle.mapped_answers.specs.declared.errors.AnswerError.TheVariants.{Bytes, MapTooLarge}
 
--- the circuit retimed by the options, where its held latches stand then, and its map, in which free
--- latches stay
+-- the circuit retimed by the options, the positions of its held latches then, and its map, in which
+-- free latches stay
 pub record IsMade (options : Options) (c : Netlist) (m : Made) : Type 0 where
   pub latches : AreLatchesBy options c
   pub names : NoneMissingBy options c
@@ -64,8 +64,8 @@ IsMadeCutOff made spelling old new (Bytes (Read e)) = ⊥
 IsMadeCutOff made spelling old new (Bytes (Retime e)) = ⊥
 IsMadeCutOff made spelling old new (Bytes (Write e)) = WritesPart old new (text_in spelling made.retimed.circuit)
 
--- the answer was written, the held latches stand where it is said, and the map is that of its
--- circuit, in its spelling; free latches stay in it
+-- The answer was written, and the held latches are at the positions that it says. The map is that
+-- of its circuit, in its spelling; free latches stay in it.
 pub record IsMappedOf (options : Options) (spelt : SpeltCircuit) (old new : Output) (m : Mapped) : Type 0 where
   pub written : IsWritten options spelt old new m.retimed
   pub held : IsRetimedHeld options spelt.circuit m.retimed m.keep
@@ -73,7 +73,7 @@ pub record IsMappedOf (options : Options) (spelt : SpeltCircuit) (old new : Outp
   pub free : FreeStay spelt.circuit m.retimed.circuit m.map.circuit
   pub spelling : m.map.spelling ≡ unwrap_or options.spelling spelt.spelling
 
--- nothing is written where there is no map
+-- nothing is written if there is no map
 abbrev pub IsMappingStop : Options → SpeltCircuit → Output → Output → AnswerError → Type 0
 IsMappingStop options spelt old new (Bytes e) = IsStop options spelt old new e
 IsMappingStop options spelt old new MapTooLarge = new ≡ old

@@ -1,6 +1,7 @@
--- Two runs over the gates, of which the second begins with what is coarser: what the second makes of what the first made of a literal is what
--- it makes of the literal. The sign stays, a gate that comes down to a literal by the first comes down to that literal's by the second, and an
--- earlier gate of the same literals by the first has the same ones by the second.
+-- Two runs over the gates, of which the second begins with what is coarser. What the second makes
+-- of what the first made of a literal is what it makes of the literal. The sign stays. A gate that
+-- comes down to a literal by the first comes down to that literal's by the second. An earlier gate
+-- of equal literals by the first has equal ones by the second.
 use Rattle.std.proofs.Common.{ℕ, ◌*◌, ◌<◌, ◌≤◌, ◌≡◌, inl, inr, List, [], ◌∷◌, ◌++◌, length, Bool, true, cond, nat_eq, Option, Some, None, get_or, refl, arith, ap, sym, ◌∙◌}
 use Rattle.std.specs.Map.{lookup}
 use Rattle.std.proofs.lemmas.Bool.{cases_Bool, cases_eq, eq-eqb, eqb-true, cond-true, cond-false}
@@ -22,7 +23,7 @@ lookup-more test (e0 ∷ es) gate v w e = elim (cases_Bool (test e0.0)) [
       ∙ lookup-more test es gate v w (sym (cond-false (test e0.0) (Some e0.1) (lookup test es) other) ∙ e)
 ]
 
--- and one that isn't is the last one's, where that passes
+-- and one that isn't is the last one's, if that passes
 lookup-last : (test : Gate → Bool) (es : List (Gate × ℕ)) (gate : Gate) (v : ℕ) → test gate ≡ true → lookup test es ≡ None → lookup test (es ++ (gate, v) ∷ []) ≡ Some v
 lookup-last test [] gate v passes none = cond-true (test gate) (Some v) None passes
 lookup-last test (e0 ∷ es) gate v passes none = elim (cases_Bool (test e0.0)) [
@@ -31,7 +32,7 @@ lookup-last test (e0 ∷ es) gate v passes none = elim (cases_Bool (test e0.0)) 
       ∙ lookup-last test es gate v passes (sym (cond-false (test e0.0) (Some e0.1) (lookup test es) other) ∙ none)
 ]
 
--- what a gate comes down to, where this was found among the kept gates
+-- what a gate comes down to, if this was found among the kept gates
 abbrev or_found : Gate → Option ℕ → Option ℕ
 or_found gate found =
     cond (nat_eq gate.rhs1 0) (Some 0)
@@ -73,7 +74,7 @@ comes gate =
 pub comes-zero : (kept : List (Gate × ℕ)) (gate : Gate) → gate.rhs1 ≡ 0 → known_substitute kept gate ≡ Some 0
 comes-zero kept gate e = cond-true (nat_eq gate.rhs1 0) (Some 0) _ (eq-eqb gate.rhs1 0 e)
 
--- where the smaller literal isn't 0
+-- if the smaller literal isn't 0
 comes-more : (kept : List (Gate × ℕ)) (gate : Gate) (o : Option ℕ) → (gate.rhs1 ≡ 0 → ⊥)
     → cond (nat_eq gate.rhs1 1) (Some gate.rhs0) (cond (nat_eq gate.rhs0 gate.rhs1) (Some gate.rhs0) (cond (nat_eq (variable gate.rhs0) (variable gate.rhs1)) (Some 0) (lookup (same_fan_ins gate) kept))) ≡ o
     → known_substitute kept gate ≡ o
@@ -110,7 +111,7 @@ comes-opposite kept gate ordered other same = elim (cases_eq gate.rhs1 0) [
   ])
 ]
 
--- among more gates a gate comes down to the same, and a kept one to its own literal
+-- among more gates a gate comes down to its literal, and a kept one to its own
 pub known-more : (kept : List (Gate × ℕ)) (own : ℕ) (pair : Gate) (o : Option ℕ) (gate : Gate) (y : ℕ) → known_substitute kept gate ≡ Some y → known_substitute (kept_after kept own pair o) gate ≡ Some y
 known-more kept own pair (Some s) gate y e = e
 known-more kept own pair None gate y e = elim (comes gate) [

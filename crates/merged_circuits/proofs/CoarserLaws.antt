@@ -1,4 +1,5 @@
--- What merging by a coarser reading makes of what merging by a finer one made of a literal is what it makes of the literal.
+-- What merging by a coarser reading makes of what merging by a finer one made of a literal is what
+-- it makes of the literal.
 use Rattle.std.proofs.Common.{ℕ, ◌+◌, ◌-◌, ◌*◌, ◌<◌, ◌≤◌, ◌≡◌, ◌⊎◌, inl, inr, suc, List, [], ◌∷◌, ◌++◌, length, Option, Some, None, slice_get, get_or, refl, arith, ap, sym, ◌∙◌, subst}
 use Rattle.std.specs.Map.{lookup}
 use Rattle.std.proofs.lemmas.Bool.{cases_lt, cases_eq}
@@ -50,7 +51,7 @@ module _ (p q : Merging) (runs : AreRuns p q) where
             ∙ same)
       ]
 
-  -- where a pair comes down to a literal by the first, it comes down to that literal's by the second
+  -- if a pair comes down to a literal by the first, it comes down to that literal's by the second
   runs-known : (pair : Gate) (s : ℕ) → pair.rhs1 ≤ pair.rhs0 → known_substitute p.kept pair ≡ Some s → known_substitute q.kept (replaced_gate q.substitutes pair) ≡ Some (replaced q.substitutes s)
   runs-known pair s ordered known =
       let x : ℕ = replaced q.substitutes pair.rhs0 in

@@ -10,7 +10,7 @@ use Rattle.merged_circuits.specs.Readings.{leaves, substitutes_by, signature}
 abbrev all_signatures : Graph → List ℕ → List ℕ
 all_signatures g reads = map (signature (substitutes_by g reads)) g.latches
 
--- the graph, where latches read so
+-- the graph, if latches read so
 abbrev merged_by : Graph → List ℕ → Graph
 merged_by g reads = replaced_graph (substitutes_by g reads) g
 

@@ -56,6 +56,6 @@ pub merged-one : (held : List ℕ) (c d e : Netlist) → IsMerged held c d → I
 merged-one held c d e one two =
     one.circuit ∙ ap (λ (reads : List ℕ). replaced_circuit (substitutes_by c.aig reads) c) (coarsest-one c.aig held one.reads two.reads one.coarsest two.coarsest) ∙ sym two.circuit
 
--- and so many of its latches are merged
+-- and n of its latches are merged
 pub counts-one : (g : Graph) (held : List ℕ) (counts other : MergeCounts) → AreCounts g held counts → AreCounts g held other → counts ≡ other
 counts-one g held counts other one two = one.counted ∙ ap (counts_of g) (coarsest-one g held one.reads two.reads one.coarsest two.coarsest) ∙ sym two.counted

@@ -46,7 +46,7 @@ module _ (held reads : List ℕ) (c : Netlist) (valid : IsGraph c.aig) (kept : I
         values = λ x f t. replaced-properties substitutes c valid netlist kept-within kept-right x (chosen (all_free c.aig) f) t ∙ same.values x f t;
       }
 
--- the same of a merged circuit
+-- the streams of a merged circuit
 pub merged-streams : (held : List ℕ) (c d : Netlist) → IsGraph c.aig → IsNetlist c → IsMerged held c d → SameStreams c d (all_free c.aig)
 merged-streams held c d valid netlist merged =
     let P : Netlist → Type 0 = λ e. SameStreams c e (all_free c.aig) in

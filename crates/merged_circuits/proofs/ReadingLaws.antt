@@ -19,7 +19,7 @@ use Rattle.merged_circuits.specs.Readings.{own_literal, read, from_reset, ReadsA
 pub signed_as-twice : (lit base : ℕ) → signed_as lit (signed_as lit base) ≡ base
 signed_as-twice lit base = omega arith
 
--- by the same reset twice
+-- by one reset twice
 pub from_reset-twice : (reset : Reset) (lit : ℕ) → from_reset reset (from_reset reset lit) ≡ lit
 from_reset-twice reset lit = signed_as-twice (constant_of reset) lit
 
@@ -80,7 +80,7 @@ module _ (g : Graph) (held reads : List ℕ) where
       let low : get_or (leaves g reads) (variable lit) 0 ≡ 2 * variable lit = leaf-low (variable lit) (omega arith) in
       ap (signed_as lit) low ∙ omega (arith, e)
 
-  -- the same of a literal of a latch
+  -- replaced, of a literal of a latch
   pub replaced-latch_literal : (lit i : ℕ) → variable lit ≡ first_latch g + i → replaced (leaves g reads) lit ≡ signed_as lit (read reads i)
   replaced-latch_literal lit i e = ap (λ (v : ℕ). signed_as lit (get_or (leaves g reads) v 0)) e ∙ ap (signed_as lit) (leaf-latch i)
 

@@ -20,7 +20,7 @@ use Rattle.merged_circuits.specs.Readings.{own_literal, read, may_merge, from_re
 use Rattle.merged_circuits.specs.Partitions.{IsInductive}
 use Rattle.merged_circuits.proofs.ReadingLaws.{leaf-low, leaf-latch, are-leaves}
 
--- a value negated where the reset is 1
+-- a value negated if the reset is 1
 abbrev pub flipped : Reset → Bool → Bool
 flipped reset b = signed (constant_of reset) b
 

@@ -10,7 +10,7 @@ use Rattle.merged_circuits.specs.Partitions.{IsInductive, IsCoarsest, IsMerged}
 use Rattle.merged_circuits.specs.Counts.{AreCounts}
 use Rattle.merged_circuits.specs.declared.counts.MergeCounts.{MergeCounts}
 
--- where latches read by an inductive reading, each has at each step the value of what it reads as
+-- if latches read by an inductive reading, each has at each step the value of its reading
 abbrev pub HasItsValue : Graph → List ℕ → List ℕ → Type 0
 HasItsValue g held reads =
     IsGraph g → IsInductive g held reads → (x : Inputs) (f : Choice) (t j : ℕ) → j < length g.latches → value g x f t (read reads j) ≡ value g x f t (own_literal g j)
@@ -27,6 +27,6 @@ IsOneReading g held reads other = IsCoarsest g held reads → IsCoarsest g held 
 abbrev pub IsOneCircuit : List ℕ → Netlist → Netlist → Netlist → Type 0
 IsOneCircuit held c d e = IsMerged held c d → IsMerged held c e → d ≡ e
 
--- and so many latches are merged
+-- and equal numbers of latches are merged
 abbrev pub AreOneCount : Graph → List ℕ → MergeCounts → MergeCounts → Type 0
 AreOneCount g held counts other = AreCounts g held counts → AreCounts g held other → counts ≡ other

@@ -4,9 +4,9 @@ ghost use Rattle.aig_graph.specs.Graph.{Graph};
 ghost use Rattle.merged_circuits.specs.declared.counts.MergeCounts.{MergeCounts as Counts};
 ghost use Rattle.merged_circuits.specs.Laws.{HasItsValue, KeepsStreams, IsOneReading, IsOneCircuit, AreOneCount};
 
-/// Each latch has at each step the value of what it reads as by an inductive reading, and a merged circuit has the streams of the circuit, with
-/// each free latch in its place. And merging is a function: there is one coarsest inductive reading, with
-/// its counts, and one circuit that a circuit is merged to.
+/// By an inductive reading each latch has at each step the value of its reading. A merged circuit
+/// has the streams of the circuit, with each free latch in its place. Merging is a function: there
+/// is one coarsest inductive reading, with its counts, and one circuit that a circuit is merged to.
 pub fn merging_laws()
     ensures values { (g : Graph) (held reads : List ℕ) → HasItsValue g held reads }
     ensures streams { (held : List ℕ) (c d : Netlist) → KeepsStreams held c d }

@@ -1,6 +1,8 @@
-//! What a circuit is whose latches that always agree were merged. In a partition of the constant and the latches of known reset, those of a
-//! class stay alike if each has, by its next literal, the signature of the class's first one: then induction over steps shows that they have
-//! one value, or opposite ones if their resets differ. The coarsest such partition is one, and needs no solver.
+//! Circuits in which latches that always agree were merged. A partition is of the constant and the
+//! latches of known reset. A class stays alike if each of its latches has, by its next literal, the
+//! signature of the class's first one. By induction over steps they then have one value, or
+//! opposite ones if their resets differ. There is one coarsest such partition, and it needs no
+//! solver.
 #![tactic(auto)]
 
 mod counts;

@@ -1,4 +1,4 @@
--- Where no member of a set is barred, the border of the set is the same in the circuit in which gates are barred.
+-- If no member of a set is barred, the set has its border in the circuit in which gates are barred.
 use Rattle.std.proofs.Common.{ℕ, ◌+◌, ◌≡◌, ◌∙◌, ◌++◌, inl, inr, Bool, true, false, not, ◌&&◌, ◌||◌, List, [], ◌∷◌, map, Option, is_some, refl, sym, ap, ap₂, arith}
 use Rattle.std.specs.List.{list_any, enumerate_from, flat_map}
 use Rattle.std.proofs.Math.Bool.{or-false}
@@ -64,7 +64,7 @@ parts false false false true = refl
 parts false false false false = refl
 
 module _ (test : ℕ → Bool) (c : Netlist) (held s : List ℕ) (apart : (v : ℕ) → has s v ≡ true → test v ≡ false) where
-  -- every variable but the constant is read from outside by the same
+  -- every variable but the constant is read from outside by its old readers
   read-left : (v : ℕ) → (v ≡ 0 → ⊥) → is_read (with_barred test c) s v ≡ is_read c s v
   unfolding is_read_outside
   read-left v other =

@@ -35,7 +35,7 @@ module _ (test : ℕ → Bool) (g : Graph) where
   pub variables-left : variables_end (graph_left test g) ≡ variables_end g
   variables-left = omega (arith, length-left)
 
-  -- a gate, or the one of the constant where it is barred
+  -- a gate, or the one of the constant if it is barred
   pub gate_at-left : (v : ℕ) (gate : Gate) → gate_at g v ≡ Some gate → gate_at (graph_left test g) v ≡ Some (gate_left (test v) gate)
   gate_at-left v gate e =
       let at = gate_place g v gate e in
@@ -56,7 +56,7 @@ module _ (test : ℕ → Bool) (g : Graph) where
       let here : gate_at g v ≡ Some there.0 = ap (λ (n : ℕ). gate_at g n) (sym place) ∙ gate_at-first_gate g k ∙ there.1 in
       (there.0, here, same_Some other (gate_left (test v) there.0) (sym e ∙ gate_at-left v there.0 here))
 
-  -- the gates are at the same variables
+  -- the gates keep their variables
   pub is_gate-left : (v : ℕ) → is_some (gate_at (graph_left test g) v) ≡ is_some (gate_at g v)
   is_gate-left v = elim (gate_cases g v) [
     | inr some ↦ ap is_some (gate_at-left v some.0 some.1) ∙ sym (ap is_some some.1)

@@ -38,7 +38,8 @@ module _ (test : ℕ → Bool) (c : Netlist) (held : List ℕ) (valid : IsGraph 
       let pass = closed.passable 0 member in
       absurd (none-some pass.0 (sym (gate_at-before (with_barred test c).aig 0 (omega arith)) ∙ pass.1))
 
-  -- a member of a set that is closed where gates are barred is none of them, and rests on the same where they aren't
+  -- a member of a set that is closed with barred gates is none of them, and reads what it read
+  -- without them
   rests-before : IsClosed (with_barred test c).aig held s → (v : ℕ) → Contains s v → (test v ≡ false) × RestsOn c.aig held s v
   unfolding RestsOn
   rests-before closed v member =
@@ -66,7 +67,7 @@ module _ (test : ℕ → Bool) (c : Netlist) (held : List ℕ) (valid : IsGraph 
       let rest = rests-from_closed c.aig held valid s closed v member in
       (rest.0, gate_at-left test c.aig v rest.0 rest.1 ∙ ap (λ (b : Bool). Some (gate_left b rest.0)) (apart v member), rest.2, rest.3)
 
-  -- a set is closed where gates are barred exactly where it is closed and none of its members is barred
+  -- a set is closed with barred gates if and only if it is closed and none of its members is barred
   closed-before : IsClosedSet (with_barred test c).aig held s → IsClosedSet c.aig held s × Apart test s
   closed-before set = (
     record { rising = set.rising; closed = closed-from_rests c.aig held valid s (λ v member. (rests-before set.closed v member).1) },
@@ -80,7 +81,7 @@ module _ (test : ℕ → Bool) (c : Netlist) (held : List ℕ) (valid : IsGraph 
   }
 
 module _ (bound : ℕ) (g : Graph) (held : List ℕ) where
-  -- of a closed set all gates arrive within the bound exactly where none is barred
+  -- of a closed set all gates arrive within the bound if and only if none is barred
   within-apart : (s : List ℕ) → IsClosedSet g held s → Apart (is_barred bound g held) s → IsClosedWithin bound g held s
   within-apart s set apart = record { closed = set; within = λ v member. early-unbarred bound g held v ((passable-means g held v).1 (set.closed.passable v member)) (apart v member) }
 
@@ -107,7 +108,8 @@ module _ (bound : ℕ) (held : List ℕ) (c d : Netlist)
         omega (arith, less, border s it.closed, border r within);
   }
 
-  -- a circuit whose closed sets are those of another within a bound, with the same borders, has the same sets chosen
+  -- a circuit whose closed sets are those of another within a bound, with equal borders, has its
+  -- sets chosen
   pub chosen-same : (choice : Choice) (s : List ℕ) → IsChosen choice d held s ↔ IsChosenWithin bound choice c held s
   chosen-same Greatest s = (
     (λ it. record { least = least-there s it.least; holds = λ r other v member. it.holds r (least-back r other) v member }),

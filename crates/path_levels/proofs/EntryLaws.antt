@@ -25,7 +25,7 @@ entry-past first n v f entries filled h =
     let long : length entries ≡ n = ap (λ (xs : List ℕ). length xs) filled ∙ length-table first n f in
     entry-from first entries v (omega arith) ∙ get_or_past entries (v - first) 0 (omega arith)
 
--- the entry of a variable up to the end of the table, where those before the table are on the ground
+-- the entry of a variable up to the end of the table, if those before the table have 0
 pub entry-of : (first n v : ℕ) (f : ℕ → ℕ) (entries : List ℕ) → ((w : ℕ) → w < first → f w ≡ 0) → entries ≡ table first n f → v < first + n → entry_at first entries v ≡ f v
 entry-of first n v f entries ground filled h = elim (cases_lt v first) [
   | inl lt ↦ entry-before first entries v lt ∙ sym (ground v lt)

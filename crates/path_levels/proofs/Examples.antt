@@ -9,7 +9,8 @@ use Rattle.path_levels.specs.Levels.{level, levels}
 use Rattle.path_levels.specs.Arrivals.{arrival}
 use Rattle.path_levels.specs.Bounded.{is_barred, bounded}
 
--- four inputs, a latch over each, 5 to 8, the gates of two and two of them, 9 and 10, and of these gates, 11, which an output reads
+-- Four inputs, and a latch over each, 5 to 8. The gates 9 and 10 are of two and two of them. The
+-- gate 11 is of these gates, and an output reads it.
 tree : Netlist
 tree = record {
   aig = record {
@@ -26,7 +27,8 @@ arrivals_in_tree :
 unfolding arrival level levels fold_gates fold_to_depth tree
 arrivals_in_tree = (refl, refl, refl, refl, refl)
 
--- by a bound of 1 the last gate is barred, by one of 2 none; with the first latch held the last gate isn't passable, so a bound of 1 bars none
+-- By a bound of 1 the last gate is barred, by one of 2 none. With the first latch held the last
+-- gate isn't passable, so a bound of 1 bars none.
 barred_in_tree :
     (is_barred 1 tree.aig [] 9 ≡ false) × (is_barred 1 tree.aig [] 11 ≡ true) × (is_barred 2 tree.aig [] 11 ≡ false) × (is_barred 0 tree.aig [] 9 ≡ true)
     × (is_barred 0 tree.aig [] 5 ≡ false) × (is_barred 1 tree.aig (0 ∷ []) 11 ≡ false)
@@ -40,8 +42,8 @@ bounded_tree :
 unfolding bounded is_barred is_passable is_settled arrival level fold_gates fold_to_depth tree
 bounded_tree = (refl, refl, refl, refl)
 
--- four inputs, the gates 7, 8 and 9 one above the other, a latch over the last of them, negated, and one over an input, 5 and 6, and the gate
--- of both latches, 10, which an output reads
+-- Four inputs, and the gates 7, 8 and 9 one above the other. A latch, 5, is over the last of them,
+-- negated, and one, 6, over an input. The gate of both latches, 10, is read by an output.
 late : Netlist
 late = record {
   aig = record {

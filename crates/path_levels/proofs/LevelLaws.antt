@@ -33,7 +33,8 @@ depth-bound g leaf most low (suc n) v =
     step-bound leaf (most + n) (fold_to_depth g leaf one_above n) (λ w. depth-bound g leaf most low n w) (λ w. omega (arith, low w)) v (gate_at g v) in
     omega (arith, step)
 
--- what rises gate by gate from ground that has a bound is at most as many more than the bound as there are variables up to its own
+-- what rises gate by gate from a bounded start is above the bound by at most the number of
+-- variables up to its own
 pub rise-bound : (g : Graph) (leaf : ℕ → ℕ) (most : ℕ) → ((w : ℕ) → leaf w ≤ most) → (v : ℕ) → fold_gates g leaf one_above v ≤ most + suc v
 unfolding fold_gates
 rise-bound g leaf most low v = depth-bound g leaf most low (suc v) v
@@ -94,7 +95,7 @@ levels-are c entries next all filled is_next is_all =
     ∙ sym (fold-append (λ high lit. max high (entry_at (first_gate c.aig) entries (variable lit))) 0 (map (λ latch. latch.next) c.aig.latches) (property_literals c.props))
     ∙ ap (λ (f : ℕ → ℕ). highest f 0 (read_literals c)) same
 
--- the same by a graph, properties and latches that are those of the circuit
+-- levels by a graph, properties and latches that are those of the circuit
 pub levels-by : (c : Netlist) (g : Graph) (props : Props) (first : ℕ) (entries : List ℕ) (latches : List Latch) (next all : ℕ) → g ≡ c.aig → props ≡ c.props → first ≡ first_gate g
     → entries ≡ table (first_gate g) (length g.gates) (level g) → latches ≡ g.latches
     → next ≡ highest (entry_at first entries) 0 (map (λ latch. latch.next) latches)

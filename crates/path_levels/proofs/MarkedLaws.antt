@@ -69,7 +69,7 @@ unmarked-at first marks none v = elim (cases_lt (v - first) (length marks)) [
   | inr ge ↦ ap (λ (b : Bool). nat_le first v && b) (get_or_past marks (v - first) false ge) ∙ and_right (nat_le first v) false refl
 ]
 
--- where no gate is marked none is barred
+-- if no gate is marked none is barred
 pub none-barred : (bound : ℕ) (held : List ℕ) (h g : Graph) (marks read : List Bool) → g ≡ h → marks ≡ table (first_gate g) (length g.gates) (is_barred bound g held) → read ≡ marks
     → All (λ mark. mark ≡ false) read → NoneBarred bound h held
 none-barred bound held h g marks read same filled is_read none v =

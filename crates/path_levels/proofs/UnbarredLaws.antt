@@ -1,5 +1,5 @@
--- The passable gates of a bounded circuit are those that aren't barred: arrivals rise along fan-outs, so what a gate that isn't barred rests on
--- isn't barred either.
+-- The passable gates of a bounded circuit are those that aren't barred. Arrivals rise along
+-- fan-outs, so what a gate that isn't barred reads isn't barred either.
 use Rattle.std.proofs.Common.{ℕ, ◌<◌, ◌≤◌, ◌≡◌, ◌∙◌, inl, inr, suc, zero, Bool, true, false, not, ◌&&◌, nat_lt, List, Option, Some, None, is_some, refl, sym, ap, ap₂, arith}
 use Rattle.std.specs.Prelude.{max}
 use Rattle.std.proofs.Math.Bool.{and_assoc, and-true}
@@ -51,7 +51,7 @@ no-gate : (o : Option Gate) → is_some o ≡ false → o ≡ None
 no-gate None e = refl
 no-gate (Some gate) e = absurd (cc)
 
--- both fan-ins are settled and not barred where the gate is settled and isn't barred
+-- both fan-ins are settled and not barred if the gate is settled and isn't barred
 four : (s0 n0 s1 n1 : Bool) → ((s0 && s1) ≡ true → (n0 ≡ true) × (n1 ≡ true)) → ((s0 && n0) && (s1 && n1)) ≡ (s0 && s1)
 four false n0 s1 n1 rests = refl
 four true n0 false n1 rests = and_right n0 false refl

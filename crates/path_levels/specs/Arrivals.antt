@@ -1,4 +1,5 @@
--- When what a latch behind a gate would be fed by arrives, and closed sets of gates that arrive within a bound.
+-- The arrival of what a latch behind a gate would be fed by, and closed sets of gates that arrive
+-- within a bound.
 use Rattle.std.specs.Prelude.{ℕ, ◌≤◌, List, Option, Some, None, Contains}
 use Rattle.aig_graph.specs.declared.graph.Latch.{Latch}
 use Rattle.aig_graph.specs.Graph.{Graph, variable, latch_at}
@@ -11,7 +12,7 @@ use Rattle.aig_graph.specs.declared.choice.Choice.{Choice}
 use Rattle.aig_graph.specs.declared.choice.Choice.TheVariants.{Greatest, Smallest}
 use Rattle.path_levels.specs.Levels.{level, one_above}
 
--- the level of a latch's next literal; 0 where there is no latch
+-- the level of a latch's next literal; 0 if there is no latch
 abbrev pub level_of_next : Graph → Option Latch → ℕ
 level_of_next g None = 0
 level_of_next g (Some latch) = level g (variable latch.next)
@@ -20,9 +21,10 @@ level_of_next g (Some latch) = level g (variable latch.next)
 abbrev pub next_level : Graph → ℕ → ℕ
 next_level g v = level_of_next g (latch_at g v)
 
--- The arrival of a latch is the level of its next literal, that of a gate one more than the greater arrival of its fan-ins: the level of what
--- a latch behind the gate would be fed by, if latches move over all gates below it too. They do, since a set is closed under fan-in; so the
--- arrival is a number of the gate alone, whatever the set.
+-- The arrival of a latch is the level of its next literal, that of a gate the greater arrival of
+-- its fan-ins plus one. It is the level of what a latch behind the gate would be fed by, if latches
+-- move over all gates below it too. They do, since a set is closed under fan-in. So the arrival is
+-- a number of the gate alone, whatever the set.
 unfoldable pub arrival : Graph → ℕ → ℕ
 arrival g v = fold_gates g (next_level g) one_above v
 

@@ -1,6 +1,7 @@
--- A circuit of which the gates past a bound aren't passable: each reads the constant alone, and what it read is read by outputs. So the closed
--- sets of this circuit are those of the circuit whose gates arrive within the bound, and their borders are the same. Nothing else is asked of
--- it, so it has no names, and outputs in the place of all properties.
+-- A circuit of which the gates past a bound aren't passable. Each reads the constant alone, and
+-- what it read is read by outputs. So the closed sets of this circuit are those of the circuit
+-- whose gates arrive within the bound, with their borders. Nothing else is asked of it, so it has
+-- no names, and outputs in the place of all properties.
 use Rattle.std.specs.Prelude.{ℕ, ◌++◌, ◌&&◌, ◌↔◌, ◌≡◌, Bool, false, not, nat_lt, List, [], ◌∷◌, map, if◌then◌else◌}
 use Rattle.std.specs.List.{enumerate_from, flat_map}
 use Rattle.aig_graph.specs.declared.graph.Gate.{Gate}
@@ -20,15 +21,15 @@ use Rattle.path_levels.specs.Arrivals.{arrival, IsClosedWithin, IsChosenWithin}
 unfoldable pub is_barred : ℕ → Graph → List ℕ → ℕ → Bool
 is_barred bound g held v = is_passable g held v && nat_lt bound (arrival g v)
 
--- a gate, or where it is barred the one that reads the constant alone
+-- a gate, or if it is barred the one that reads the constant alone
 abbrev pub gate_left : Bool → Gate → Gate
 gate_left barred gate = if barred then gate_of 0 0 else gate
 
--- what a gate reads where it is barred
+-- what a gate reads if it is barred
 abbrev pub reads_barred : Bool → Gate → List ℕ
 reads_barred barred gate = if barred then gate.rhs0 ∷ gate.rhs1 ∷ [] else []
 
--- the gates, where those that pass a test are barred
+-- the gates, with those barred that pass a test
 abbrev pub gates_left : (ℕ → Bool) → Graph → List Gate
 gates_left test g = map (λ e. gate_left (test e.0) e.1) (enumerate_from (first_gate g) g.gates)
 
@@ -55,8 +56,9 @@ bounded bound held c = with_barred (is_barred bound c.aig held) c
 abbrev pub NoneBarred : ℕ → Graph → List ℕ → Type 0
 NoneBarred bound g held = (v : ℕ) → is_barred bound g held v ≡ false
 
--- The law of a bounded circuit: it is a circuit over the same variables with the same latches; its passable gates are those that aren't barred,
--- and its closed sets those whose gates arrive within the bound, with the same borders; so what is chosen in it is what is chosen among those.
+-- The law of a bounded circuit. It is a circuit over these variables with these latches. Its
+-- passable gates are those that aren't barred. Its closed sets are those whose gates arrive within
+-- the bound, with their borders. So what is chosen in it is what is chosen among those.
 pub record BoundedLaw (bound : ℕ) (held : List ℕ) (c : Netlist) : Type 0 where
   pub graph : IsGraph (bounded bound held c).aig
   pub netlist : IsNetlist (bounded bound held c)
@@ -66,7 +68,7 @@ pub record BoundedLaw (bound : ℕ) (held : List ℕ) (c : Netlist) : Type 0 whe
   pub closed : (s : List ℕ) → IsClosedSet (bounded bound held c).aig held s ↔ IsClosedWithin bound c.aig held s
   pub border : (s : List ℕ) → IsClosedWithin bound c.aig held s → border_size (move_of (bounded bound held c) held s) ≡ border_size (move_of c held s)
   pub chosen : (choice : Choice) (s : List ℕ) → IsChosen choice (bounded bound held c) held s ↔ IsChosenWithin bound choice c held s
-  -- where no gate is barred the circuit serves as it is
+  -- if no gate is barred the circuit serves as it is
   pub unbarred : NoneBarred bound c.aig held → (choice : Choice) (s : List ℕ) → IsChosen choice c held s ↔ IsChosenWithin bound choice c held s
 
 -- the laws of the bounded circuit, for every bound, list of held latches and circuit

@@ -15,7 +15,8 @@ ground_level v = 0
 abbrev pub one_above : Gate → ℕ → ℕ → ℕ
 one_above gate a b = suc (max a b)
 
--- the level of a variable: how many gates are on the longest way up to it from inputs and latches, itself among them
+-- the level of a variable: the number of gates on the longest path up to it from inputs and
+-- latches, itself among them
 unfoldable pub level : Graph → ℕ → ℕ
 level g v = fold_gates g ground_level one_above v
 
@@ -31,6 +32,6 @@ read_literals c = map (λ latch. latch.next) c.aig.latches ++ property_literals 
 unfoldable pub levels : Netlist → ℕ
 levels c = highest (level c.aig) 0 (read_literals c)
 
--- a variable's entry in a table from a first variable on; 0 where there is none
+-- a variable's entry in a table from a first variable on; 0 if there is none
 unfoldable pub entry_at : ℕ → List ℕ → ℕ → ℕ
 entry_at first entries v = if nat_le first v then slice_index_or entries (v - first) 0 else 0

@@ -1,5 +1,6 @@
-//! When what a latch behind a gate would be fed by arrives, in one pass: latches come before gates, and fan-ins before their gates, so
-//! their arrivals are there when a gate is met. The table begins at the first latch, since nothing before it moves.
+//! Arrivals in one pass: a gate's is the latest of what a latch behind it would be fed by. Latches
+//! come before gates, and fan-ins before their gates, so their arrivals are there when a gate is
+//! met. The table begins at the first latch, since nothing before it moves.
 ghost use Rattle.std.specs.Prelude.{◌≡◌, IfOk, length};
 ghost use Rattle.aig_graph.specs.Tables.{table};
 ghost use Rattle.aig_graph.specs.Graph.{first_latch, latches_and_gates};
@@ -10,7 +11,7 @@ use crate::leveling::gate_levels;
 use aig_graph::{Aig, NoMemory};
 use std::alloc::Global;
 
-/// The arrival of each latch, with room for those of the gates.
+/// Returns the arrival of each latch, with room for those of the gates.
 fn latch_arrivals(alloc: Global, aig: &Aig) -> Result<Vec<u32>, NoMemory>
     ensures { IfOk result (λ arrivals. arrivals.items
         ≡ table (first_latch aig.now) (length aig.now.latches) (arrival aig.now)) }
@@ -24,7 +25,7 @@ fn latch_arrivals(alloc: Global, aig: &Aig) -> Result<Vec<u32>, NoMemory>
     Ok(arrivals)
 }
 
-/// The arrival of each latch and each gate.
+/// Returns the arrival of each latch and each gate.
 pub(crate) fn arrivals(alloc: Global, aig: &Aig) -> Result<Vec<u32>, NoMemory>
     ensures { IfOk result (λ arrivals. arrivals.items
         ≡ table (first_latch aig.now) (latches_and_gates aig.now) (arrival aig.now)) }

@@ -1,4 +1,5 @@
-//! Which gates a bound bars: those over which latches could move, but for what would be fed to a latch behind them arriving too late.
+//! The gates that a bound bars. Latches could move over them, but would be fed by what arrives too
+//! late.
 ghost use Rattle.std.specs.Prelude.{◌≡◌, ◌&&◌, IfOk, length, nat_lt};
 ghost use Rattle.aig_graph.specs.Tables.{table};
 ghost use Rattle.aig_graph.specs.Graph.{first_gate};
@@ -10,15 +11,15 @@ use aig_graph::{Aig, Keep, NoMemory};
 use frame_net::passable;
 use std::alloc::Global;
 
-/// Whether a gate, if it is passable, arrives past the bound.
+/// Returns true if a gate is passable and arrives past the bound.
 fn is_late(is_passable: bool, arrival: u32, bound: u32) -> bool
     ensures { result ≡ (is_passable && nat_lt bound arrival) }
 {
     is_passable && bound < arrival
 }
 
-/// The marks of the passable gates that arrive past the bound, from the first gate on. Linear in the graph, but for a search among the
-/// held latches.
+/// Marks the passable gates that arrive past the bound, from the first gate on. Linear in the
+/// graph, but for a search among the held latches.
 pub(crate) fn barred_gates(
     alloc: Global,
     aig: &Aig,

@@ -1,4 +1,5 @@
-//! The circuit of which the gates past a bound are no longer passable: networks, flows, judges and certificates work on it as they are.
+//! The circuit of which the gates past a bound are no longer passable. Networks, flows, judges and
+//! certificates work on it as they are.
 ghost use Rattle.std.specs.Prelude.{◌≡◌, ◌+◌, ◌≤◌, ◌++◌, ◌↔◌, IsTrue, All, IfOk, OnOk, MatchOption, false, length, map};
 ghost use Rattle.std.specs.List.{enumerate_from, flat_map};
 ghost use Rattle.aig_graph.specs.Marking.{mark_at};
@@ -12,7 +13,7 @@ use aig_graph::{
 };
 use std::alloc::Global;
 
-/// A gate, or where it is barred the one that reads the constant alone.
+/// Returns the gate, or if it is barred the one that reads the constant alone.
 fn gate_left(barred: bool, gate: Gate) -> Gate
     ensures { result ≡ gate_left barred gate }
 {
@@ -23,7 +24,7 @@ fn gate_left(barred: bool, gate: Gate) -> Gate
     }
 }
 
-/// What is left of each gate, by the marks of the barred ones.
+/// Returns what is left of each gate, by the marks of the barred ones.
 fn gates_left(
     alloc: Global,
     barred: &[bool],
@@ -89,7 +90,7 @@ fn graph_left(alloc: Global, aig: &Aig, barred: &[bool]) -> Result<Aig, NoMemory
     Ok(Aig::from_parts(aig.inputs(), latches, gates))
 }
 
-/// The circuit in which the marked gates are barred.
+/// Returns the circuit in which the marked gates are barred.
 fn with_barred(alloc: Global, circuit: &Circuit, barred: &[bool]) -> Result<Circuit, NoMemory>
     ensures { IfOk result (λ left. left
         ≡ with_barred (mark_at (first_gate circuit.now.aig) barred.now) circuit.now) }
@@ -101,9 +102,10 @@ fn with_barred(alloc: Global, circuit: &Circuit, barred: &[bool]) -> Result<Circ
     Ok(Circuit::new(aig, props, Symbols::none(alloc)))
 }
 
-/// The circuit of which the gates that arrive past the bound are no longer passable. Its closed sets are those of the circuit whose gates
-/// arrive within the bound, and their borders are the same ([`bounded_law`](crate::bounded_law)). Linear in the circuit, but for a search
-/// among the held latches. It has no names, and outputs in the place of all properties.
+/// Makes the gates that arrive past the bound no longer passable. The closed sets of the result are
+/// those of the circuit whose gates arrive within the bound, with their borders
+/// ([`bounded_law`](crate::bounded_law)). Linear in the circuit, but for a search among the held
+/// latches. It has no names, and outputs in the place of all properties.
 ///
 /// # Errors
 ///
@@ -120,14 +122,15 @@ pub fn bounded(
     with_barred(alloc, circuit, barred.as_slice())
 }
 
-/// Whether no mark is set.
+/// Returns true if no mark is set.
 fn is_unmarked(marks: &[bool]) -> bool
     ensures { IsTrue result ↔ All (λ mark. mark ≡ false) marks.now }
 {
     marks.iter().all(|mark| !*mark)
 }
 
-/// The same, and `None` where no passable gate arrives past the bound: then the circuit serves as it is, and nothing is copied.
+/// Returns [`bounded`] of a circuit, or `None` if no passable gate arrives past the bound. The
+/// circuit then serves as it is, and nothing is copied.
 ///
 /// # Errors
 ///

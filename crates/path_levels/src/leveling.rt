@@ -1,5 +1,6 @@
-//! How deep a circuit is, in one pass: fan-ins come before their gates, so their levels are there when a gate is met. The table begins
-//! at the first gate, since all before it are on the ground.
+//! The levels of a circuit, in one pass: fan-ins come before their gates, so their levels are there
+//! when a gate is met. The table begins at the first gate, since all variables before it have level
+//! 0.
 ghost use Rattle.std.specs.Prelude.{◌≡◌, IfOk, map, length};
 ghost use Rattle.std.specs.List.{flat_map};
 ghost use Rattle.aig_graph.specs.Tables.{table};
@@ -11,7 +12,7 @@ use crate::entries::{entry_above, entry_at};
 use aig_graph::{Aig, Circuit, Latch, Lit, NoMemory, Props, Sequence};
 use std::alloc::Global;
 
-/// The level of each gate.
+/// Returns the level of each gate.
 pub(crate) fn gate_levels(alloc: Global, aig: &Aig) -> Result<Vec<u32>, NoMemory>
     ensures { IfOk result (λ entries. entries.items
         ≡ table (first_gate aig.now) (length aig.now.gates) (level aig.now)) }
@@ -25,7 +26,7 @@ pub(crate) fn gate_levels(alloc: Global, aig: &Aig) -> Result<Vec<u32>, NoMemory
     Ok(entries)
 }
 
-/// The greatest of a level and those of the literals.
+/// Returns the greatest of a level and those of the literals.
 fn highest(first: u32, entries: &[u32], level: u32, lits: &[Lit]) -> u32
     ensures { result ≡ highest (entry_at first entries.now) level lits.now }
 {
@@ -36,7 +37,7 @@ fn highest(first: u32, entries: &[u32], level: u32, lits: &[Lit]) -> u32
     high
 }
 
-/// The greatest level of what latches read.
+/// Returns the greatest level of the literals that latches read.
 fn highest_next(first: u32, entries: &[u32], latches: &[Latch]) -> u32
     ensures { result ≡ highest (entry_at first entries.now) 0
         (map (λ latch. latch.next) latches.now) }
@@ -48,7 +49,7 @@ fn highest_next(first: u32, entries: &[u32], latches: &[Latch]) -> u32
     high
 }
 
-/// The greatest of a level and those of the literals of justice properties.
+/// Returns the greatest of a level and those of the literals of justice properties.
 fn highest_justice(first: u32, entries: &[u32], level: u32, justice: &[Sequence<Lit>]) -> u32
     ensures { result ≡ highest (entry_at first entries.now) level
         (flat_map (λ lits. lits) justice.now) }
@@ -60,7 +61,7 @@ fn highest_justice(first: u32, entries: &[u32], level: u32, justice: &[Sequence<
     high
 }
 
-/// The greatest of a level and those of the literals of properties.
+/// Returns the greatest of a level and those of the literals of properties.
 fn highest_property(first: u32, entries: &[u32], level: u32, props: &Props) -> u32
     ensures { result ≡ highest (entry_at first entries.now) level (property_literals props.now) }
 {
@@ -71,8 +72,8 @@ fn highest_property(first: u32, entries: &[u32], level: u32, props: &Props) -> u
     highest(first, entries, high, props.fairness.as_slice())
 }
 
-/// The levels of a circuit: how many gates are on its longest way from inputs and latches to latches and properties. Linear in the
-/// circuit, by a table of its gates.
+/// Returns the levels of a circuit: the number of gates on its longest path from inputs and latches
+/// to latches and properties. Linear in the circuit, by a table of its gates.
 ///
 /// # Errors
 ///

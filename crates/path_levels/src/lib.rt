@@ -1,5 +1,5 @@
-//! How many gates are on the paths of a circuit, and a bound on them: levels, arrivals, and the circuit of which gates past a bound are no
-//! longer passable.
+//! The number of gates on the paths of a circuit, and a bound on it. Has levels, arrivals, and
+//! circuits whose gates past a bound are no longer passable.
 #![tactic(auto)]
 
 mod arriving;

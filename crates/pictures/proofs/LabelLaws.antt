@@ -10,7 +10,7 @@ not_true : (b : Bool) → (b ≡ true → ⊥) → false ≡ b
 not_true true h = absurd (h refl)
 not_true false h = refl
 
--- bytes are UTF-8 exactly where they can be read as such
+-- bytes are UTF-8 if and only if they can be read as such
 pub utf8_test : {T E : Type 0} (P : T → Type 0) (Q : E → Type 0) (r : Result T E) (bs : List ℕ)
     → MatchResult r (λ s. P s × IsUtf8 bs) (λ e. ¬ (IsUtf8 bs) × Q e) → is_ok r ≡ is_utf8 bs
 utf8_test P Q (Ok s) bs is = sym (is_utf8-from_IsUtf8 bs is.1)

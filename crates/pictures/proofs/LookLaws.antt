@@ -26,7 +26,7 @@ alone_at c held pass is v =
     ap (λ (b : Bool). look_by (is_held c.aig held v) (not b) false false)
     (has-passable c.aig held pass.first pass.marks.items v is.first is.marks)
 
--- where no set is shown
+-- if no set is shown
 pub alone_is : (c : Netlist) (held : List ℕ) (pass : PassSet) (g : Graph) (looks : List Look) → g ≡ c.aig → IsPassSet g held pass
     → looks ≡ looks_by g (look_alone g held pass) → looks ≡ looks_by c.aig (look_of c held None)
 alone_is c held pass g looks same =
@@ -47,7 +47,7 @@ module _ (c : Netlist) (held s : List ℕ) (pass : PassSet) (read : List Bool) w
       (has-passable c.aig held pass.first pass.marks.items v is.first is.marks)
       (mark_at-covered (first_latch c.aig) read (is_read c s) v marked low (omega (arith, high, long)))
 
--- where a set is shown
+-- if a set is shown
 pub with_is : (c : Netlist) (held s : List ℕ) (pass : PassSet) (read : List Bool) (g : Graph) (looks : List Look) → g ≡ c.aig → IsPassSet g held pass
     → read ≡ table (first_latch c.aig) (latches_and_gates c.aig) (is_read c s)
     → looks ≡ looks_by g (look_with g held pass s read) → looks ≡ looks_by c.aig (look_of c held (Some s))

@@ -11,11 +11,11 @@ use Rattle.aig_graph.specs.Circuits.{Netlist}
 use Rattle.pictures.specs.Near.{is_centre, is_near, is_next}
 use Rattle.aig_graph.proofs.StreamLaws.{funext}
 
--- where the condition holds, the marks of a test are those of the condition and the test together
+-- if the condition holds, the marks of a test are those of the condition and the test together
 pub marks-where : (old new : List Bool) (p : ℕ → Bool) (holds test : Bool) → test ≡ holds → test ≡ true → Marks 0 old new p → Marks 0 old new (λ v. holds && p v)
 marks-where old new p holds test same passes marks = subst (λ (b : Bool). Marks 0 old new (λ v. b && p v)) (sym passes ∙ same) marks
 
--- where the condition doesn't hold, no mark is added for it and any test together
+-- if the condition doesn't hold, no mark is added for it and any test together
 pub marks-nowhere : (old : List Bool) (p : ℕ → Bool) (holds test : Bool) → test ≡ holds → test ≡ false → Marks 0 old old (λ v. holds && p v)
 marks-nowhere old p holds test same fails = subst (λ (b : Bool). Marks 0 old old (λ v. b && p v)) (sym fails ∙ same) (Marks-none 0 old)
 

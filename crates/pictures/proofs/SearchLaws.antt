@@ -11,7 +11,7 @@ module _ {X : Type 0} (p : X → Bool) where
   any-found (y ∷ xs) zero x h there passes = ap (λ (b : Bool). b || list_any p xs) (sym (ap p there) ∙ passes)
   any-found (y ∷ xs) (suc i) x h there passes = or_right (p y) _ (any-found xs i x (omega (arith, h)) there passes)
 
-  -- where one fails, not all pass
+  -- if one fails, not all pass
   pub all-fails : (xs : List X) (i : ℕ) (x : X) → i < length xs → x ≡ get_or xs i x → p x ≡ false → list_all p xs ≡ false
   all-fails [] i x h there fails = absurd (omega (arith, h))
   all-fails (y ∷ xs) zero x h there fails = ap (λ (b : Bool). b && list_all p xs) (sym (ap p there) ∙ fails)

@@ -1,4 +1,4 @@
--- Texts that stand only where something holds, and lines that are numbered.
+-- Texts that stand only if something holds, and lines that are numbered.
 use Rattle.std.proofs.Common.{ℕ, ◌+◌, ◌%◌, ◌<◌, ◌≤◌, ◌≡◌, Bool, true, false, List, length, take, get_or, arith, sym, ◌∙◌, subst, refl}
 use Rattle.std.specs.Prelude.{◌==◌, ◌↔◌, IsTrue}
 use Rattle.std.proofs.lemmas.Bool.{false≢true, ne_eqb}
@@ -10,21 +10,21 @@ use Rattle.counted_io.specs.declared.buffered.Buffered.{Buffered}
 use Rattle.counted_io.proofs.BufferedLaws.{puts-nothing, puts-numbered_next}
 use Rattle.pictures.specs.Nodes.{only_if}
 
--- a literal is odd where it is a negation
+-- a literal is odd if it is a negation
 pub odd_test : (lit : ℕ) (negated : Bool) → IsTrue negated ↔ (lit % 2 ≡ 1) → negated ≡ (lit % 2 == 1)
 odd_test lit true odd = rw (odd.0 refl) refl
 odd_test lit false odd = sym (ne_eqb (lit % 2) 1 (λ is. false≢true (odd.1 is)))
 
 module _ {W : Type 0} {output : W → Output} where
-  -- a text that was put where its condition holds is what stands there under the condition
+  -- a text that was put if its condition holds is what stands there under the condition
   pub puts-drawn : {b c : Buffered W} {holds test : Bool} {text : List ℕ} → test ≡ holds → test ≡ true → Puts output b c text → Puts output b c (only_if holds text)
   puts-drawn {b} {c} {text = text} same true_test puts = subst (λ (x : Bool). Puts output b c (only_if x text)) (sym true_test ∙ same) puts
 
-  -- where the condition of a text doesn't hold, nothing has to be put for it
+  -- if the condition of a text doesn't hold, nothing has to be put for it
   pub puts-undrawn : {b : Buffered W} {holds test : Bool} (text : List ℕ) → test ≡ holds → test ≡ false → Puts output b b (only_if holds text)
   puts-undrawn {b} text same false_test = subst (λ (x : Bool). Puts output b b (only_if x text)) (sym false_test ∙ same) (puts-nothing b)
 
-  -- one more line, where they are numbered from 0 on
+  -- one more line, if they are numbered from 0 on
   pub puts-numbered_up : {X : Type 0} {b c d : Buffered W} (f : ℕ → X → List ℕ) (xs : List X) (k : ℕ) (x : X) → k < length xs → x ≡ get_or xs k x
       → Puts output b c (numbered_lines f 0 (take k xs)) → Puts output c d (f k x) → Puts output b d (numbered_lines f 0 (take (k + 1) xs))
   puts-numbered_up {c = c} {d = d} f xs k x h there before line =

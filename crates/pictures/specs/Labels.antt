@@ -17,7 +17,8 @@ hex_byte b = codes "\\\\x" ++ hex_digit (b / 16) ∷ hex_digit (b % 16) ∷ []
 abbrev pub other_byte : Bool → ℕ → List ℕ
 other_byte utf8 b = if stands utf8 b then b ∷ [] else hex_byte b
 
--- a byte in a label: what would end the text, begin another character or break a line is written so that it is shown as it is
+-- A byte in a label. What would end the text, begin another character or break a line is written so
+-- that it is shown as it is.
 unfoldable pub label_byte : Bool → ℕ → List ℕ
 label_byte utf8 b = if b == 34 then codes "\\\"" else (if b == 92 then codes "\\\\" else (if b == 38 then codes "&amp;" else other_byte utf8 b))
 

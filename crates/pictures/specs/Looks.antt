@@ -13,7 +13,7 @@ use Rattle.pictures.specs.Views.{drawn_in}
 use Rattle.pictures.specs.declared.look.Look.{Look}
 use Rattle.pictures.specs.declared.look.View.{View}
 
--- whether the variable is in the set that is shown, or in its border; where none is shown, in neither
+-- whether the variable is in the set that is shown, or in its border; if none is shown, in neither
 abbrev pub is_inside : Netlist → Option (List ℕ) → ℕ → Bool
 is_inside c None v = false
 is_inside c (Some s) v = is_gate_in c.aig s v
@@ -39,7 +39,8 @@ looks_by g look = table (first_latch g) (latches_and_gates g) look
 abbrev pub centre_marks : Netlist → Option (ℕ → Bool) → Option (List Bool)
 centre_marks c centre = option_map (table 0 (variables_end c.aig)) centre
 
--- the looks of a circuit, its held latches and a set, which variables are shown, and which are in the middle
+-- the looks of a circuit, its held latches and a set, the variables that are shown, and those in
+-- the middle
 pub record IsViewOf (c : Netlist) (held : List ℕ) (set : Option (List ℕ)) (shown : ℕ → Bool) (centre : Option (ℕ → Bool)) (view : View) : Type 0 where
   pub first : view.first ≡ first_latch c.aig
   pub looks : view.looks.items ≡ looks_by c.aig (look_of c held set)

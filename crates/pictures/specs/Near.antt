@@ -1,4 +1,4 @@
--- The neighbourhood of what a name names: the variables that are at most so many edges away.
+-- The neighbourhood of what a name names: the variables that are at most n edges away.
 use Rattle.std.specs.Prelude.{ℕ, ◌+◌, ◌==◌, ◌||◌, ◌&&◌, nat_lt, Bool, false, not, suc, zero, List, Some, None, is_some, bytes_eq, if◌then◌else◌}
 use Rattle.std.specs.List.{list_any, enumerate_from}
 use Rattle.aig_graph.specs.declared.graph.Gate.{Gate}
@@ -23,7 +23,7 @@ is_name_of s name = has_name s.inputs name || (has_name s.latches name || is_pro
 abbrev pub has_node : Netlist → List ℕ → Bool
 has_node c name = is_name_of c.symbols name || is_some (place_of c name)
 
--- whether the symbol has the name and is that of the variable, where its kind begins at `first`
+-- whether the symbol has the name and is that of the variable; its kind begins at `first`
 unfoldable pub names_variable : ℕ → List ℕ → ℕ → Symbol → Bool
 names_variable first name v symbol = bytes_eq symbol.name name && (first + symbol.position == v)
 
@@ -51,7 +51,8 @@ is_named c name v =
 abbrev pub is_word_of : Netlist → List ℕ → ℕ → Bool
 is_word_of c word v = elim (place_of c word) [ None ↦ false | Some node ↦ is_at c.props node v ]
 
--- whether the variable is in the middle of the neighbourhood of the name: what has it, or where nothing has it, what a picture calls so
+-- whether the variable is in the middle of the neighbourhood of the name: what has it, or if
+-- nothing does, what a picture calls so
 unfoldable pub is_centre : Netlist → List ℕ → ℕ → Bool
 is_centre c name v = if is_name_of c.symbols name then is_named c name v else is_word_of c name v
 
@@ -74,7 +75,7 @@ unfoldable pub is_next : Graph → (ℕ → Bool) → ℕ → Bool
 is_next g near v =
     list_any (latch_meets near v) (enumerate_from (first_latch g) g.latches) || list_any (gate_meets near v) (enumerate_from (first_gate g) g.gates)
 
--- whether the variable is at most so many edges away from what the name names
+-- whether the variable is at most n edges away from what the name names
 unfoldable pub is_near : Netlist → List ℕ → ℕ → ℕ → Bool
 is_near c name zero v = nat_lt v (variables_end c.aig) && is_centre c name v
 is_near c name (suc depth) v = nat_lt v (variables_end c.aig) && (is_near c name depth v || is_next c.aig (is_near c name depth) v)

@@ -9,17 +9,18 @@ use Rattle.pictures.specs.declared.look.Look.{Look}
 use Rattle.pictures.specs.declared.node.Node.{Node}
 use Rattle.pictures.specs.declared.node.Node.TheVariants.{Variable, Property}
 
--- a text that stands only where something holds
+-- a text that stands only if something holds
 abbrev pub only_if : Bool → List ℕ → List ℕ
 only_if holds text = if holds then text else []
 
--- a variable's node has its literal as its name, a property's the letter of its kind and its position
+-- a variable's node has its literal as its name, a property's the letter of its kind and its
+-- position
 unfoldable pub node_name : Node → List ℕ
 node_name (Variable v) = decimal (2 * v)
 node_name (Property letter position) = letter ∷ decimal position
 
--- the edge from a literal's variable to a node: with a dot at its end where the literal is a negation, dashed where the variable isn't
--- drawn, whose literal alone stands there then
+-- The edge from a literal's variable to a node. It has a dot at its end if the literal is a
+-- negation. It is dashed if the variable isn't drawn, whose literal then stands there alone.
 unfoldable pub edge_line : (ℕ → Bool) → Node → ℕ → List ℕ
 edge_line drawn to lit =
     node_name (Variable (variable lit)) ++ (codes " -> " ++ (node_name to ++ (only_if (lit % 2 == 1) (codes " [arrowhead=odot]")
@@ -44,7 +45,8 @@ latch_line first look v latch =
     node_name (Variable v) ++ (codes " [shape=box,label=l" ++ (decimal (v - first) ++ (reset_mark latch.reset
     ++ (only_if look.held (codes ",peripheries=2") ++ (only_if look.border (codes ",penwidth=3") ++ codes "];\n")))))
 
--- a gate over which no latch may move is gray, one in the set is shaded, one in its border has a bold line
+-- a gate over which no latch may move is gray, one in the set is shaded, one in its border has a
+-- bold line
 unfoldable pub gate_line : Look → ℕ → List ℕ
 gate_line look v =
     node_name (Variable v) ++ (codes " [shape=circle" ++ (only_if look.fixed (codes ",color=gray,fontcolor=gray")

@@ -60,7 +60,7 @@ module _ (look : ℕ → Look) (drawn : ℕ → Bool) where
       flat_map input_lines (range_with_len 1 g.inputs)
       ++ (numbered_lines (latch_lines (first_latch g)) (first_latch g) g.latches ++ numbered_lines gate_lines (first_gate g) g.gates)
 
-  -- a property is drawn where the variables of all its literals are
+  -- a property is drawn if the variables of all its literals are
   abbrev pub are_drawn : List ℕ → Bool
   are_drawn lits = list_all (λ lit. drawn (variable lit)) lits
 
@@ -111,12 +111,14 @@ module _ (look : ℕ → Look) (drawn : ℕ → Bool) where
       flat_map (variable_name 1) c.symbols.inputs ++ (flat_map (variable_name (first_latch c.aig)) c.symbols.latches
       ++ property_names c.props c.symbols)
 
-  -- the picture: its caption, nodes with the edges to them, then what is in the middle, and then the names
+  -- the picture: its caption, nodes with the edges to them, then what is in the middle, and then
+  -- the names
   unfoldable pub dot_text : Option (List Bool) → Netlist → List ℕ
   dot_text centre c =
       codes "digraph circuit {\nrankdir=LR;\nnode [shape=plaintext];\n"
       ++ (legend ++ (graph_lines c.aig ++ (all_properties c.props ++ (centre_lines centre ++ (all_names c ++ codes "}\n")))))
 
--- the picture of a circuit with its held latches, a set or none, the variables that are shown, and those in the middle, if there is one
+-- the picture of a circuit with its held latches, a set or none, the variables that are shown, and
+-- those in the middle
 abbrev pub picture : Netlist → List ℕ → Option (List ℕ) → (ℕ → Bool) → Option (ℕ → Bool) → List ℕ
 picture c held set shown centre = dot_text (look_of c held set) shown (centre_marks c centre) c

@@ -1,4 +1,5 @@
--- What a picture calls a node by its own words: the letter of its kind and its position, or the literal of a gate.
+-- A picture's own words for a node: the letter of its kind and its position, or the literal of a
+-- gate.
 use Rattle.std.specs.Prelude.{ℕ, ◌+◌, ◌/◌, ◌%◌, ◌==◌, ◌&&◌, nat_lt, Bool, false, List, length, drop, get_or, slice_get, Option, Some, None, is_some, if◌then◌else◌}
 use Rattle.std.specs.List.{list_any}
 use Rattle.std.specs.Str.{byte}
@@ -10,7 +11,7 @@ use Rattle.aig_graph.specs.Border.{reads}
 use Rattle.pictures.specs.declared.node.Node.{Node}
 use Rattle.pictures.specs.declared.node.Node.TheVariants.{Variable, Property}
 
--- the node, where there is one
+-- the node, if there is one
 abbrev pub node_if : Bool → Node → Option Node
 node_if there node = if there then Some node else None
 

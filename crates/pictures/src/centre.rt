@@ -1,4 +1,5 @@
-//! What is in the middle of a neighbourhood: what has the name that is asked for, or where nothing has it, what a picture calls so.
+//! The middle of a neighbourhood: what has the name that is asked for, or if nothing has it, what a
+//! picture calls so.
 ghost use Rattle.std.specs.Prelude.{◌≡◌, IfOk};
 ghost use Rattle.aig_graph.specs.Graph.{variables_end};
 ghost use Rattle.pictures.specs.Near.{has_node, is_centre, is_word_of};
@@ -12,7 +13,7 @@ use crate::places::{literals_of, place_of};
 use aig_graph::{Circuit, NoMemory, Props, mark_variable};
 use std::alloc::Global;
 
-/// Whether something in the circuit has the name, or a picture calls something so.
+/// Returns true if something in the circuit has the name, or a picture calls something so.
 pub fn has_node(circuit: &Circuit, name: &[u8]) -> bool
     ensures { result ≡ has_node circuit.now name.now }
 {

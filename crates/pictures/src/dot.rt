@@ -43,12 +43,14 @@ fn put_dot<W: CountedWrite>(out: &mut Buffered<'_, W>, circuit: &Circuit, view: 
 
 /// Writes the picture of a circuit by its view.
 ///
-/// Takes no memory, and calls the writer about once for each 8 KiB of text. Names are written as text that shows them: a byte that is no
-/// printable ASCII is `\xNN`, but for the characters of a name that is UTF-8 as a whole.
+/// Takes no memory, and calls the writer about once for each 8 KiB of text. Names are written as
+/// text that shows them. A byte that is no printable ASCII is `\xNN`, but for the characters of a
+/// name that is UTF-8 as a whole.
 ///
 /// # Errors
 ///
-/// `Device` where a write failed: a beginning of the text was written then, and the writer isn't called again.
+/// `Device` if a write failed: a beginning of the text was written then, and the writer isn't
+/// called again.
 pub fn write_dot<W: CountedWrite>(
     circuit: &Circuit,
     view: &View,

@@ -1,5 +1,5 @@
-//! Inputs, latches and gates, each with the edges that lead to it: so every edge is put once, by the node that reads, and no list
-//! of edges is made.
+//! Inputs, latches and gates, each with the edges that lead to it. So every edge is put once, by
+//! the node that reads, and no list of edges is made.
 ghost use Rattle.std.specs.Prelude.{◌≡◌, ◌+◌, ◌-◌, ◌≤◌, ◌<◌, ◌++◌, [], ◌∷◌, length};
 ghost use Rattle.std.specs.List.{flat_map, range_with_len};
 ghost use Rattle.aig_graph.specs.declared.literal.TheConstants.{MAX_VARIABLES};
@@ -27,7 +27,8 @@ fn put_drawn_input<W: CountedWrite>(out: &mut Buffered<'_, W>, view: &View, var:
     }
 }
 
-/// Puts the inputs that are drawn. A header alone may announce 2^28 of them, so it ends at a write that failed.
+/// Puts the inputs that are drawn. A header alone may announce 2^28 of them, so it ends at a write
+/// that failed.
 fn put_inputs<W: CountedWrite>(out: &mut Buffered<'_, W>, view: &View, inputs: u32)
     requires { inputs < MAX_VARIABLES }
     ensures { Puts W.output out.old out.new (flat_map

@@ -1,5 +1,6 @@
-//! Names of a file are any bytes, while a label of DOT is UTF-8 text in which quotation marks, backslashes and ampersands have a
-//! meaning. So those are escaped, and bytes that are no text are shown by their numbers.
+//! Names of a file are any bytes, while a label of DOT is UTF-8 text in which quotation marks,
+//! backslashes and ampersands have a meaning. So those are escaped, and bytes that are no text are
+//! shown by their numbers.
 ghost use Rattle.std.specs.Prelude.{◌≡◌, ◌<◌};
 ghost use Rattle.std.specs.Str.{is_utf8};
 ghost use Rattle.std.specs.List.{flat_map};
@@ -29,7 +30,7 @@ fn put_hex<W: CountedWrite>(out: &mut Buffered<'_, W>, byte: u8)
     out.put_byte(hex_digit(byte % 16));
 }
 
-/// Whether a byte of a name stands for itself.
+/// Returns true if a byte of a name stands for itself.
 fn stands(utf8: bool, byte: u8) -> bool
     ensures { result ≡ stands utf8 byte }
 {

@@ -1,5 +1,6 @@
-//! Looks begin at the first latch, and marks of what is drawn are there only where something isn't: a header alone may announce
-//! 2^28 inputs, which take no room in a picture of the whole circuit.
+//! The looks of latches and gates. They begin at the first latch, and marks of what is drawn are
+//! there only if something isn't. A header alone may announce 2^28 inputs, which take no room in a
+//! picture of the whole circuit.
 ghost use Rattle.std.specs.Prelude.{◌≡◌, None, Some, option_map};
 ghost use Rattle.pictures.specs.Views.{drawn_in, look_in, plain};
 
@@ -18,8 +19,8 @@ pub struct Look {
     pub border: bool,
 }
 
-/// What a picture shows: how each latch and gate looks, which variables are drawn, and which are in the middle. `View::new` makes the
-/// view of a circuit.
+/// What a picture shows: how each latch and gate looks, which variables are drawn, and which are in
+/// the middle. `View::new` makes the view of a circuit.
 #[derive(Drop)]
 pub struct View {
     first: u32,
@@ -37,7 +38,8 @@ const PLAIN: Look = Look {
 };
 
 impl View {
-    /// The view of these variables, with looks for those from the first latch on, and what is in the middle.
+    /// Returns the view of these variables, with looks for those from the first latch on, and what
+    /// is in the middle.
     pub(crate) fn of_marked(
         first: u32,
         looks: Vec<Look>,
@@ -57,7 +59,7 @@ impl View {
         }
     }
 
-    /// The view of all variables, with looks for those from the first latch on.
+    /// Returns the view of all variables, with looks for those from the first latch on.
     pub(crate) fn of_looks(first: u32, looks: Vec<Look>) -> View
         ensures first { result.first ≡ first }
         ensures looks { result.looks.items ≡ looks.items }
@@ -96,7 +98,7 @@ impl View {
         }
     }
 
-    /// The marks by variable of what is in the middle, where there is one.
+    /// Returns the marks by variable of what is in the middle, if anything is.
     pub(crate) fn centre(&self) -> Option<&[bool]>
         ensures { option_map (λ marks. marks.now) result ≡ self.now.centre }
     {

@@ -26,7 +26,7 @@ fn put_marked<W: CountedWrite>(out: &mut Buffered<'_, W>, marks: &[bool])
     }
 }
 
-/// Puts what is in the middle, where there is one.
+/// Puts what is in the middle, if anything is.
 pub(crate) fn put_centre<W: CountedWrite>(out: &mut Buffered<'_, W>, view: &View)
     ensures { Puts W.output out.old out.new (centre_lines view.now.centre) }
 {

@@ -27,7 +27,7 @@ fn is_among(symbols: &[Symbol], name: &[u8]) -> bool
     false
 }
 
-/// Whether an input, a latch or a property of the circuit has the name.
+/// Returns true if an input, a latch or a property of the circuit has the name.
 #[tactic(auto, unfolding(crate::specs::Near::is_name_of))]
 pub(crate) fn has_name(circuit: &Circuit, name: &[u8]) -> bool
     ensures { result ≡ is_name_of circuit.now.symbols name.now }
@@ -49,7 +49,7 @@ fn is_property_name(symbols: &Symbols, name: &[u8]) -> bool
         || is_among(symbols.fairness.as_slice(), name)
 }
 
-/// Marks a variable where something holds.
+/// Marks a variable if `holds` is true.
 pub(crate) fn mark_where(marks: &mut [bool], holds: bool, var: u32)
     ensures { Marks 0 marks.old marks.new (λ v. holds && (var == v)) }
 {
@@ -77,7 +77,7 @@ fn mark_variables_named(marks: &mut [bool], first: u32, symbols: &[Symbol], name
     }
 }
 
-/// Marks the variable of the literal at a position, where there is one.
+/// Marks the variable of the literal at a position, if there is one.
 pub(crate) fn mark_single(marks: &mut [bool], lits: &[Lit], position: usize)
     ensures { Marks 0 marks.old marks.new (λ v. is_single_read lits.now position v) }
 {
@@ -113,7 +113,7 @@ fn mark_literals(marks: &mut [bool], lits: &[Lit])
     }
 }
 
-/// Marks the variables of the literals at a position, where there are some.
+/// Marks the variables of the literals at a position, if there are some.
 pub(crate) fn mark_justice(marks: &mut [bool], justice: &[Sequence<Lit>], position: usize)
     ensures { Marks 0 marks.old marks.new (λ v. is_justice_read justice.now position v) }
 {

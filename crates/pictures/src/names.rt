@@ -1,5 +1,5 @@
-//! Names come after all nodes: in DOT a later line of a node changes its label. So a name is put where it stands in the circuit's
-//! list, and none is looked for.
+//! Names come after all nodes: in DOT a later line of a node changes its label. So a name is put at
+//! its turn in the circuit's list, and none is looked for.
 ghost use Rattle.std.specs.Prelude.{◌≡◌, ◌+◌, ◌<◌, All};
 ghost use Rattle.std.specs.List.{flat_map};
 ghost use Rattle.aig_graph.specs.declared.literal.TheConstants.{MAX_VARIABLES};
@@ -40,7 +40,8 @@ fn put_variable_name<W: CountedWrite>(
     }
 }
 
-/// Puts the names of the inputs or latches that are drawn, of which the first has the variable `first`.
+/// Puts the names of the inputs or latches that are drawn. The first of them has the variable
+/// `first`.
 fn put_variable_names<W: CountedWrite>(
     out: &mut Buffered<'_, W>,
     view: &View,
@@ -56,7 +57,7 @@ fn put_variable_names<W: CountedWrite>(
     }
 }
 
-/// Whether the property of one literal at a position is there and drawn.
+/// Returns true if the property of one literal at a position exists and is drawn.
 fn is_single_drawn_at(view: &View, lits: &[Lit], position: u32) -> bool
     ensures { result ≡ is_single_drawn_at (look_in view.now) (drawn_in view.now) lits.now position }
 {
@@ -66,7 +67,7 @@ fn is_single_drawn_at(view: &View, lits: &[Lit], position: u32) -> bool
     }
 }
 
-/// Whether the justice property at a position is there and drawn.
+/// Returns true if the justice property at a position exists and is drawn.
 fn is_drawn_at(view: &View, justice: &[Sequence<Lit>], position: u32) -> bool
     ensures { result ≡ is_drawn_at (look_in view.now) (drawn_in view.now) justice.now position }
 {

@@ -1,4 +1,4 @@
-//! Neighbourhoods: what is at most so many edges away.
+//! Neighbourhoods: what is at most a number of edges away.
 ghost use Rattle.std.specs.Prelude.{◌≡◌, ◌+◌, ◌≤◌, ◌==◌, ◌&&◌, not, length, IfOk};
 ghost use Rattle.std.specs.List.{list_any, enumerate_from};
 ghost use Rattle.aig_graph.specs.declared.literal.TheConstants.{MAX_VARIABLES};
@@ -68,7 +68,7 @@ fn mark_next(next: &mut [bool], near: &[bool], aig: &Aig)
     mark_gates(next, near, aig.first_gate(), aig.gates());
 }
 
-/// The marks, and those of what is an edge away.
+/// Adds to the marks what is an edge away from a marked variable.
 fn spread(alloc: Global, aig: &Aig, near: &[bool]) -> Result<Vec<bool>, NoMemory>
     ensures { IfOk result (λ next. Marks 0 near.now next.items
         (is_next aig.now (mark_at 0 near.now))) }
@@ -78,7 +78,8 @@ fn spread(alloc: Global, aig: &Aig, near: &[bool]) -> Result<Vec<bool>, NoMemory
     Ok(next)
 }
 
-/// Marks by variable what is at most so many edges away from what the name names. Linear in the circuit for each of them.
+/// Marks by variable what is at most `depth` edges away from what the name names. Linear in the
+/// circuit for each edge.
 pub(crate) fn near(
     alloc: Global,
     circuit: &Circuit,

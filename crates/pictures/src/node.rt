@@ -16,7 +16,7 @@ pub(crate) enum Node {
     Property(u8, usize),
 }
 
-/// Puts a text where something holds.
+/// Puts a text if `holds` is true.
 pub(crate) fn put_if<W: CountedWrite>(out: &mut Buffered<'_, W>, holds: bool, text: &[u8])
     ensures { Puts W.output out.old out.new (only_if holds text.now) }
 {

@@ -1,4 +1,5 @@
-//! A picture calls a node without a name by the letter of its kind and its position, and a gate by its literal.
+//! A picture calls a node without a name by the letter of its kind and its position, and a gate by
+//! its literal.
 ghost use Rattle.std.specs.Prelude.{◌≡◌, ◌<◌, ◌/◌, true, drop, get_or};
 ghost use Rattle.aig_graph.specs.declared.literal.TheConstants.{MAX_VARIABLES};
 ghost use Rattle.pictures.specs.Places.{gate_place, input_place, is_gate, kind_place, latch_place, literals_of, place_of, property_count, property_place};
@@ -7,7 +8,7 @@ use crate::node::Node;
 use aig_graph::{Aig, Circuit, Lit, Props};
 use file_words::number;
 
-/// Whether the literal is that of a gate, not negated.
+/// Returns true if the literal is that of a gate, not negated.
 fn is_gate(aig: &Aig, lit: u64) -> bool
     ensures value { result ≡ is_gate aig.now lit }
     ensures small { result ≡ true → lit / 2 < MAX_VARIABLES }
@@ -25,7 +26,7 @@ fn gate_place(aig: &Aig, lit: u64) -> Option<Node>
     }
 }
 
-/// How many properties there are of the kind with this letter.
+/// Returns the number of properties of the kind with this letter.
 #[tactic(auto, unfolding(crate::specs::Places::property_count))]
 fn property_count(props: &Props, letter: u8) -> usize
     ensures { result ≡ property_count props.now letter }
@@ -88,21 +89,21 @@ fn kind_place(circuit: &Circuit, letter: u8, position: u64) -> Option<Node>
     }
 }
 
-/// The bytes after the first one.
+/// Returns the bytes after the first one.
 fn after_first(word: &[u8]) -> &[u8]
     ensures { result.now ≡ drop 1 word.now }
 {
     if word.is_empty() { word } else { &word[1..] }
 }
 
-/// The first byte, and 0 where there is none.
+/// Returns the first byte, or 0 if there is none.
 fn first(word: &[u8]) -> u8
     ensures { result ≡ get_or word.now 0 0 }
 {
     word.first().copied().unwrap_or(0)
 }
 
-/// The node that a picture calls by the word, whatever names the file has.
+/// Returns the node that a picture calls by the word, whatever names the file has.
 #[tactic(auto, unfolding(crate::specs::Places::place_of))]
 pub(crate) fn place_of(circuit: &Circuit, word: &[u8]) -> Option<Node>
     ensures { result ≡ place_of circuit.now word.now }
@@ -116,7 +117,7 @@ pub(crate) fn place_of(circuit: &Circuit, word: &[u8]) -> Option<Node>
     }
 }
 
-/// The literals of the properties of a kind that have one each.
+/// Returns the literals of the properties of a kind that have one each.
 #[tactic(auto, unfolding(crate::specs::Places::literals_of))]
 pub(crate) fn literals_of(props: &Props, letter: u8) -> &[Lit]
     ensures { result.now ≡ literals_of props.now letter }

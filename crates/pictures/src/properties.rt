@@ -1,5 +1,5 @@
-//! Properties as nodes, since several may read one literal. A property is drawn where all of its literals are: with some of its
-//! edges alone it would look like another property.
+//! Properties as nodes, since several may read one literal. A property is drawn if all of its
+//! literals are. With some of its edges alone it would look like another property.
 ghost use Rattle.std.specs.Prelude.{◌≡◌};
 ghost use Rattle.std.specs.Str.{byte};
 ghost use Rattle.counted_io.specs.Buffered.{Puts};
@@ -12,7 +12,7 @@ use crate::node::{Node, put_edges, put_node};
 use aig_graph::{Lit, Props, Sequence};
 use counted_io::{Buffered, CountedWrite};
 
-/// Whether the variables of all literals are drawn.
+/// Returns true if the variables of all literals are drawn.
 pub(crate) fn are_drawn(view: &View, lits: &[Lit]) -> bool
     ensures { result ≡ are_drawn (look_in view.now) (drawn_in view.now) lits.now }
 {

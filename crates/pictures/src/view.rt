@@ -14,7 +14,7 @@ use aig_graph::{Aig, Circuit, ClosedSet, Keep, NoMemory, mark_at, mark_read, mar
 use frame_net::{PassSet, passable};
 use std::alloc::Global;
 
-/// How a latch or a gate looks where no set is shown.
+/// Returns the look of a latch or a gate if no set is shown.
 #[tactic(auto, unfolding(crate::specs::Looks::look_alone))]
 fn look_alone(aig: &Aig, keep: &Keep, pass: &PassSet, var: u32) -> Look
     ensures { result ≡ look_alone aig.now keep.now pass.now var }
@@ -42,14 +42,15 @@ fn looks_alone(alloc: Global, aig: &Aig, keep: &Keep, pass: &PassSet) -> Result<
     Ok(looks)
 }
 
-/// Whether the variable is a gate of the set.
+/// Returns true if the variable is a gate of the set.
 fn is_inside(aig: &Aig, set: &ClosedSet, var: u32) -> bool
     ensures { result ≡ is_gate_in aig.now set.now var }
 {
     aig.gate(var).is_some() && set.has(var)
 }
 
-/// Whether a latch or a gate is in the border of the set, by the marks of what is read from outside.
+/// Returns true if a latch or a gate is in the border of the set, by the marks of what is read from
+/// outside.
 fn is_border(aig: &Aig, keep: &Keep, set: &ClosedSet, read: &[bool], var: u32) -> bool
     ensures { result ≡ ((is_known (latch_at aig.now var) || is_gate_in aig.now set.now var) &&
         (is_held aig.now keep.now var || mark_at (first_latch aig.now) read.now var)) }
@@ -58,7 +59,7 @@ fn is_border(aig: &Aig, keep: &Keep, set: &ClosedSet, read: &[bool], var: u32) -
         && (keep.is_held(aig, var) || mark_at(read, aig.first_latch(), var))
 }
 
-/// How a latch or a gate looks where a set is shown.
+/// Returns the look of a latch or a gate if a set is shown.
 #[tactic(auto, unfolding(crate::specs::Looks::look_with))]
 fn look_with(
     aig: &Aig,
@@ -170,12 +171,12 @@ impl View {
     ghost use Rattle.pictures.specs.Looks.{IsViewOf, everything};
     ghost use Rattle.pictures.specs.Near.{is_centre, is_near};
 
-    /// The view of a whole circuit with these latches held. Where a set is given, it is shown with its border. A latch or a gate takes four
-    /// bytes, an input none.
+    /// Returns the view of a whole circuit with these latches held. A set that is given is shown
+    /// with its border. A latch or a gate takes four bytes, an input none.
     ///
     /// # Errors
     ///
-    /// `NoMemory` where memory is refused.
+    /// `NoMemory` if memory is refused.
     pub fn new(
         alloc: Global,
         circuit: &Circuit,
@@ -191,12 +192,14 @@ impl View {
         Ok(View::of_looks(circuit.aig().first_latch(), looks))
     }
 
-    /// The view of what is at most so many edges away from the inputs, latches and properties with a name, or where nothing has it, from
-    /// what a picture calls so; no way goes on from the constant. A variable takes two bytes. Linear in the circuit for each edge.
+    /// Returns the view of what is at most `depth` edges away from the inputs, latches and
+    /// properties with a name. If nothing has the name, it is around what a picture calls so. No
+    /// way goes on from the constant. A variable takes two bytes. Linear in the circuit for each
+    /// edge.
     ///
     /// # Errors
     ///
-    /// `NoMemory` where memory is refused.
+    /// `NoMemory` if memory is refused.
     pub fn around(
         alloc: Global,
         circuit: &Circuit,

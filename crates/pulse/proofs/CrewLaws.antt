@@ -75,7 +75,8 @@ pub labels_ready : (net : FlowNet) (n : ℕ) (labels xs : List ℕ) (qs us seen 
 labels_ready net n labels xs qs us seen en cut len gives es =
     subst (λ (x : List FlowPart). AreLabelled n 0 x) (sym es) (labelled_parts net n us en (cut_after_give net labels xs 0 (node_count net) 0 qs us cut len (parts_delivered net labels xs qs us gives)))
 
--- after a whole Read, a whole delivery and the turn of the labels, the parts hold the state after the pulse
+-- after a whole Read, a whole delivery and the turn of the labels, the parts hold the state after
+-- the pulse
 pub all_pulsed : (net : FlowNet) (labels next : List ℕ) (qs ms us seen : List FlowPart) (rs : List PushPart) → IsFlowNet net → AreFlowParts net 0 ms → Agree (node_count net) (pairs net (cells_of qs) labels) (pairs net (cells_of ms) labels)
     → IsSound net (pairs net (cells_of qs) labels) → AreRead net labels qs rs → length us ≡ length ms → WholesDelivered net labels (values_of rs) ms us → seen ≡ us
     → length labels ≡ node_count net → length next ≡ length labels → ((v : ℕ) → v < length labels → slice_index next v ≡ slice_index (cells_of seen).next v)
@@ -129,7 +130,7 @@ lists_turned net labels xs next qs us seen ok cut len gives es each size turned0
           next = λ done v lo hi. sym (now i d h v lo hi);
         }
 
--- the same of slices, for the number of nodes
+-- lists seen, of slices, for the number of nodes
 pub lists_seen : (net : FlowNet) (ls lseen : List ℕ) (qs seen : List FlowPart) → length ls ≡ node_count net → lseen ≡ ls → seen ≡ qs → ListActive (length ls) ls qs → ListActive (node_count net) lseen seen
 lists_seen net ls lseen qs seen size el es lists =
     subst (λ (x : List FlowPart). ListActive (node_count net) lseen x) (sym es)

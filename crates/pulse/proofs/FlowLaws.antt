@@ -18,7 +18,7 @@ parts_of net f qs ls ds cs b e eb fits = flow_parts net 0 qs ((subst (λ (g : Fl
 pub rows_of : (net : FlowNet) (p : PushState) (ps : List PushPart) (b : Bool) → push_state ps b ≡ p → b ≡ false → ArePushesOf net p → ArePushParts net 0 ps
 rows_of net p ps b e eb fits = push_parts net 0 ps ((subst (λ (g : PushState). ArePushesOf net g) (sym e) fits).ranges eb)
 
--- the same of slices
+-- parts seen, of slices
 pub parts_seen : (net : FlowNet) (f : FlowState) (qs seen : List FlowPart) (ls : List ℕ) (ds : List Bool) (cs : List ℕ) (b : Bool) → flow_state qs ls ds cs b ≡ f → seen ≡ qs → b ≡ false → IsFlowOf net f → AreFlowParts net 0 seen
 parts_seen net f qs seen ls ds cs b e es eb fits = subst (λ (x : List FlowPart). AreFlowParts net 0 x) (sym es) (parts_of net f qs ls ds cs b e eb fits)
 

@@ -11,7 +11,7 @@ use Rattle.pulse.specs.Conditions.{IsBetween, IsFlowOf, state_of}
 use Rattle.pulse.specs.Phases.{AfterPulse}
 use Rattle.pulse.proofs.FlowLaws.{parts_of, flow_unspent, flow_with}
 
--- the same state in other parts
+-- a state in other parts
 pub record IsParting (net : FlowNet) (old new : FlowState) : Type 0 where
   -- the flow is between two pulses
   pub between : IsBetween net new
@@ -22,7 +22,7 @@ pub record IsParting (net : FlowNet) (old new : FlowState) : Type 0 where
 pub between_parts : (net : FlowNet) (f : FlowState) (qs : List FlowPart) (ls : List ℕ) (ds : List Bool) (cs : List ℕ) (b : Bool) → flow_state qs ls ds cs b ≡ f → IsBetween net f → AreFlowParts net 0 qs
 between_parts net f qs ls ds cs b ef between = parts_of net f qs ls ds cs b ef (flow_unspent f qs ls ds cs b ef between.unspent) between.fits
 
--- a flow whose parts were cut anew, with the same state, is between two pulses
+-- a flow whose parts were cut anew, with its state, is between two pulses
 pub parted_state : (net : FlowNet) (f : FlowState) (qs us : List FlowPart) (ls lseen : List ℕ) (ds : List Bool) (cs : List ℕ) (b : Bool) → IsFlowNet net → flow_state qs ls ds cs b ≡ f → lseen ≡ ls → IsBetween net f
     → AreFlowParts net 0 us → Agree (node_count net) (pairs net (cells_of qs) lseen) (pairs net (cells_of us) lseen) → IsParting net f (flow_state us ls ds cs b)
 parted_state net f qs us ls lseen ds cs b ok ef el between cut agree0 =
@@ -40,7 +40,7 @@ parted_state net f qs us ls lseen ds cs b ok ef el between cut agree0 =
       agree = subst (λ (g : FlowState). Agree (node_count net) (state_of net g) (pairs net (cells_of us) ls)) ef agree;
     }
 
--- where cutting anew keeps lists of the active nodes, a flow's parts still list them
+-- if cutting anew keeps lists of the active nodes, a flow's parts still list them
 pub parted_lists : (net : FlowNet) (f : FlowState) (qs us : List FlowPart) (ls lseen : List ℕ) (ds : List Bool) (cs : List ℕ) (b : Bool) → flow_state qs ls ds cs b ≡ f → lseen ≡ ls → IsBetween net f
     → (ListActive (node_count net) lseen qs → ListActive (node_count net) lseen us) → ListActive (length ls) ls qs → ListActive (length ls) ls us
 parted_lists net f qs us ls lseen ds cs b ef el between anew lists =

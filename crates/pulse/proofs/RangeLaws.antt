@@ -35,12 +35,12 @@ push_ranges net v (p ∷ ps) cut =
     let fit = cut.1.0 in
     (cut.0, (record { ordered = fit.ordered; within = fit.within; based = fit.based; sized = fit.sized; listed = fit.lists.within; rest = fit.lists.rest }, push_ranges net p.end ps cut.1.1))
 
--- where parts are the workers' shares, their ranges are the workers'
+-- if parts are the workers' shares, their ranges are the workers'
 pub flow_ranges_of : (nodes workers k : ℕ) (qs : List FlowPart) → AreShares (λ q. q.worker) (λ q. q.first) (λ q. q.end) nodes workers k qs → k + length qs ≡ workers → AreRangesOf (λ r. r.first) (λ r. r.end) nodes workers k (map flow_range qs)
 flow_ranges_of nodes workers k [] shares count = omega (arith, count)
 flow_ranges_of nodes workers k (q ∷ qs) shares count = (shares.0.from, (shares.0.to, flow_ranges_of nodes workers (k + 1) qs shares.1 (omega (arith, count))))
 
--- where parts of pushes are the workers' shares, their ranges are the workers'
+-- if parts of pushes are the workers' shares, their ranges are the workers'
 pub push_ranges_of : (nodes workers k : ℕ) (ps : List PushPart) → AreShares (λ p. p.worker) (λ p. p.first) (λ p. p.end) nodes workers k ps → k + length ps ≡ workers → AreRangesOf (λ r. r.first) (λ r. r.end) nodes workers k (map push_range ps)
 push_ranges_of nodes workers k [] shares count = omega (arith, count)
 push_ranges_of nodes workers k (p ∷ ps) shares count = (shares.0.from, (shares.0.to, push_ranges_of nodes workers (k + 1) ps shares.1 (omega (arith, count))))

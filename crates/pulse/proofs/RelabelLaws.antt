@@ -81,7 +81,7 @@ when_ended n k s off =
 
 -- ---- parts that hold the exact labels
 
--- the same flow in parts that hold the labels
+-- a flow in parts that hold the labels
 pub held_flow : (net : FlowNet) (f : FlowState) (labels ls : List ℕ) (qs us : List FlowPart) (ds : List Bool) (cs : List ℕ) (b : Bool) → IsFlowNet net → length us ≡ length qs → HoldLabels labels qs us
     → IsRelabelled net f (flow_state qs ls ds cs b) → IsRelabelled net f (flow_state us ls ds cs b)
 held_flow net f labels ls qs us ds cs b ok len h r =

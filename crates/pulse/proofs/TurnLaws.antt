@@ -26,7 +26,8 @@ turn_ready f qs seen ls lseen ds cs b e t eq el =
     subst (λ (x : List FlowPart). AreLabelled (length lseen) 0 x) (sym eq)
     (labelled_parts t.net (length lseen) qs (ap length el ∙ fits.labelled.each) (parts_of t.net f qs ls ds cs b e (flow_unspent f qs ls ds cs b e t.unspent) t.fits))
 
--- the new labels of a pulse over a sound state are one for each node, none above the number of nodes
+-- the new labels of a pulse over a sound state are one for each node, none above the number of
+-- nodes
 pub labels_after : (net : FlowNet) (s t : State) (next : List ℕ) → IsSound net s → length next ≡ node_count net → Agree (node_count net) (pulse (node_count net) s) t → ((v : ℕ) → t.label v ≡ slice_index next v) → LabelsFit net next
 labels_after net s t next sound size agree e =
     let valid : IsValid (node_count net) (pulse (node_count net) s) = next_valid (node_count net) s sound.valid in

@@ -68,7 +68,7 @@ NoneActive net f = (v : ℕ) → v < node_count net → is_active (node_count ne
 abbrev pub active_count : FlowNet → FlowState → ℕ
 active_count net f = sum_below (node_count net) (λ v. cond (is_active (node_count net) (state_of net f) v) 1 0)
 
--- a greatest flow of the network, as a preflow: excess that can't reach the sink stays where it is
+-- a greatest flow of the network, as a preflow: excess that can't reach the sink stays
 pub record IsMaxPreflow (net : FlowNet) (m : RunEnd) : Type 0 where
   pub fits : IsFlowOf net m.flow
   pub unspent : m.flow.spent ≡ false
@@ -76,6 +76,7 @@ pub record IsMaxPreflow (net : FlowNet) (m : RunEnd) : Type 0 where
   pub valid : IsValid (node_count net) (state_of net m.flow)
   pub none_active : NoneActive net m.flow
 
--- the end of the run from the start, pulse by pulse, with exact labels after every N-th pulse that leaves a node active
+-- the end of the run from the start, pulse by pulse, with exact labels after every N-th pulse that
+-- leaves a node active
 abbrev pub IsRunEnd : FlowNet → RunEnd → Type 0
 IsRunEnd net m = IsRun net m.pulses (started (node_count net) (pair net net.caps)) (state_of net m.flow)

@@ -1,4 +1,5 @@
--- What contracts see of a flow, of pushes and of a run's end: values by arc and by node, and how the nodes are parted.
+-- What contracts see of a flow, of pushes and of a run's end: values by arc and by node, and the
+-- parts of the nodes.
 use Rattle.std.specs.Prelude.{◌≡◌, ℕ, ◌+◌, ◌-◌, ◌<◌, ◌≤◌, ◌⊎◌, ◌^◌, min, Bool, true, false, List, [], ◌∷◌, length, slice_index, map}
 use Rattle.frame_net.specs.FlowNet.{FlowNet, node_count, start, row_len}
 use Rattle.pulse_parts.specs.declared.parts.FlowPart.{FlowPart}
@@ -7,7 +8,8 @@ use Rattle.pulse_parts.specs.Listing.{AreWithin, IsListed, ListActive}
 use Rattle.pulse_parts.specs.Parts.{Cells, IsParted, cells_of, rows_walked, values_of}
 use Rattle.pulse_parts.specs.Start.{FlowNumbered, border_of}
 
--- the nodes from first up to end, their arcs from base on with the number of these, and the numbers of their excesses and new labels
+-- The nodes from first up to end, their arcs from base on, and the excesses and new labels of the
+-- nodes. Each is given by its number.
 pub record FlowRange : Type 0 where
   pub first : ℕ
   pub end : ℕ
@@ -16,7 +18,8 @@ pub record FlowRange : Type 0 where
   pub excesses : ℕ
   pub labels : ℕ
 
--- the nodes from first up to end, the pushes over their arcs, which lie from base on, and the list of the nodes that push
+-- the nodes from first up to end, the pushes over their arcs, which lie from base on, and the list
+-- of the nodes that push
 pub record PushRange : Type 0 where
   pub first : ℕ
   pub end : ℕ
@@ -55,12 +58,13 @@ pub record PushRangeFits (net : FlowNet) (r : PushRange) : Type 0 where
 abbrev pub AreFlowRanges : FlowNet → ℕ → List FlowRange → Type 0
 AreFlowRanges net v rs = IsParted (FlowRangeFits net) (λ r. r.first) (λ r. r.end) (node_count net) v rs
 
--- the ranges of the pushes' parts stand end to end from a node on to the last one, and have room
--- for their nodes and arcs
+-- The ranges of the pushes' parts stand end to end from a node on to the last one. They have room
+-- for their nodes and arcs.
 abbrev pub ArePushRanges : FlowNet → ℕ → List PushRange → Type 0
 ArePushRanges net v rs = IsParted (PushRangeFits net) (λ r. r.first) (λ r. r.end) (node_count net) v rs
 
--- the ranges are those of the workers from k on, in their order: worker k's nodes begin where the shares of those before it end
+-- The ranges are those of the workers from k on, in their order. Worker k's first node is the end
+-- of the shares of those before it.
 abbrev pub AreRangesOf : {R : Type 0} → (R → ℕ) → (R → ℕ) → ℕ → ℕ → ℕ → List R → Type 0
 AreRangesOf first end nodes workers k [] = k ≡ workers
 AreRangesOf first end nodes workers k (r ∷ rs) = (first r ≡ border_of nodes workers k) × ((end r ≡ border_of nodes workers (k + 1)) × AreRangesOf first end nodes workers (k + 1) rs)
@@ -74,8 +78,9 @@ AreFlowRangesOf nodes workers rs = AreRangesOf (λ r. r.first) (λ r. r.end) nod
 abbrev pub ArePushRangesOf : ℕ → ℕ → List PushRange → Type 0
 ArePushRangesOf nodes workers rs = AreRangesOf (λ r. r.first) (λ r. r.end) nodes workers 0 rs
 
--- a flow: residuals by arc, excess and new labels by node (`cells`); the labels; which nodes were delivered since the last turn;
--- the capacities by arc; and whether a refused delivery has lost the cells
+-- A flow: residuals by arc, excess and new labels by node (`cells`), and the labels. It has the
+-- nodes that were delivered since the last turn, and the capacities by arc. It also tells whether a
+-- refused delivery has lost the cells.
 pub record FlowState : Type 0 where
   pub ranges : List FlowRange
   pub cells : Cells
@@ -89,13 +94,14 @@ abbrev pub flow_state : List FlowPart → List ℕ → List Bool → List ℕ �
 flow_state parts labels delivered caps spent =
     record { ranges = map flow_range parts; cells = cells_of parts; labels = labels; delivered = delivered; caps = caps; spent = spent }
 
--- what a flow keeps beside what contracts see: its parts are the workers' in their order; and where that is noted, their lists hold the active nodes
+-- What a flow keeps beside what contracts see. Its parts are the workers' in their order, and if
+-- that is noted, their lists hold the active nodes.
 pub record FlowKept (listed spent : Bool) (labels : List ℕ) (parts : List FlowPart) : Type 0 where
   pub lists : listed ≡ true → ListActive (length labels) labels parts
   pub numbered : spent ≡ false → FlowNumbered parts
 
--- pushes by arc; whether a refused read phase has lost them; and how many rows were walked for pushes since the last read phase began,
--- up to the greatest count of 32 bits
+-- Pushes by arc, and whether a refused read phase has lost them. Also the number of rows that were
+-- walked for pushes since the last read phase began, up to the greatest count of 32 bits.
 pub record PushState : Type 0 where
   pub ranges : List PushRange
   pub values : List ℕ

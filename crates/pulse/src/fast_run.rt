@@ -1,5 +1,5 @@
 //! Pulses from the start until no node is active, with the global relabeling of Cherkassky and
-//! Goldberg (1997): labels become exact as soon as that is worth its walk. A walk goes over all
+//! Goldberg (1997). Labels become exact as soon as that is worth its walk. A walk goes over all
 //! arcs. One is made at the start, and one each time the rows walked since the last one hold more
 //! than a quarter of the arcs.
 ghost use Rattle.std.specs.Prelude.{◌≡◌, ◌*◌, ◌<◌, ◌≤◌, ◌⊎◌, IfOk, OnOk, false, length};
@@ -31,11 +31,11 @@ use std::thread::Threads;
 /// network's arcs. The run ends with a maximum preflow for every crew, after at most `2 * N * N`
 /// pulses for N nodes.
 ///
-/// Each pulse is as in `run_to_end`, but labels are exact at other times, so flow, labels and the
+/// Each pulse is as in `run_to_end`, but labels are exact at other times. So flow, labels and the
 /// number of pulses may differ from that run's. A pulse goes to the crew if many nodes are active
 /// for the network's size: at least 4096, or a quarter of all. They are counted at the start of the
 /// first pulse, and for each later one in the pulse before. The calling thread makes all others, as
-/// worker 0: most pulses have ten active nodes, and to hand them out would cost more than they do.
+/// worker 0. Most pulses have ten active nodes, and to hand them out would cost more than they do.
 ///
 /// Memory is asked for at the start, each time the number of the flow's parts changes, and for each
 /// phase that is handed out.

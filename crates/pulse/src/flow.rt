@@ -17,9 +17,9 @@ use pulse_parts::{FlowPart, excess_at, residual_at, start_labels, start_parts, t
 use std::alloc::Global;
 use std::marker::Model;
 
-/// The flow of a network: the residuals of its arcs and the excess of its nodes, in parts, one for
-/// each worker of the last delivery phase; and the labels, which are lent to all workers. The
-/// capacities are the network's own table, which the flow shares.
+/// The flow of a network. The residuals of its arcs and the excess of its nodes are in parts, one
+/// for each worker of the last delivery phase. The labels are lent to all workers. The capacities
+/// are the network's own table, which the flow shares.
 ///
 /// A delivery phase that is refused memory leaves the flow spent: its parts are gone, and each
 /// later phase is refused. If `listed` is false, the parts' lists of active nodes aren't those of

@@ -3,7 +3,7 @@
 //!
 //! A pulse has two phases. In the read phase each node writes its row of pushes by the flow and the
 //! labels of the pulse's start. In the delivery phase each node writes its row of flow, its excess
-//! and its new label from all pushes; then the new labels become the labels. Each worker has a
+//! and its new label from all pushes. Then the new labels become the labels. Each worker has a
 //! range of nodes and owns their rows. So the state after a phase depends on no order of events and
 //! on no number of workers. A run ends if no node is active. Then its preflow can't be improved,
 //! and the nodes that can't reach the sink are the greatest of the least cuts.

@@ -79,8 +79,8 @@ impl Pushes {
         walked_over(self.parts.as_slice())
     }
 
-    /// Returns the number of arcs in the rows of the nodes that pushed in the last read phase; all
-    /// arcs if a part doesn't list its nodes.
+    /// Returns the number of arcs in the rows of the nodes that pushed in the last read phase.
+    /// Counts all arcs if a part doesn't list its nodes.
     pub(crate) fn arcs_walked(&self, net: &Net) -> usize
         requires fits { ArePushesOf net.now self.now }
         requires usable { self.now.spent ≡ false }

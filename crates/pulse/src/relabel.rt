@@ -40,8 +40,8 @@ pub(crate) fn relabel(net: &Net, flow: &mut Flow, queue: &mut [u32])
     hold_labels(labels, parts);
 }
 
-/// Makes the labels exact after pulse number `count` of a run, if they are due: after every N-th
-/// pulse for N nodes that leaves a node active.
+/// Makes the labels exact after pulse number `count` of a run, if they are due. For N nodes they
+/// are after every N-th pulse that leaves a node active.
 pub(crate) fn relabel_when_due(net: &Net, flow: &mut Flow, queue: &mut [u32], count: u64)
     requires flow { IsBetween net.now flow.old }
     requires queue { length queue.old ≡ node_count net.now }

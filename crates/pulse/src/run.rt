@@ -17,9 +17,9 @@ use frame_net::Net;
 use std::alloc::Global;
 use std::thread::Threads;
 
-/// Runs pulses from the start of the flow until no node is active. After every N-th pulse for N
-/// nodes that leaves a node active, each label becomes the residual distance to the sink, or N if
-/// there is none. The result depends on no number of workers.
+/// Runs pulses from the start of the flow until no node is active. For N nodes, labels change after
+/// every N-th pulse that leaves a node active. Each becomes the residual distance to the sink, or N
+/// if there is none. The result depends on no number of workers.
 ///
 /// It takes at most `2 * N * N` pulses. Memory is asked for at the start, and for each phase of a
 /// crew of two or more.

@@ -13,7 +13,7 @@ use Rattle.pulse_parts.proofs.PartsLeftLaws.{Left, left_all, left_more, left_her
 use Rattle.pulse_parts.proofs.JoinedPartLaws.{by_node, excess_piece}
 use Rattle.pulse_parts.proofs.AgreeingStateLaws.{active_same, potential_same}
 
--- where a number below n passes, some number below n does
+-- if a number below n passes, some number below n does
 pub any_from : (n : ℕ) (p : ℕ → Bool) (v : ℕ) → v < n → p v ≡ true → any_below n p ≡ true
 any_from zero p v h e = absurd (omega arith)
 any_from (suc n) p v h e = elim (cases_eq v n) [
@@ -21,12 +21,12 @@ any_from (suc n) p v h e = elim (cases_eq v n) [
   | inr other ↦ or_left (any_below n p) (p n) (any_from n p v (omega (arith, other)) e)
 ]
 
--- where no number below n passes, it isn't so that some does
+-- if no number below n passes, it isn't so that some does
 pub none_from : (n : ℕ) (p : ℕ → Bool) → ((v : ℕ) → v < n → p v ≡ false) → any_below n p ≡ false
 none_from zero p e = refl
 none_from (suc n) p e = or_from (any_below n p) (p n) (none_from n p (λ v h. e v (omega arith))) (e n (omega arith))
 
--- where it isn't so that some number below n passes, none does
+-- if it isn't so that some number below n passes, none does
 pub none_at : (n : ℕ) (p : ℕ → Bool) → any_below n p ≡ false → (v : ℕ) → v < n → p v ≡ false
 none_at zero p e v h = absurd (omega arith)
 none_at (suc n) p e v h = let q = or_parts (any_below n p) (p n) e in elim (cases_eq v n) [
@@ -34,7 +34,7 @@ none_at (suc n) p e v h = let q = or_parts (any_below n p) (p n) e in elim (case
   | inr other ↦ none_at n p q.0 v (omega (arith, other))
 ]
 
--- where some number below n passes, there is one
+-- if some number below n passes, there is one
 pub some_at : (n : ℕ) (p : ℕ → Bool) → any_below n p ≡ true → (v : ℕ) × ((v < n) × (p v ≡ true))
 some_at zero p e = absurd (false≢true e)
 some_at (suc n) p e = elim (or_cases (any_below n p) (p n) e) [
@@ -104,7 +104,7 @@ quiet_all net labels all rest e t =
     let end : AreFlowParts net t.from [] = subst (λ (r : List FlowPart). AreFlowParts net t.from r) e t.left.cut in
     none_from (node_count net) (is_active (node_count net) (pairs net (cells_of all) labels)) (λ v h. t.none v (omega (arith, end)))
 
--- where a part has an active node, some node of the state is active
+-- if a part has an active node, some node of the state is active
 pub loud : (net : FlowNet) (labels : List ℕ) (all : List FlowPart) (i : ℕ) (p : FlowPart) (nodes : ℕ) → nodes ≡ node_count net → i < length all → p ≡ get_or all i p → Quiet net labels all (drop i all)
     → HasActive nodes labels p → any_active (node_count net) (pairs net (cells_of all) labels) ≡ true
 loud net labels all i p nodes en h e t0 has =
@@ -121,7 +121,7 @@ lists_next net labels all i p nodes en h e lists =
 
 -- ---- runs
 
--- what is left to do: nothing where no node is active
+-- what is left to do: nothing if no node is active
 abbrev pub work : ℕ → State → ℕ
 work n s = cond (any_active n s) (potential n s + 1) 0
 
@@ -133,7 +133,7 @@ work_off : (b : Bool) (x : ℕ) → b ≡ false → cond b x 0 ≡ 0
 work_off true x h = absurd (false≢true (sym h))
 work_off false x h = refl
 
--- of states that agree the same is left to do
+-- states that agree have equal work left to do
 pub work_same : (n : ℕ) (s t : State) → Agree n s t → work n s ≡ work n t
 work_same n s t a = ap (λ (b : Bool). cond b (potential n s + 1) 0) (any_active_same n s t a) ∙ ap (λ (x : ℕ). cond (any_active n t) (x + 1) 0) (potential_same n s t a)
 

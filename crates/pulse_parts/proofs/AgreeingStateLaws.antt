@@ -1,4 +1,4 @@
--- States that agree at all nodes have the same pulse.
+-- States that agree at all nodes have one pulse.
 use Rattle.std.proofs.Common.{◌≡◌, ℕ, suc, zero, ◌+◌, ◌<◌, ◌==◌, ◌&&◌, nat_lt, cond, Bool, arith, refl, ap, sym, ◌∙◌}
 use Rattle.frame_net.specs.Flow.{State, greatest_below, admissible, push, outflow, inflow, next_res, relabelled, is_active, pulse, potential}
 use Rattle.frame_net.proofs.SumLaws.{sum_below-same}
@@ -11,7 +11,7 @@ use Rattle.pulse_parts.specs.Parts.{Agree, IsSound, pair}
 act_same : (n v e d l m : ℕ) → e ≡ d → l ≡ m → (nat_lt 1 v && nat_lt 0 e && nat_lt l n) ≡ (nat_lt 1 v && nat_lt 0 d && nat_lt m n)
 act_same n v e d l m p q = cc
 
--- states that agree have the same active nodes
+-- states that agree have equal active nodes
 pub active_same : (n : ℕ) (s t : State) → Agree n s t → (v : ℕ) → v < n → is_active n s v ≡ is_active n t v
 active_same n s t a v h = act_same n v (s.excess v) (t.excess v) (s.label v) (t.label v) (a.excess v h) (a.label v h)
 
@@ -21,7 +21,7 @@ room_choice b c x y p q r z e f g h = cc
 room_same : (n : ℕ) (s t : State) → Agree n s t → (v w : ℕ) → v < n → w < n → admissible n s v w ≡ admissible n t v w
 room_same n s t a v w h k = room_choice (is_active n s v) (is_active n t v) (s.label w) (t.label w) (s.label v) (t.label v) (s.res v w) (t.res v w) (active_same n s t a v h) (a.label w k) (a.label v h) (a.res v w h k)
 
--- states that agree have the same pushes
+-- states that agree have equal pushes
 pub push_same : (n : ℕ) (s t : State) → Agree n s t → (v w : ℕ) → v < n → w < n → push n s v w ≡ push n t v w
 push_same n s t a v w h k = omega (arith, room_same n s t a v w h k, a.excess v h, sum_below-same w (admissible n s v) (admissible n t v) (λ x l. room_same n s t a v x h (omega arith)))
 
@@ -89,7 +89,7 @@ greatest_same (suc n) f g e = omega (arith, greatest_same n f g (λ i h. e i (om
 top_choice : (b c : Bool) (x y : ℕ) → b ≡ c → x ≡ y → cond b x 0 ≡ cond c y 0
 top_choice b c x y p q = cc
 
--- states that agree have the same potential
+-- states that agree have equal potentials
 pub potential_same : (n : ℕ) (s t : State) → Agree n s t → potential n s ≡ potential n t
 potential_same n s t a = omega (
   arith,

@@ -28,7 +28,8 @@ pub shares_append : {P : Type 0} (worker first end : P → ℕ) (n w k m : ℕ) 
 shares_append {P} worker first end n w k m [] p shares e share = (subst (λ (x : ℕ). IsShare worker first end n w x p) (omega (arith, e)) share, shares)
 shares_append {P} worker first end n w k m (q ∷ ps) p shares e share = (shares.0, shares_append worker first end n w (k + 1) m ps p shares.1 (omega (arith, e)) share)
 
--- the shares of the first workers, with the next worker's at their end, are the shares of one worker more
+-- the shares of the first workers, with the next worker's at their end, are the shares of one
+-- worker more
 pub shares_pushed : {P : Type 0} (worker first end : P → ℕ) (n w m : ℕ) (ps qs : List P) (p : P) → qs ≡ ps ++ p ∷ [] → AreShares worker first end n w 0 ps → length ps ≡ m → IsShare worker first end n w m p → AreShares worker first end n w 0 qs
 shares_pushed {P} worker first end n w m ps qs p e shares len share =
     subst (λ (x : List P). AreShares worker first end n w 0 x) (sym e) (shares_append worker first end n w 0 m ps p shares (omega (arith, len)) share)

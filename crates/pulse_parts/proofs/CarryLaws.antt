@@ -56,9 +56,9 @@ some_off first end listed i old mid out g = record {
 pub record TakesParts (qs : List FlowPart) (first end count : ℕ) (old new : NodeList) : Type 0 where
   -- the list has grown, within the range
   pub extends : Extends first end old new
-  -- where it is complete, so are the lists of the first parts
+  -- if it is complete, so are the lists of the first parts
   pub complete : new.complete ≡ true → (i : ℕ) (d : FlowPart) → i < count → i < length qs → (get_or qs i d).active.complete ≡ true
-  -- where it is complete, it has each node in the range that these list
+  -- if it is complete, it has each node in the range that these list
   pub listed : new.complete ≡ true → (i : ℕ) (d : FlowPart) (v : ℕ) → i < count → i < length qs → first ≤ v → v < end → IsListed (get_or qs i d).active.nodes.items v → IsListed new.nodes.items v
 
 -- of no parts nothing is taken over
@@ -100,11 +100,11 @@ pub record Makes (qs : List FlowPart) (first end : ℕ) (begun grown : NodeList)
   pub empty : begun.nodes.items ≡ []
   -- it has grown, within the range
   pub extends : Extends first end begun grown
-  -- where the grown list is complete, so are the lists of all parts
+  -- if the grown list is complete, so are the lists of all parts
   pub complete : grown.complete ≡ true → (i : ℕ) (d : FlowPart) → i < length qs → (get_or qs i d).active.complete ≡ true
-  -- where it is complete, it has each node in the range that a part lists
+  -- if it is complete, it has each node in the range that a part lists
   pub listed : grown.complete ≡ true → (i : ℕ) (d : FlowPart) (v : ℕ) → i < length qs → first ≤ v → v < end → IsListed (get_or qs i d).active.nodes.items v → IsListed grown.nodes.items v
-  -- the list that was made is complete where the grown one is
+  -- the list that was made is complete if the grown one is
   pub same : list.complete ≡ grown.complete
   -- its nodes rise
   pub rising : IsRising list.nodes.items
@@ -113,7 +113,7 @@ pub record Makes (qs : List FlowPart) (first end : ℕ) (begun grown : NodeList)
   -- it lies in each range in which the grown list does
   pub within : (first end : ℕ) → AreWithin first end grown.nodes.items → AreWithin first end list.nodes.items
 
--- a list made so, where it is complete, takes over what the parts list in the range
+-- a list made so, if it is complete, takes over what the parts list in the range
 pub taken_over : (qs : List FlowPart) (first end : ℕ) (begun grown list : NodeList) → Makes qs first end begun grown list → list.complete ≡ true → TakesOver qs first end list.nodes.items
 taken_over qs first end begun grown list m h =
     let done : grown.complete ≡ true = sym m.same ∙ h in
@@ -126,7 +126,7 @@ taken_over qs first end begun grown list m h =
 
 -- ---- parts that take over
 
--- a new part lists its active nodes where the parts before did
+-- a new part lists its active nodes if the parts before did
 pub lists_anew : (net : FlowNet) (labels : List ℕ) (qs : List FlowPart) (q : FlowPart) → IsFlowNet net → AreFlowParts net 0 qs → q.end ≤ node_count net → length q.excess.items + q.first ≡ q.end
     → ((i : ℕ) → i < length q.excess.items → slice_index q.excess.items i ≡ slice_index (cells_of qs).excess (q.first + i))
     → ((w : ℕ) → q.first ≤ w → w < q.end → slice_index q.next.items (w - q.first) ≡ slice_index labels w)

@@ -44,7 +44,7 @@ listed_more net base list i v s e old mid new ev es ee from up c cl = record {
 
 -- ---- parts
 
--- where each node is listed or has a row of 0s, to clear the listed rows is to clear all
+-- if each node is listed or has a row of 0s, to clear the listed rows is to clear all
 pub listed_cleared : (net : FlowNet) (p : PushPart) (list was ws : List ℕ) → p.pushing.complete ≡ true → ListsPushing net p → list ≡ p.pushing.nodes.items → was ≡ p.values.items → length ws ≡ p.values.len → ClearsListed net p.base list (length list) was ws
     → PartCleared net p (record p { values = with_items p.values ws })
 listed_cleared net p list was ws on lists el ew len c = record {

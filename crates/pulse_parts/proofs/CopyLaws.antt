@@ -91,7 +91,7 @@ range_in {P} first end values pos n low high p a b up fit ea eb lt = record {
   before = omega (arith, fit.sized, up.up b (end p) (omega arith) fit.within);
 }
 
--- the same by the places in the part's values
+-- copied, by the places in the part's values
 pub copied_slice : {P : Type 0} (fits : P → Type 0) (first end : P → ℕ) (values : P → List ℕ) (pos : ℕ → ℕ) (n low high : ℕ) (all : List P) (p : P) (ps : List P) (a b from to : ℕ) (xs ys vs : List ℕ) → Rising pos n
     → ((q : P) → fits q → IsPiece first end values pos n q) → a ≡ max low (first p) → b ≡ min high (end p) → a < b → from ≡ pos a - pos (first p) → to ≡ pos b - pos (first p) → vs ≡ values p
     → ys ≡ xs ++ take (to - from) (drop from vs)

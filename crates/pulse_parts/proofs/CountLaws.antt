@@ -1,4 +1,5 @@
--- Counts of rows walked: over ranges end to end, and over those nodes of a part that lie in a range.
+-- Counts of rows walked: over ranges end to end, and over those nodes of a part that lie in a
+-- range.
 use Rattle.std.proofs.Common.{◌≡◌, ℕ, List, ◌-◌, ◌<◌, ◌≤◌, min, max, cond, arith, refl, ap}
 use Rattle.frame_net.proofs.SumLaws.{sum_below-mono}
 use Rattle.frame_net.specs.FlowNet.{FlowNet}
@@ -15,7 +16,7 @@ pub counted_then : (net : FlowNet) (labels : List ℕ) (c : Cells) (low mid high
     → IsCountedOn a (active_from net labels c low high) d
 counted_then net labels c low mid high a b d lm mh p q = omega (arith, p, q, active_rising net labels c low mid lm, active_rising net labels c mid high mh)
 
--- the nodes of a part that lie in a range are counted where the range is cut down to the part's nodes
+-- the nodes of a part that lie in a range are counted if the range is cut down to the part's nodes
 pub counted_in_part : (net : FlowNet) (labels : List ℕ) (c : Cells) (first end low high : ℕ) (p : PushPart) (walked : ℕ) → low ≡ max first p.first → high ≡ min end p.end → low < high
     → IsCountedOn p.walked (active_from net labels c low high) walked
     → IsCountedOn p.walked (active_from net labels c (clamped first end p.first) (clamped first end p.end)) walked

@@ -19,7 +19,7 @@ lift_same net v nodes r hs row labels en el eh e =
     (λ k. cond (nat_lt 0 (slice_index row k)) (slice_index labels (head net v k) + 1) (node_count net)) (node_count net)
     (λ k l. ap (λ (h : ℕ). cond (nat_lt 0 (slice_index row k)) (slice_index labels h + 1) (node_count net)) (eh k l))))
 
--- where all four tests pass, the choice is the first
+-- if all four tests pass, the choice is the first
 pub choice_first : (v e l n outflow x r : ℕ) → 1 < v → 0 < e → l < n → outflow < e → r ≡ x → r ≡ cond (nat_lt 1 v && nat_lt 0 e && nat_lt l n && nat_lt outflow e) x l
 choice_first v e l n outflow x r a b c d h = rw (lt-ltb 1 v a, lt-ltb 0 e b, lt-ltb l n c, lt-ltb outflow e d) h
 

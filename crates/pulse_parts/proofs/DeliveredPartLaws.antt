@@ -18,18 +18,18 @@ pub record Stepped (net : FlowNet) (labels xs : List ℕ) (low high : ℕ) (old 
   -- the nodes of the range were delivered
   pub given : RangeDelivered net labels xs old.base old.first low high (part_cells old) (part_cells new)
 
--- a part that has only got other cells has the same first node
+-- a part that has only got other cells keeps its first node
 pub same_first : (q r : FlowPart) → KeepsLists q r → r.first ≡ q.first
 same_first q r same = ap (λ (p : FlowPart). p.first) same
 
--- a part that has only got other cells has the same end
+-- a part that has only got other cells keeps its end
 pub same_end : (q r : FlowPart) → KeepsLists q r → r.end ≡ q.end
 same_end q r same = ap (λ (p : FlowPart). p.end) same
 
 same_base : (q r : FlowPart) → KeepsLists q r → r.base ≡ q.base
 same_base q r same = ap (λ (p : FlowPart). p.base) same
 
--- a part that has only got other cells has the same spare list
+-- a part that has only got other cells keeps its spare list
 pub same_list : (q r : FlowPart) → KeepsLists q r → r.spare.nodes.items ≡ q.spare.nodes.items
 same_list q r same = ap (λ (p : FlowPart). p.spare.nodes.items) same
 
@@ -78,7 +78,7 @@ node_fits net q v rs es ns ok fit er ee en lo hi =
       same = omega (arith, fit.same, ap length ee, ap length en);
     }
 
--- the same of the cells of a part
+-- safe, of the cells of a part
 pub cells_safe : (net : FlowNet) (xs : List ℕ) (v : ℕ) (q : FlowPart) (rs es ns : List ℕ) → rs ≡ q.residuals.items → es ≡ q.excess.items → ns ≡ q.next.items → PartSafe net xs v (v + 1) q
     → RangeSafe net xs q.base q.first v (v + 1) (record { residuals = rs; excess = es; next = ns })
 cells_safe net xs v q rs es ns er ee en safe =

@@ -18,7 +18,7 @@ label_rows net labels xs v e r q h =
     (λ k. cond (nat_lt 0 (delivered_res net xs v q k)) (slice_index labels (head net v k) + 1) (node_count net)) (node_count net)
     (λ k l. ap (λ (x : ℕ). cond (nat_lt 0 ((x + back net xs v k) - own net xs v k)) (slice_index labels (head net v k) + 1) (node_count net)) (h k l)))
 
--- where two rows and excesses agree, a node that can be delivered by the one can be by the other
+-- if two rows and excesses agree, a node that can be delivered by the one can be by the other
 pub safe_rows : (net : FlowNet) (xs : List ℕ) (v e d : ℕ) (r q : ℕ → ℕ) → ((k : ℕ) → k < row_len net v → r k ≡ q k) → e ≡ d → NodeSafe net xs v r e → NodeSafe net xs v q d
 safe_rows net xs v e d r q h g safe = record {
   owns = λ k l. omega (arith, safe.owns k l, h k l);

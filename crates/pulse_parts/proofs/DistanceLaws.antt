@@ -1,4 +1,4 @@
--- Residual distances: what is computed is what is defined, and agreeing states have the same.
+-- Residual distances: what is computed is what is defined, and agreeing states have equal ones.
 use Rattle.std.proofs.Common.{◌≡◌, ℕ, zero, suc, ◌<◌, ◌≤◌, ◌&&◌, nat_lt, cond, true, arith, sym, ◌∙◌, subst, inl, inr}
 use Rattle.std.proofs.lemmas.Bool.{cases_lt, cases_Bool, lt-ltb, le-ltb, eqb-true, eq-eqb, cond-true, cond-false, false≢true, and_from, and_parts}
 use Rattle.frame_net.specs.Flow.{State, Walk, least_below}
@@ -67,13 +67,13 @@ module _ (n : ℕ) (s : State) where
         | inr far ↦ omega (arith, a.small v h, far)
       ]
 
--- states with the same residuals have the same walks and distances
+-- states with equal residuals have equal walks and distances
 pub walk_same : (n : ℕ) (s t : State) → ((v w : ℕ) → v < n → w < n → s.res v w ≡ t.res v w) → (k v : ℕ) → v < n → Walk n s k v → Walk n t k v
 walk_same n s t e zero v h way = way
 walk_same n s t e (suc k) v h way =
     (way.0, (way.1.0, (subst (λ (x : ℕ). 0 < x) (e v way.0 h way.1.0) way.1.1.0, walk_same n s t e k way.0 way.1.0 way.1.1.1)))
 
--- a distance of one state is one of each state with the same residuals
+-- a distance of one state is one of each state with equal residuals
 pub distance_same : (n : ℕ) (s t : State) → ((v w : ℕ) → v < n → w < n → s.res v w ≡ t.res v w) → (d : ℕ → ℕ) → IsDistance n s d → IsDistance n t d
 distance_same n s t e d p = record {
   small = p.small;

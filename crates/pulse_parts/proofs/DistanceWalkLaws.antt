@@ -87,7 +87,7 @@ module _ (n : ℕ) (s : State) where
             omega (arith, one_label m (omega (arith, l)), here, same))
       ]
 
-  -- where a node has no label there is room in the queue
+  -- if a node has no label there is room in the queue
   pub sweeps_room : (d q : ℕ → ℕ) (count place v : ℕ) → Sweeps n s d q count place → v < n → d v ≡ n → count < n
   sweeps_room d q count place v w h e =
       let few : sum_below n (λ u. cond (nat_lt (d u) n) 1 0) < n = few_sum n v (λ u. cond (nat_lt (d u) n) 1 0) h (has_few n d) (has_no n d v (omega (arith, e))) in
@@ -189,7 +189,7 @@ module _ (n : ℕ) (s : State) where
     ];
   }
 
-  -- where every queued node has been read the labels are the distances
+  -- if every queued node has been read the labels are the distances
   pub sweeps_end : (d q : ℕ → ℕ) (count place : ℕ) → Sweeps n s d q count place → count ≤ place → IsDistance n s d
   sweeps_end d q count place w over = record { small = w.small; walk = w.walks; least = λ v k h way. least k v h way }
     where
@@ -220,7 +220,7 @@ pub record Reading (net : FlowNet) (c : Cells) (d q : ℕ → ℕ) (count place 
   pub here : q place ≡ w
   -- a label for its neighbours is one more than its own
   pub labelled : d w + 1 ≡ label
-  -- of the first k arcs, where the mate has a residual, the head has at most that label
+  -- of the first k arcs, if the mate has a residual, the head has at most that label
   pub arcs : (j : ℕ) → j < k → 0 < slice_index c.residuals (mate net w j) → d (head net w j) ≤ label
 
 module _ (net : FlowNet) (ok : IsFlowNet net) (c : Cells) where
@@ -285,7 +285,7 @@ module _ (net : FlowNet) (ok : IsFlowNet net) (c : Cells) where
 
   -- ---- the same over the lists
 
-  -- where an arc leads to a node without a label, the queue has room for it
+  -- if an arc leads to a node without a label, the queue has room for it
   pub room_for : (labels queue : List ℕ) (count place w label k v nodes : ℕ) → Reading net c (slice_index labels) (slice_index queue) count place w label k → w < node_count net → k < row_len net w
       → v ≡ head net w k → slice_index labels v ≡ nodes → nodes ≡ node_count net → count < node_count net
   room_for labels queue count place w label k v nodes r h l is none all =

@@ -20,7 +20,7 @@ use Rattle.pulse_parts.proofs.NodeListLaws.{Added, added_here, extends_add, exte
 pub record GathersActive (n : ℕ) (labels : List ℕ) (first : ℕ) (excess listed : List ℕ) (count : ℕ) (old new : NodeList) : Type 0 where
   -- the list has grown, within the part's nodes
   pub extends : Extends first (first + length excess) old new
-  -- where it is complete, it has each active one of the first listed nodes
+  -- if it is complete, it has each active one of the first listed nodes
   pub active : new.complete ≡ true → (j : ℕ) → j < count → active_by n (slice_index listed j) (slice_index excess (slice_index listed j - first)) (slice_index labels (slice_index listed j)) ≡ true
       → IsListed new.nodes.items (slice_index listed j)
 
@@ -61,7 +61,7 @@ active_off n labels first excess listed i v had label a old mid ev eh el ea off 
 pub record GathersHeads (net : FlowNet) (xs : List ℕ) (first end u count : ℕ) (old new : NodeList) : Type 0 where
   -- the list has grown, within the range
   pub extends : Extends first end old new
-  -- where it is complete, the heads in the range of the first arcs over which u pushes are listed
+  -- if it is complete, the heads in the range of the first arcs over which u pushes are listed
   pub heads : new.complete ≡ true → (k : ℕ) → k < count → HeadListed net xs first end new.nodes.items u k
 
 -- of no arcs no head is gathered
@@ -107,7 +107,8 @@ pushes_kept net xs first end u old new more h p = record {
 pub record GathersPushes (net : FlowNet) (xs : List ℕ) (first end : ℕ) (from : List ℕ) (count : ℕ) (old new : NodeList) : Type 0 where
   -- the list has grown, within the range
   pub extends : Extends first end old new
-  -- where it is complete, it has the first nodes and those that they push to, as far as they lie in the range
+  -- if it is complete, it has the first nodes and those that they push to, as far as they lie in
+  -- the range
   pub listed : new.complete ≡ true → (i : ℕ) → i < count → PushesListed net xs first end new.nodes.items (slice_index from i)
 
 -- of no nodes no push is gathered
@@ -130,9 +131,10 @@ pushes_more net xs first end from i u old mid new eu more here g = record {
 pub record GathersParts (net : FlowNet) (all : List PushPart) (first end count : ℕ) (old new : NodeList) : Type 0 where
   -- the list has grown, within the range
   pub extends : Extends first end old new
-  -- where it is complete, so are the lists of the first parts
+  -- if it is complete, so are the lists of the first parts
   pub complete : new.complete ≡ true → (j : ℕ) (d : PushPart) → j < count → j < length all → (get_or all j d).pushing.complete ≡ true
-  -- where it is complete, it has the nodes of these and those that they push to, as far as they lie in the range
+  -- if it is complete, it has the nodes of these and those that they push to, as far as they lie in
+  -- the range
   pub listed : new.complete ≡ true → (j : ℕ) (d : PushPart) → j < count → j < length all → (i : ℕ) → i < length (get_or all j d).pushing.nodes.items
       → PushesListed net (values_of all) first end new.nodes.items (slice_index (get_or all j d).pushing.nodes.items i)
 
@@ -238,13 +240,13 @@ pub record Gathers (net : FlowNet) (labels xs : List ℕ) (q : FlowPart) (n : �
   pub empty : a.nodes.items ≡ []
   -- the second list extends it, within the part
   pub actives : Extends q.first (q.first + length es) a b
-  -- where the second is complete, it has each active one of the part's listed nodes
+  -- if the second is complete, it has each active one of the part's listed nodes
   pub active : b.complete ≡ true → (i : ℕ) → i < length listed → active_by n (slice_index listed i) (slice_index es (slice_index listed i - q.first)) (slice_index labels (slice_index listed i)) ≡ true → IsListed b.nodes.items (slice_index listed i)
   -- the third list extends the second, within the part
   pub more : Extends q.first q.end b c
-  -- where the third is complete, it has each node of the part that pushes or is pushed to
+  -- if the third is complete, it has each node of the part that pushes or is pushed to
   pub pushes : c.complete ≡ true → AllPushesListed net xs q.first q.end c.nodes.items
-  -- the fourth list is complete where the third is
+  -- the fourth list is complete if the third is
   pub same : d.complete ≡ c.complete
   -- the fourth list rises
   pub rising : IsRising d.nodes.items
@@ -253,7 +255,7 @@ pub record Gathers (net : FlowNet) (labels xs : List ℕ) (q : FlowPart) (n : �
   -- the fourth list lies in each range in which the third does
   pub within : (first end : ℕ) → AreWithin first end c.nodes.items → AreWithin first end d.nodes.items
 
--- a list that is gathered so, where it is complete, has each node of the part that isn't still
+-- a list that is gathered so, if it is complete, has each node of the part that isn't still
 pub covers_work : (net : FlowNet) (labels xs : List ℕ) (q : FlowPart) (n : ℕ) (es listed : List ℕ) (a b c d : NodeList) → IsFlowNet net → FlowPartFits net q → ListsActive (node_count net) labels q → q.active.complete ≡ true
     → n ≡ node_count net → es ≡ q.excess.items → listed ≡ q.active.nodes.items → Gathers net labels xs q n es listed a b c d → d.complete ≡ true
     → CoversWork net labels xs q.first q.end q.excess.items q.next.items d.nodes.items

@@ -1,4 +1,4 @@
--- Parts whose new labels have become the labels are parts of the same state, and their lists hold on.
+-- Parts whose new labels have become the labels are parts of their state, and their lists hold on.
 use Rattle.std.proofs.Common.{◌≡◌, ℕ, suc, ◌-◌, ◌<◌, ◌≤◌, ◌++◌, ◌&&◌, nat_lt, Bool, true, false, List, [], ◌∷◌, length, slice_index, get_or, refl, arith, ap, sym, ◌∙◌, subst, inl, inr}
 use Rattle.std.proofs.lemmas.Bool.{cases_Bool, false≢true, lt-ltb, ltb-true}
 use Rattle.frame_net.specs.FlowNet.{FlowNet, node_count}
@@ -49,7 +49,7 @@ pair_state : (net : FlowNet) (rs xs es ds ls : List ℕ) → rs ≡ xs → es �
 pair_state net rs xs es ds ls p q =
     ap (λ (x : List ℕ). pairs net (record { residuals = x; excess = es; next = [] }) ls) p ∙ ap (λ (x : List ℕ). pairs net (record { residuals = xs; excess = x; next = [] }) ls) q
 
--- parts whose new labels have become the labels are the same state
+-- parts whose new labels have become the labels keep their state
 pub held_state : (net : FlowNet) (labels ls : List ℕ) (qs us : List FlowPart) → length us ≡ length qs → HoldLabels labels qs us → pairs net (cells_of us) ls ≡ pairs net (cells_of qs) ls
 held_state net labels ls qs us len h =
     pair_state net (cells_of us).residuals (cells_of qs).residuals (cells_of us).excess (cells_of qs).excess ls (held_residuals labels qs us len h) (held_excess labels qs us len h)

@@ -1,4 +1,5 @@
--- The place of an element of the joined values among the parts that are left, and counts over all parts.
+-- The place of an element of the joined values among the parts that are left, and counts over all
+-- parts.
 use Rattle.std.proofs.Common.{◌≡◌, ℕ, ◌+◌, ◌-◌, ◌<◌, ◌≤◌, ◌^◌, min, List, ◌∷◌, length, slice_index, get_or, drop, arith, refl, sym, ap, ◌∙◌, subst}
 use Rattle.std.proofs.lemmas.List.{drop_all, get_or-append_right, length-append}
 use Rattle.std.proofs.Math.ListN.{get_or-append}

@@ -1,4 +1,4 @@
--- The row, the excess and the new label of a node are the same in its part and in the parts joined.
+-- The row, the excess and the new label of a node are equal in its part and in the parts joined.
 use Rattle.std.proofs.Common.{◌≡◌, ℕ, ◌+◌, ◌-◌, ◌<◌, ◌≤◌, List, [], ◌∷◌, length, slice_index, get_or, arith, refl, ap, ◌∙◌}
 use Rattle.frame_net.specs.FlowNet.{FlowNet, node_count, start, row_len, IsFlowNet}
 use Rattle.pulse_parts.specs.declared.parts.FlowPart.{FlowPart}

@@ -26,7 +26,7 @@ abbrev pub WalksFirst : FlowNet → List ℕ → ℕ → ℕ → ℕ → Cells �
 WalksFirst net labels base first end c list count old new pushing walked =
     (b : ℕ) → IsBound first end list count b → WalksActive net labels base first b c old new pushing walked
 
--- a node between two bounds of the same count isn't active
+-- a node between two bounds of one count isn't active
 off_between : (net : FlowNet) (labels : List ℕ) (c : Cells) (first end : ℕ) (list : List ℕ) (count low high : ℕ) → CoversActive net labels c first end list → first ≤ low → high ≤ end
     → ((j : ℕ) → j < count → slice_index list j < low) → ((j : ℕ) → count ≤ j → j < length list → high ≤ slice_index list j)
     → (v : ℕ) → low ≤ v → v < high → cells_active net labels c v ≡ false
@@ -48,7 +48,7 @@ first_none net labels base first end c list xs pushing walked ok from en covers 
     (off_between net labels c first end list 0 first b covers (omega arith) is.high (λ j h. absurd (omega (arith, h))) is.above)
     (walks_none net labels base first c xs pushing walked empty nil)
 
--- the next listed node, walked where it is active and left where it isn't, comes to those before it
+-- the next listed node, walked if it is active and left if it isn't, comes to those before it
 pub first_more : (net : FlowNet) (labels : List ℕ) (base first end v i : ℕ) (c : Cells) (list old mid new : List ℕ) (was now : NodeList) (before after : ℕ) → IsFlowNet net → base ≤ start net first → end ≤ node_count net → CoversActive net labels c first end list
     → RowsAreZero net base first end old → i < length list → v ≡ slice_index list i → WalksFirst net labels base first end c list i old mid was before
     → (cells_active net labels c v ≡ true → Walks net labels base v c mid new was now before after)

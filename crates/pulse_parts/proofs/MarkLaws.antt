@@ -35,7 +35,7 @@ sides first end v = elim (cases_lt v first) [
 out_marked : (marks : ℕ → Bool) (first end v : ℕ) → (v < first) ⊎ (end ≤ v) → and_range marks first end v ≡ true → marks v ≡ true
 out_marked marks first end v out m = or_second (marks v) (nat_le first v && nat_lt v end) (off_range first end v out) m
 
--- where all nodes are marked as read, the rows hold what each node pushes
+-- if all nodes are marked as read, the rows hold what each node pushes
 pub read_whole : (net : FlowNet) (labels : List ℕ) (marks : ℕ → Bool) (c : Cells) (xs : List ℕ) → IsFlowNet net → AllMarked (node_count net) marks → ReadSoFar net labels marks c xs → HoldPushes net (pairs net c labels) xs
 read_whole net labels marks c xs ok all r = hold_pushes net c labels xs ok (λ v k vn kl. r.rows v k vn (all v vn) kl)
 
@@ -69,7 +69,7 @@ give_safe net labels xs marks first end qs ok cut none mid =
     safe_rows net xs v (slice_index mid.opening.excess v) (slice_index (cells_of qs).excess v) (λ j. slice_index mid.opening.residuals (start net v + j)) (λ j. slice_index (cells_of qs).residuals (start net v + j))
     (λ j l. sym (k.row j l)) (sym k.excess) (node_safe net mid.opening labels xs ok mid.sound mid.is_read v vn))
 
--- where all nodes are marked as delivered, the state is the one after the pulse
+-- if all nodes are marked as delivered, the state is the one after the pulse
 pub give_whole : (net : FlowNet) (labels next xs : List ℕ) (marks : ℕ → Bool) (c d : Cells) → IsFlowNet net → HoldPushes net (pairs net c labels) xs → AllMarked (node_count net) marks
     → DeliveredSoFar net labels xs marks c d → ((v : ℕ) → v < node_count net → slice_index next v ≡ slice_index d.next v)
     → Agree (node_count net) (pulse (node_count net) (pairs net c labels)) (pairs net d next)

@@ -72,7 +72,7 @@ extends_add first end v old new lo hi added = record {
   kept = λ h w l. subst (λ (x : List ℕ). IsListed x w) (sym (added h).1) (listed_more old.nodes.items v w l);
 }
 
--- a node that was added is listed, where the list is complete
+-- a node that was added is listed, if the list is complete
 pub added_here : (v w : ℕ) (old new : NodeList) → w ≡ v → Added v old new → new.complete ≡ true → IsListed new.nodes.items w
 added_here v w old new e added h = subst (λ (x : List ℕ). IsListed x w) (sym (added h).1) (listed_last old.nodes.items v w e)
 

@@ -58,7 +58,7 @@ numbered_read net labels first end c ps rs len g n i e h =
 pub numbered_read_on : (net : FlowNet) (labels : List ℕ) (first end : ℕ) (c : Cells) (ps rs : List PushPart) → length rs ≡ length ps → PartsReadOn net labels first end c ps rs → PushesNumbered ps → PushesNumbered rs
 numbered_read_on net labels first end c ps rs len g = numbered_read net labels first end c ps rs len (λ i e h. (g i e h).is_read)
 
--- where labels are held the parts of a flow are still the workers' in their order
+-- if labels are held the parts of a flow are still the workers' in their order
 pub numbered_held : (labels : List ℕ) (qs us : List FlowPart) → length us ≡ length qs → HoldLabels labels qs us → FlowNumbered qs → FlowNumbered us
 numbered_held labels qs us len g n i d h =
     let inside : i < length qs = omega (arith, h, len) in

@@ -19,11 +19,12 @@ given_clamped net labels pushes base pf pe first end a b size r = record {
 abbrev pub cells : List ℕ → List ℕ → List ℕ → Cells
 cells a b c = record { residuals = a; excess = b; next = c }
 
--- cells of equal residuals, excesses and new labels are the same
+-- cells of equal residuals, excesses and new labels are equal
 pub cells_same : (a b c x y z : List ℕ) → a ≡ x → b ≡ y → c ≡ z → cells a b c ≡ cells x y z
 cells_same a b c x y z p q r = ap (λ (t : List ℕ). cells t b c) p ∙ (ap (λ (t : List ℕ). cells x t c) q ∙ ap (λ (t : List ℕ). cells x y t) r)
 
--- cells of a part that were delivered over what it has of a range make the part delivered over the range
+-- cells of a part that were delivered over what it has of a range make the part delivered over the
+-- range
 pub part_given : (net : FlowNet) (labels pushes : List ℕ) (first end low high : ℕ) (q : FlowPart) (rs es ns xs ys zs : List ℕ) → FlowPartFits net q
     → rs ≡ q.residuals.items → es ≡ q.excess.items → ns ≡ q.next.items → low ≡ max first q.first → high ≡ min end q.end
     → length xs ≡ q.residuals.len → length ys ≡ q.excess.len → length zs ≡ q.next.len

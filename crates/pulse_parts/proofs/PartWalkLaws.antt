@@ -13,7 +13,7 @@ use Rattle.pulse_parts.proofs.ListedLaws.{WalksFirst, first_all, first_more, fir
 use Rattle.pulse_parts.proofs.ReadRangeLaws.{read_none, read_then}
 use Rattle.pulse_parts.proofs.WalkLaws.{walks_none, walks_more}
 
--- a part that has only got other pushes has its rows at the same base
+-- a part that has only got other pushes keeps the base of its rows
 pub same_base : (p r : PushPart) → KeepsNodes p r → r.base ≡ p.base
 same_base p r same = ap (λ (q : PushPart). q.base) same
 
@@ -30,7 +30,8 @@ has_row net v p r ok fit same sized lo hi = record {
 
 -- ---- the nodes from low up to high
 
--- nothing but the pushes of a part has changed, its list isn't complete, and the nodes from low up to high were read and counted
+-- nothing but the pushes of a part has changed, its list isn't complete, and the nodes from low up
+-- to high were read and counted
 pub record PartReads (net : FlowNet) (labels : List ℕ) (low high : ℕ) (c : Cells) (old new : PushPart) : Type 0 where
   -- nothing but the pushes, and what was noted of them, has changed
   pub same : KeepsNodes old new
@@ -106,7 +107,7 @@ at_base net labels c v p m r same w = subst (λ (b : ℕ). Walks net labels b v 
 as_it_was : (m r : PushPart) → r ≡ m → (r.values.items ≡ m.values.items) × ((r.pushing ≡ m.pushing) × (r.walked ≡ m.walked))
 as_it_was m r e = (ap (λ (q : PushPart). q.values.items) e, (ap (λ (q : PushPart). q.pushing) e, ap (λ (q : PushPart). q.walked) e))
 
--- the next node, walked where it is active and left where it isn't, comes to those before it
+-- the next node, walked if it is active and left if it isn't, comes to those before it
 pub walked_more : (net : FlowNet) (labels : List ℕ) (c : Cells) (v : ℕ) (p m r : PushPart) → IsFlowNet net → PushPartFits net p → HoldsZeros net p → p.first ≤ v → v < p.end
     → PartWalked net labels c v p m → KeepsNodes m r → (cells_active net labels c v ≡ true → PartWalks net labels v c m r) → (cells_active net labels c v ≡ false → r ≡ m)
     → PartWalked net labels c (v + 1) p r
@@ -136,7 +137,7 @@ listed_none net labels c list p pushing ok fit covers zero empty = record {
   first = first_none net labels p.base p.first p.end c list p.values.items pushing 0 ok (omega (arith, fit.based)) fit.within covers zero empty refl;
 }
 
--- the next listed node, walked where it is active and left where it isn't, comes to those before it
+-- the next listed node, walked if it is active and left if it isn't, comes to those before it
 pub listed_more : (net : FlowNet) (labels : List ℕ) (c : Cells) (list : List ℕ) (i v : ℕ) (p m r : PushPart) → IsFlowNet net → PushPartFits net p → CoversActive net labels c p.first p.end list → HoldsZeros net p
     → i < length list → v ≡ slice_index list i → PartListed net labels c list i p m → KeepsNodes m r
     → (cells_active net labels c v ≡ true → PartWalks net labels v c m r) → (cells_active net labels c v ≡ false → r ≡ m) → PartListed net labels c list (i + 1) p r

@@ -1,4 +1,4 @@
--- What comes in at a node where the nodes that push are visited in place of its arcs.
+-- What comes in at a node if the nodes that push are visited in place of its arcs.
 use Rattle.std.proofs.Common.{◌≡◌, ℕ, suc, zero, ◌+◌, ◌-◌, ◌<◌, ◌≤◌, ◌^◌, List, length, slice_index, slice_set, refl, arith, sym, ap, ◌∙◌, subst, inl, inr, get_or-set_other, get_or-set_same}
 use Rattle.std.proofs.lemmas.Bool.{cases_lt}
 use Rattle.frame_net.specs.Flow.{sum_below}
@@ -52,7 +52,7 @@ meets_at net u v j ok un vn jl e =
       leads = rarc ∙ ap (λ (x : ℕ). start net u + x) same;
     }
 
--- the same by the heads of u's row
+-- met, by the heads of u's row
 pub meets_row : (net : FlowNet) (u v j : ℕ) (heads : List ℕ) → IsFlowNet net → u < node_count net → v < node_count net → j < row_len net u → length heads ≡ row_len net u
     → ((k : ℕ) → k < row_len net u → slice_index heads k ≡ head net u k) → (j < length heads → slice_index heads j ≡ v) → Meets net u v j
 meets_row net u v j heads ok un vn jl len each there = meets_at net u v j ok un vn jl (sym (each j jl) ∙ there (omega (arith, jl, len)))
@@ -73,7 +73,7 @@ receives_push net xs u v j at push old new m ep ea la en = inl record {
   others = λ k ne. ap (λ (ys : List ℕ). slice_index ys k) en ∙ get_or-set_other old at k (slice_index old at + push) 0 (λ (e : k ≡ at). ne (e ∙ ea));
 }
 
--- where u has no arc to v, v receives nothing from it
+-- if u has no arc to v, v receives nothing from it
 pub receives_nothing : (net : FlowNet) (xs : List ℕ) (u v : ℕ) (ys : List ℕ) → IsFlowNet net → v < node_count net → ((j : ℕ) → j < row_len net u → head net u j ≡ v → ⊥)
     → Receives net xs u v ys ys 0
 receives_nothing net xs u v ys ok vn none = inr record {
@@ -86,8 +86,8 @@ receives_nothing net xs u v ys ok vn none = inr record {
 
 -- ---- the nodes of a list
 
--- The first `from` arcs of v's row have been given what comes in over them, by a visit of the first i listed nodes; what comes in
--- over the others is pushed by the listed nodes that are left.
+-- The first `from` arcs of v's row have been given what comes in over them, by a visit of the first
+-- i listed nodes. What comes in over the others is pushed by the listed nodes that are left.
 pub record Adds (net : FlowNet) (xs : List ℕ) (list : List ℕ) (v i : ℕ) (old row : List ℕ) (inflow : ℕ) : Type 0 where
   -- the arc of v's row from which on nothing was added yet
   pub from : ℕ
@@ -240,7 +240,7 @@ adds_row net xs list v i old row inflow e b k kl =
 
 -- ---- a list that rises
 
--- nodes that rise up to a place, and where that one is above the one before, rise up to the next place
+-- nodes that rise up to a place rise up to the next place, if that one is above the one before
 pub rising_more : (list : List ℕ) (i : ℕ) → (0 < i → slice_index list (i - 1) < slice_index list i) → ((a b : ℕ) → a < b → b < i → slice_index list a < slice_index list b)
     → (a b : ℕ) → a < b → b < i + 1 → slice_index list a < slice_index list b
 rising_more list i last up a b ab bi = elim (cases_lt b i) [

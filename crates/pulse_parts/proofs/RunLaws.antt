@@ -1,4 +1,5 @@
--- Exact labels between pulses: the state stays sound and what is left to do doesn't grow, so that a run ends as early as without them.
+-- Exact labels between pulses. The state stays sound and what is left to do doesn't grow, so a run
+-- ends as early as without them.
 use Rattle.std.proofs.Common.{◌≡◌, ℕ, suc, ◌+◌, ◌*◌, ◌%◌, ◌==◌, ◌&&◌, ◌<◌, ◌≤◌, ◌^◌, zero, Bool, true, false, arith, sym, ap, ◌∙◌, subst, inl, inr}
 use Rattle.std.proofs.lemmas.Bool.{cases_lt, cases_Bool, cond-true, cond-false}
 use Rattle.std.proofs.Math.Nat.{mul-le-mul_left}
@@ -47,7 +48,8 @@ exact_work net s h = elim (cases_Bool (any_active (node_count net) (exact (node_
 
 -- ---- what a pulse's end makes of the state
 
--- after a pulse whose number is a multiple of n, and that leaves a node active, the labels become exact
+-- after a pulse whose number is a multiple of n, and that leaves a node active, the labels become
+-- exact
 pub after-due : (n k : ℕ) (s : State) → (k % n == 0) && any_active n s ≡ true → after_pulse n k s ≡ exact n s
 unfolding after_pulse
 after-due n k s e = cond-true ((k % n == 0) && any_active n s) (exact n s) s e

@@ -8,7 +8,8 @@ use Rattle.frame_net.specs.FlowNet.{FlowNet, node_count, start, row_len, head, m
 use Rattle.pulse_parts.specs.Delivering.{back}
 use Rattle.pulse_parts.specs.Start.{start_excess, start_res}
 
--- heads rise, so what comes from the source comes over the first arc of a row, if that leads to the source
+-- heads rise, so what comes from the source comes over the first arc of a row, if that leads to the
+-- source
 later_zero : (h x : ℕ) → 0 < h → cond (h == 0) x 0 ≡ 0
 later_zero zero x above = absurd (omega (arith, above))
 later_zero (suc h) x above = ap (λ (b : Bool). cond b x 0) (eqb-suc-zero h)
@@ -26,7 +27,8 @@ no_source : (v x : ℕ) → 0 < v → cond (v == 0) 0 x ≡ x
 no_source zero x above = absurd (omega (arith, above))
 no_source (suc v) x above = ap (λ (b : Bool). cond b 0 x) (eqb-suc-zero v)
 
--- where the first arc of a node's row leads to the source, its mate's capacity is the node's excess at the start
+-- if the first arc of a node's row leads to the source, its mate's capacity is the node's excess at
+-- the start
 pub source_excess : (net : FlowNet) (v x h m : ℕ) → IsFlowNet net → v < node_count net → 0 < v → 0 < row_len net v → h ≡ head net v 0 → h ≡ 0 → m ≡ mate net v 0
     → x ≡ cap_at net m → x ≡ start_excess net v
 source_excess net v x h m ok vn above some eh ez em ex =
@@ -36,7 +38,7 @@ source_excess net v x h m ok vn above some eh ez em ex =
     (λ k low high. later_zero (head net v k) (back net net.caps v k) (let rise : head net v 0 < head net v k = ok.heads_rise v 0 k vn low high in omega (arith, rise))) some in
     ex ∙ ap (λ (y : ℕ). cap_at net y) em ∙ sym here ∙ sym alone ∙ sym (no_source v (sum_below (row_len net v) f) above)
 
--- where the first arc of a node's row doesn't lead to the source, the node has no excess at the start
+-- if the first arc of a node's row doesn't lead to the source, the node has no excess at the start
 pub no_excess : (net : FlowNet) (v : ℕ) → IsFlowNet net → v < node_count net → 0 < v → (0 < row_len net v → 0 < head net v 0) → 0 ≡ start_excess net v
 no_excess net v ok vn above first =
     let f : ℕ → ℕ = λ k. cond (head net v k == 0) (back net net.caps v k) 0 in

@@ -1,4 +1,5 @@
--- Parts with the residuals and excess of the start are the start on pairs of nodes, however they are parted.
+-- Parts with the residuals and excess of the start are the start on pairs of nodes, however they
+-- are parted.
 use Rattle.std.proofs.Common.{◌≡◌, ℕ, suc, ◌+◌, ◌-◌, ◌<◌, ◌≤◌, ◌==◌, cond, Bool, true, false, zero, List, length, slice_index, get_or, arith, refl, sym, ap, ◌∙◌, subst, inl, inr}
 use Rattle.std.proofs.lemmas.Bool.{cases_eq, eq-eqb, ne_eqb, lt-ltb, le-ltb}
 use Rattle.frame_net.specs.Flow.{sum_below}
@@ -46,7 +47,7 @@ cells_hold net res exc qs ok cut v vn =
           excess = a.excess ∙ (s.excess (v - (get_or qs i d).first) a.within.in_nodes ∙ ap (λ (x : ℕ). exc x) a.within.at);
         }
 
--- parts that were cut anew are the same state
+-- parts that were cut anew keep their state
 pub parted_agrees : (net : FlowNet) (labels : List ℕ) (c : Cells) (qs : List FlowPart) → IsFlowNet net → PartsHold net (slice_index c.residuals) (slice_index c.excess) (node_count net) qs
     → Agree (node_count net) (pairs net c labels) (pairs net (cells_of qs) labels)
 parted_agrees net labels c qs ok cut = record {

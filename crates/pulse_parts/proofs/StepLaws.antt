@@ -80,7 +80,7 @@ node_safe net c labels xs ok sound h v vn = record {
 fits_at : (net : FlowNet) (qs : List FlowPart) (i : ℕ) (d : FlowPart) → AreFlowParts net 0 qs → i < length qs → FlowPartFits net (get_or qs i d)
 fits_at net qs i d cut l = part_fits (FlowPartFits net) (λ p. p.first) (λ p. p.end) (node_count net) 0 qs cut i d l
 
--- where each node of a range can be delivered, each part can over that range
+-- if each node of a range can be delivered, each part can over that range
 pub parts_safe_by : (net : FlowNet) (qs : List FlowPart) (xs : List ℕ) (first end : ℕ) → IsFlowNet net → AreFlowParts net 0 qs
     → ((v : ℕ) → v < node_count net → first ≤ v → v < end → NodeSafe net xs v (λ j. slice_index (cells_of qs).residuals (start net v + j)) (slice_index (cells_of qs).excess v))
     → PartsSafe net xs first end qs

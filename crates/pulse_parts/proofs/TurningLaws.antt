@@ -65,7 +65,8 @@ turned_all n olds labels all rest e t v h =
 
 -- ---- the turn of listed nodes
 
--- the labels of the nodes at the first places of a list are the new ones, and no others have changed
+-- the labels of the nodes at the first places of a list are the new ones, and no others have
+-- changed
 pub record TurnedFirst (first : ℕ) (next list : List ℕ) (count : ℕ) (olds labels : List ℕ) : Type 0 where
   -- there are as many labels
   pub size : length labels ≡ length olds
@@ -97,7 +98,7 @@ first_more first next list i v x olds labels new hi ev ex hl en t = record {
   ];
 }
 
--- where the other nodes keep their labels all labels of the part are the new ones
+-- if the other nodes keep their labels all labels of the part are the new ones
 pub listed_here : (olds labels next list : List ℕ) (q : FlowPart) → KeepsLabels olds q → next ≡ q.next.items → list ≡ q.active.nodes.items
     → ((i : ℕ) → i < length list → slice_index labels (slice_index list i) ≡ slice_index next (slice_index list i - q.first))
     → ((v : ℕ) → IsListed list v ⊎ (slice_index labels v ≡ slice_index olds v))

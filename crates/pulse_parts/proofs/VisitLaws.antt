@@ -1,4 +1,5 @@
--- A delivery that visits the nodes of a list: the others have nothing to do, so Deliver of them changes nothing.
+-- A delivery that visits the nodes of a list: the others have nothing to do, so Deliver of them
+-- changes nothing.
 use Rattle.std.proofs.Common.{◌≡◌, ℕ, ◌+◌, ◌-◌, ◌<◌, ◌≤◌, ◌&&◌, ◌⊎◌, nat_lt, false, List, [], ◌++◌, ◌∷◌, length, slice_index, refl, arith, sym, ap, ◌∙◌, subst, inl, inr}
 use Rattle.std.proofs.lemmas.Bool.{cases_lt, cond-false, and_left}
 use Rattle.frame_net.proofs.SumLaws.{sum_below-same, sum_below-zero}
@@ -46,7 +47,8 @@ still_kept net labels xs v i s a b k still =
 
 -- ---- nodes that were visited
 
--- the nodes below a bound were delivered, and those at the first places of the list lie below it, the others from it on
+-- the nodes below a bound were delivered, and those at the first places of the list lie below it,
+-- the others from it on
 pub record Visited (net : FlowNet) (labels xs : List ℕ) (base first end : ℕ) (list : List ℕ) (count : ℕ) (a b : Cells) : Type 0 where
   -- the bound
   pub bound : ℕ
@@ -84,7 +86,8 @@ reach net labels xs base first end list count m a b ok fit work t bm me none =
           (t.done.kept v (v - first) (start net v - base) (lies net base first first end a v ok fit (omega (arith, t.low, lo)) (omega (arith, hi, me))).inside (inr lo)) still
     ]))
 
--- up to the next listed node all nodes were delivered, those that aren't listed by having nothing to do
+-- up to the next listed node all nodes were delivered, those that aren't listed by having nothing
+-- to do
 pub next_at : (net : FlowNet) (labels xs : List ℕ) (base first end : ℕ) (list : List ℕ) (i v : ℕ) (a b : Cells) → IsFlowNet net → RangeFits net base first first end a → CoversWork net labels xs first end a.excess a.next list
     → i < length list → v ≡ slice_index list i → Visited net labels xs base first end list i a b → RangeDelivered net labels xs base first first v a b
 next_at net labels xs base first end list i v a b ok fit work hi ev t =
@@ -205,7 +208,7 @@ first_all n labels first excess next count list e l0 =
 
 -- ---- a part
 
--- the same part with another list in its spare room
+-- a part with another list in its spare room
 pub spare_safe : (net : FlowNet) (xs : List ℕ) (n : ℕ) (q m : FlowPart) → n ≡ node_count net → m ≡ (record q { spare = m.spare }) → RangeSafe net xs q.base q.first 0 (node_count net) (part_cells q)
     → RangeSafe net xs m.base m.first 0 n (part_cells m)
 spare_safe net xs n q m en e safe =

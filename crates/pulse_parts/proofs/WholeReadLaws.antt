@@ -44,7 +44,7 @@ row_at net ps v k i e ok cut h lo hi kl =
     (left_all (PushPartFits net) (λ p. p.first) (λ p. p.end) (λ p. p.values.items) (start net) (node_count net) ps (rising net ok) cut) i e h (start net v + k) (omega (arith, low)) (omega (arith, top, kl))
     ∙ ap (λ (x : ℕ). slice_index (get_or ps i e).values.items x) (let q : start net v + k - start net (get_or ps i e).first ≡ start net v + k - (get_or ps i e).base = omega (arith, fit.based) in q)
 
--- the same row once the part was read
+-- the row once the part was read
 row_after : (net : FlowNet) (labels : List ℕ) (first end : ℕ) (c : Cells) (ps rs : List PushPart) (v k i : ℕ) (e : PushPart) → IsFlowNet net → ArePushParts net 0 ps → length rs ≡ length ps
     → PartsRead net labels first end c ps rs → i < length ps → (get_or ps i e).first ≤ v → v < (get_or ps i e).end → k < row_len net v
     → own net (values_of rs) v k ≡ slice_index (get_or rs i e).values.items (start net v + k - (get_or ps i e).base)
@@ -77,7 +77,8 @@ whole_unread net labels first end c ps rs ok cut len reads v k vn out kl =
 pub parts_read : (net : FlowNet) (labels : List ℕ) (first end : ℕ) (c : Cells) (ps rs : List PushPart) → PartsReadOn net labels first end c ps rs → PartsRead net labels first end c ps rs
 parts_read net labels first end c ps rs reads = λ i e h. (reads i e h).is_read
 
--- the parts' counts of rows walked go on by the active nodes of the range that the parts hold, which begin at node v
+-- the parts' counts of rows walked go on by the active nodes of the range that the parts hold,
+-- which begin at node v
 parts_walked : (net : FlowNet) (labels : List ℕ) (first end v : ℕ) (c : Cells) (ps rs : List PushPart) → ArePushParts net v ps → length rs ≡ length ps → PartsReadOn net labels first end c ps rs
     → IsCountedOn (rows_walked ps) (active_from net labels c (clamped first end v) (clamped first end (node_count net))) (rows_walked rs)
 parts_walked net labels first end v c [] [] cut len reads = let e : active_below net labels c (clamped first end v) ≡ active_below net labels c (clamped first end (node_count net)) = ap (λ (x : ℕ). active_below net labels c (clamped first end x)) cut in omega (arith, e)

@@ -22,7 +22,8 @@ abbrev pub keeps_excess : FlowNet → List ℕ → ℕ → ℕ → ℕ → Bool
 keeps_excess net labels v excess outflow =
     nat_lt 1 v && nat_lt 0 excess && nat_lt (slice_index labels v) (node_count net) && nat_lt outflow excess
 
--- one more than the least label of a head that a residual of v's row leads to, or the number of nodes where there is none
+-- the least label of a head that a residual of v's row leads to plus one, or the number of nodes if
+-- there is none
 abbrev pub label_ahead : FlowNet → List ℕ → ℕ → (ℕ → ℕ) → ℕ
 label_ahead net labels v row =
     least_below (row_len net v) (λ k. cond (nat_lt 0 (row k)) (slice_index labels (head net v k) + 1) (node_count net)) (node_count net)

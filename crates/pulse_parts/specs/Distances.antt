@@ -9,7 +9,7 @@ abbrev pub reaches_in : ℕ → State → ℕ → ℕ → Bool
 reaches_in n s zero v = v == 1
 reaches_in n s (suc k) v = any_below n (λ w. nat_lt 0 (s.res v w) && reaches_in n s k w)
 
--- the least number of residual arcs from v to the sink, or n where none leads there
+-- the least number of residual arcs from v to the sink, or n if none leads there
 abbrev pub distance : ℕ → State → ℕ → ℕ
 distance n s v = least_below n (λ k. cond (reaches_in n s k v) k n) n
 

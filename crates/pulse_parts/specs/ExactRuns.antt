@@ -6,7 +6,8 @@ use Rattle.pulse_parts.specs.Parts.{Agree, IsSound}
 use Rattle.pulse_parts.specs.Runs.{any_active}
 use Rattle.pulse_parts.specs.Distances.{exact}
 
--- what the state after the k-th pulse becomes: after every n-th pulse that leaves a node active the labels become exact
+-- what the state after the k-th pulse becomes: after every n-th pulse that leaves a node active the
+-- labels become exact
 unfoldable pub after_pulse : ℕ → ℕ → State → State
 after_pulse n k s = if k % n == 0 && any_active n s then exact n s else s
 

@@ -31,7 +31,8 @@ active_by n v excess label = nat_lt 1 v && nat_lt 0 excess && nat_lt label n
 abbrev pub active_in : ℕ → List ℕ → ℕ → List ℕ → ℕ → Bool
 active_in n labels first excess v = active_by n v (slice_index excess (v - first)) (slice_index labels v)
 
--- a complete list holds each node of the part that is active, and the cells for new labels hold the labels; n is the number of nodes
+-- A complete list holds each node of the part that is active. The cells for new labels hold the
+-- labels; n is the number of nodes.
 pub record ListsActive (n : ℕ) (labels : List ℕ) (q : FlowPart) : Type 0 where
   pub within : q.active.complete ≡ true → AreWithin q.first q.end q.active.nodes.items
   pub rising : q.active.complete ≡ true → IsRising q.active.nodes.items
@@ -42,18 +43,21 @@ pub record ListsActive (n : ℕ) (labels : List ℕ) (q : FlowPart) : Type 0 whe
 abbrev pub ListActive : ℕ → List ℕ → List FlowPart → Type 0
 ListActive n labels qs = (i : ℕ) (d : FlowPart) → i < length qs → ListsActive n labels (slice_index_or qs i d)
 
--- a list holds each of the nodes from first up to end but those that keep their labels, by which they aren't active
+-- a list holds each of the nodes from first up to end but those that keep their labels, by which
+-- they aren't active
 pub record HasTurning (n : ℕ) (labels : List ℕ) (first end : ℕ) (excess next list : List ℕ) : Type 0 where
   pub within : AreWithin first end list
   pub rising : IsRising list
   pub rest : (v : ℕ) → first ≤ v → v < end → IsListed list v
       ⊎ ((active_by n v (slice_index excess (v - first)) (slice_index labels v) ≡ false) × (slice_index next (v - first) ≡ slice_index labels v))
 
--- a part's spare list holds each of its nodes but those that keep their labels, by which they aren't active
+-- a part's spare list holds each of its nodes but those that keep their labels, by which they
+-- aren't active
 abbrev pub SparesTurning : ℕ → List ℕ → FlowPart → Type 0
 SparesTurning n labels q = HasTurning n labels q.first q.end q.excess.items q.next.items q.spare.nodes.items
 
--- after a part's delivery its list, if complete, holds each of its nodes but those that keep their labels, by which they aren't active
+-- after a part's delivery its list, if complete, holds each of its nodes but those that keep their
+-- labels, by which they aren't active
 abbrev pub ListsTurning : ℕ → List ℕ → FlowPart → Type 0
 ListsTurning n labels q = q.active.complete ≡ true → HasTurning n labels q.first q.end q.excess.items q.next.items q.active.nodes.items
 
@@ -74,7 +78,7 @@ pub record ListsRange (qs : List FlowPart) (listed : Bool) (first end i : ℕ) :
   pub same_end : (d : FlowPart) → (slice_index_or qs i d).end ≡ end
   pub complete : (d : FlowPart) → (slice_index_or qs i d).active.complete ≡ true
 
--- a list of nodes from first up to end that has grown, where it is still complete
+-- a list of nodes from first up to end that has grown, if it is still complete
 pub record Extends (first end : ℕ) (old new : NodeList) : Type 0 where
   pub complete : new.complete ≡ true → old.complete ≡ true
   pub within : new.complete ≡ true → AreWithin first end old.nodes.items → AreWithin first end new.nodes.items

@@ -9,7 +9,8 @@ use Rattle.pulse_parts.specs.Listing.{ListsPushing}
 
 -- ---- parts
 
--- a part holds the values at the places from `pos first` up to `pos end`, for its nodes from `first` up to `end`
+-- a part holds the values at the places from `pos first` up to `pos end`, for its nodes from
+-- `first` up to `end`
 pub record IsPiece {P : Type 0} (first end : P → ℕ) (values : P → List ℕ) (pos : ℕ → ℕ) (n : ℕ) (p : P) : Type 0 where
   pub ordered : first p ≤ end p
   pub within : end p ≤ n
@@ -80,7 +81,7 @@ cells_of qs = record { residuals = flat_map (λ q. q.residuals.items) qs; excess
 
 -- ---- the state by pairs of nodes
 
--- values by arc, as a function on pairs of nodes: 0 where there is no arc
+-- values by arc, as a function on pairs of nodes: 0 if there is no arc
 abbrev pub pair : FlowNet → List ℕ → ℕ → ℕ → ℕ
 pair net xs v w = sparse (row_len net v) (head net v) (λ k. slice_index xs (start net v + k)) w
 
@@ -88,7 +89,7 @@ pair net xs v w = sparse (row_len net v) (head net v) (λ k. slice_index xs (sta
 abbrev pub pairs : FlowNet → Cells → List ℕ → State
 pairs net c labels = record { res = pair net c.residuals; excess = slice_index c.excess; label = slice_index labels }
 
--- two states have the same residuals, excess and labels at the nodes below n
+-- two states have equal residuals, excess and labels at the nodes below n
 pub record Agree (n : ℕ) (s t : State) : Type 0 where
   pub res : (v w : ℕ) → v < n → w < n → s.res v w ≡ t.res v w
   pub excess : (v : ℕ) → v < n → s.excess v ≡ t.excess v
@@ -107,7 +108,8 @@ pub record LabelsFit (net : FlowNet) (labels : List ℕ) : Type 0 where
 
 -- ---- places
 
--- node v stands at place i, and its row at place s, of cells that begin with arc `base` and node `first`
+-- node v stands at place i, and its row at place s, of cells that begin with arc `base` and node
+-- `first`
 pub record Within (net : FlowNet) (base first : ℕ) (c : Cells) (v i s : ℕ) : Type 0 where
   pub node : v < node_count net
   pub at : first + i ≡ v

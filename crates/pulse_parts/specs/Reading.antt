@@ -19,7 +19,8 @@ arc_push net labels v row excess k = min (arc_admissible net labels v row excess
 abbrev pub cells_push : FlowNet → List ℕ → Cells → ℕ → ℕ → ℕ
 cells_push net labels c v k = arc_push net labels v (λ j. slice_index c.residuals (start net v + j)) (slice_index c.excess v) k
 
--- values that begin with arc `base`: the rows of the nodes from low up to high are what Read writes, and each other value is as it was
+-- Values that begin with arc `base`. The rows of the nodes from low up to high are what Read
+-- writes, and each other value is as it was.
 pub record RowsRead (net : FlowNet) (labels : List ℕ) (base low high : ℕ) (c : Cells) (old new : List ℕ) : Type 0 where
   pub same : length new ≡ length old
   pub done : (v k : ℕ) → low ≤ v → v < high → k < row_len net v → slice_index new (start net v + k - base) ≡ cells_push net labels c v k
@@ -60,7 +61,8 @@ RowsAreZero net base first end values = (v k : ℕ) → first ≤ v → v < end 
 abbrev pub HoldsZeros : FlowNet → PushPart → Type 0
 HoldsZeros net p = RowsAreZero net p.base p.first p.end p.values.items
 
--- node v was walked: its row is what Read writes, it is listed, and it is counted, up to the greatest count of 32 bits
+-- node v was walked: its row is what Read writes, it is listed, and it is counted, up to the
+-- greatest count of 32 bits
 pub record Walks (net : FlowNet) (labels : List ℕ) (base v : ℕ) (c : Cells) (old new : List ℕ) (was now : NodeList) (before after : ℕ) : Type 0 where
   pub row : RowsRead net labels base v (v + 1) c old new
   pub listed : now.complete ≡ true → (was.complete ≡ true) × (now.nodes.items ≡ was.nodes.items ++ (v ∷ []))
@@ -103,7 +105,8 @@ PartsRead net labels first end c olds news = (i : ℕ) (e : PushPart) → i < le
 abbrev pub clamped : ℕ → ℕ → ℕ → ℕ
 clamped first end v = min end (max first v)
 
--- a part's nodes from `first` up to `end` are read, and the rows walked were counted on by the active ones of these
+-- a part's nodes from `first` up to `end` are read, and the rows walked were counted on by the
+-- active ones of these
 pub record PartReadOn (net : FlowNet) (labels : List ℕ) (first end : ℕ) (c : Cells) (old new : PushPart) : Type 0 where
   pub is_read : PartRead net labels first end c old new
   pub walked : IsCountedOn old.walked (active_from net labels c (clamped first end old.first) (clamped first end old.end)) new.walked

@@ -12,7 +12,8 @@ abbrev pub start_res : FlowNet → ℕ → ℕ
 start_res net arc = cond (nat_lt arc (start net 1)) 0
     (cond (slice_index net.heads arc == 0) (cap_at net arc + cap_at net (slice_index net.mates arc)) (cap_at net arc))
 
--- the excess of a node at the start: the capacity of the arc from the source, which is the mate of its arc to it
+-- the excess of a node at the start: the capacity of the arc from the source, which is the mate of
+-- its arc to it
 abbrev pub start_excess : FlowNet → ℕ → ℕ
 start_excess net v = cond (v == 0) 0 (sum_below (row_len net v) (λ k. cond (head net v k == 0) (back net net.caps v k) 0))
 
@@ -67,7 +68,7 @@ abbrev pub StartLaw : Type 0
 StartLaw = (net : FlowNet) (labels : List ℕ) (qs : List FlowPart) → IsFlowNet net → IsStartable net → PartsHold net (start_res net) (start_excess net) (node_count net) qs → LabelsStart net labels
     → AreFlowParts net 0 qs × (Agree (node_count net) (started (node_count net) (pair net net.caps)) (pairs net (cells_of qs) labels) × IsSound net (pairs net (cells_of qs) labels))
 
--- parts with the residuals and the excess of others, whatever their ranges, are the same state
+-- parts with the residuals and the excess of others, whatever their ranges, are one state with them
 abbrev pub PartingLaw : Type 0
 PartingLaw = (net : FlowNet) (labels : List ℕ) (c : Cells) (qs : List FlowPart) → IsFlowNet net → PartsHold net (slice_index c.residuals) (slice_index c.excess) (node_count net) qs
     → AreFlowParts net 0 qs × Agree (node_count net) (pairs net c labels) (pairs net (cells_of qs) labels)

@@ -3,7 +3,8 @@ use Rattle.std.specs.Prelude.{◌≡◌, ℕ, ◌<◌, ◌≤◌, true, List, le
 use Rattle.pulse_parts.specs.declared.parts.FlowPart.{FlowPart}
 use Rattle.pulse_parts.specs.Listing.{AreWithin, IsListed, IsRising}
 
--- a list that holds each node from first up to end that a part lists, where all parts' lists are complete
+-- a list that holds each node from first up to end that a part lists, if all parts' lists are
+-- complete
 pub record TakesOver (qs : List FlowPart) (first end : ℕ) (list : List ℕ) : Type 0 where
   pub within : AreWithin first end list
   pub rising : IsRising list

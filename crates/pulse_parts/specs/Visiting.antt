@@ -5,7 +5,7 @@ use Rattle.pulse_parts.specs.declared.parts.FlowPart.{FlowPart}
 use Rattle.pulse_parts.specs.Delivering.{PartDelivered, own, back}
 use Rattle.pulse_parts.specs.Listing.{active_by, AreWithin, IsListed, IsRising, ListsTurning}
 
--- the nodes from first up to end that node u pushes to are listed, and so is u where it pushes
+-- the nodes from first up to end that node u pushes to are listed, and so is u if it pushes
 abbrev pub HeadListed : FlowNet → List ℕ → ℕ → ℕ → List ℕ → ℕ → ℕ → Type 0
 HeadListed net xs first end list u k = 0 < own net xs u k → first ≤ head net u k → head net u k < end → IsListed list (head net u k)
 
@@ -21,7 +21,8 @@ pub record PushesListed (net : FlowNet) (xs : List ℕ) (first end : ℕ) (list 
 abbrev pub AllPushesListed : FlowNet → List ℕ → ℕ → ℕ → List ℕ → Type 0
 AllPushesListed net xs first end list = (u k : ℕ) → u < node_count net → k < row_len net u → 0 < own net xs u k → PushesListed net xs first end list u
 
--- node v isn't active, pushes nothing and is pushed nothing, and its cell for a new label holds its label
+-- node v isn't active, pushes nothing and is pushed nothing, and its cell for a new label holds its
+-- label
 pub record IsStill (net : FlowNet) (labels xs : List ℕ) (v excess next : ℕ) : Type 0 where
   pub inactive : active_by (node_count net) v excess (slice_index labels v) ≡ false
   pub label : next ≡ slice_index labels v

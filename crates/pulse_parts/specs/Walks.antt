@@ -13,7 +13,8 @@ pub record Waits (q : ℕ → ℕ) (place count v : ℕ) : Type 0 where
 abbrev pub IsRead : ℕ → State → (ℕ → ℕ) → ℕ → Type 0
 IsRead n s d w = (v : ℕ) → v < n → 0 < s.res v w → d v ≤ d w + 1
 
--- labels d, a queue q of `count` nodes, and the place of the first that isn't read. A node without a label has n.
+-- labels d, a queue q of `count` nodes, and the place of the first that isn't read. A node without
+-- a label has n.
 pub record Sweeps (n : ℕ) (s : State) (d q : ℕ → ℕ) (count place : ℕ) : Type 0 where
   pub within : place ≤ count
   pub small : (v : ℕ) → v < n → d v ≤ n

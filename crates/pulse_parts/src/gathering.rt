@@ -1,5 +1,5 @@
-//! Gathers the nodes of a part that have something to do in a delivery: those that are active,
-//! those that push, and those that are pushed to.
+//! Gathers the nodes of a part that have something to do in a delivery. They are active, push, or
+//! are pushed to.
 //!
 //! A list has room for each node of the part once. A node may be added more than once, until `rise`
 //! leaves it once. The list isn't complete if its room is full before that, or a list that it is

@@ -1,6 +1,6 @@
 //! The flow of a network in parts, one for each worker of a pulse.
 //!
-//! The rows of the nodes are cut into parts that own their vectors: a worker gets its part by
+//! The rows of the nodes are cut into parts that own their vectors. A worker gets its part by
 //! value, writes only in it, and returns it. All else that it reads is lent to all workers: the
 //! flow and the labels for reading, the pushes and the labels for delivery. So the events of a part
 //! are those of its nodes, whatever the other workers do meanwhile.

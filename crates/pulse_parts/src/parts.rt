@@ -2,9 +2,9 @@
 
 use crate::node_list::NodeList;
 
-/// The flow at the nodes from `first` up to `end`: the residuals of their arcs, from arc `base` on,
-/// their excess, and their new labels (`next`). `active`, if it is complete, lists the nodes that
-/// may be active; `spare` is room for the next list.
+/// The flow at the nodes from `first` up to `end`. It has the residuals of their arcs, from arc
+/// `base` on, their excess, and their new labels (`next`). `active`, if it is complete, lists the
+/// nodes that may be active; `spare` is room for the next list.
 #[derive(Drop)]
 pub struct FlowPart {
     pub worker: u32,

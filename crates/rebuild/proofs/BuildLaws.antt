@@ -31,7 +31,7 @@ skip-place p f v xs fails listed =
     let same : places p (v + 1) ≡ places p v = ap (places p) (add-one v) ∙ places-fail p v fails in
     listed ∙ ap (map f) (sym same)
 
--- the same places under another number
+-- those places under another number
 pub places-at : {A : Type 0} (p : ℕ → Bool) (f : ℕ → A) (n m : ℕ) (xs : List A) → n ≤ m → m ≤ n → xs ≡ map f (places p n) → xs ≡ map f (places p m)
 places-at p f n m xs h k listed = let same : n ≡ m = omega arith in listed ∙ ap (λ (i : ℕ). map f (places p i)) same
 

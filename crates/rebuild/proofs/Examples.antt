@@ -49,7 +49,8 @@ moved_shared : moved_of (move_of (with_outputs both_plain (10 ∷ 10 ∷ 10 ∷ 
 unfolding moved_graph mapped_props moved_symbols is_latched is_outside gates_start copies_start new_variable copy_variable advanced start_value places numbered in_border is_read_outside count_below value latch_value fold_gates fold_to_depth
 moved_shared = refl
 
--- a free latch beside the two, which reads the first input, and which an output reads negated: it stays, before the gate's latch
+-- a free latch beside the two, which reads the first input, and which an output reads negated: it
+-- stays, before the gate's latch
 moved_beside_free : moved_of (move_of (with_outputs (record {
   inputs = 2;
   latches = record { next = 2; reset = Zero } ∷ record { next = 4; reset = One } ∷ record { next = 2; reset = Free } ∷ [];

@@ -60,7 +60,7 @@ module _ (m : Move) (set : IsClosedSet m.circuit.aig m.held m.set) where
   pub moved-gates : length (moved_graph m).gates ≡ length m.circuit.aig.gates
   moved-gates = omega (arith, length-moved_gates m set, count-gates)
 
-  -- where the moved circuit's size is within the limit, so is its number of variables
+  -- if the moved circuit's size is within the limit, so is its number of variables
   pub moved-room : 1 + m.circuit.aig.inputs + free_latches m.circuit.aig + border_size m + length m.circuit.aig.gates ≤ MAX_VARIABLES → variables_end (moved_graph m) ≤ MAX_VARIABLES
   moved-room room = omega (arith, moved-inputs m, moved-gates, length-moved_latches m, count-is_latched)
 
@@ -100,7 +100,7 @@ module _ (m : Move) (set : IsClosedSet m.circuit.aig m.held m.set) where
   pub moved-free_at : (j : ℕ) → j ≤ length m.circuit.aig.latches → free_before (moved_graph m) (count_below (is_latched m) (first_latch m.circuit.aig + j)) ≡ free_before m.circuit.aig j
   moved-free_at j h = moved-free_before (first_latch m.circuit.aig + j) (omega arith) ∙ free-count m.circuit.aig j h
 
-  -- a latch of the moved circuit is known exactly where it is one of the border
+  -- a latch of the moved circuit is known if and only if it is one of the border
   same_known : (w : ℕ) → (is_latched m w && not (is_free (latch_for m w))) ≡ in_border m w
   unfolding is_latched
   same_known w = go (latch_at m.circuit.aig w) refl

@@ -18,7 +18,7 @@ free-or : (f x m : Bool) → (f || ((not f || x) && m)) ≡ (f || m)
 free-or true x m = refl
 free-or false x m = refl
 
--- a latch has one after the move where it is free or marked
+-- a latch has one after the move if it is free or marked
 pub latched_by-latch : (g : Graph) (inside marks : List Bool) (k : ℕ) (latch : Latch) → slice_get g.latches k ≡ Some latch
     → latched_by g inside marks (first_latch g + k) ≡ (is_free latch || get_or marks k false)
 latched_by-latch g inside marks k latch there =
@@ -28,7 +28,7 @@ latched_by-latch g inside marks k latch there =
     ∙ free-or (is_free latch) (mark_at (first_latch g) inside v) (mark_at (first_latch g) marks v)
     ∙ ap (λ (b : Bool). is_free latch || b) (mark_at-place (first_latch g) marks k)
 
--- a gate has one where it is in the set and marked
+-- a gate has one if it is in the set and marked
 pub latched_by-gate : (g : Graph) (inside marks : List Bool) (k : ℕ) → length g.latches ≤ k
     → latched_by g inside marks (first_latch g + k) ≡ (get_or inside k false && get_or marks k false)
 latched_by-gate g inside marks k past =

@@ -1,4 +1,5 @@
--- What the list of a closed set's members says: the place and the value of each, and the latches of the border.
+-- What the list of a closed set's members says: the place and the value of each, and the latches of
+-- the border.
 use Rattle.std.proofs.Common.{ℕ, ◌+◌, ◌*◌, ◌<◌, ◌≤◌, ◌≡◌, inl, inr, suc, zero, List, [], ◌∷◌, ◌++◌, length, map, filter, take, Bool, true, false, ◌||◌, Option, None, is_some, get_or, refl, arith, ap, sym, ◌∙◌, subst}
 use Rattle.std.specs.List.Sorted.{IsStrictlyIncreasing}
 use Rattle.std.proofs.lemmas.Bool.{cases_eq, cases_Bool, cond-true, cond-false, and_from, or_left, or_right}
@@ -42,7 +43,7 @@ member-at s vars i same within =
     let v : ℕ = get_or vars i 0 in
     ap (λ (ws : List ℕ). has ws v) (sym same) ∙ (has_iff_contains vars v).1 (i, within, get_or_default vars i v 0 within)
 
--- the numbers that pass p, where none below a passes q, and each from a on that passes p passes q
+-- the numbers that pass p, if none below a passes q, and each from a on that passes p passes q
 split-none : (p q : ℕ → Bool) (a n : ℕ) → ((v : ℕ) → v < a → q v ≡ false) → a ≡ n → places p n ≡ places p a ++ filter p (places q n)
 split-none p q a n none same =
     let empty : places q n ≡ [] = places-none q n (λ v less. none v (omega arith)) in

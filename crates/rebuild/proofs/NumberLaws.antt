@@ -18,14 +18,14 @@ use Rattle.aig_graph.proofs.PlacesLaws.{one_at_most}
 use Rattle.aig_graph.specs.Counting.{count_below}
 use Rattle.aig_graph.specs.Marking.{has}
 
--- one variable further the count has grown by one where it passes
+-- one variable further the count has grown by one if it passes
 pub count-next : (p : ℕ → Bool) (first k : ℕ) (b : Bool) → p (first + k) ≡ b → count_below p (first + (k + 1)) ≡ count_below p (first + k) + cond {A = ℕ} b 1 0
 unfolding count_below
 count-next p first k b here =
     let next : first + (k + 1) ≡ suc (first + k) = omega arith in
     ap (count_below p) next ∙ ap (λ (x : Bool). count_below p (first + k) + cond {A = ℕ} x 1 0) here
 
--- a count at another number that is the same
+-- a count at another, equal number
 pub count-at : (p : ℕ → Bool) (n m : ℕ) → n ≤ m → m ≤ n → count_below p n ≡ count_below p m
 count-at p n m h k = let same : n ≡ m = omega arith in ap (count_below p) same
 
@@ -54,7 +54,7 @@ module _ (m : Move) (passable : ArePassable m.circuit.aig m.held m.set) where
   pub member-mark : (marks : List Bool) (k : ℕ) → marks ≡ by_variable m.circuit.aig (has m.set) → k < length marks → has m.set (first_latch m.circuit.aig + k) ≡ get_or marks k false
   member-mark marks k filled h = let all = all-members m passable marks filled in sym (all.each k h)
 
-  -- a gate is outside where it isn't marked as a member
+  -- a gate is outside if it isn't marked as a member
   pub outside-mark : (marks : List Bool) (k : ℕ) → marks ≡ by_variable m.circuit.aig (has m.set) → length m.circuit.aig.latches ≤ k → k < length marks
       → is_outside m (first_latch m.circuit.aig + k) ≡ not (get_or marks k false)
   unfolding is_outside
@@ -66,7 +66,7 @@ module _ (m : Move) (passable : ArePassable m.circuit.aig m.held m.set) where
   pub no-outside-before : (v : ℕ) → v ≤ first_gate m.circuit.aig → count_below (is_outside m) v ≡ 0
   no-outside-before v h = count-none (is_outside m) v (λ w l. not_outside_before m w (omega arith))
 
-  -- of so many gates no more are outside
+  -- of n gates no more are outside
   pub outside-few : (k : ℕ) → count_below (is_outside m) (first_gate m.circuit.aig + k) ≤ k
   outside-few zero = omega (arith, no-outside-before (first_gate m.circuit.aig + 0) (omega arith))
   outside-few (suc k) =
@@ -106,13 +106,13 @@ module _ (m : Move) (passable : ArePassable m.circuit.aig m.held m.set) where
       cond-false (has m.set v) (2 * copy_variable m v) (moved_literal m (next_of o)) (no-member-before m passable v (omega arith))
       ∙ ap (λ (x : Option Latch). moved_literal m (next_of x)) (latch_at-first_latch m.circuit.aig k ∙ there)
 
-  -- the same by the latch's variable
+  -- advanced, by the latch's variable
   pub advanced-at_latch : (v : ℕ) (latch : Latch) → latch_at m.circuit.aig v ≡ Some latch → advanced m v ≡ moved_literal m latch.next
   advanced-at_latch v latch there =
       let place : LatchPlace m.circuit.aig v latch = latch_place m.circuit.aig v latch there in
       ap (advanced m) (omega (arith, place.from)) ∙ advanced-latch (v - first_latch m.circuit.aig) latch place.there
 
-  -- a gate has one step later what its copy has, where it is a member
+  -- a gate has one step later what its copy has, if it is a member
   pub advanced-gate : (v x : ℕ) (member : Bool) → first_gate m.circuit.aig ≤ v → has m.set v ≡ member → x ≡ cond member (2 * copy_variable m v) 0 → x ≡ advanced m v
   unfolding advanced
   advanced-gate v x member from here made =

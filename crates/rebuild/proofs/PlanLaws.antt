@@ -81,7 +81,7 @@ module _ (m : Move) (passable : ArePassable m.circuit.aig m.held m.set) where
   literal-leaf lit h = let same : new_variable m (variable lit) ≡ variable lit = new_variable-leaf m passable (variable lit) h in omega arith
 
 module _ (m : Move) (room : copies_start m + count_below (has m.set) (variables_end m.circuit.aig) ≤ MAX_VARIABLES) where
-  -- where the moved circuit is within the limit, so is each new variable
+  -- if the moved circuit is within the limit, so is each new variable
   pub variable-small : variables_end m.circuit.aig ≤ MAX_VARIABLES → (v : ℕ) → v < variables_end m.circuit.aig → new_variable m v < MAX_VARIABLES
   unfolding new_variable
   variable-small few v h = elim (cases_Bool (is_latched m v)) [
@@ -92,7 +92,7 @@ module _ (m : Move) (room : copies_start m + count_below (has m.set) (variables_
     ]
   ]
 
-  -- where the moved circuit is within the limit, so is each copy's variable
+  -- if the moved circuit is within the limit, so is each copy's variable
   pub copy-small : (v : ℕ) → v < variables_end m.circuit.aig → has m.set v ≡ true → copy_variable m v < MAX_VARIABLES
   copy-small v h member = omega (arith, copy_variable-is m v, count-lt (has m.set) v (variables_end m.circuit.aig) h member)
 
@@ -134,7 +134,7 @@ latched-here m inside old new latched passable members fresh both filled =
     ∙ ap (λ (b : Bool). is_free_latch (latch_at g v) || ((is_known (latch_at g v) || is_gate_in g m.set v) && b))
     (mark ∙ ap (λ (b : Bool). b || is_held g m.held v) outside ∙ or_comm (is_read m.circuit m.set v) (is_held g m.held v)))
 
--- the same by the graph and the properties that were read of the circuit
+-- that table, by the graph and the properties that were read of the circuit
 pub latched-table : (m : Move) (g : Graph) (p : Props) (inside old new latched : List Bool) → g ≡ m.circuit.aig → p ≡ m.circuit.props → ArePassable m.circuit.aig m.held m.set
     → inside ≡ by_variable m.circuit.aig (has m.set) → old ≡ replicate (latches_and_gates g) false
     → Marks (first_latch g) old new (λ v. is_read_outside g p (mark_at (first_latch g) inside) v || is_held g m.held v)

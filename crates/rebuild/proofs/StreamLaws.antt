@@ -102,7 +102,8 @@ module _ (m : Move) (valid : IsGraph m.circuit.aig) (set : IsClosedSet m.circuit
       moved_literal-value t latches latch.next (record { read = read-next m (v - first_latch m.circuit.aig) latch place.there; within = valid.latches (v - first_latch m.circuit.aig) latch place.there })
       ∙ sym (value-latch_later m.circuit.aig valid x f t v latch e)
 
-  -- what a copy reads has the value that its gate reads a step later, where the copies before it have theirs
+  -- what a copy reads has the value that its gate reads a step later, if the copies before it have
+  -- theirs
   advanced-value : (t n : ℕ) → SameLatches t → ((w : ℕ) → w < n → has m.set w ≡ true → after t (2 * copy_variable m w) ≡ before (t + 1) (2 * w))
       → (w : ℕ) → w < n → IsLatchOrIn m.circuit.aig m.set w → after t (advanced m w) ≡ before (t + 1) (2 * w)
   unfolding advanced
@@ -233,7 +234,7 @@ same_streams m valid netlist set moved = record {
   values = λ x f t. moved-values m valid set moved x f netlist t;
 }
 
--- the same of a circuit that is put together of the moved parts
+-- moved, of a circuit that is put together of the moved parts
 pub moved-whole : (m : Move) (aig : Graph) (props : Props) (symbols : Symbols) → aig ≡ moved_graph m → props ≡ moved_props m → symbols ≡ moved_symbols m
     → record { aig = aig; props = props; symbols = symbols } ≡ moved_of m
 moved-whole m aig props symbols e1 e2 e3 =

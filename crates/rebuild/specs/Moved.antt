@@ -24,14 +24,16 @@ is_latched m v = is_free_latch (latch_at m.circuit.aig v) || in_border m v
 unfoldable pub is_outside : Move → ℕ → Bool
 is_outside m v = nat_le (first_gate m.circuit.aig) v && not (has m.set v)
 
--- the first variable after the latches of the moved circuit, and after its gates from outside the set
+-- the first variable after the latches of the moved circuit, and after its gates from outside the
+-- set
 unfoldable pub gates_start : Move → ℕ
 gates_start m = first_latch m.circuit.aig + count_below (is_latched m) (variables_end m.circuit.aig)
 
 unfoldable pub copies_start : Move → ℕ
 copies_start m = gates_start m + count_below (is_outside m) (variables_end m.circuit.aig)
 
--- the variable that gates outside the set, next literals and properties read in the place of v: that of its latch, of the gate, or its own
+-- the variable that gates outside the set, next literals and properties read in the place of v: its
+-- latch's, the gate's, or its own
 unfoldable pub new_variable : Move → ℕ → ℕ
 new_variable m v = numbered (is_latched m) (is_outside m) (first_latch m.circuit.aig) (gates_start m) v
 
@@ -47,7 +49,8 @@ abbrev pub next_of : Option Latch → ℕ
 next_of None = 0
 next_of (Some latch) = latch.next
 
--- the literal that has now the value that the variable has one step later: of a gate's copy, or what a latch reads next
+-- the literal that has now the value that the variable has one step later: of a gate's copy, or
+-- what a latch reads next
 unfoldable pub advanced : Move → ℕ → ℕ
 advanced m v = if has m.set v then 2 * copy_variable m v else moved_literal m (next_of (latch_at m.circuit.aig v))
 
@@ -65,8 +68,8 @@ abbrev pub latch_from : Move → ℕ → Option Latch → Latch
 latch_from m v None = record { next = 2 * copy_variable m v; reset = reset_to (start_value m.circuit.aig v) }
 latch_from m v (Some latch) = record { next = moved_literal m latch.next; reset = latch.reset }
 
--- the latch of a variable: the one that stays, with its reset, or a new one at the copy's output,
--- whose reset is the gate's value at step 0
+-- The latch of a variable: the one that stays, with its reset, or a new one at the copy's output.
+-- The new one's reset is the gate's value at step 0.
 abbrev pub latch_for : Move → ℕ → Latch
 latch_for m v = latch_from m v (latch_at m.circuit.aig v)
 
@@ -83,7 +86,8 @@ latches_below m n = map (latch_for m) (places (is_latched m) n)
 abbrev pub gates_below : Move → ℕ → List Gate
 gates_below m n = map (gate_for m) (places (is_outside m) n)
 
--- Latches come before gates in the numbering: so those that stay come first, and then those of border gates.
+-- Latches come before gates in the numbering: so those that stay come first, and then those of
+-- border gates.
 unfoldable pub moved_graph : Move → Graph
 moved_graph m = record {
   inputs = m.circuit.aig.inputs;
@@ -113,8 +117,9 @@ moved_name m name = record name { position = moved_position m name.position }
 unfoldable pub moved_symbols : Move → Symbols
 moved_symbols m = record m.circuit.symbols { latches = map (moved_name m) (filter (stays m) m.circuit.symbols.latches) }
 
--- the moved circuit: staying latches in order, then one for each border gate; gates outside the
--- set, then the copies; properties mapped; the symbols of moved latches dropped
+-- The moved circuit. It has the staying latches in order, then one for each border gate, and gates
+-- outside the set, then the copies. Properties are mapped, and the symbols of moved latches
+-- dropped.
 abbrev pub moved_of : Move → Netlist
 moved_of m = record { aig = moved_graph m; props = moved_props m; symbols = moved_symbols m }
 

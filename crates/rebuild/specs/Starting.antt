@@ -8,7 +8,7 @@ use Rattle.aig_graph.specs.Value.{value, signed, reset_to}
 use Rattle.aig_graph.specs.Tables.{table}
 use Rattle.rebuild.specs.Members.{is_latch_or_in}
 
--- the value of a variable at step 0, where inputs and free latches are 0
+-- the value of a variable at step 0, with inputs and free latches 0
 unfoldable pub start_value : Graph → ℕ → Bool
 start_value g v = value g (λ t i. false) (λ j. false) 0 (2 * v)
 
@@ -26,7 +26,7 @@ literal_start lit Zero = Some (signed lit false)
 literal_start lit One = Some (signed lit true)
 literal_start lit Free = None
 
--- the reset of the AND of two literals: free where the value of one isn't decided
+-- the reset of the AND of two literals: free if the value of one isn't decided
 abbrev pub and_reset : Option Bool → Option Bool → Reset
 and_reset None b = Free
 and_reset (Some a) None = Free

@@ -1,6 +1,6 @@
-//! The graph after a move. Latches: those that stay, in old order, and then one for each gate of the border, in gate order.
-//! Gates: those outside the set, in old order, and then the copies of the members, which may read any other gate. What each reads
-//! is in the plan.
+//! The graph after a move. Latches: those that stay, in old order, and then one for each gate of
+//! the border, in gate order. Gates: those outside the set, in old order, and then the copies of
+//! the members, which may read any other gate. Their fan-ins are in the plan.
 ghost use Rattle.std.specs.Prelude.{◌≡◌, ◌≤◌, ◌++◌, [], IfOk, OnOk, length, map, vec_capacity};
 ghost use Rattle.aig_graph.specs.Graph.{variables_end, first_gate};
 ghost use Rattle.rebuild.specs.Moved.{is_latched, latches_below, gates_below, copy_for, moved_graph};
@@ -31,7 +31,8 @@ fn push_staying(latches: &mut Vec<Latch>, plan: &Plan<'_>)
     }
 }
 
-/// Adds a latch for each gate of the border, in gate order, by the values of latches and members at step 0.
+/// Adds a latch for each gate of the border, in gate order, by the values of latches and members at
+/// step 0.
 fn push_border(latches: &mut Vec<Latch>, plan: &Plan<'_>, values: &[bool]) -> Result<(), NoMemory>
     requires staying { latches.old.items ≡ latches_below (planned plan.now)
         (first_gate (planned plan.now).circuit.aig) }
@@ -99,7 +100,7 @@ fn moved_gates(alloc: Global, plan: &Plan<'_>) -> Result<Vec<Gate>, NoMemory>
     Ok(gates)
 }
 
-/// The graph after the move.
+/// Returns the graph after the move.
 pub(crate) fn moved_graph(alloc: Global, plan: &Plan<'_>) -> Result<Aig, NoMemory>
     ensures { IfOk result (λ aig. aig ≡ moved_graph (planned plan.now)) }
 {

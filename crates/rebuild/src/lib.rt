@@ -1,5 +1,6 @@
-//! Moving latches forward over a closed set of gates, and the resets that the latches get there: the move of Hurst, Mishchenko
-//! and Brayton, 'Fast minimum-register retiming via binary maximum-flow' (2007).
+//! Moving latches forward over a closed set of gates, and the resets that the latches get there.
+//! The move is that of Hurst, Mishchenko and Brayton, 'Fast minimum-register retiming via binary
+//! maximum-flow' (2007).
 #![tactic(auto)]
 
 mod graph;

@@ -1,5 +1,5 @@
-//! What decides which variables have a latch after latches have moved over a closed set: whether they are in the set, and whether
-//! they are held or read from outside it.
+//! The marks of latches after a move over a closed set. They follow from the marks of the set's
+//! members, and of what is held or read from outside it.
 ghost use Rattle.std.specs.Prelude.{◌≡◌, ◌<◌, ◌||◌, ◌&&◌, All, IfOk, length};
 ghost use Rattle.aig_graph.specs.Graph.{first_latch, is_free, latches_and_gates};
 ghost use Rattle.aig_graph.specs.Closed.{is_held, IsClosedSet};
@@ -15,8 +15,9 @@ use aig_graph::{
 };
 use std::alloc::Global;
 
-/// The marks that a move over a closed set rests on: which variables are in the set, and which have a latch after the move. They are
-/// made once, for the size of the border and for `moved_by`. The tables begin at the first latch.
+/// The marks of a move over a closed set: the variables in the set, and those that have a latch
+/// after the move. They are made once, for the size of the border and for `moved_by`. The tables
+/// begin at the first latch.
 #[derive(Drop)]
 pub struct MoveMarks {
     pub(crate) members: Vec<bool>,
@@ -35,21 +36,22 @@ fn mark_read_or_held(marks: &mut [bool], aig: &Aig, props: &Props, inside: &[boo
     mark_held(marks, aig, keep);
 }
 
-/// Whether a latch stays: where it is free, or held or read from outside the set.
+/// Returns true if a latch stays: if it is free, held, or read from outside the set.
 fn stays(latch: &Latch, held_or_read: bool) -> bool
     ensures { result ≡ (is_free latch.now || held_or_read) }
 {
     latch.reset == Reset::Free || held_or_read
 }
 
-/// Whether a gate gets a latch: where it is in the set and read from outside.
+/// Returns true if a gate gets a latch: if it is in the set and read from outside.
 fn is_border(inside: bool, read: bool) -> bool
     ensures { result ≡ (inside && read) }
 {
     inside && read
 }
 
-/// By variable whether it has a latch after the move, by the marks of the set and of what is held or read from outside.
+/// Marks the variables that have a latch after the move, by the marks of the set and of what is
+/// held or read from outside.
 fn latched_marks(
     alloc: Global,
     aig: &Aig,
@@ -77,7 +79,7 @@ impl MoveMarks {
     ghost use Rattle.rebuild.specs.Moved.{is_latched, moved_graph, moved_held};
     ghost use Rattle.aig_graph.specs.Marking.{has};
 
-    /// The marks of a closed set's move. Linear in the circuit; inputs cost nothing.
+    /// Makes the marks of a closed set's move. Linear in the circuit; inputs cost nothing.
     pub fn new(
         alloc: Global,
         circuit: &Circuit,
@@ -102,7 +104,7 @@ impl MoveMarks {
         })
     }
 
-    /// By variable, from the first latch on, whether it is in the set.
+    /// Returns the marks of the set's members, from the first latch on.
     pub fn members(&self) -> &[bool]
         ensures { (m : Move) → AreMarksOf m self.now
             → result.now ≡ by_variable m.circuit.aig (has m.set) }
@@ -110,7 +112,8 @@ impl MoveMarks {
         self.members.as_slice()
     }
 
-    /// By variable, from the first latch on, whether it has a latch after the move.
+    /// Returns the marks of the variables that have a latch after the move, from the first latch
+    /// on.
     pub fn latched(&self) -> &[bool]
         ensures { (m : Move) → AreMarksOf m self.now
             → result.now ≡ by_variable m.circuit.aig (is_latched m) }
@@ -118,8 +121,8 @@ impl MoveMarks {
         self.latched.as_slice()
     }
 
-    /// Where the held latches stand after the move. Takes time in the latches up to the last that is held; where none is, it takes no
-    /// time and no memory.
+    /// Returns the held latches by their positions after the move. Takes time in the latches up to
+    /// the last held one. If none is held, it takes no time and no memory.
     ///
     /// # Errors
     ///
@@ -147,7 +150,7 @@ impl MoveMarks {
         Ok(Keep::new(ranks))
     }
 
-    /// The size of the set's border, which is how many known latches there are after the move.
+    /// Returns the size of the set's border, which is the number of known latches after the move.
     pub fn border_size(&self) -> u32
         ensures { (m : Move) → AreMarksOf m self.now → result ≡ border_size m }
     {

@@ -1,5 +1,5 @@
-//! A closed set beside the marks of its move. The ghost fields say what the tables are, so functions over a `MarkedSet` need no
-//! premise.
+//! A closed set beside the marks of its move. The ghost fields say what the tables are, so
+//! functions over a `MarkedSet` need no premise.
 ghost use Rattle.std.specs.Prelude.{◌≡◌, ◌<◌, ◌≤◌};
 ghost use Rattle.aig_graph.specs.Graph.{IsGraph, first_latch, variables_end};
 ghost use Rattle.aig_graph.specs.Circuits.{IsNetlist};
@@ -13,8 +13,8 @@ ghost use Rattle.rebuild.specs.Entries.{by_variable};
 use crate::marking::MoveMarks;
 use aig_graph::{Aig, Circuit, ClosedSet, Keep, entry};
 
-/// A closed set of a circuit, with marks of its members and of the variables that have a latch after the move. The tables begin
-/// at the first latch.
+/// A closed set of a circuit, with marks of its members and of the variables that have a latch
+/// after the move. The tables begin at the first latch.
 #[derive(Drop)]
 pub(crate) struct MarkedSet<'a> {
     pub(crate) circuit: &'a Circuit,
@@ -59,14 +59,14 @@ impl<'a> MarkedSet<'a> {
         }
     }
 
-    /// The graph before the move.
+    /// Returns the graph before the move.
     pub(crate) fn aig(&self) -> &Aig
         ensures { result.now ≡ (marked self.now).circuit.aig }
     {
         self.circuit.aig()
     }
 
-    /// Whether the latch or gate is in the set.
+    /// Returns true if the latch or gate is in the set.
     pub(crate) fn has(&self, var: u32) -> bool
         requires from { first_latch (marked self.now).circuit.aig ≤ var }
         requires below { var < variables_end (marked self.now).circuit.aig }
@@ -75,7 +75,7 @@ impl<'a> MarkedSet<'a> {
         entry(self.members.as_slice(), self.first, var)
     }
 
-    /// Whether the latch or gate has a latch after the move.
+    /// Returns true if the latch or gate has a latch after the move.
     pub(crate) fn is_latched(&self, var: u32) -> bool
         requires from { first_latch (marked self.now).circuit.aig ≤ var }
         requires below { var < variables_end (marked self.now).circuit.aig }

@@ -18,10 +18,11 @@ use crate::properties::moved_props;
 use aig_graph::{Circuit, ClosedSet, Keep, NoMemory};
 use std::alloc::Global;
 
-/// The circuit after its latches moved forward over a closed set (Hurst et al. 2007): each gate of the set's border gets a latch
-/// at its output, with the gate's value at step 0 as reset, and the gates of the set read what the latches before them read.
-/// Every free latch and every held latch stays. A known latch that isn't held is left out where nothing outside the set reads
-/// it. Linear in the circuit; inputs cost nothing.
+/// Moves the latches of a circuit forward over a closed set (Hurst et al. 2007). Each gate of the
+/// set's border gets a latch at its output, with the gate's value at step 0 as reset. The gates of
+/// the set read what the latches before them read. Every free latch and every held latch stays. A
+/// known latch that isn't held is left out if nothing outside the set reads it. Linear in the
+/// circuit; inputs cost nothing.
 pub fn moved(
     alloc: Global,
     circuit: &Circuit,
@@ -40,7 +41,7 @@ pub fn moved(
     moved_by(alloc, circuit, set, keep, marks)
 }
 
-/// The same by marks of this move that were made before.
+/// Moves the latches as [`moved`] does, by marks of this move that were made before.
 pub fn moved_by(
     alloc: Global,
     circuit: &Circuit,

@@ -6,7 +6,7 @@ use crate::plan::Plan;
 use aig_graph::{NoMemory, Sequence, Symbol, Symbols};
 use std::alloc::Global;
 
-/// The names of the latches that stay, at the positions of these.
+/// Returns the names of the latches that stay, at the positions of these.
 fn staying_names(
     alloc: Global,
     plan: &Plan<'_>,
@@ -26,7 +26,7 @@ fn staying_names(
     Ok(Sequence::from_vec(copies))
 }
 
-/// The names after the move.
+/// Returns the names after the move.
 pub(crate) fn moved_symbols(alloc: Global, plan: &Plan<'_>) -> Result<Symbols, NoMemory>
     ensures { IfOk result (λ symbols. symbols ≡ moved_symbols (planned plan.now)) }
 {

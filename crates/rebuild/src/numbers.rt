@@ -1,6 +1,6 @@
-//! Numbers after a move, for each latch and gate: what is read in its place from outside the set, and what has now the value that it has
-//! one step later. A loop over the latches and one over the gates make each table, and look at marks alone: who asks for a number then
-//! looks at one entry.
+//! Numbers after a move, for each latch and gate. One is read in its place from outside the set,
+//! and one has now its value of one step later. A loop over the latches and one over the gates make
+//! each table, and look at marks alone. Who asks for a number then looks at one entry.
 ghost use Rattle.std.specs.Prelude.{◌≡◌, ◌*◌, ◌+◌, ◌<◌, ◌≤◌, IfOk, true, if◌then◌else◌};
 ghost use Rattle.aig_graph.specs.declared.literal.TheConstants.{MAX_VARIABLES};
 ghost use Rattle.aig_graph.specs.Graph.{variable, variables_end};
@@ -14,7 +14,7 @@ use crate::marks::MarkedSet;
 use aig_graph::{Lit, NoMemory, entry};
 use std::alloc::Global;
 
-/// 1 where the mark is set, else 0.
+/// Returns 1 if the mark is set, else 0.
 fn one_if(mark: bool) -> u32
     ensures value { result ≡ (if mark then 1 else 0) }
     ensures small { result ≤ 1 }
@@ -22,7 +22,8 @@ fn one_if(mark: bool) -> u32
     u32::from(mark)
 }
 
-/// That of its latch where a variable has one after the move, else that of its gate where this is outside the set, else its own.
+/// Returns the number of a variable's latch if it has one after the move. Otherwise returns that of
+/// its gate if this is outside the set, else its own.
 fn number_of(latched: bool, outside: bool, latch: u32, gate: u32, own: u32) -> u32
     ensures { result ≡ (if latched then latch else (if outside then gate else own)) }
 {
@@ -35,7 +36,8 @@ fn number_of(latched: bool, outside: bool, latch: u32, gate: u32, own: u32) -> u
     }
 }
 
-/// What is read in the place of each variable from outside the set. The gates outside it count up from `start`.
+/// Returns the variable that is read in the place of each from outside the set. The gates outside
+/// it count up from `start`.
 pub(crate) fn new_variables(
     alloc: Global,
     marks: &MarkedSet<'_>,
@@ -65,7 +67,8 @@ pub(crate) fn new_variables(
     Ok(numbers)
 }
 
-/// What is read in the place of a literal from outside the set, by the table of variables.
+/// Returns the literal that is read in the place of `lit` from outside the set, by the table of
+/// variables.
 pub(crate) fn renamed(marks: &MarkedSet<'_>, variables: &[u32], lit: Lit) -> Lit
     requires table { variables.now
         ≡ by_variable (marked marks.now).circuit.aig (new_variable (marked marks.now)) }
@@ -82,7 +85,7 @@ pub(crate) fn renamed(marks: &MarkedSet<'_>, variables: &[u32], lit: Lit) -> Lit
     Lit::new(var, false).signed_as(lit)
 }
 
-/// The literal of a member's copy, false for a gate that isn't one.
+/// Returns the literal of a member's copy, or false for a gate that isn't a member.
 fn copy_of(member: bool, copy: u32) -> Lit
     requires { member ≡ true → copy < MAX_VARIABLES }
     ensures { result ≡ (if member then 2 * copy else 0) }
@@ -94,8 +97,9 @@ fn copy_of(member: bool, copy: u32) -> Lit
     }
 }
 
-/// The literal that has now the value that a variable has one step later: what a latch reads next, and a member's copy. The copies count
-/// up from `start`. False for the other gates, of which copies read none.
+/// Returns for each variable the literal that has now the variable's value of one step later. A
+/// latch has its next literal, a member its copy, and the copies count up from `start`. Other gates
+/// have false, since copies read none.
 pub(crate) fn advanced_literals(
     alloc: Global,
     marks: &MarkedSet<'_>,

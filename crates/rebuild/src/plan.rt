@@ -1,6 +1,7 @@
-//! What a move makes of each variable (Hurst et al. 2007): a gate of the border gets a latch at its output, which whatever lies
-//! outside the set reads in its place; and each gate of the set becomes a copy that reads what the latches before it read, so it has at
-//! each step the value that the gate has one step later. Copies come last among the gates, since they may read any other.
+//! What becomes of each variable in a move (Hurst et al. 2007). A gate of the border gets a latch
+//! at its output, and all that lies outside the set reads that in its place. Each gate of the set
+//! becomes a copy that reads what the latches before it read. So the copy has at each step the
+//! gate's value of one step later. Copies come last among the gates, since they may read any other.
 ghost use Rattle.std.specs.Prelude.{◌≡◌, ◌*◌, ◌+◌, ◌<◌, ◌≤◌, IfOk, length, true, if◌then◌else◌, Some, None};
 ghost use Rattle.aig_graph.specs.declared.literal.TheConstants.{MAX_VARIABLES};
 ghost use Rattle.aig_graph.specs.Graph.{IsGraph, variable, variables_end, first_latch, latch_at};
@@ -16,13 +17,14 @@ use crate::numbers::{advanced_literals, new_variables, renamed};
 use aig_graph::{Aig, Gate, Latch, Lit, NoMemory, Reset, count_marks, entry};
 use std::alloc::Global;
 
-/// What becomes of each variable of a circuit where latches move over a set. The tables begin at the first latch.
+/// What becomes of each variable of a circuit if latches move over a set. The tables begin at the
+/// first latch.
 #[derive(Drop)]
 pub(crate) struct Plan<'a> {
     pub(crate) marks: MarkedSet<'a>,
     /// The variable that is read in its place from outside the set.
     variables: Vec<u32>,
-    /// The literal that has now the value that it has one step later, for a latch or a member of the set.
+    /// The literal that has now the value of one step later, for a latch or a member of the set.
     later: Vec<Lit>,
     ghost moved: { IsGraph (moved_graph (move_of marks.circuit.now marks.keep.now marks.set.now)) },
     ghost room: { copies_start (move_of marks.circuit.now marks.keep.now marks.set.now) + count_below (has marks.set.now) (variables_end marks.circuit.now.aig) ≤ MAX_VARIABLES },
@@ -51,14 +53,14 @@ impl<'a> Plan<'a> {
         })
     }
 
-    /// The graph before the move.
+    /// Returns the graph before the move.
     pub(crate) fn aig(&self) -> &Aig
         ensures { result.now ≡ (planned self.now).circuit.aig }
     {
         self.marks.aig()
     }
 
-    /// What is read in the place of a literal from outside the set.
+    /// Returns the literal that is read in the place of `lit` from outside the set.
     pub(crate) fn literal(&self, lit: Lit) -> Lit
         requires { variable lit < variables_end (planned self.now).circuit.aig }
         ensures { result ≡ moved_literal (planned self.now) lit }
@@ -66,7 +68,7 @@ impl<'a> Plan<'a> {
         renamed(&self.marks, self.variables.as_slice(), lit)
     }
 
-    /// The literal of a member's copy.
+    /// Returns the literal of a member's copy.
     pub(crate) fn copy(&self, var: u32) -> Lit
         requires from { first_latch (planned self.now).circuit.aig ≤ var }
         requires within { var < variables_end (planned self.now).circuit.aig }
@@ -76,7 +78,7 @@ impl<'a> Plan<'a> {
         entry(self.later.as_slice(), self.marks.first, var)
     }
 
-    /// What copies read in the place of a literal of a latch or member.
+    /// Returns the literal that copies read in the place of one of a latch or member.
     fn advanced_literal(&self, lit: Lit) -> Lit
         requires from { first_latch (planned self.now).circuit.aig ≤ variable lit }
         requires below { variable lit < variables_end (planned self.now).circuit.aig }
@@ -85,7 +87,7 @@ impl<'a> Plan<'a> {
         entry(self.later.as_slice(), self.marks.first, lit.var()).signed_as(lit)
     }
 
-    /// A gate outside the set, after the move.
+    /// Returns a gate outside the set as it is after the move.
     pub(crate) fn gate(&self, gate: Gate) -> Gate
         requires first { variable gate.rhs0 < variables_end (planned self.now).circuit.aig }
         requires second { variable gate.rhs1 < variables_end (planned self.now).circuit.aig }
@@ -95,7 +97,7 @@ impl<'a> Plan<'a> {
         Gate::of(self.literal(gate.rhs0), self.literal(gate.rhs1))
     }
 
-    /// The copy of a gate of the set.
+    /// Returns the copy of a gate of the set.
     pub(crate) fn copied_gate(&self, gate: Gate) -> Gate
         requires first_from { first_latch (planned self.now).circuit.aig ≤ variable gate.rhs0 }
         requires second_from { first_latch (planned self.now).circuit.aig ≤ variable gate.rhs1 }
@@ -109,7 +111,7 @@ impl<'a> Plan<'a> {
         Gate::of(first, second)
     }
 
-    /// A latch that stays, after the move.
+    /// Returns a latch that stays as it is after the move.
     pub(crate) fn staying_latch(&self, var: u32, latch: Latch) -> Latch
         requires { latch_at (planned self.now).circuit.aig var ≡ Some latch }
         ensures { result ≡ record {
@@ -123,7 +125,7 @@ impl<'a> Plan<'a> {
         }
     }
 
-    /// The latch at the output of a border gate, with its reset.
+    /// Returns the latch at the output of a border gate, with its reset.
     pub(crate) fn border_latch(&self, var: u32, reset: Reset) -> Latch
         requires from { first_latch (planned self.now).circuit.aig ≤ var }
         requires within { var < variables_end (planned self.now).circuit.aig }
@@ -139,7 +141,7 @@ impl<'a> Plan<'a> {
         }
     }
 
-    /// The position after the move of the latch at a position, if it stays.
+    /// Returns the position after the move of the latch at a position, if it stays.
     pub(crate) fn staying_position(&self, position: u32) -> Option<u32>
         requires { position < length (planned self.now).circuit.aig.latches }
         ensures { result ≡

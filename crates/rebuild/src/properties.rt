@@ -20,7 +20,7 @@ impl<'a> Substitute for Plan<'a> {
     }
 }
 
-/// The properties after the move.
+/// Returns the properties after the move.
 pub(crate) fn moved_props(alloc: Global, plan: &Plan<'_>) -> Result<Props, NoMemory>
     ensures { IfOk result (λ props. props ≡ moved_props (planned plan.now)) }
 {

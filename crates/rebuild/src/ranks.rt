@@ -1,4 +1,5 @@
-//! The ranks of a few places among marks, each from the one before it: one walk up to the last of them, and no table.
+//! The ranks of a few places among marks, each from the one before it: one walk up to the last of
+//! them, and no table.
 ghost use Rattle.std.specs.Prelude.{ℕ, Bool, ◌≡◌, ◌+◌, ◌≤◌, ◌<◌, All, IfOk, length, map};
 ghost use Rattle.std.specs.List.Sorted.{IsStrictlyIncreasing};
 ghost use Rattle.aig_graph.specs.Counting.{count_below};
@@ -7,7 +8,8 @@ ghost use Rattle.aig_graph.specs.Marking.{AreAllMarks};
 use aig_graph::NoMemory;
 use std::alloc::Global;
 
-/// The rank of a place, which is how many before it are marked, by that of a place before it.
+/// Returns the rank of place `to`, the number of marked places before it, by the rank of a place
+/// before it.
 fn rank_from(marks: &[bool], rank: u32, from: u32, to: u32) -> u32
     requires order { from ≤ to }
     requires within { to ≤ length marks.now }
@@ -25,7 +27,7 @@ fn rank_from(marks: &[bool], rank: u32, from: u32, to: u32) -> u32
     next
 }
 
-/// The ranks of rising places.
+/// Returns the ranks of rising places.
 pub(crate) fn ranks_of(alloc: Global, marks: &[bool], places: &[u32]) -> Result<Vec<u32>, NoMemory>
     requires rising { IsStrictlyIncreasing places.now }
     requires within { All (λ place. place < length marks.now) places.now }

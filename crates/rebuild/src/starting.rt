@@ -1,5 +1,6 @@
-//! Values at step 0. A passable gate rests on known resets alone, so its value there needs no input: a latch that moves after
-//! it gets this value as its reset, and no search for one is needed (Hurst et al. 2007).
+//! Values at step 0. A passable gate depends on known resets alone, so its value there needs no
+//! input. A latch that moves after it gets this value as its reset, and no search for one is needed
+//! (Hurst et al. 2007).
 ghost use Rattle.std.specs.Prelude.{◌≡◌, ◌+◌, ◌<◌, IfOk, OnOk, length};
 ghost use Rattle.aig_graph.specs.Graph.{IsGraph, variable, first_gate};
 ghost use Rattle.aig_graph.specs.Tables.{table};
@@ -9,7 +10,8 @@ ghost use Rattle.rebuild.specs.Laws.{StartLaw};
 use aig_graph::{Aig, Gate, Keep, Lit, NoMemory, Reset, entry};
 use std::alloc::Global;
 
-/// The reset of a variable, by those of the gates so far: a known latch that isn't held has its own.
+/// Returns the reset of a variable, by those of the gates so far: a known latch that isn't held has
+/// its own.
 fn reset_at(aig: &Aig, keep: &Keep, resets: &[Reset], var: u32) -> Reset
     requires so_far { resets.now ≡ table (first_gate aig.now) (length resets.now)
         (start_reset aig.now keep.now) }
@@ -25,7 +27,7 @@ fn reset_at(aig: &Aig, keep: &Keep, resets: &[Reset], var: u32) -> Reset
     }
 }
 
-/// The value of a literal at step 0 by its variable's reset, unless that is free.
+/// Returns the value of a literal at step 0 by its variable's reset, unless that is free.
 fn literal_start(lit: Lit, reset: Reset) -> Option<bool>
     ensures { result ≡ literal_start lit reset }
 {
@@ -36,7 +38,7 @@ fn literal_start(lit: Lit, reset: Reset) -> Option<bool>
     }
 }
 
-/// The reset of the AND of two literals by their values at step 0.
+/// Returns the reset of the AND of two literals by their values at step 0.
 fn and_reset(first: Option<bool>, second: Option<bool>) -> Reset
     ensures { result ≡ and_reset first second }
 {
@@ -46,7 +48,7 @@ fn and_reset(first: Option<bool>, second: Option<bool>) -> Reset
     }
 }
 
-/// The reset of the next gate.
+/// Returns the reset of the next gate.
 fn gate_reset(aig: &Aig, keep: &Keep, resets: &[Reset], gate: Gate) -> Reset
     requires so_far { resets.now ≡ table (first_gate aig.now) (length resets.now)
         (start_reset aig.now keep.now) }
@@ -64,8 +66,8 @@ fn gate_reset(aig: &Aig, keep: &Keep, resets: &[Reset], gate: Gate) -> Reset
     )
 }
 
-/// The reset of each gate, in gate order: its value at step 0 where it is passable, which is the same for all inputs and all
-/// choices for the free latches; else free. Linear in the graph.
+/// Returns the reset of each gate, in gate order. A passable gate has its value at step 0, which no
+/// input and no value of a free latch changes; another gate is free. Linear in the graph.
 pub fn resets(alloc: Global, aig: &Aig, keep: &Keep) -> Result<Vec<Reset>, NoMemory>
     ensures value { IfOk result (λ resets. resets.items ≡ gate_resets aig.now keep.now) }
     ensures start { OnOk result (StartLaw aig.now keep.now) }

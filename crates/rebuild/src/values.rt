@@ -1,5 +1,6 @@
-//! The values at step 0 of a closed set's members. What a member reads is a latch or a member before it, so each value follows from
-//! resets and from the values before: what a gate outside the set has is never looked at, and its entry stays false.
+//! The values at step 0 of a closed set's members. A member reads latches and members before it, so
+//! each value follows from resets and from the values before. The value of a gate outside the set
+//! is never looked at, and its entry stays false.
 ghost use Rattle.std.specs.Prelude.{◌≡◌, ◌&&◌, ◌+◌, ◌<◌, IfOk, Some, false, length, true};
 ghost use Rattle.aig_graph.specs.Graph.{first_latch, gate_at, variable};
 ghost use Rattle.aig_graph.specs.Value.{opening, signed};
@@ -14,21 +15,21 @@ use crate::plan::Plan;
 use aig_graph::{Gate, Latch, Lit, NoMemory, Reset, entry};
 use std::alloc::Global;
 
-/// The value of a latch at step 0, false where it is free.
+/// Returns the value of a latch at step 0, or false if it is free.
 fn latch_value(latch: Latch) -> bool
     ensures { result ≡ opening latch.reset false }
 {
     latch.reset == Reset::One
 }
 
-/// The value of an AND.
+/// Returns the value of an AND.
 fn both(first: bool, second: bool) -> bool
     ensures { result ≡ (first && second) }
 {
     first && second
 }
 
-/// The value at step 0 of a literal of a latch or member, by the values so far.
+/// Returns the value at step 0 of a literal of a latch or member, by the values so far.
 fn value_of(plan: &Plan<'_>, values: &[bool], lit: Lit) -> bool
     requires so_far { values.now ≡ table (first_latch (planned plan.now).circuit.aig)
         (length values.now)
@@ -42,7 +43,7 @@ fn value_of(plan: &Plan<'_>, values: &[bool], lit: Lit) -> bool
     lit.value(entry(values, plan.marks.first, lit.var()))
 }
 
-/// The value at step 0 of the next gate, a member.
+/// Returns the value at step 0 of the next gate, a member.
 fn member_value(plan: &Plan<'_>, values: &[bool], var: u32, gate: Gate) -> bool
     requires so_far { values.now ≡ table (first_latch (planned plan.now).circuit.aig)
         (length values.now)
@@ -57,7 +58,7 @@ fn member_value(plan: &Plan<'_>, values: &[bool], var: u32, gate: Gate) -> bool
     both(first, second)
 }
 
-/// The value at step 0 of the next gate where it is a member, else false.
+/// Returns the value at step 0 of the next gate if it is a member, else false.
 fn gate_value(plan: &Plan<'_>, values: &[bool], var: u32, gate: Gate) -> bool
     requires so_far { values.now ≡ table (first_latch (planned plan.now).circuit.aig)
         (length values.now)
@@ -73,7 +74,7 @@ fn gate_value(plan: &Plan<'_>, values: &[bool], var: u32, gate: Gate) -> bool
     }
 }
 
-/// By variable the value at step 0 of each latch and member. Linear in the graph.
+/// Returns by variable the value at step 0 of each latch and member. Linear in the graph.
 pub(crate) fn start_values(alloc: Global, plan: &Plan<'_>) -> Result<Vec<bool>, NoMemory>
     ensures { IfOk result (λ values. values.items ≡ by_variable (planned plan.now).circuit.aig
         (member_start (planned plan.now).circuit.aig (planned plan.now).set)) }

@@ -5,7 +5,7 @@ use Rattle.std.proofs.lemmas.List.{get_or-take, length-take}
 use Rattle.reports.specs.Agreements.{IsAgreement}
 use Rattle.reports.specs.declared.agreement.Agreement.TheVariants.{Same, DiffersAt}
 
--- at a byte that isn't the same
+-- at a byte that differs
 pub differs_at : (text file : List ℕ) (k : ℕ) (d : ℕ) → take k file ≡ take k text → get_or text k d ≢ get_or file k d → IsAgreement text file (DiffersAt k)
 differs_at text file k d same other =
     let more : k < k + 1 = omega arith in

@@ -9,7 +9,8 @@ use Rattle.reports.specs.CircuitCounts.{counts, statistics}
 use Rattle.reports.specs.declared.statistics.Counts.{Counts}
 use Rattle.reports.specs.declared.statistics.Statistics.{Statistics}
 
--- the numbers that were taken of a graph and its properties, one by one, are the counts of the circuit
+-- the numbers that were taken of a graph and its properties, one by one, are the counts of the
+-- circuit
 pub counts-is : (c : Netlist) (g : Graph) (p : Props) (inputs latches free known gates high outputs bad constraints justice fairness : ℕ) → g ≡ c.aig → p ≡ c.props
     → inputs ≡ g.inputs → latches ≡ length g.latches → free ≡ free_latches g → known ≡ known_latches g → gates ≡ length g.gates → high ≡ levels c
     → outputs ≡ length p.outputs → bad ≡ length p.bad → constraints ≡ length p.constraints → justice ≡ length p.justice → fairness ≡ length p.fairness
@@ -40,7 +41,7 @@ counts-is c g p inputs latches free known gates high outputs bad constraints jus
       fairness = fairness_are i;
     }
 
--- the counts and the number of gates passable where none is held are the circuit's statistics
+-- the counts and the number of gates passable if none is held are the circuit's statistics
 pub statistics-is : (c : Netlist) (n : Counts) (passable : ℕ) → n ≡ counts c → passable ≡ length (passable_gates c.aig []) → record { counts = n; passable = passable } ≡ statistics c
 unfolding statistics
 statistics-is c n passable is_counts is_passable = λ i. record { counts = is_counts i; passable = is_passable i }

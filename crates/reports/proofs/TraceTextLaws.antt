@@ -9,12 +9,12 @@ use Rattle.counted_io.proofs.BufferedLaws.{puts-range_next}
 use Rattle.lane_sim.specs.Traces.{at_place, then_at}
 use Rattle.reports.specs.Traces.{digit, digit_at, values_at, step_at, steps_at, sequence_at, sequences_at, step_line, sequence_lines, trace_text}
 
--- what a list has at a number, where it is there
+-- what a list has at a number, if it is there
 then_or : {X : Type 0} (o : Option (List X)) (k : ℕ) (d : X) → unwrap_or (then_at o k) d ≡ get_or (unwrap_or o []) k d
 then_or None k d = refl
 then_or (Some xs) k d = unwrap_or-slice_get xs k d
 
--- the value of a property at a step of a sequence, false where the trace has none
+-- the value of a property at a step of a sequence, false if the trace has none
 pub value_is : (t : List (List (List Bool))) (s k p : ℕ) → unwrap_or (at_place t s k p) false ≡ get_or (get_or (get_or t s []) k []) p false
 value_is t s k p =
     then_or (then_at (slice_get t s) k) p false

@@ -79,7 +79,7 @@ twice : (b : Bool) → not (not b) ≡ b
 twice true = refl
 twice false = refl
 
--- a name that was looked for among those before it, and told apart where it was there
+-- a name that was looked for among those before it, and told apart if it was there
 pub apart-is : (names : List (List ℕ)) (k : ℕ) (item name : List ℕ) (is_new has : Bool) (told : List ℕ) → k < length names → item ≡ get_or names k item → name ≡ item
     → is_new ≡ not has → has ≡ list_any (bytes_eq name) (take k names) → told ≡ apart_where (not is_new) item k → told ≡ apart names (0 + k)
 apart-is names k item name is_new has told less at is new found made =

@@ -3,7 +3,7 @@ use Rattle.std.specs.Prelude.{ℕ, ◌+◌, ◌≡◌, ◌≢◌, List, [], ◌�
 use Rattle.reports.specs.declared.agreement.Agreement.{Agreement}
 use Rattle.reports.specs.declared.agreement.Agreement.TheVariants.{Same, DiffersAt}
 
--- the file is the text, or the two are the same up to this offset, and not with one byte more
+-- the file is the text, or the two agree up to this offset, and not with one byte more
 abbrev pub IsAgreement : List ℕ → List ℕ → Agreement → Type 0
 IsAgreement text file Same = file ≡ text
 IsAgreement text file (DiffersAt offset) = (take offset file ≡ take offset text) × (take (offset + 1) file ≢ take (offset + 1) text)
@@ -12,7 +12,7 @@ IsAgreement text file (DiffersAt offset) = (take offset file ≡ take offset tex
 abbrev pub difference_line : ℕ → List ℕ
 difference_line offset = codes "out differs at " ++ (decimal offset ++ 10 ∷ [])
 
--- what came of comparing a file; nothing where none was compared
+-- the outcome of comparing a file; nothing if none was compared
 abbrev pub agreement_text : Option Agreement → List ℕ
 agreement_text None = []
 agreement_text (Some Same) = codes "out same\n"

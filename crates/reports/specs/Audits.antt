@@ -26,7 +26,8 @@ end_text number Open = codes "end open\n"
 end_text number BlocksFollow = codes "blocks follow the end\n"
 end_text number (Objected objection) = objection_line number objection
 
--- a line for each confirmed block, which are numbered from 0 on, one for the end, and one for a file that was compared
+-- a line for each confirmed block, which are numbered from 0 on, one for the end, and one for a
+-- file that was compared
 abbrev pub audit_text : List Certificate → Audit → Option Agreement → List ℕ
 audit_text blocks audit agreement =
     numbered_lines block_line 0 (take audit.confirmed blocks) ++ (end_text audit.confirmed audit.end ++ agreement_text agreement)

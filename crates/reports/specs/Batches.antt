@@ -17,7 +17,8 @@ refusal_text fault = codes " refused " ++ (name_of fault ++ (offset_text (offset
 unfoldable pub done_text : ℕ → ℕ → List ℕ
 done_text before after = codes " done " ++ change before after
 
--- what became of a file: the numbers of latches before and after, its fault, that memory was wanting, or a name
+-- what became of a file: the numbers of latches before and after, its fault, that memory was
+-- wanting, or a name
 unfoldable pub report_text : JobReport → List ℕ
 report_text (Done before after) = done_text before after
 report_text (Refused fault) = refusal_text fault

@@ -23,6 +23,6 @@ counts c = record {
   fairness = length c.props.fairness;
 }
 
--- the same, and how many gates are passable where no latch is held
+-- these counts, and the number of passable gates with no latch held
 unfoldable pub statistics : Netlist → Statistics
 statistics c = record { counts = counts c; passable = length (passable_gates c.aig []) }

@@ -20,7 +20,7 @@ property_counts c =
     count_line (codes "outputs") c.outputs ++ (count_line (codes "bad") c.bad ++ (count_line (codes "constraints") c.constraints
     ++ (count_line (codes "justice") c.justice ++ count_line (codes "fairness") c.fairness)))
 
--- how many latches are merged, and how many of these with a constant, where that was asked for
+-- the number of latches that are merged, and of these with a constant, if that was asked for
 unfoldable pub merge_counts : Option MergeCounts → List ℕ
 merge_counts None = []
 merge_counts (Some counts) = count_line (codes "merged") counts.merged ++ count_line (codes "constant") counts.constant

@@ -2,7 +2,7 @@
 use Rattle.std.specs.Prelude.{ℕ, List, [], ◌∷◌, ◌++◌, Option, Some, None, decimal, codes}
 use Rattle.lane_sim.specs.declared.difference.Place.{Place}
 
--- the line that says where two circuits differ first
+-- the line of the first difference of two circuits
 unfoldable pub place_text : Place → List ℕ
 place_text p =
     codes "differ at sequence " ++ (decimal p.sequence ++ (codes ", step " ++ (decimal p.step ++ (codes ", place " ++ (decimal p.place ++ 10 ∷ [])))))

@@ -1,4 +1,4 @@
--- What holds the latches of a circuit where they are.
+-- The reasons why the latches of a circuit don't move.
 use Rattle.std.specs.Prelude.{ℕ, Bool, ◌&&◌, ◌-◌, List, length, Option, Some, None}
 use Rattle.aig_graph.specs.Counting.{count_below}
 use Rattle.aig_graph.specs.Marking.{mark_at}
@@ -14,11 +14,13 @@ use Rattle.reports.specs.declared.held_back.HeldBack.{HeldBack}
 abbrev pub is_known_held : Graph → List ℕ → ℕ → Bool
 is_known_held g held v = is_held g held v && is_known (latch_at g v)
 
--- whether the variable is a known latch that isn't held, and that a gate that isn't passable, a next literal or a property reads
+-- whether the variable is a known latch that isn't held, and that a gate that isn't passable, a
+-- next literal or a property reads
 abbrev pub is_read_elsewhere : Netlist → List ℕ → ℕ → Bool
 is_read_elsewhere c held v = may_move c.aig held v && is_read_outside c.aig c.props (is_passable c.aig held) v
 
--- how many latches are free, are known and held, and are known, not held and read elsewhere, and how many gates are passable, without a bound
+-- the numbers of latches that are free, that are known and held, and that are known, not held and
+-- read elsewhere; and of passable gates
 unfoldable pub held_back : Netlist → List ℕ → HeldBack
 held_back c held = record {
   free = free_latches c.aig;
@@ -28,11 +30,12 @@ held_back c held = record {
   passable = length (passable_gates c.aig held);
 }
 
--- how many more latches are read elsewhere where gates past the bound aren't passable
+-- the number of latches more that are read elsewhere if gates past the bound aren't passable
 abbrev pub too_long : ℕ → Netlist → List ℕ → ℕ
 too_long bound c held = (held_back (bounded bound held c) held).read_elsewhere - (held_back c held).read_elsewhere
 
--- the same as held_back, and under a bound how many latches a gate on too long a path reads, and nothing that isn't passable
+-- held_back, and under a bound the number of latches that a gate on too long a path reads, and
+-- nothing else that isn't passable
 abbrev pub held_back_within : Option ℕ → Netlist → List ℕ → HeldBack
 held_back_within None c held = held_back c held
 held_back_within (Some bound) c held = record (held_back c held) { too_long = Some (too_long bound c held) }

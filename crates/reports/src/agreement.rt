@@ -10,7 +10,7 @@ use counted_io::{Buffered, CountedWrite};
 pub enum Agreement {
     /// The file is the text.
     Same,
-    /// The first byte that isn't the same in both, or that one of them lacks, has this offset.
+    /// The first byte that differs, or that one of them lacks, has this offset.
     DiffersAt(u64),
 }
 
@@ -40,7 +40,7 @@ fn put_difference<W: CountedWrite>(out: &mut Buffered<'_, W>, offset: u64)
     out.put_byte(b'\n');
 }
 
-/// Puts what came of comparing a file, and nothing where none was compared.
+/// Puts the outcome of comparing a file, or nothing if none was compared.
 pub(crate) fn put_agreement<W: CountedWrite>(
     out: &mut Buffered<'_, W>,
     agreement: Option<Agreement>,

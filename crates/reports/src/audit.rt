@@ -1,5 +1,6 @@
-//! The lines of an audit: the blocks that were confirmed, then how it ended, then whether a file has the circuit that they end in.
-//! Of blocks after one that is rejected nothing is printed: the circuits that they speak of aren't known.
+//! The lines of an audit: the confirmed blocks, then how it ended, then whether a file has the
+//! circuit that they end in. Nothing is printed of blocks after a rejected one: the circuits that
+//! they speak of aren't known.
 ghost use Rattle.std.specs.Prelude.{◌≡◌, take};
 ghost use Rattle.counted_io.specs.Buffered.{Puts};
 ghost use Rattle.counted_io.specs.Line.{numbered_lines};
@@ -49,7 +50,7 @@ fn put_objection<W: CountedWrite>(out: &mut Buffered<'_, W>, number: u64, object
     out.put_byte(b'\n');
 }
 
-/// Puts how an audit ended after so many confirmed blocks.
+/// Puts how an audit ended after `confirmed` confirmed blocks.
 fn put_end<W: CountedWrite>(out: &mut Buffered<'_, W>, confirmed: u64, end: End)
     ensures { Puts W.output out.old out.new (end_text confirmed end) }
 {
@@ -62,7 +63,7 @@ fn put_end<W: CountedWrite>(out: &mut Buffered<'_, W>, confirmed: u64, end: End)
     }
 }
 
-/// The first blocks, so many as are confirmed.
+/// Returns the first `confirmed` blocks.
 fn first_blocks(blocks: &[Certificate], confirmed: usize) -> &[Certificate]
     ensures { result.now ≡ take confirmed blocks.now }
 {
@@ -86,14 +87,16 @@ fn put_audit<W: CountedWrite>(
     put_agreement(out, agreement);
 }
 
-/// Prints a line for each confirmed block, with its count, and one for how the audit of the blocks ended; of no blocks nothing. Where
-/// a file was compared with what they end in, a line says what came of that.
+/// Prints a line for each confirmed block, with its count, and one for how the audit of the blocks
+/// ended; of no blocks nothing. If a file was compared with the circuit that they end in, a line
+/// says the outcome.
 ///
 /// Takes no memory.
 ///
 /// # Errors
 ///
-/// `Device` where a write failed: a beginning of the text was written then, and the writer isn't called again.
+/// `Device` if a write failed: a beginning of the text was written then, and the writer isn't
+/// called again.
 pub fn print_audit<W: CountedWrite>(
     blocks: &[Certificate],
     audit: Audit,

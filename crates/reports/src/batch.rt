@@ -1,5 +1,5 @@
-//! The line of a file of a batch. A fault is put by its name and offset, whose clauses say each letter; what `Display` writes
-//! is only tested.
+//! The line of a file of a batch. A fault is put by its name and offset; its clauses say each
+//! letter. What `Display` writes is only tested.
 ghost use Rattle.std.specs.Prelude.{◌++◌, decimal};
 ghost use Rattle.counted_io.specs.Buffered.{Puts};
 ghost use Rattle.counted_io.specs.Output.{Writes};
@@ -13,7 +13,7 @@ use file_words::ReadError;
 /// What became of a file of a batch.
 #[derive(Clone, Copy)]
 pub enum JobReport {
-    /// It was retimed, from so many latches to so many.
+    /// It was retimed, from the first number of latches to the second.
     Done(u32, u32),
     /// It is no circuit.
     Refused(ReadError),
@@ -78,7 +78,8 @@ fn put_job<W: CountedWrite>(out: &mut Buffered<'_, W>, number: u64, report: JobR
 ///
 /// # Errors
 ///
-/// `Device` where a write failed: a beginning of the line was written then, and the writer isn't called again.
+/// `Device` if a write failed: a beginning of the line was written then, and the writer isn't
+/// called again.
 pub fn print_job<W: CountedWrite>(
     number: u64,
     report: JobReport,

@@ -62,12 +62,14 @@ fn put_counts<W: CountedWrite>(
     put_merge_counts(out, merged);
 }
 
-/// Prints the lines of `stat`: inputs, latches, free latches, gates, properties of each kind, passable gates, and, where they are
-/// given, latches that are merged, and those of them with a constant. The other counts stand in the object of JSON alone.
+/// Prints the lines of `stat`: inputs, latches, free latches, gates, properties of each kind and
+/// passable gates. If they are given, merged latches follow, and the merged ones with a constant.
+/// The other counts stand in the object of JSON alone.
 ///
 /// # Errors
 ///
-/// `Device` where a write failed: a beginning of the text was written then, and the writer isn't called again.
+/// `Device` if a write failed: a beginning of the text was written then, and the writer isn't
+/// called again.
 pub fn print_counts<W: CountedWrite>(
     statistics: &Statistics,
     merged: Option<MergeCounts>,

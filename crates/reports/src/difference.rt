@@ -6,7 +6,7 @@ ghost use Rattle.reports.specs.Differences.{difference_text, place_text, shapes_
 use counted_io::{Buffered, CountedWrite, WriteError};
 use lane_sim::Place;
 
-/// Puts the line of a place where two circuits differ.
+/// Puts the line of a place at which two circuits differ.
 fn put_place<W: CountedWrite>(out: &mut Buffered<'_, W>, place: Place)
     ensures { Puts W.output out.old out.new (place_text place) }
 {
@@ -28,11 +28,12 @@ fn put_difference<W: CountedWrite>(out: &mut Buffered<'_, W>, found: Option<Plac
     }
 }
 
-/// Prints the first place where two circuits differ, or that there is none.
+/// Prints the first place at which two circuits differ, or that there is none.
 ///
 /// # Errors
 ///
-/// `Device` where a write failed: a beginning of the text was written then, and the writer isn't called again.
+/// `Device` if a write failed: a beginning of the text was written then, and the writer isn't
+/// called again.
 pub fn print_difference<W: CountedWrite>(
     found: Option<Place>,
     writer: &mut W,
@@ -44,11 +45,13 @@ pub fn print_difference<W: CountedWrite>(
     out.flush()
 }
 
-/// Prints that two circuits can't be compared, since they differ in their numbers of inputs, free latches or properties.
+/// Prints that two circuits can't be compared, since they differ in their numbers of inputs, free
+/// latches or properties.
 ///
 /// # Errors
 ///
-/// `Device` where a write failed: a beginning of the text was written then, and the writer isn't called again.
+/// `Device` if a write failed: a beginning of the text was written then, and the writer isn't
+/// called again.
 pub fn print_shapes_differ<W: CountedWrite>(writer: &mut W) -> Result<(), WriteError>
     ensures { Writes (W.output writer.old) (W.output writer.new) result shapes_text }
 {

@@ -1,4 +1,4 @@
-//! What holds the latches of a circuit where they are.
+//! The reasons why the latches of a circuit don't move.
 ghost use Rattle.std.specs.Prelude.{◌≡◌, IfOk, Some};
 ghost use Rattle.aig_graph.specs.Counting.{count_below};
 ghost use Rattle.aig_graph.specs.Tables.{table};
@@ -13,29 +13,32 @@ use frame_net::{PassSet, passable};
 use path_levels::bounded;
 use std::alloc::Global;
 
-/// Why latches of a circuit can't move. A known latch that is in none of these counts is read by passable gates alone.
+/// Why latches of a circuit can't move. A known latch that is in none of these counts is read by
+/// passable gates alone.
 #[derive(Clone, Copy)]
 pub struct HeldBack {
     /// The latches whose reset is free.
     pub free: u32,
     /// The latches with a known reset that are held by name.
     pub held: u32,
-    /// The other latches with a known reset that a gate that isn't passable, a next literal or a property reads.
+    /// The other latches with a known reset that a gate that isn't passable, a next literal or a
+    /// property reads.
     pub read_elsewhere: u32,
-    /// Under a bound on levels, the latches that passable gates alone read, one of which is past the bound; none without a bound.
+    /// Under a bound on levels, the latches that passable gates alone read, one of which is past
+    /// the bound; none without a bound.
     pub too_long: Option<u32>,
     /// The gates that latches may move over.
     pub passable: u32,
 }
 
-/// Whether the variable is a held latch with a known reset.
+/// Returns true if the variable is a held latch with a known reset.
 fn is_known_held(aig: &Aig, keep: &Keep, var: u32) -> bool
     ensures { result ≡ is_known_held aig.now keep.now var }
 {
     keep.is_held(aig, var) && aig.is_known_latch(var)
 }
 
-/// The number of held latches with a known reset.
+/// Returns the number of held latches with a known reset.
 fn count_held(aig: &Aig, keep: &Keep) -> u32
     ensures { result ≡ count_below (is_known_held aig.now keep.now) (first_gate aig.now) }
 {
@@ -48,7 +51,7 @@ fn count_held(aig: &Aig, keep: &Keep) -> u32
     total
 }
 
-/// The marks of what gates that aren't passable, next literals and properties read.
+/// Marks what gates that aren't passable, next literals and properties read.
 fn marks_elsewhere(
     alloc: Global,
     circuit: &Circuit,
@@ -67,14 +70,14 @@ fn marks_elsewhere(
     Ok(marks)
 }
 
-/// Whether the variable is a latch that may move and has a mark.
+/// Returns true if the variable is a latch that may move and has a mark.
 fn is_marked_latch(aig: &Aig, keep: &Keep, marks: &[bool], var: u32) -> bool
     ensures { result ≡ is_marked_latch aig.now keep.now marks.now var }
 {
     keep.may_move(aig, var) && mark_at(marks, aig.first_latch(), var)
 }
 
-/// The number of latches that may move and have a mark.
+/// Returns the number of latches that may move and have a mark.
 fn count_marked(aig: &Aig, keep: &Keep, marks: &[bool]) -> u32
     ensures { result ≡ count_below (is_marked_latch aig.now keep.now marks.now)
         (first_gate aig.now) }
@@ -89,7 +92,8 @@ fn count_marked(aig: &Aig, keep: &Keep, marks: &[bool]) -> u32
 }
 
 impl HeldBack {
-    /// What holds the latches of a circuit of which these are held. Linear in the circuit, but for a search among the held latches.
+    /// Counts why latches of a circuit don't move, with these latches held. Linear in the circuit,
+    /// but for a search among the held latches.
     ///
     /// # Errors
     ///
@@ -109,7 +113,7 @@ impl HeldBack {
         })
     }
 
-    /// The same under a bound on levels, where there is one.
+    /// Counts as [`HeldBack::of`] does, under a bound on levels if there is one.
     ///
     /// # Errors
     ///
@@ -131,7 +135,7 @@ impl HeldBack {
     }
 }
 
-/// How many latches a gate reads that isn't passable within the bound, or something else does.
+/// Counts the latches that something reads that isn't a gate passable within the bound.
 fn read_within(alloc: Global, circuit: &Circuit, keep: &Keep, bound: u32) -> Result<u32, NoMemory>
     ensures { IfOk result (λ read. read
         ≡ (held_back (bounded bound keep.now circuit.now) keep.now).read_elsewhere) }
@@ -142,7 +146,7 @@ fn read_within(alloc: Global, circuit: &Circuit, keep: &Keep, bound: u32) -> Res
     Ok(found?.read_elsewhere)
 }
 
-/// What was found, with the latches that a gate past the bound reads.
+/// Returns what was found, with the latches that a gate past the bound reads.
 fn under_bound(
     alloc: Global,
     circuit: &Circuit,

@@ -1,5 +1,5 @@
-//! What the program prints on standard output for people: frames, batches, audits, counts, traces, differences and waves.
-//! Each text goes through a buffer, line by line, and takes no memory.
+//! What the program prints on standard output for people: frames, batches, audits, counts, traces,
+//! differences and waves. Each text goes through a buffer, line by line, and takes no memory.
 #![tactic(auto)]
 
 mod agreement;

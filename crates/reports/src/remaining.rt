@@ -1,4 +1,5 @@
-//! Why no more latches of a retimed circuit go: what holds each of them where it is. The numbers add up to all latches.
+//! The reasons why no more latches of a retimed circuit go: what holds each of them. The numbers
+//! add up to all latches.
 ghost use Rattle.std.specs.Prelude.{◌≡◌};
 ghost use Rattle.counted_io.specs.Buffered.{Puts};
 ghost use Rattle.counted_io.specs.Output.{Writes};
@@ -7,7 +8,8 @@ ghost use Rattle.reports.specs.Remaining.{end_text, movable, movable_lead, remai
 use crate::Remaining;
 use counted_io::{Buffered, CountedWrite, WriteError};
 
-/// How many latches nothing holds where they are: gates that they may move over alone read them, within the bound, where there is one.
+/// Returns the number of latches that nothing holds. Gates that they may move over alone read them,
+/// within the bound if there is one.
 fn movable(remaining: &Remaining) -> u64
     ensures { result ≡ movable remaining.now }
 {
@@ -21,7 +23,7 @@ fn movable(remaining: &Remaining) -> u64
     passed.saturating_sub(u64::from(held_back.too_long.unwrap_or(0)))
 }
 
-/// Puts how many latches a gate on too long a path reads, where there is a bound.
+/// Puts the number of latches that a gate on too long a path reads, if there is a bound.
 fn put_too_long<W: CountedWrite>(out: &mut Buffered<'_, W>, too_long: Option<u32>)
     ensures { Puts W.output out.old out.new (too_long_text too_long) }
 {
@@ -31,7 +33,7 @@ fn put_too_long<W: CountedWrite>(out: &mut Buffered<'_, W>, too_long: Option<u32
     }
 }
 
-/// What the number of these follows.
+/// Returns the text that the number of movable latches follows.
 fn movable_lead(is_least: bool) -> &'static [u8]
     ensures { result.now ≡ movable_lead is_least }
 {
@@ -82,11 +84,12 @@ fn put_remaining<W: CountedWrite>(out: &mut Buffered<'_, W>, remaining: &Remaini
     put_end(out, remaining.is_least, is_bounded);
 }
 
-/// Prints what holds the latches of a retimed circuit where they are, and why the frames ended.
+/// Prints what holds the latches of a retimed circuit, and why the frames ended.
 ///
 /// # Errors
 ///
-/// `Device` where a write failed: a beginning of the text was written then, and the writer isn't called again.
+/// `Device` if a write failed: a beginning of the text was written then, and the writer isn't
+/// called again.
 pub fn print_remaining<W: CountedWrite>(
     remaining: &Remaining,
     writer: &mut W,

@@ -12,15 +12,15 @@ use std::alloc::Global;
 pub struct Remaining {
     /// What the circuit has.
     pub counts: Counts,
-    /// What holds its latches where they are.
+    /// The reasons why its latches don't move.
     pub held_back: HeldBack,
     /// Whether the frames ended since no set of gates leaves fewer latches, and not by their limit.
     pub is_least: bool,
 }
 
 impl Remaining {
-    /// What a retiming leaves that had this bound on levels, or none, by the circuit that it made and its held latches. Linear in the
-    /// circuit.
+    /// Counts what a retiming leaves under this bound on levels, or none, by the circuit that it
+    /// made and its held latches. Linear in the circuit.
     ///
     /// # Errors
     ///

@@ -45,13 +45,15 @@ fn put_retiming<W: CountedWrite>(out: &mut Buffered<'_, W>, retimed: &Retimed)
     put_change(out, u64::from(retimed.read_latches), left);
 }
 
-/// Prints a line for each frame, and one with the numbers of all latches that were read and that are left.
+/// Prints a line for each frame, and one with the numbers of all latches that were read and that
+/// are left.
 ///
 /// Takes no memory.
 ///
 /// # Errors
 ///
-/// `Device` where a write failed: a beginning of the text was written then, and the writer isn't called again.
+/// `Device` if a write failed: a beginning of the text was written then, and the writer isn't
+/// called again.
 pub fn print_retiming<W: CountedWrite>(retimed: &Retimed, writer: &mut W) -> Result<(), WriteError>
     ensures { Writes (W.output writer.old) (W.output writer.new) result
         (retiming_text retimed.now) }

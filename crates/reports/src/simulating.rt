@@ -1,4 +1,5 @@
-//! A trace as text, of a circuit that is simulated while it is printed: sequence by sequence, so that no step is kept.
+//! A trace as text, of a circuit that is simulated while it is printed. One sequence comes after
+//! the other, so no step is kept.
 ghost use Rattle.std.specs.Prelude.{ℕ, ◌≡◌, ◌<◌, [], ◌∷◌, ◌++◌, All, IfOk, List, length};
 ghost use Rattle.std.specs.List.{flat_map, range_with_len};
 ghost use Rattle.aig_graph.specs.Graph.{Graph, variable};
@@ -26,7 +27,7 @@ pub struct Room {
 }
 
 impl Room {
-    /// Room for this circuit.
+    /// Returns room for this circuit.
     ///
     /// # Errors
     ///
@@ -106,7 +107,7 @@ fn put_sequence<W: CountedWrite>(
     put_steps(out, circuit, sequences, room);
 }
 
-/// The list of one of the sequences.
+/// Returns the list of one of the sequences.
 fn one_of(sequences: &[InputSequence], k: usize) -> &[InputSequence]
     requires { k < length sequences.now }
     ensures one { length result.now ≡ 1 }
@@ -130,12 +131,14 @@ fn put_sequences<W: CountedWrite>(
     }
 }
 
-/// Prints the trace of a circuit under a stimulus, as `print_trace` does, while the circuit is simulated. Takes no memory, and time for each
-/// sequence, since one is simulated after the other.
+/// Prints the trace of a circuit under a stimulus, as `print_trace` does, while the circuit is
+/// simulated. Takes no memory. The time grows with each sequence, since one is simulated after the
+/// other.
 ///
 /// # Errors
 ///
-/// `Device` where a write failed: a beginning of the text was written then, and the writer isn't called again.
+/// `Device` if a write failed: a beginning of the text was written then, and the writer isn't
+/// called again.
 pub fn print_simulated<W: CountedWrite>(
     circuit: &Circuit,
     stimulus: &Stimulus,

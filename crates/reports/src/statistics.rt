@@ -1,4 +1,5 @@
-//! How many there are of each kind in a circuit, filled once: a new count is a field here, and its place in `specs/Counts`.
+//! The counts of each kind in a circuit, filled once. A new count is a field here, and its place in
+//! `specs/Counts`.
 ghost use Rattle.std.specs.Prelude.{◌≡◌, IfOk, length, []};
 ghost use Rattle.frame_net.specs.Passable.{passable_gates};
 ghost use Rattle.reports.specs.CircuitCounts.{counts, statistics};
@@ -32,7 +33,7 @@ pub struct Counts {
 }
 
 impl Counts {
-    /// What a circuit has. Linear in it, by a table of its gates.
+    /// Counts what a circuit has. Linear in it, by a table of its gates.
     ///
     /// # Errors
     ///
@@ -63,11 +64,11 @@ impl Counts {
 #[derive(Clone, Copy)]
 pub struct Statistics {
     pub counts: Counts,
-    /// The gates that latches may move over, where none is held.
+    /// The gates that latches may move over if none is held.
     pub passable: u64,
 }
 
-/// The number of passable gates, where no latch is held.
+/// Returns the number of passable gates if no latch is held.
 fn passable_gates(alloc: Global, circuit: &Circuit) -> Result<u64, NoMemory>
     ensures { IfOk result (λ count. count ≡ length (passable_gates circuit.now.aig [])) }
 {
@@ -76,7 +77,7 @@ fn passable_gates(alloc: Global, circuit: &Circuit) -> Result<u64, NoMemory>
 }
 
 impl Statistics {
-    /// What `stat` tells of a circuit. Linear in it.
+    /// Counts what `stat` tells of a circuit. Linear in it.
     ///
     /// # Errors
     ///

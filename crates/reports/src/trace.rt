@@ -1,5 +1,5 @@
-//! A trace as text. It is kept by blocks of sequences, step by step, and printed sequence by sequence: so each value is asked for
-//! by its place, and the text needs no room beside the trace.
+//! A trace as text. It is kept by blocks of sequences, step by step, and printed sequence by
+//! sequence. So each value is asked for by its place, and the text needs no room beside the trace.
 ghost use Rattle.std.specs.Prelude.{◌≡◌};
 ghost use Rattle.counted_io.specs.Buffered.{Puts};
 ghost use Rattle.counted_io.specs.Output.{Writes};
@@ -75,11 +75,13 @@ fn put_trace<W: CountedWrite>(out: &mut Buffered<'_, W>, trace: &Trace)
     }
 }
 
-/// Prints a trace: `=` for each sequence, and for each of its steps `:` with a digit for each property literal.
+/// Prints a trace: `=` for each sequence, and for each of its steps `:` with a digit for each
+/// property literal.
 ///
 /// # Errors
 ///
-/// `Device` where a write failed: a beginning of the text was written then, and the writer isn't called again.
+/// `Device` if a write failed: a beginning of the text was written then, and the writer isn't
+/// called again.
 pub fn print_trace<W: CountedWrite>(trace: &Trace, writer: &mut W) -> Result<(), WriteError>
     ensures { Writes (W.output writer.old) (W.output writer.new) result (trace_text trace.now) }
 {

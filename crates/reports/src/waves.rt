@@ -1,5 +1,6 @@
-//! Waves: the values of a circuit's inputs, latches and properties, step by step, as a value change dump (IEEE 1364), which viewers of
-//! waves read. The circuit is simulated while the text goes through a buffer, so that no step is kept.
+//! Waves: the values of a circuit's inputs, latches and properties, step by step, as a value change
+//! dump (IEEE 1364), which viewers of waves read. The circuit is simulated while the text goes
+//! through a buffer, so no step is kept.
 
 mod dump;
 mod moment;

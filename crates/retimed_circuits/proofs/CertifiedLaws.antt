@@ -40,7 +40,7 @@ after-before bound choice held c _ _ _ _ _ (frame n d e kept left now later repo
   | inr (inr past) ↦ absurd (omega (arith, past, within))
 ]
 
--- two certificates of one circuit have the same gates and counts
+-- two certificates of one circuit have equal gates and counts
 same-gates : (bound : Option ℕ) (choice : Choice) (held : List ℕ) (c : Netlist) (a b : Certificate) → IsCertificate bound choice held c a → IsCertificate bound choice held c b → a.gates ≡ b.gates
 same-gates bound choice held c a b p q = found-one bound choice held c a.gates b.gates p.found q.found
 
@@ -68,7 +68,8 @@ as-many bound choice c held max_frames true r s p q within same = elim (cases_or
   | inr (inr past) ↦ absurd (omega (arith, past, within))
 ]
 
--- two lists of certificates of one circuit's frames, of runs with as many frames, are the same but for their routes
+-- two lists of certificates of one circuit's frames, of runs with equal numbers of frames, are
+-- equal but for their routes
 pub same-certificates : (bound : Option ℕ) (choice : Choice) (c : Netlist) (held : List ℕ) (max_frames : ℕ) (certify : Bool) (r s : Retimed) (now : List ℕ)
     → AfterFrames bound choice held c (length r.frames) r.circuit r.kept_free now r.frames → AreCertified bound choice c held max_frames certify r
     → AreCertified bound choice c held max_frames certify s → length r.frames ≤ max_frames → length r.frames ≡ length s.frames → SameButRoutes r.certificates s.certificates

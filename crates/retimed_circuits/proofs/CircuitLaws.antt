@@ -22,7 +22,8 @@ use Rattle.retimed_circuits.proofs.FoundLaws.{found-closed}
 use Rattle.retimed_circuits.proofs.HeldLaws.{cleaning-keeps, moving-keeps}
 use Rattle.retimed_circuits.proofs.StayLaws.{stays-then}
 
--- where latches move over a closed set that counts less than the known latches, the moved circuit is one
+-- if latches move over a closed set that counts less than the known latches, the moved circuit is
+-- one
 pub moved-circuit : (held : List ℕ) (c : Netlist) (s : List ℕ) → IsCircuit c → IsClosedSet c.aig held s → count_over held c s < known_latches c.aig → IsCircuit (moved_over held c s)
 moved-circuit held c s valid set fewer =
     let m : Move = move_of c held s in

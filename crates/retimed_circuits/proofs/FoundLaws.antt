@@ -17,7 +17,7 @@ pub within-least : (bound : ℕ) (choice : Choice) (c : Netlist) (held s : List 
 within-least bound Greatest c held s greatest = greatest.least
 within-least bound Smallest c held s smallest = smallest.least
 
--- two that are chosen by one choice are the same
+-- two that are chosen by one choice are one
 pub within-one : (bound : ℕ) (choice : Choice) (c : Netlist) (held s r : List ℕ) → IsChosenWithin bound choice c held s → IsChosenWithin bound choice c held r → s ≡ r
 within-one bound Greatest c held s r p q =
     rising_same s r p.least.closed.closed.rising q.least.closed.closed.rising (q.holds s p.least) (p.holds r q.least)
@@ -73,7 +73,7 @@ within-none-helps bound choice held c _ (found_within a s long chosen) many = re
       subst (λ (set : List ℕ). bound < levels (moved_over held c set)) (chosen-one choice c held a r long.chosen other) long.longer;
 }
 
--- where it counts no less than the known latches, none helps
+-- if it counts no less than the known latches, none helps
 pub none-helps : (bound : Option ℕ) (choice : Choice) (held : List ℕ) (c : Netlist) (s : List ℕ) → IsFound bound choice held c s → known_latches c.aig ≤ count_over held c s
     → NoneHelps bound choice held c
 none-helps None choice held c s chosen many = none-smaller choice held c s chosen many
@@ -88,7 +88,7 @@ within-never-helps bound choice held c _ none (found_whole s chosen keeps) fewer
 within-never-helps bound choice held c _ none (found_within a s long chosen) fewer =
     let more : known_latches c.aig ≤ count_over held c s = none.none_within s (within-least bound choice c held s chosen).closed in omega (arith, more, fewer)
 
--- where none helps, that one doesn't
+-- if none helps, that one doesn't
 pub never-helps : (bound : Option ℕ) (choice : Choice) (held : List ℕ) (c : Netlist) (s : List ℕ) → NoneHelps bound choice held c → IsHelpingSet bound choice held c s → ⊥
 never-helps None choice held c s none helps =
     let more : known_latches c.aig ≤ count_over held c s = none s (found-closed None choice held c s helps.found) in omega (arith, more, helps.fewer)

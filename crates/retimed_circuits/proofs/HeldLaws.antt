@@ -107,7 +107,7 @@ replaced-stays held substitutes c =
       exact = λ names is. is;
     }
 
--- merging keeps the held latches, where they are
+-- merging keeps the held latches, if they are
 pub merging-keeps : (held : List ℕ) (c d : Netlist) → IsMerged held c d → StayHeld held c held d
 merging-keeps held c d merged = subst (λ (x : Netlist). StayHeld held c held x) (sym merged.circuit) (replaced-stays held (substitutes_by c.aig merged.reads) c)
 

@@ -1,4 +1,5 @@
--- The levels of a circuit are the least bound on the level of each literal that its latches and properties read.
+-- The levels of a circuit are the least bound on the level of each literal that its latches and
+-- properties read.
 use Rattle.std.proofs.Common.{ℕ, ◌≤◌, ◌≡◌, zero, suc, List, [], ◌∷◌, map, max, Some, slice_get, arith, sym, subst}
 use Rattle.std.specs.List.{All}
 use Rattle.std.proofs.Math.Nat.{max-le}
@@ -63,7 +64,7 @@ read-within_levels c =
       properties = highest-each (level c.aig) below (property_literals c.props);
     })
 
--- a circuit of which all that is read is within a level has at most so many levels
+-- a circuit of which all that is read is within level n has at most n levels
 pub levels-most : (n : ℕ) (c : Netlist) → IsReadWithin n c → levels c ≤ n
 levels-most n c within =
     let P : ℕ → Type 0 = λ lit. level c.aig (variable lit) ≤ n in

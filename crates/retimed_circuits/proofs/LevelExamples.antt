@@ -43,7 +43,8 @@ four-all : levels (moved_of (move_of four_latches [] (9 ∷ 10 ∷ 11 ∷ []))) 
 unfolding levels level moved_graph mapped_props moved_symbols is_latched is_outside gates_start copies_start new_variable copy_variable advanced start_value places numbered in_border is_read_outside count_below value latch_value fold_gates fold_to_depth
 four-all = refl
 
--- a latch that reads three gates above each other, a latch that reads an input, and an output of the gate of both
+-- a latch that reads three gates above each other, a latch that reads an input, and an output of
+-- the gate of both
 abbrev late : Netlist
 late = record {
   aig = record {

@@ -49,7 +49,8 @@ merged-one-run bound choice c holding max_frames certify other r s p q =
     } in
     subst (λ (x : Retimed). W x s) (sym p.whole) (subst (λ (y : Retimed). W (since_merged (length c.aig.latches) p.kept p.counts p.from_start) y) (sym q.whole) whole)
 
--- merged first or not, as is chosen, a circuit is retimed to one result, but for certificates wanted of one alone, and routes
+-- merged first or not, as is chosen, a circuit is retimed to one result, but for certificates
+-- wanted of one alone, and routes
 pub retiming-with-one : (merge : Bool) (bound : Option ℕ) (choice : Choice) (c : Netlist) (holding : Holding) (max_frames : ℕ) (certify other : Bool) (r s : Retimed)
     → IsRetimedWith merge bound choice c holding max_frames certify r → IsRetimedWith merge bound choice c holding max_frames other s → IsSameRetiming certify other r s
 retiming-with-one false bound choice c holding max_frames certify other r s p q = retiming-one bound choice c holding max_frames certify other r s p q

@@ -1,5 +1,5 @@
--- The levels of what stands in a moved graph: of what is read from outside the set at most the level that it had, of a member's copy at most the
--- member's arrival.
+-- The levels in a moved graph. What is read from outside the set has at most the level that it had,
+-- a member's copy at most the member's arrival.
 use Rattle.std.proofs.Common.{ℕ, ◌+◌, ◌-◌, ◌*◌, ◌<◌, ◌≤◌, ◌≡◌, ◌∙◌, inl, inr, suc, zero, List, max, get_or, Bool, true, false, cond, Option, Some, None, refl, sym, ap, subst, arith}
 use Rattle.std.specs.List.{All}
 use Rattle.std.proofs.lemmas.Bool.{cases_Bool}
@@ -114,7 +114,7 @@ module _ (m : Move) (valid : IsGraph m.circuit.aig) (set : IsClosedSet m.circuit
       ap (shown_level (moved_graph m) n) (variable-signed_as_twice lit (new_variable m (variable lit))) in
       omega (arith, same, keeps (variable lit) within read)
 
-  -- a gate outside, where that holds of what it reads
+  -- a gate outside, if that holds of what it reads
   at_outside : (n v : ℕ) (gate : Gate) → KeepsOutside n → gate_at m.circuit.aig v ≡ Some gate → has m.set v ≡ false → shown_level (moved_graph m) (suc n) (new_variable m v) ≤ level m.circuit.aig v
   at_outside n v gate keeps here other =
       let place : GatePlace m.circuit.aig v gate = gate_place m.circuit.aig v gate here in
@@ -196,7 +196,8 @@ module _ (m : Move) (valid : IsGraph m.circuit.aig) (set : IsClosedSet m.circuit
   level-copy : (v : ℕ) → has m.set v ≡ true → level (moved_graph m) (copy_variable m v) ≤ arrival m.circuit.aig v
   level-copy v member = omega (arith, shown-whole (moved_graph m) (copy_variable m v), keeps-arrival (suc (copy_variable m v)) v member)
 
-  -- what the latch of a variable reads: a next literal as before, or a copy that arrives within the bound
+  -- what the latch of a variable reads: a next literal as before, or a copy that arrives within the
+  -- bound
   level-next : (bound v : ℕ) → ArriveWithin bound m.circuit.aig m.set → is_latched m v ≡ true → level (moved_graph m) (variable (latch_for m v).next) ≤ max bound (levels m.circuit)
   level-next bound v within kept = elim (latched-cases m v kept) [
     | inl old ↦ (
@@ -231,6 +232,7 @@ moved-within m valid bound set netlist =
       properties = subst (λ (lits : List ℕ). All P lits) (sym (moved-literals m)) (All-map P (moved_literal m) (property_literals m.circuit.props) each);
     }
 
--- latches that have moved over gates that arrive within the bound leave no path longer than the bound, but for those that were there
+-- latches that have moved over gates that arrive within the bound leave no path longer than the
+-- bound, but for those that were there
 pub moved-levels : (m : Move) → IsGraph m.circuit.aig → (bound : ℕ) → IsClosedWithin bound m.circuit.aig m.held m.set → IsNetlist m.circuit → levels (moved_of m) ≤ max bound (levels m.circuit)
 moved-levels m valid bound set netlist = levels-most (max bound (levels m.circuit)) (moved_of m) (moved-within m valid bound set netlist)

@@ -20,7 +20,7 @@ use Rattle.path_levels.specs.Levels.{level, levels}
 use Rattle.retimed_circuits.proofs.HighestLaws.{IsReadWithin, read-within_levels, levels-most}
 use Rattle.retimed_circuits.proofs.SubstituteLevelLaws.{after-level}
 
--- for each literal there stands one that has, where all is replaced, at most the literal's level
+-- for each literal there stands one that has, if all is replaced, at most the literal's level
 abbrev SubstitutesLow : Graph → List ℕ → Type 0
 SubstitutesLow g substitutes = (lit : ℕ) → variable lit < variables_end g → level (replaced_graph substitutes g) (variable (replaced substitutes lit)) ≤ level g (variable lit)
 

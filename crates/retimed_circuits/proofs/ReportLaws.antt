@@ -1,4 +1,5 @@
--- A certificate of the circuit that a frame is taken of has the count and the gates of that frame's report.
+-- A certificate of the circuit that a frame is taken of has the count and the gates of that frame's
+-- report.
 use Rattle.std.proofs.Common.{ℕ, inl, inr, ◌≡◌, ◌<◌, List, [], length, Option, Some, slice_get, arith, ap, sym, ◌∙◌, subst}
 use Rattle.std.proofs.lemmas.Option.{slice_get_within}
 use Rattle.aig_graph.proofs.PlacesLaws.{slice_get_push}
@@ -62,7 +63,8 @@ one-reported bound choice held c cert set report is found reported =
       moved = ap (λ (gates : List ℕ). length gates) same ∙ sym moved;
     }
 
--- certificates of the circuits that frames are taken of have the counts and as many gates as the frames' reports
+-- certificates of the circuits that frames are taken of have the counts and as many gates as the
+-- frames' reports
 pub all-reported : (bound : Option ℕ) (choice : Choice) (held : List ℕ) (c : Netlist) (n : ℕ) (d : Netlist) (kept now : List ℕ) (reports : List FrameReport) (certs : List Certificate)
     → AfterFrames bound choice held c n d kept now reports → AreOfFrames bound choice held c certs → AreReported certs reports
 all-reported bound choice held c n d kept now reports certs run each i cert report at reported =

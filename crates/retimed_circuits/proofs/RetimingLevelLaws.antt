@@ -19,7 +19,7 @@ use Rattle.retimed_circuits.proofs.MovedLevelLaws.{moved-levels}
 use Rattle.retimed_circuits.proofs.ReplacedLevelLaws.{merged_latches-levels}
 
 module _ (bound : ℕ) (choice : Choice) where
-  -- a move over the set that is found, where that helps, keeps the bound
+  -- a move over the set that is found, if that helps, keeps the bound
   found-levels : (held : List ℕ) (c : Netlist) (s : List ℕ) → IsCircuit c → IsFoundWithin bound choice held c s → count_over held c s < known_latches c.aig
       → levels (moved_over held c s) ≤ max bound (levels c)
   found-levels held c _ valid (found_whole s chosen keeps) fewer = let short : levels (moved_over held c s) ≤ bound = keeps fewer in omega (arith, short)

@@ -17,18 +17,18 @@ use Rattle.retimed_circuits.specs.Retiming.{IsRetimed, IsRetimedOver}
 use Rattle.retimed_circuits.proofs.FoundLaws.{found-one, never-helps}
 use Rattle.retimed_circuits.proofs.CertifiedLaws.{same-certificates}
 
--- one circuit, one list of free latches, one of held ones, and the same reports
+-- one circuit, one list of free latches, one of held ones, and equal reports
 pub record SameEnd {A : Type 0} (d e : Netlist) (kept left now later : List ℕ) (r s : A) : Type 0 where
-  -- the circuits are the same
+  -- the circuits are equal
   pub circuit : d ≡ e
-  -- the places of free latches are the same
+  -- the places of free latches are equal
   pub free : kept ≡ left
-  -- the positions of held latches are the same
+  -- the positions of held latches are equal
   pub held : now ≡ later
-  -- the reports are the same
+  -- the reports are equal
   pub reports : r ≡ s
 
--- a circuit is cleaned to one, with its held latches at the same positions
+-- a circuit is cleaned to one, with its held latches at one list of positions
 pub cleaned-one : {A : Type 0} (held : List ℕ) (c d e : Netlist) (kept left now later : List ℕ) (r s : A) → CleansTo held c d kept now → CleansTo held c e left later → r ≡ s
     → SameEnd d e kept left now later r s
 cleaned-one held c d e kept left now later r s p q same =
@@ -36,7 +36,7 @@ cleaned-one held c d e kept left now later r s p q same =
     let P : Netlist → Type 0 = λ x. HeldAfter x later held c in
     record { circuit = both.0; free = both.1; held = held_after-one d now held c p.held_after later (subst P (sym both.0) q.held_after); reports = same }
 
--- two frames of one circuit, by one choice, end the same
+-- two frames of one circuit, by one choice, end alike
 pub frame-one : (bound : Option ℕ) (choice : Choice) (held : List ℕ) (c d e : Netlist) (kept left now later : List ℕ) (r s : FrameReport) → IsFrame bound choice held c d kept now r → IsFrame bound choice held c e left later s
     → SameEnd d e kept left now later r s
 frame-one bound choice held c d e kept left now later r s p q =
@@ -44,7 +44,7 @@ frame-one bound choice held c d e kept left now later r s p q =
     let P : List ℕ → Type 0 = λ set. CleansTo (held_over held c set) (moved_over held c set) e left later in
     cleaned-one (held_over held c p.set) (moved_over held c p.set) d e kept left now later r s p.cleaned (subst P (sym same) q.cleaned) (p.reported ∙ ap (report_over held c) same ∙ sym q.reported)
 
--- two runs of as many frames from one circuit, by one choice, end the same
+-- two runs of equal numbers of frames from one circuit, by one choice, end alike
 pub after-one : (bound : Option ℕ) (choice : Choice) (held : List ℕ) (c : Netlist) (n : ℕ) (d : Netlist) (kept now : List ℕ) (r : List FrameReport) → AfterFrames bound choice held c n d kept now r
     → (e : Netlist) (left later : List ℕ) (s : List FrameReport) → AfterFrames bound choice held c n e left later s → SameEnd d e kept left now later r s
 after-one bound choice held c _ _ _ _ _ (cleaned d kept now cleans) e left later s other = from_start bound choice held c _ d e kept left now later s cleans refl other
@@ -101,7 +101,8 @@ shorter bound choice c held max_frames certify other r s p q less =
     let more = after-more bound choice held c (length r.frames) r.circuit r.kept_free p.now r.frames p.frames (length s.frames) s.circuit s.kept_free q.now s.frames q.frames less in
     never-helps bound choice p.now r.circuit more.0 (p.last (omega (arith, less, q.within))) more.1
 
--- without merging a circuit is retimed to one result, but for certificates wanted of one alone, and routes
+-- without merging a circuit is retimed to one result, but for certificates wanted of one alone, and
+-- routes
 pub run-one : (bound : Option ℕ) (choice : Choice) (c : Netlist) (held : List ℕ) (max_frames : ℕ) (certify other : Bool) (r s : Retimed) → IsRetimedOver bound choice c held max_frames certify r
     → IsRetimedOver bound choice c held max_frames other s → IsSameRetiming certify other r s
 run-one bound choice c held max_frames certify other r s p q = elim (cases_order (length r.frames) (length s.frames)) [

@@ -16,7 +16,8 @@ use Rattle.retimed_circuits.specs.Names.{Covers, StayHeld, held_latch, held_latc
 abbrev position_of : Symbol → ℕ
 position_of s = s.position
 
--- what the symbols that pass give is the same after the symbols that aren't kept are dropped and the rest are moved
+-- what the symbols that pass give doesn't change if the symbols that aren't kept are dropped and
+-- the rest are moved
 module _ {A : Type 0} (f g : Symbol → A) (after before keeps : Symbol → Bool) (moved : Symbol → Symbol) (P : ℕ → Type 0) (n : ℕ)
     (same : (x : Symbol) → keeps x ≡ true → after (moved x) ≡ before x)
     (each : (x : Symbol) → x.position < n → before x ≡ true → P x.position → (keeps x ≡ true) × (f (moved x) ≡ g x)) where
@@ -97,7 +98,7 @@ module _ (held : List ℕ) (c d : Netlist) (keeps : ℕ → Bool) (f : ℕ → �
   unfolding held_by
   covered names covers = covers
 
-  -- names hold the same latches
+  -- names hold these latches
   named-stay : (names : List (List ℕ)) → Covers names held c → held_latches names d ≡ held_latches names c
   unfolding held_latches
   named-stay names covers =
@@ -164,7 +165,7 @@ stays-then held now later c d e p q = record {
   exact = λ names same. q.exact names (p.exact names same);
 }
 
--- where nothing changes, they stay
+-- if nothing changes, they stay
 pub stays-same : (held now : List ℕ) (c d : Netlist) → d ≡ c → now ≡ held → StayHeld held c now d
 stays-same held now c d same there =
     let itself : StayHeld held c held c = record { stay = refl; named = λ names covers. refl; covers = λ names covers. covers; exact = λ names is. is } in

@@ -1,4 +1,5 @@
--- What stands for a literal has, in the circuit that reads what stands, at most the level that the literal had.
+-- What stands for a literal has, in the circuit that reads what stands, at most the level that the
+-- literal had.
 use Rattle.std.proofs.Common.{ℕ, ◌+◌, ◌*◌, ◌<◌, ◌≤◌, ◌≡◌, inl, inr, suc, List, [], ◌∷◌, ◌++◌, length, Option, Some, None, slice_get, get_or, refl, arith, ap, ap₂, sym, ◌∙◌, subst}
 use Rattle.std.specs.Map.{lookup}
 use Rattle.std.proofs.lemmas.Bool.{cases_eq}
@@ -17,7 +18,7 @@ use Rattle.path_levels.proofs.LevelLaws.{level-no_gate, level-gate}
 use Rattle.merged_circuits.proofs.CoarserLaws.{substitutes-stay}
 use Rattle.retimed_circuits.proofs.GateLevelLaws.{gate_level, gate_level-gate_of}
 
--- by the levels of variables before and after, where the constant has level 0
+-- by the levels of variables before and after, if the constant has level 0
 module _ (before after : ℕ → ℕ) (constant : after 0 ≡ 0) where
   record IsLow (m : Merging) : Type 0 where
     -- what stands for a variable has at most its level

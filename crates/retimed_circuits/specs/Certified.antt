@@ -26,7 +26,8 @@ pub record IsCertificate (bound : Option ℕ) (choice : Choice) (held : List ℕ
   pub counted : cert.count ≡ count_over held c cert.gates
   pub passes : Passes bound held c cert
 
--- certificate i, from 0, is one of the circuit that i frames make of c, with the held latches where they stand in it
+-- certificate i, from 0, is one of the circuit that i frames make of c, with the positions of its
+-- held latches there
 abbrev pub AreOfFrames : Option ℕ → Choice → List ℕ → Netlist → List Certificate → Type 0
 AreOfFrames bound choice held c certs = (i : ℕ) (d : Netlist) (kept now : List ℕ) (reports : List FrameReport) (cert : Certificate)
     → AfterFrames bound choice held c i d kept now reports → slice_get certs i ≡ Some cert → IsCertificate bound choice now d cert
@@ -40,8 +41,8 @@ pub record IsReported (cert : Certificate) (report : FrameReport) : Type 0 where
 abbrev pub AreReported : List Certificate → List FrameReport → Type 0
 AreReported certs reports = (i : ℕ) (cert : Certificate) (report : FrameReport) → slice_get certs i ≡ Some cert → slice_get reports i ≡ Some report → IsReported cert report
 
--- where certificates are wanted, there is one of each circuit that a frame was taken of, and one of the last circuit where the limit of
--- frames didn't end the run; else there are none
+-- If certificates are wanted, there is one of each circuit that a frame was taken of. There is one
+-- of the last circuit unless the limit of frames ended the run. Otherwise there are none.
 pub record AreCertified (bound : Option ℕ) (choice : Choice) (c : Netlist) (held : List ℕ) (max_frames : ℕ) (certify : Bool) (r : Retimed) : Type 0 where
   pub each : AreOfFrames bound choice held c r.certificates
   pub reported : AreReported r.certificates r.frames
@@ -49,13 +50,14 @@ pub record AreCertified (bound : Option ℕ) (choice : Choice) (c : Netlist) (he
   pub ended : certify ≡ true → length r.frames < max_frames → length r.certificates ≡ suc (length r.frames)
   pub none : certify ≡ false → r.certificates ≡ []
 
--- as many certificates, with the same gates and counts: the routes may differ
+-- equal numbers of certificates, with equal gates and counts: the routes may differ
 pub record SameButRoutes (certs others : List Certificate) : Type 0 where
   pub many : length certs ≡ length others
   pub gates : (i : ℕ) (cert other : Certificate) → slice_get certs i ≡ Some cert → slice_get others i ≡ Some other → cert.gates ≡ other.gates
   pub counts : (i : ℕ) (cert other : Certificate) → slice_get certs i ≡ Some cert → slice_get others i ≡ Some other → cert.count ≡ other.count
 
--- one retiming, whether certificates are wanted or not; where they are of both or of none, the same but for their routes
+-- one retiming, whether certificates are wanted or not; if they are of both or of none, one report
+-- but for their routes
 pub record IsSameRetiming (certify other : Bool) (r s : Retimed) : Type 0 where
   pub circuit : r.circuit ≡ s.circuit
   pub free : r.kept_free ≡ s.kept_free

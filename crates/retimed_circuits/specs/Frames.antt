@@ -1,5 +1,6 @@
--- Frames, one after another: each moves latches over the set that is found, and cleans. Paths may get as long as they like, or a bound says how
--- long they may get. Held latches are known by their positions, which each frame hands on.
+-- Frames, one after another: each moves latches over the set that is found, and cleans. Paths may
+-- have any length, or a bound limits it. Held latches are known by their positions, which each
+-- frame hands on.
 use Rattle.std.specs.Prelude.{ℕ, suc, ◌≡◌, ◌<◌, ◌≤◌, ◌++◌, List, [], ◌∷◌, length, Option, Some, None}
 use Rattle.aig_graph.specs.Graph.{known_latches}
 use Rattle.aig_graph.specs.Circuits.{Netlist}
@@ -16,7 +17,7 @@ use Rattle.cleaned_circuits.specs.Cleaned.{Cleans}
 use Rattle.cleaned_circuits.specs.Held.{HeldAfter}
 use Rattle.retimed_circuits.specs.declared.report.FrameReport.{FrameReport}
 
--- how many known latches c has right after the move over the set, where these latches are held
+-- the number of known latches of c right after the move over the set, with these latches held
 abbrev pub count_over : List ℕ → Netlist → List ℕ → ℕ
 count_over held c s = border_size (move_of c held s)
 
@@ -24,11 +25,12 @@ count_over held c s = border_size (move_of c held s)
 abbrev pub moved_over : List ℕ → Netlist → List ℕ → Netlist
 moved_over held c s = moved_of (move_of c held s)
 
--- where the held latches stand after the move
+-- the positions of the held latches after the move
 abbrev pub held_over : List ℕ → Netlist → List ℕ → List ℕ
 held_over held c s = moved_held (move_of c held s)
 
--- d is c cleaned, where these latches are held, which stand at now in d; kept has the places of the free latches that stay
+-- d is c cleaned, with these latches held, which are at the positions `now` in d. kept has the
+-- places of the free latches that stay.
 pub record CleansTo (held : List ℕ) (c d : Netlist) (kept now : List ℕ) : Type 0 where
   pub cleans : Cleans d held c kept
   pub held_after : HeldAfter d now held c
@@ -37,14 +39,15 @@ pub record CleansTo (held : List ℕ) (c d : Netlist) (kept now : List ℕ) : Ty
 abbrev pub report_over : List ℕ → Netlist → List ℕ → FrameReport
 report_over held c s = record { before = known_latches c.aig; after = count_over held c s; moved = length s }
 
--- the chosen least set, where it counts less than c has known latches and makes a path longer than the bound
+-- the chosen least set, if it counts less than c has known latches and makes a path longer than the
+-- bound
 pub record IsTooLong (bound : ℕ) (choice : Choice) (held : List ℕ) (c : Netlist) (s : List ℕ) : Type 0 where
   pub chosen : IsChosen choice c held s
   pub fewer : count_over held c s < known_latches c.aig
   pub longer : bound < levels (moved_over held c s)
 
--- the set that is found in c under a bound: the chosen least set, unless that is too long; then the chosen one of those whose gates arrive
--- within the bound
+-- The set that is found in c under a bound: the chosen least set, unless that is too long.
+-- Otherwise it is the chosen one of those whose gates arrive within the bound.
 pub data IsFoundWithin (bound : ℕ) (choice : Choice) (held : List ℕ) (c : Netlist) : List ℕ → Type 0 where
   found_whole : (s : List ℕ) → IsChosen choice c held s → (count_over held c s < known_latches c.aig → levels (moved_over held c s) ≤ bound)
       → IsFoundWithin bound choice held c s
@@ -60,16 +63,16 @@ pub record IsHelpingSet (bound : Option ℕ) (choice : Choice) (held : List ℕ)
   pub found : IsFound bound choice held c s
   pub fewer : count_over held c s < known_latches c.aig
 
--- d is c with its latches moved over the set that is found in c, which counts less than c has known latches, and cleaned; the held latches
--- stand at now in d
+-- d is c with its latches moved over the set that is found in c, which counts less than c has known
+-- latches, and cleaned. The held latches are at the positions `now` in d.
 pub record IsFrame (bound : Option ℕ) (choice : Choice) (held : List ℕ) (c d : Netlist) (kept now : List ℕ) (report : FrameReport) : Type 0 where
   pub set : List ℕ
   pub helps : IsHelpingSet bound choice held c set
   pub cleaned : CleansTo (held_over held c set) (moved_over held c set) d kept now
   pub reported : report ≡ report_over held c set
 
--- the circuit is cleaned, and this is what so many frames make of it; kept has the places of the free latches that are left among the first ones,
--- and now the positions of the held latches
+-- The circuit is cleaned, and this is what n frames make of it. kept has the places of the free
+-- latches that are left among the first ones, and now the positions of the held latches.
 pub data AfterFrames (bound : Option ℕ) (choice : Choice) (held : List ℕ) (c : Netlist) : ℕ → Netlist → List ℕ → List ℕ → List FrameReport → Type 0 where
   cleaned : (d : Netlist) (kept now : List ℕ) → CleansTo held c d kept now → AfterFrames bound choice held c 0 d kept now []
   frame : (n : ℕ) (d e : Netlist) (kept left now later : List ℕ) (reports : List FrameReport) (report : FrameReport)
@@ -84,12 +87,14 @@ NoneSmaller held c = (s : List ℕ) → IsClosedSet c.aig held s → known_latch
 abbrev pub NoneSmallerWithin : ℕ → List ℕ → Netlist → Type 0
 NoneSmallerWithin bound held c = (s : List ℕ) → IsClosedWithin bound c.aig held s → known_latches c.aig ≤ count_over held c s
 
--- none does whose gates arrive within the bound, and where the chosen least set does, it makes a path longer than the bound
+-- none does whose gates arrive within the bound, and if the chosen least set does, it makes a path
+-- longer than the bound
 pub record NoneKeepsBound (bound : ℕ) (choice : Choice) (held : List ℕ) (c : Netlist) : Type 0 where
   pub none_within : NoneSmallerWithin bound held c
   pub longer : (s : List ℕ) → IsChosen choice c held s → count_over held c s < known_latches c.aig → bound < levels (moved_over held c s)
 
--- no set makes c's known latches fewer: without a bound no closed set, with one none of either kind that keeps the bound
+-- no set makes c's known latches fewer: without a bound no closed set, with one none of either kind
+-- that keeps the bound
 abbrev pub NoneHelps : Option ℕ → Choice → List ℕ → Netlist → Type 0
 NoneHelps None choice held c = NoneSmaller held c
 NoneHelps (Some bound) choice held c = NoneKeepsBound bound choice held c

@@ -12,8 +12,9 @@ use Rattle.retimed_circuits.specs.Certified.{IsSameRetiming}
 use Rattle.retimed_circuits.specs.Frames.{AfterFrames, CleansTo, held_over, moved_over}
 use Rattle.retimed_circuits.specs.Retiming.{IsRetimedWith}
 
--- what a circuit is retimed to is one, by whether latches are merged, the bound, the choice, the latches that are asked to be held and the limit of
--- frames alone, and so are its certificates but for their routes
+-- What a circuit is retimed to is one, and so are its certificates but for their routes. It depends
+-- on merging, the bound, the choice, the latches that are asked to be held and the limit of frames
+-- alone.
 abbrev pub IsDetermined : Bool → Option ℕ → Choice → Netlist → Holding → ℕ → Type 0
 IsDetermined merge bound choice c holding max_frames = (certify other : Bool) (r s : Retimed) → IsRetimedWith merge bound choice c holding max_frames certify r
     → IsRetimedWith merge bound choice c holding max_frames other s → IsSameRetiming certify other r s
@@ -23,7 +24,7 @@ abbrev pub CleaningKeepsHeld : List ℕ → Netlist → Type 0
 CleaningKeepsHeld held c = (d : Netlist) (kept now : List ℕ) → IsGraph c.aig → IsNetlist c → AreLatches (length c.aig.latches) held
     → CleansTo held c d kept now → StayHeld held c now d
 
--- so does merging, which leaves them where they are
+-- so does merging, which leaves their positions
 abbrev pub MergingKeepsHeld : List ℕ → Netlist → Type 0
 MergingKeepsHeld held c = (d : Netlist) → IsMerged held c d → StayHeld held c held d
 

@@ -24,7 +24,8 @@ held_latch g symbol = record { name = symbol.name; reset = reset_of (slice_get g
 unfoldable pub held_latches : List (List ℕ) → Netlist → List HeldLatch
 held_latches names c = map (held_latch c.aig) (filter (is_named names) c.symbols.latches)
 
--- a latch that is held, named or not: the names of its position, of which there is one at most, and its reset
+-- a latch that is held, named or not: the names of its position, of which there is one at most, and
+-- its reset
 pub record PlacedLatch : Type 0 where
   pub names : List (List ℕ)
   pub reset : Option Reset
@@ -45,8 +46,8 @@ latches_at held c = map (latch_placed c) held
 abbrev pub Covers : List (List ℕ) → List ℕ → Netlist → Type 0
 Covers names held c = All (λ j. has held j ≡ true) (held_in names c)
 
--- d has at now the latches that c has at held, with their names and resets: so names hold the same latches in both, where each of those is
--- held, and no others are held in d where no others are in c
+-- d has at `now` the latches that c has at `held`, with their names and resets. So names hold these
+-- latches in both, if each of those is held. No others are held in d if no others are in c.
 pub record StayHeld (held : List ℕ) (c : Netlist) (now : List ℕ) (d : Netlist) : Type 0 where
   pub stay : latches_at now d ≡ latches_at held c
   pub named : (names : List (List ℕ)) → Covers names held c → held_latches names d ≡ held_latches names c

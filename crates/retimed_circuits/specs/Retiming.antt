@@ -12,8 +12,9 @@ use Rattle.retimed_circuits.specs.Certified.{AreCertified}
 use Rattle.retimed_circuits.specs.Frames.{AfterFrames, NoneHelps}
 use Rattle.retimed_circuits.specs.Merging.{MergesIn}
 
--- c cleaned and retimed frame by frame, each over the set that is found, at most max_frames of them, until none makes the known latches fewer;
--- the latches at the held positions stay, with their names and resets
+-- c cleaned and retimed frame by frame, each over the set that is found. There are at most
+-- max_frames of them, until none makes the known latches fewer. The latches at the held positions
+-- stay, with their names and resets.
 pub record IsRetimedOver (bound : Option ℕ) (choice : Choice) (c : Netlist) (held : List ℕ) (max_frames : ℕ) (certify : Bool) (r : Retimed) : Type 0 where
   pub now : List ℕ
   pub frames : AfterFrames bound choice held c (length r.frames) r.circuit r.kept_free now r.frames
@@ -25,12 +26,13 @@ pub record IsRetimedOver (bound : Option ℕ) (choice : Choice) (c : Netlist) (h
   pub certified : AreCertified bound choice c held max_frames certify r
   pub stay : latches_at now r.circuit ≡ latches_at held c
 
--- the latches that are asked to be held, by their names or their positions, are; those that the names hold stay, with their names and resets
+-- The latches that are asked to be held, by their names or their positions, are. Those that the
+-- names hold stay, with their names and resets.
 pub record IsRetimed (bound : Option ℕ) (choice : Choice) (c : Netlist) (holding : Holding) (max_frames : ℕ) (certify : Bool) (r : Retimed) : Type 0 where
   pub run : IsRetimedOver bound choice c (held_of holding c) max_frames certify r
   pub held : held_latches holding.names r.circuit ≡ held_latches holding.names c
 
--- what is told of a circuit with so many latches, where this is what it was merged to retimed
+-- what is told of a circuit of n latches, if this is what it was merged to retimed
 abbrev pub since_merged : ℕ → List ℕ → MergeCounts → Retimed → Retimed
 since_merged latches kept counts r = record {
   circuit = r.circuit;
@@ -41,7 +43,8 @@ since_merged latches kept counts r = record {
   certificates = r.certificates;
 }
 
--- c cleaned and merged, and that retimed as any circuit is, with the held latches where they stand in it
+-- c cleaned and merged, and that retimed as any circuit is, with the positions of the held latches
+-- in it
 pub record IsMergedRetimed (bound : Option ℕ) (choice : Choice) (c : Netlist) (holding : Holding) (max_frames : ℕ) (certify : Bool) (r : Retimed) : Type 0 where
   pub start : Netlist
   pub kept : List ℕ
@@ -55,7 +58,7 @@ pub record IsMergedRetimed (bound : Option ℕ) (choice : Choice) (c : Netlist) 
   pub stay : latches_at retimed.now r.circuit ≡ latches_at (held_of holding c) c
   pub held : held_latches holding.names r.circuit ≡ held_latches holding.names c
 
--- c retimed; where latches are to be merged, they are before the first frame
+-- c retimed; if latches are to be merged, they are before the first frame
 abbrev pub IsRetimedWith : Bool → Option ℕ → Choice → Netlist → Holding → ℕ → Bool → Retimed → Type 0
 IsRetimedWith false bound choice c holding max_frames certify r = IsRetimed bound choice c holding max_frames certify r
 IsRetimedWith true bound choice c holding max_frames certify r = IsMergedRetimed bound choice c holding max_frames certify r

@@ -1,5 +1,6 @@
-//! Cleaning and merging latches raise no level. What stands for a gate is the constant, one of its fan-ins or a gate of the same
-//! fan-ins, and all latches have level 0. So what stands for a literal has at most its level, and the circuit is no deeper.
+//! Cleaning and merging latches raise no level. The substitute of a gate is the constant, one of
+//! its fan-ins or a gate of its fan-ins, and all latches have level 0. So a substitute has at most
+//! the level of its literal, and the circuit is no deeper.
 
 ghost use Rattle.retimed_circuits.specs.CleaningLevels.{CleaningKeepsLevels, MergingKeepsLevels};
 

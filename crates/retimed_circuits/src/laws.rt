@@ -4,16 +4,18 @@ ghost use Rattle.aig_graph.specs.Keep.{Holding};
 ghost use Rattle.aig_graph.specs.declared.choice.Choice.{Choice};
 ghost use Rattle.retimed_circuits.specs.Laws.{CleaningKeepsHeld, FramesKeepHeld, IsDetermined, MergingKeepsHeld, MovingKeepsHeld};
 
-/// What a circuit is retimed to, with its reports, rests on the circuit, on whether latches are merged, the bound on path length, the choice of
-/// least sets, the latches that are asked to be held and the limit of frames alone, whether certificates are wanted or not. Of certificates their
-/// number, counts and gates do; their routes may differ.
+/// The retimed circuit and its reports depend on the circuit and the options alone. The options are
+/// merging, the bound on path length, the choice of least sets, held latches and the limit of
+/// frames. Certificates that are wanted change nothing else. Their number, counts and gates depend
+/// on circuit and options too; their routes may differ.
 pub fn retiming_law()
     ensures { (merge : Bool) (bound : Option ℕ) (choice : Choice) (c : Netlist) (holding : Holding)
         (max_frames : ℕ) → IsDetermined merge bound choice c holding max_frames }
 {}
 
-/// Cleaning, merging and moving keep the held latches, with their names and resets, and so does a whole run. Latches that were
-/// looked up by their names are still all those that have one of the names.
+/// Cleaning, merging and moving keep the held latches, with their names and resets, and so does a
+/// whole run. Latches that were looked up by their names are still all those that have one of the
+/// names.
 pub fn held_laws()
     ensures cleaning { (held : List ℕ) (c : Netlist) → CleaningKeepsHeld held c }
     ensures merging { (held : List ℕ) (c : Netlist) → MergingKeepsHeld held c }

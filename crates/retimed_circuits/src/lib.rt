@@ -1,4 +1,5 @@
-//! What a circuit is retimed to, frame after frame: it is one, held latches stay with their names and resets, and its levels are bounded.
+//! What a circuit is retimed to, frame after frame. There is one retimed circuit, held latches stay
+//! with their names and resets, and its levels are bounded.
 #![tactic(auto)]
 
 mod cleaning_levels;

@@ -22,11 +22,12 @@ pub struct Retimed {
     pub kept_free: Sequence<u32>,
     /// How many latches the circuit that was read has.
     pub read_latches: u32,
-    /// Where latches that always agree were to be merged before the first frame, how many of the cleaned circuit were.
+    /// If latches that always agree were to be merged before the first frame, the number of latches
+    /// of the cleaned circuit that were.
     pub merged: Option<MergeCounts>,
     /// The frames taken, in order.
     pub frames: Sequence<FrameReport>,
-    /// Where certificates were wanted, one of each circuit that a frame was taken of, and one of the last circuit where the limit of
-    /// frames didn't end the run.
+    /// If certificates were wanted, one of each circuit that a frame was taken of. One of the last
+    /// circuit follows, unless the limit of frames ended the run.
     pub certificates: Sequence<Certificate>,
 }

@@ -1,4 +1,5 @@
--- The functions of free latches are inputs: at the start, after a pass, a move and a merging, and so in the finished map.
+-- The functions of free latches are inputs: at the start, after a pass, a move and a merging, and
+-- so in the finished map.
 use Rattle.std.proofs.Common.{inl, inr, ℕ, suc, ◌+◌, ◌-◌, ◌*◌, ◌<◌, ◌≡◌, ◌==◌, Bool, true, false, Option, Some, None, slice_get, List, length, get_or, arith, ap, sym, ◌∙◌, subst, zero-add}
 use Rattle.std.proofs.Math.Dec.{eqb-suc-zero}
 use Rattle.std.proofs.lemmas.Bool.{cond-false}

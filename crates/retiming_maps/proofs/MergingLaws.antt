@@ -1,4 +1,5 @@
--- A map that follows a merging is one to what is merged, and so is one that follows a cleaning before it.
+-- A map that follows a merging is one to what is merged, and so is one that follows a cleaning
+-- before it.
 use Rattle.std.proofs.Common.{ℕ, ◌≡◌, ◌<◌, List, length, Ok, ap, sym, ◌∙◌, subst}
 use Rattle.std.specs.List.{All}
 use Rattle.std.proofs.lemmas.List.{length-map}
@@ -31,7 +32,8 @@ use Rattle.retiming_maps.specs.Merging.{IsMergedAfter, IsStartAlong}
 use Rattle.retiming_maps.proofs.FreeLaws.{free-merged, kept-then}
 
 module _ (b d e : Netlist) (held kept reads : List ℕ) (g h : Graph) (functions old new : List ℕ) where
-  -- a map to a circuit, with the constraints of what its latches read as, is one to what the circuit is merged to, by the functions of what they read as
+  -- A map to a circuit, with the constraints of its latches' readings, is one to what the circuit
+  -- is merged to. Latches have the functions of their readings.
   pub merged-map : IsCircuit d → IsCoarsest d.aig held reads → IsMerged held d e → IsMapBy b d kept g functions old
       → AddsSubstitutes g (first_latch d.aig) functions reads (length reads) h old new → IsMapBy b e kept h (read_functions (first_latch d.aig) functions reads) new
   merged-map valid coarsest merged p adds = record {

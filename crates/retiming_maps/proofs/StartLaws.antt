@@ -59,11 +59,11 @@ module _ (g : Graph) (valid : IsGraph g) (x : Digits) (s t : State) (same : (j :
             ∙ sym (ap after at ∙ two.gate k gate there))
       ]
 
-  -- a literal has the same value in states in which each latch of the graph holds the same
+  -- a literal has equal values in states in which each latch of the graph holds equal values
   pub literal-same : (lit : ℕ) → IsLiteralOf g lit → value_within g x s lit ≡ value_within g x t lit
   literal-same lit within = signed-same lit (variable-same (suc (variable lit)) (variable lit) (omega arith) within)
 
--- inputs alone are a graph where there is room for their variables
+-- inputs alone are a graph if there is room for their variables
 pub inputs-graph : (n : ℕ) → n + 1 ≤ MAX_VARIABLES → IsGraph (without_gates n [])
 inputs-graph n small = record {
   small = omega (arith, small);

@@ -34,7 +34,8 @@ use Rattle.clean.proofs.CleaningLaws.{composed-then}
 use Rattle.aig_graph.proofs.StreamLaws.{funext, composed-every}
 
 module _ (c d e : Netlist) (held kept second still : List ℕ) (g h : Graph) (functions new old constraints : List ℕ) where
-  -- a map that goes on through a pass, with constraints of what stands for each latch, is a map to what the pass makes
+  -- a map that goes on through a pass, with constraints of what stands for each latch, is a map to
+  -- what the pass makes
   pub pass-map : IsCircuit d → (pass : IsPass held d e second still) → IsMapBy c d kept g functions old
       → AddsSubstitutes g (first_latch d.aig) functions (latch_substitutes d.aig held) (length (latch_substitutes d.aig held)) h old constraints
       → ArePassed h functions d.aig pass.reached new → IsMapBy c e (composed kept second) h new constraints

@@ -60,7 +60,8 @@ module _ (d : Graph) (held functions : List ℕ) (many : length functions ≡ le
     substitute-here j latch at =
         ap (λ (lit : ℕ). here (substitute_function first functions lit)) (substitute-at j 0 latch at) ∙ substitute-value d valid functions many g graph s (latch_substitute d held j (Some latch)) (is-substitute j latch at)
 
-    -- where each function equals that of what stands for its latch, what stands for each latch is what the latch holds
+    -- if each function equals that of what stands for its latch, what stands for each latch is what
+    -- the latch holds
     pub substitutes-hold : SubstitutesBelow g first functions (latch_substitutes d held) (length (latch_substitutes d held)) s → SubstitutesHold d held (state_of g functions s)
     substitutes-hold below x j latch at =
         let less : j < length d.latches = slice_get_within d.latches j latch at in
@@ -68,7 +69,8 @@ module _ (d : Graph) (held functions : List ℕ) (many : length functions ≡ le
         substitute-steady d held (state_of g functions s) valid x j latch at
         ∙ sym (substitute-here j latch at) ∙ sym (below j listed) ∙ value-of-function j (omega (arith, less, many))
 
-    -- where what stands for each latch is what the latch holds, each function equals that of what stands for its latch
+    -- if what stands for each latch is what the latch holds, each function equals that of what
+    -- stands for its latch
     pub substitutes-below : SubstitutesHold d held (state_of g functions s) → SubstitutesBelow g first functions (latch_substitutes d held) (length (latch_substitutes d held)) s
     substitutes-below holds j less =
         let below : j < length d.latches = omega (arith, less, length-table 0 (length d.latches) (λ k. latch_substitute d held k (slice_get d.latches k))) in

@@ -16,18 +16,19 @@ use Rattle.state_maps.specs.MapCircuits.{IsFreeInput}
 use Rattle.state_maps.specs.States.{IsStateMap}
 use Rattle.retiming_maps.specs.declared.parts.MapParts.{MapParts}
 
--- the literal is that of the input for a free latch of c, before which there are so many free ones
+-- the literal is that of the input for a free latch of c, before which there are `before` free ones
 pub record IsInputAt (c : Graph) (before lit : ℕ) : Type 0 where
   pub input : IsFreeInput c lit
   pub at : free_before c input.place ≡ before
 
--- the function of each free latch of d is the input for a free latch of c: for that one which kept has for it
+-- the function of each free latch of d is the input for a free latch of c: for that one which kept
+-- has for it
 abbrev pub AreFreeInputs : Netlist → Netlist → List ℕ → List ℕ → Type 0
 AreFreeInputs c d kept functions = (j : ℕ) → is_free_latch (slice_get d.aig.latches j) ≡ true
     → IsInputAt c.aig (slice_index_or kept (free_before d.aig j) 0) (slice_index_or functions j 0)
 
--- Gates over an input for each latch of c. Where the constraints are 1, the functions are the state of d: a map of c's states, which gives
--- for each free latch of d a free latch of c.
+-- Gates over an input for each latch of c. If the constraints are 1, the functions are the state of
+-- d, by a map of c's states. It gives for each free latch of d a free latch of c.
 pub record IsMapBy (c d : Netlist) (kept : List ℕ) (g : Graph) (functions constraints : List ℕ) : Type 0 where
   pub graph : IsGraph g
   pub inputs : g.inputs ≡ length c.aig.latches
@@ -60,14 +61,15 @@ pub record IsPassAlong (held : List ℕ) (c : Netlist) (old new : MapParts) (t :
   pub pass : IsPass held c t.circuit t.kept_free.items t.held.items
   pub leads : LeadsOn c old t.circuit t.kept_free.items new
 
--- one more pass that the map follows; the places of free latches are counted where those of the last pass are
+-- one more pass that the map follows; the places of free latches are counted as those of the last
+-- pass are
 pub record IsNextAlong (last : TracedPass) (old new : MapParts) (t : TracedPass) : Type 0 where
   pub second : List ℕ
   pub pass : IsPass last.held.items last.circuit t.circuit second t.held.items
   pub places : t.kept_free.items ≡ composed last.kept_free.items second
   pub leads : LeadsOn last.circuit old t.circuit second new
 
--- a cleaning that the map follows, and where the held latches stand then
+-- a cleaning that the map follows, and the positions of the held latches then
 pub record IsCleanedAlong (held : List ℕ) (c : Netlist) (old new : MapParts) (d : Cleaned) : Type 0 where
   pub cleaned : Cleans d.circuit held c d.kept_free
   pub held_after : HeldAfter d.circuit d.keep held c

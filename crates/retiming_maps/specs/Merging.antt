@@ -12,7 +12,7 @@ use Rattle.retimed_circuits.specs.Names.{StayHeld}
 use Rattle.retiming_maps.specs.declared.parts.MapParts.{MapParts}
 use Rattle.retiming_maps.specs.Mapping.{LeadsOn, LeadsWhole}
 
--- what was a map to c before is one to whatever c is merged to, where these latches are held
+-- what was a map to c before is one to whatever c is merged to, with these latches held
 abbrev pub LeadsMerged : List ℕ → Netlist → MapParts → MapParts → Type 0
 LeadsMerged held c old new = (d : Netlist) → IsMerged held c d → LeadsWhole c old d new
 
@@ -22,7 +22,8 @@ pub record IsMergedAlong (held : List ℕ) (c : Netlist) (old new : MapParts) (m
   pub counted : AreCounts c.aig held m.counts
   pub leads : LeadsWhole c old m.circuit new
 
--- a merging that the map follows, of a circuit that was cleaned; all its free latches stay, and the held ones where they are
+-- a merging that the map follows, of a circuit that was cleaned; all its free latches stay, and the
+-- held ones at their positions
 pub record IsMergedAfter (d : Cleaned) (old new : MapParts) (m : MergedStart) : Type 0 where
   pub merged : IsMerged d.keep d.circuit m.circuit
   pub counted : AreCounts d.circuit.aig d.keep m.counts

@@ -1,5 +1,5 @@
-//! The map of states of a retiming, as a circuit: what each latch of the written circuit holds, as a function of the latches of the
-//! circuit that was read.
+//! The state map of a retiming, as a circuit. It gives the value of each latch of the written
+//! circuit, as a function of the latches of the circuit that was read.
 #![tactic(auto)]
 
 mod maps;

@@ -9,7 +9,7 @@ use crate::parts::MapParts;
 use aig_graph::{Circuit, NoMemory, Props, Sequence, Symbol, Symbols};
 use std::alloc::Global;
 
-/// A copy of names.
+/// Returns a copy of names.
 fn copied(alloc: Global, names: &[Symbol]) -> Result<Sequence<Symbol>, NoMemory>
     ensures { IfOk result (λ copies. copies ≡ names.now) }
 {
@@ -20,7 +20,8 @@ fn copied(alloc: Global, names: &[Symbol]) -> Result<Sequence<Symbol>, NoMemory>
     Ok(Sequence::from_vec(copies))
 }
 
-/// The names of a map: its inputs have those of the latches of the one circuit, its outputs those of the other's.
+/// Returns the names of a map. Its inputs have those of the latches of the circuit that was read,
+/// its outputs those of the retimed one's.
 fn names_of_map(alloc: Global, circuit: &Circuit, retimed: &Circuit) -> Result<Symbols, NoMemory>
     ensures { IfOk result (λ symbols. symbols ≡ map_symbols circuit.now retimed.now) }
 {
@@ -32,7 +33,7 @@ fn names_of_map(alloc: Global, circuit: &Circuit, retimed: &Circuit) -> Result<S
     Ok(symbols)
 }
 
-/// The parts as a circuit with these names. Takes no memory.
+/// Returns the parts as a circuit with these names. Takes no memory.
 fn finished(alloc: Global, parts: MapParts, symbols: Symbols) -> StateMap
     requires { IsPlainMap (map_of parts symbols) }
     ensures { result ≡ map_of parts symbols }
@@ -47,13 +48,13 @@ fn finished(alloc: Global, parts: MapParts, symbols: Symbols) -> StateMap
     StateMap::new(gates, props, symbols)
 }
 
-/// The parts of a map, as a circuit: its inputs are the latches of the circuit that was read, its outputs what the latches of the
-/// retimed circuit hold, where its constraints are 1; the output of a free latch is the input of one. Both have the names of their latches.
-/// Of gates none is copied.
+/// Returns the map of these parts. Its inputs are the latches of the circuit that was read. Its
+/// outputs are what the latches of the retimed circuit hold, if its constraints are 1. The output
+/// of a free latch is the input of one. Both have the names of their latches. No gate is copied.
 ///
 /// # Errors
 ///
-/// `NoMemory` where memory for the names is refused.
+/// `NoMemory` if memory for the names is refused.
 pub fn state_map(
     alloc: Global,
     parts: MapParts,

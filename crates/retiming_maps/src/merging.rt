@@ -1,5 +1,6 @@
-//! A map that follows a merging of latches: that each latch is what it reads as is a constraint, and the function of that is its function then.
-//! The cleaning before it comes first, so these constraints are of the functions that the cleaned circuit's latches have.
+//! A map that follows a merging of latches. That each latch is equal to its reading is a
+//! constraint, and the latch then has the function of its reading. The cleaning before it comes
+//! first, so these constraints are of the functions that the cleaned circuit's latches have.
 ghost use Rattle.std.specs.Prelude.{◌<◌, All, OnOk, IfOk, length};
 ghost use Rattle.merged_circuits.specs.Partitions.{IsCoarsest};
 ghost use Rattle.retiming_maps.specs.Mapping.{IsSomeMapTo};
@@ -41,7 +42,7 @@ fn follow_merging(
     Ok(())
 }
 
-/// The circuit in which latches that always agree are one, and the map with it.
+/// Returns the circuit in which latches that always agree are one, and follows it with the map.
 fn merged_along(
     alloc: Global,
     parts: &mut MapParts,
@@ -57,7 +58,7 @@ fn merged_along(
     Ok(merged)
 }
 
-/// What a circuit that was cleaned is merged to, and the map with it.
+/// Merges a circuit that was cleaned, and follows it with the map.
 fn merged_after(
     alloc: Global,
     parts: &mut MapParts,
@@ -85,12 +86,14 @@ fn merged_after(
     }
 }
 
-/// The circuit cleaned, and its latches that always agree merged, as [`latch_merging::merged_start`] does it, and the map with it. Its
-/// constraints are those of the cleaning, and then one for each latch that reads as another.
+/// Cleans the circuit and merges its latches that always agree, as [`latch_merging::merged_start`]
+/// does, and follows it with the map. The map's constraints are those of the cleaning, and then one
+/// for each latch with another reading than itself.
 ///
 /// # Errors
 ///
-/// `NoMemory` where memory is refused, `TooLarge` where the map would have more variables than a graph may have.
+/// `NoMemory` if memory is refused, `TooLarge` if the map would have more variables than a graph
+/// may have.
 pub fn start_along(
     alloc: Global,
     parts: &mut MapParts,

@@ -12,12 +12,13 @@ use aig_graph::{Circuit, ClosedSet, Keep};
 use map_circuits::MapError;
 use rebuild::MoveMarks;
 
-/// Follows a move of latches over a closed set, by the marks of the move. The moved circuit isn't made. Linear in the latches and the set;
-/// inputs cost nothing.
+/// Follows a move of latches over a closed set, by the marks of the move. The moved circuit isn't
+/// made. Linear in the latches and the set; inputs cost nothing.
 ///
 /// # Errors
 ///
-/// `NoMemory` where memory is refused, `TooLarge` where the map would have more variables than a graph may have.
+/// `NoMemory` if memory is refused, `TooLarge` if the map would have more variables than a graph
+/// may have.
 pub fn follow_move(
     parts: &mut MapParts,
     circuit: &Circuit,

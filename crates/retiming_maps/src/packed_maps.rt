@@ -1,4 +1,5 @@
-//! A map of states is made to be written: its gates stand as the bytes of the binary form, so that they are never made a graph's.
+//! A state map is made to be written. Its gates stand as the bytes of the binary form, and are
+//! never made those of a graph.
 ghost use Rattle.std.specs.Prelude.{◌≡◌, []};
 ghost use Rattle.aig_graph.specs.Circuits.{AreSymbolsOf, IsNetlist};
 ghost use Rattle.aig_graph.specs.Graph.{IsGraph};
@@ -8,8 +9,9 @@ use aig_graph::{Props, Symbols};
 use map_circuits::MapGates;
 use std::marker::Model;
 
-/// A map of states as a circuit: its inputs are the latches of one circuit, its outputs what the latches of another hold, where its
-/// constraints are 1. Its gates stand as the deltas of the binary form.
+/// A state map as a circuit. Its inputs are the latches of one circuit. Its outputs are what the
+/// latches of another hold, if its constraints are 1. Its gates stand as the deltas of the binary
+/// form.
 #[derive(Drop)]
 pub struct StateMap {
     gates: MapGates,
@@ -29,7 +31,7 @@ impl Model for StateMap {
 }
 
 impl StateMap {
-    /// The map of these parts.
+    /// Returns the map of these parts.
     pub(crate) fn new(gates: MapGates, props: Props, symbols: Symbols) -> StateMap
         requires { IsPlainMap (record { aig = gates; props = props; symbols = symbols }) }
         ensures { result ≡ record { aig = gates; props = props; symbols = symbols } }
@@ -41,7 +43,8 @@ impl StateMap {
         }
     }
 
-    /// What holds of every such map. Costs nothing: a caller sees the value of a map alone, and has its invariant by this call.
+    /// States what holds of every such map. Costs nothing: a caller sees the value of a map alone,
+    /// and has its invariant by this call.
     pub fn known(&self)
         ensures graph { IsGraph self.now.aig }
         ensures latches { self.now.aig.latches ≡ [] }
@@ -50,28 +53,28 @@ impl StateMap {
         self.gates.known();
     }
 
-    /// The gates.
+    /// Returns the gates.
     pub fn gates(&self) -> &MapGates
         ensures { result.now ≡ self.now.aig }
     {
         &self.gates
     }
 
-    /// The properties: outputs and constraints.
+    /// Returns the properties: outputs and constraints.
     pub fn props(&self) -> &Props
         ensures { result.now ≡ self.now.props }
     {
         &self.props
     }
 
-    /// The symbol table.
+    /// Returns the symbol table.
     pub fn symbols(&self) -> &Symbols
         ensures { result.now ≡ self.now.symbols }
     {
         &self.symbols
     }
 
-    /// The same map with these names. Nothing is copied.
+    /// Returns the map with these names in place of its own. Nothing is copied.
     pub fn with_symbols(self, symbols: Symbols) -> StateMap
         requires { AreSymbolsOf self.aig self.props symbols }
         ensures { result ≡ record self { symbols = symbols } }

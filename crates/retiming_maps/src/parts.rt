@@ -1,7 +1,8 @@
 use aig_graph::Lit;
 use map_circuits::{LatchFunctions, MapGates};
 
-/// A map of states, as far as it has come. It is made by [`identity`](crate::identity), and follows a circuit by what the other functions do.
+/// A state map, as far as it has come. It is made by [`identity`](crate::identity), and follows a
+/// circuit by what the other functions do.
 #[derive(Drop)]
 pub struct MapParts {
     /// Gates over an input for each latch of the circuit that was read.

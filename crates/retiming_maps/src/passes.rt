@@ -1,4 +1,5 @@
-//! A map that follows a cleaning, pass after pass: what stands for a latch is a constraint, and latches that stay keep their functions.
+//! A map that follows a cleaning, pass after pass. The substitute of a latch gives a constraint,
+//! and latches that stay keep their functions.
 ghost use Rattle.std.specs.Prelude.{◌≡◌, ◌<◌, ◌≤◌, ◌⊎◌, All, IfOk, OnOk, false, length, true};
 ghost use Rattle.std.specs.List.Sorted.{IsStrictlyIncreasing};
 ghost use Rattle.aig_graph.specs.Graph.{free_latches, latches_and_gates};
@@ -40,7 +41,7 @@ fn follow_pass(
     Ok(())
 }
 
-/// A pass of cleaning, with the latches at these positions held.
+/// Runs a pass of cleaning, with the latches at these positions held.
 fn passed(
     alloc: Global,
     parts: &mut MapParts,
@@ -61,8 +62,8 @@ fn passed(
     }
 }
 
-/// The pass after a pass. Where the places of the last pass are counted among the free latches of an earlier circuit, so are
-/// those of this one.
+/// Runs the pass after a pass. The places of the last pass may be counted among the free latches of
+/// an earlier circuit; those of this one are then too.
 fn pass_after(
     alloc: Global,
     parts: &mut MapParts,
@@ -83,7 +84,7 @@ fn pass_after(
     Ok(next)
 }
 
-/// The pass after a pass that isn't needed any more.
+/// Runs the pass after a pass, and drops that one.
 fn next_pass(alloc: Global, parts: &mut MapParts, last: TracedPass) -> Result<TracedPass, MapError>
     requires map { IsSomeMapTo last.circuit parts.old }
     requires in_range { All (λ j. j < length last.circuit.aig.latches) last.held.items }
@@ -95,7 +96,7 @@ fn next_pass(alloc: Global, parts: &mut MapParts, last: TracedPass) -> Result<Tr
     next
 }
 
-/// What the last pass leaves.
+/// Returns what the last pass leaves.
 fn cleaned_by(last: TracedPass) -> Cleaned
     requires { IsStrictlyIncreasing last.held.items }
     ensures circuit { result.circuit ≡ last.circuit }
@@ -117,7 +118,8 @@ fn cleaned_by(last: TracedPass) -> Cleaned
     }
 }
 
-/// Whether another pass is to be made of what the last one left, before which there were so many latches and gates.
+/// Returns true if another pass is to be made of what the last one left. `before` is the number of
+/// latches and gates before the last pass.
 fn goes_on(alloc: Global, last: &TracedPass, before: usize) -> bool
     requires { All (λ j. j < length last.now.circuit.aig.latches) last.now.held.items }
     ensures fewer { result ≡ true → latches_and_gates last.now.circuit.aig < before }
@@ -127,11 +129,13 @@ fn goes_on(alloc: Global, last: &TracedPass, before: usize) -> bool
     has_more(alloc, &last.circuit, last.held.as_slice(), before)
 }
 
-/// The circuit, cleaned pass after pass until one changes nothing, as [`clean::clean`] does it, and the map with it.
+/// Cleans the circuit pass after pass until one changes nothing, as [`clean::clean`] does, and
+/// follows it with the map.
 ///
 /// # Errors
 ///
-/// `NoMemory` where memory is refused, `TooLarge` where the map would have more variables than a graph may have.
+/// `NoMemory` if memory is refused, `TooLarge` if the map would have more variables than a graph
+/// may have.
 pub fn cleaned_along(
     alloc: Global,
     parts: &mut MapParts,

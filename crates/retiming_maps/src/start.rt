@@ -10,7 +10,7 @@ use aig_graph::{Circuit, Lit, NoMemory};
 use map_circuits::{LatchFunctions, MapError, MapGates};
 use std::alloc::Global;
 
-/// The literals of this many inputs.
+/// Returns the literals of `count` inputs.
 fn input_literals(alloc: Global, count: u32) -> Result<Vec<Lit>, NoMemory>
     requires { count < MAX_VARIABLES }
     ensures { IfOk result (λ literals. literals.items ≡ table 0 count (λ j. 2 * (1 + j))) }
@@ -22,11 +22,11 @@ fn input_literals(alloc: Global, count: u32) -> Result<Vec<Lit>, NoMemory>
     Ok(literals)
 }
 
-/// The map of a circuit's states to themselves. Linear in the latches.
+/// Returns the map of a circuit's states to themselves. Linear in the latches.
 ///
 /// # Errors
 ///
-/// `NoMemory` where memory is refused.
+/// `NoMemory` if memory is refused.
 pub fn identity(alloc: Global, circuit: &Circuit) -> Result<MapParts, MapError>
     ensures { IfOk result (IsMapTo circuit.now circuit.now (all_free circuit.now.aig)) }
 {

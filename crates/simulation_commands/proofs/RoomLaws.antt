@@ -8,7 +8,7 @@ use Rattle.std.proofs.lemmas.List.Concat.{length-flat_map}
 use Rattle.aig_graph.specs.declared.properties.Props.{Props}
 use Rattle.aig_graph.specs.Streams.{property_literals}
 
--- a factor that is cut at a number above the limit is over it where the factor is
+-- a factor that is cut at a number above the limit is over it if the factor is
 pub over_cut : (limit s l m : ℕ) → limit < m → nat_lt limit (s * min l m) ≡ nat_lt limit (s * l)
 over_cut limit zero l m small = let none : 0 * min l m ≡ 0 * l = omega arith in ap (nat_lt limit) none
 over_cut limit (suc k) l m small = over_some limit k l m small (cases_lt m l)

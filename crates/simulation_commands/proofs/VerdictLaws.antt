@@ -16,11 +16,11 @@ use Rattle.command_endings.proofs.PrintingLaws.{lines_print}
 pub left_merged : {E : Type 0} (merge : Bool) (c : Netlist) (free : ℕ) (r : Result (Option (List ℕ)) E) → merge ≡ true → IfOk r (AreLeftMerged c free) → IfOk r (AreLeftFor merge c free)
 left_merged merge c free r asked left = let P : Bool → Type 0 = λ m. IfOk r (AreLeftFor m c free) in subst P (sym asked) left
 
--- the same where none are merged
+-- those left if none are merged
 pub left_cleaned : {E : Type 0} (merge : Bool) (c : Netlist) (free : ℕ) (r : Result (Option (List ℕ)) E) → merge ≡ false → IfOk r (AreLeft c free) → IfOk r (AreLeftFor merge c free)
 left_cleaned merge c free r unasked left = let P : Bool → Type 0 = λ m. IfOk r (AreLeftFor m c free) in subst P (sym unasked) left
 
--- where the circuits don't have as many free latches
+-- if the circuits don't have as many free latches
 pub left_kept : {E : Type 0} (merge : Bool) (c d : Netlist) (free : ℕ) (r : Result (Option (List ℕ)) E) → free ≡ free_latches d.aig → free_latches c.aig ≢ free_latches d.aig
     → IfOk r (AreLeftFor merge c free) → IfOk r (AreKept merge c d)
 left_kept merge c d free (Ok places) is apart left = let P : ℕ → Type 0 = λ n. AreLeftFor merge c n places in inr (apart, subst P is left)

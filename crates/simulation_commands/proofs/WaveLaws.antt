@@ -21,7 +21,7 @@ use Rattle.simulation_commands.specs.Dumping.{dump_of}
 use Rattle.simulation_commands.specs.Simulating.{IsCaseOf, IsCaseWith, IsDumped, PrintsTrace, lines_of, printed}
 use Rattle.simulation_commands.specs.declared.simulation.Case.{Case}
 
--- the lines come after the dump, where that went to standard output, and else alone
+-- the lines come after the dump, if that went to standard output, and else alone
 pub lines_after_dump : (target : Target) (dump lines : List ℕ) (old mid new : Output) (result : Result Outcome Failure)
     → (is_stdout target ≡ true → WritesAll old mid dump) → (is_stdout target ≡ false → mid ≡ old)
     → EndsPrinting Done lines mid new result → IfOk result (EndsWith Done (printed (Some target) dump lines) old new)

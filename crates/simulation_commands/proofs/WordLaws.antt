@@ -14,7 +14,7 @@ state-next : (seed k : ℕ) → state_after seed (k + 1) ≡ (mix_u64 (state_aft
 unfolding state_after
 state-next seed k = let next : k + 1 ≡ suc k = omega arith in ap (state_after seed) next
 
--- a word that is drawn where k were, and the state after it
+-- a word that is drawn if k were, and the state after it
 pub word-drawn : (seed k old new result : ℕ) → old ≡ state_after seed k → (result, new) ≡ mix_u64 old → result ≡ word seed k
 unfolding word
 word-drawn seed k old new result before drawn = ap (λ (p : ℕ × ℕ). p.0) drawn ∙ ap (λ (s : ℕ). (mix_u64 s).0) before
@@ -29,7 +29,8 @@ seeded seed state same = same ∙ sym (state-start seed)
 
 -- ---- digits
 
--- as many words are drawn as there are begun ones below a place, and the one at hand is that of the place, unless it is the first of one
+-- The number of words drawn is that of begun ones below a place. The one at hand is that of the
+-- place, unless it is the first of one.
 pub record HasDrawn (seed place state held : ℕ) : Type 0 where
   -- the state is that after the words which begin below the place
   pub drawn : state ≡ state_after seed ((place + 63) / 64)
@@ -57,7 +58,7 @@ at_hand-same seed place state held within h =
     let same : (place + 63) / 64 ≡ place / 64 + 1 = omega arith in
     record { drawn = h.drawn ∙ ap (state_after seed) same; at = h.at within }
 
--- where the word of a place is at hand, the words that begin below the next place were drawn
+-- if the word of a place is at hand, the words that begin below the next place were drawn
 pub drawn-more : (seed place state held : ℕ) → IsAtHand seed place state held → HasDrawn seed (place + 1) state held
 drawn-more seed place state held h =
     let all : place / 64 + 1 ≡ (place + 1 + 63) / 64 = omega arith in

@@ -23,7 +23,8 @@ use Rattle.simulation_commands.specs.declared.kept.Shared.{Shared}
 use Rattle.simulation_commands.specs.declared.comparison.Finding.{Finding}
 use Rattle.simulation_commands.specs.declared.comparison.Finding.TheVariants.{Same, Differ, ShapesDiffer}
 
--- what is found of two circuits, the second of which has these free latches of the first, under a stimulus of the first
+-- what is found of two circuits, the second of which has these free latches of the first, under a
+-- stimulus of the first
 abbrev pub IsFinding : Shared → Netlist → Netlist → List InputSequence → Finding → Type 0
 IsFinding shared c d stimulus Same = HaveShape shared c d × (trace c stimulus ≡ trace d (sequences_for shared stimulus))
 IsFinding shared c d stimulus (Differ place) = HaveShape shared c d × IsFirstDifference (trace c stimulus) (trace d (sequences_for shared stimulus)) place
@@ -45,7 +46,7 @@ outcome_of_finding Same = ends.Done
 outcome_of_finding (Differ place) = ends.Differ
 outcome_of_finding ShapesDiffer = ends.ShapesDiffer
 
--- an object on a line where that is asked for, else the line
+-- an object on a line if that is asked for, else the line
 abbrev pub printed_finding : Bool → Finding → List ℕ
 printed_finding true finding = json_line (finding_object finding)
 printed_finding false finding = finding_text finding
@@ -56,14 +57,15 @@ pub record IsFindingBy (shared : Shared) (c d : Netlist) (stimuli : Stimuli) (be
   pub under : AreStimuliAt stimuli c before after sequences
   pub is : IsFinding shared c d sequences finding
 
--- the same by the free latches of the task's list, which is read first
+-- such a finding by the free latches of the task's list, which is read first
 pub record IsFindingUnder (c d : Netlist) (task : Comparison) (before after : Input) (finding : Finding) : Type 0 where
   pub shared : Shared
   pub between : Input
   pub are : AreSharedAt task.kept c d before between shared
   pub found : IsFindingBy shared c d task.stimuli between after finding
 
--- what is found of a circuit and the second one of the task, which is read, under what the task asks for
+-- what is found of a circuit and the second one of the task, which is read, under what the task
+-- asks for
 pub record IsFindingWith (c : Netlist) (task : Comparison) (before after : Input) (finding : Finding) : Type 0 where
   pub spelt : SpeltCircuit
   pub between : Input

@@ -29,14 +29,14 @@ pub record AreKeptAt (source : Source) (c d : Netlist) (old new : Input) (kept :
   pub places : AreKept c d kept
   pub read : IsReadAt source old new (IsReadingOfStdin old new (AreKeptOf c d) (Ok kept))
 
--- each free latch where there is no list, for which nothing is read
+-- each free latch if there is no list, for which nothing is read
 abbrev pub AreSharedAt : Option Source → Netlist → Netlist → Input → Input → Shared → Type 0
 AreSharedAt None c d old new Each = new ≡ old
 AreSharedAt None c d old new (Kept kept) = ⊥
 AreSharedAt (Some source) c d old new Each = ⊥
 AreSharedAt (Some source) c d old new (Kept kept) = AreKeptAt source c d old new kept
 
--- the circuits can be compared where d has these free latches of c
+-- the circuits can be compared if d has these free latches of c
 abbrev pub HaveShape : Shared → Netlist → Netlist → Type 0
 HaveShape Each c d = HaveSameShape c d
 HaveShape (Kept kept) c d = HaveKeptShape kept c d

@@ -5,7 +5,7 @@ use Rattle.std.specs.Int.{bit_at}
 use Rattle.rand_xoshiro.specs.SplitMix64.{mix_u64}
 use Rattle.lane_sim.specs.declared.stimulus.InputSequence.{InputSequence}
 
--- the state of the generator after so many words, where the seed is its first one
+-- the state of the generator after n words; the seed is its first one
 unfoldable pub state_after : ℕ → ℕ → ℕ
 state_after seed zero = seed
 state_after seed (suc k) = (mix_u64 (state_after seed k)).1
@@ -22,7 +22,8 @@ digit seed i = bit_at (word seed (i / 64)) (i % 64) == 1
 abbrev pub digits : ℕ → ℕ → List Bool
 digits seed n = map (digit seed) (range_with_len 0 n)
 
--- the steps of a sequence with this seed: each has a word as the seed of its digits, from the second one on
+-- the steps of a sequence with this seed: each has a word as the seed of its digits, from the
+-- second one on
 abbrev pub random_steps : ℕ → ℕ → ℕ → List (List Bool)
 random_steps inputs steps seed = map (λ t. digits (word seed (t + 1)) inputs) (range_with_len 0 steps)
 
@@ -30,6 +31,6 @@ random_steps inputs steps seed = map (λ t. digits (word seed (t + 1)) inputs) (
 abbrev pub random_sequence : ℕ → ℕ → ℕ → ℕ → InputSequence
 random_sequence inputs free steps seed = record { choice = digits (word seed 0) free; steps = random_steps inputs steps seed }
 
--- so many sequences of so many steps: each has a word of the seed as its own seed
+-- n sequences of equal numbers of steps: each has a word of the seed as its own seed
 unfoldable pub random_stimulus : ℕ → ℕ → ℕ → ℕ → ℕ → List InputSequence
 random_stimulus inputs free sequences steps seed = map (λ k. random_sequence inputs free steps (word seed k)) (range_with_len 0 sequences)

@@ -16,7 +16,7 @@ choices_fill c sequences = nat_lt (2 ^ 28) (sequences * free_latches c.aig)
 abbrev pub trace_fills : Netlist → ℕ → ℕ → Bool
 trace_fills c sequences steps = nat_lt (2 ^ 31) (max sequences 256 * steps * length (property_literals c.props))
 
--- so many sequences of so many steps would take over 2^28 bytes of steps or of choices, or over
--- 2^31 bits of trace
+-- sequences of these numbers would take over 2^28 bytes of steps or of choices, or over 2^31 bits
+-- of trace
 abbrev pub is_too_long : Netlist → ℕ → ℕ → Bool
 is_too_long c sequences steps = steps_fill c sequences steps || choices_fill c sequences || trace_fills c sequences steps

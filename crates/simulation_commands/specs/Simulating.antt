@@ -42,7 +42,8 @@ abbrev pub AreLinesFor : Case → Lines → Type 0
 AreLinesFor given (Whole found) = found ≡ trace given.circuit given.stimulus
 AreLinesFor given (Stepped room) = IsRoomFor given.circuit room
 
--- what is printed: the lines of the trace, and before them the dump of waves where that goes to standard output
+-- what is printed: the lines of the trace, and before them the dump of waves if that goes to
+-- standard output
 abbrev pub printed : Option Target → List ℕ → List ℕ → List ℕ
 printed None dump lines = lines
 printed (Some targets.Stdout) dump lines = dump ++ lines
@@ -54,7 +55,7 @@ IsDumped FileGiven None dump = Unit {0}
 IsDumped FileGiven (Some targets.Stdout) dump = Unit {0}
 IsDumped FileGiven (Some (targets.File path)) dump = FileGiven path.now dump
 
--- of what is read, the waves were written where they are asked for, and that was printed
+-- of what is read, the waves were written if they are asked for, and that was printed
 pub record PrintsTrace (FileGiven : List ℕ → List ℕ → Type 0) (task : Simulation) (before after : Input) (old new : Output) (ended : Outcome) : Type 0 where
   pub given : Case
   pub is : IsCaseOf task before after given

@@ -31,11 +31,11 @@ have_same_widths c d =
     ((((widths_of c).bad == (widths_of d).bad) && ((widths_of c).justice == (widths_of d).justice)) && ((widths_of c).inputs == (widths_of d).inputs))
     && (length d.props.constraints == length c.props.constraints)
 
--- the places, where there are so many
+-- the places, if they are as many as the free latches
 abbrev pub if_many : ℕ → List ℕ → ℕ → Option (List ℕ)
 if_many left places free = if left == free then Some places else None
 
--- the places of the free latches that cleaning leaves, where these are so many
+-- the places of the free latches that cleaning leaves, if these are `free`
 pub record AreLeft (c : Netlist) (free : ℕ) (places : Option (List ℕ)) : Type 0 where
   pub cleaned : Netlist
   pub kept : List ℕ
@@ -49,7 +49,7 @@ pub record AreMergeOptions (options : Options) : Type 0 where
   pub names : names_in options ≡ []
   pub positions : options.keep_latches.items ≡ []
 
--- the places of the free latches that cleaning leaves of what c is merged to, where these are so many
+-- the places of the free latches that cleaning leaves of what c is merged to, if these are `free`
 pub record AreLeftMerged (c : Netlist) (free : ℕ) (places : Option (List ℕ)) : Type 0 where
   pub options : Options
   pub are_options : AreMergeOptions options
@@ -61,32 +61,35 @@ abbrev pub AreLeftFor : Bool → Netlist → ℕ → Option (List ℕ) → Type 
 AreLeftFor false c free places = AreLeft c free places
 AreLeftFor true c free places = AreLeftMerged c free places
 
--- the places of d's free latches among c's: all where there are as many, else those that cleaning leaves, of c, or where latches were
--- merged of what c is merged to
+-- The places of d's free latches among c's. They are all if the numbers are equal. Otherwise they
+-- are those that cleaning leaves of c, or if latches were merged, of what c is merged to.
 abbrev pub AreKept : Bool → Netlist → Netlist → Option (List ℕ) → Type 0
 AreKept merge c d places =
     ((free_latches c.aig ≡ free_latches d.aig) × (places ≡ Some (all_free c.aig)))
     ⊎ ((free_latches c.aig ≢ free_latches d.aig) × AreLeftFor merge c (free_latches d.aig) places)
 
--- where these free latches were kept
+-- if these free latches were kept
 abbrev pub IsJudged : Netlist → Netlist → List ℕ → Witness → Verdict → Type 0
 IsJudged c d kept w (Confirmed confirmed) = IsConfirmedBack c d kept w (Ok confirmed)
 IsJudged c d kept w (Objected objection) = IsConfirmedBack c d kept w (Err objection)
 IsJudged c d kept w ShapesDiffer = ⊥
 
--- the circuits have the widths of a retiming, and the witness is judged by the free latches that were kept
+-- the circuits have the widths of a retiming, and the witness is judged by the free latches that
+-- were kept
 pub record IsJudgedBy (merge : Bool) (c d : Netlist) (w : Witness) (verdict : Verdict) : Type 0 where
   pub widths : have_same_widths c d ≡ true
   pub kept : List ℕ
   pub are : AreKept merge c d (Some kept)
   pub judged : IsJudged c d kept w verdict
 
--- the verdict on a witness of d; the circuits aren't those of a retiming where their widths differ or no free latches were kept
+-- the verdict on a witness of d; the circuits aren't those of a retiming if their widths differ or
+-- no free latches were kept
 abbrev pub IsVerdict : Bool → Netlist → Netlist → Witness → Verdict → Type 0
 IsVerdict merge c d w ShapesDiffer = (have_same_widths c d ≡ false) ⊎ AreKept merge c d None
 IsVerdict merge c d w verdict = IsJudgedBy merge c d w verdict
 
--- what is read, in this order: a circuit, the one that it was retimed to, and a witness for that one
+-- what is read, in this order: a circuit, the one that it was retimed to, and a witness for that
+-- one
 pub record IsCaseOf (task : Carrying) (before after : Input) (given : Case) : Type 0 where
   pub first : SpeltCircuit
   pub second : SpeltCircuit

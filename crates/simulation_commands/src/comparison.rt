@@ -81,7 +81,8 @@ fn compare_shared<'a, R: Threads + Sync>(
     }
 }
 
-/// Compares two circuits, the second of which has these free latches of the first, under what the task asks for.
+/// Compares two circuits under what the task asks for. The second one has these free latches of the
+/// first.
 fn compared_by<'a, R: Files + Threads + Sync, I: CountedRead>(
     rt: &R,
     alloc: Global,
@@ -209,9 +210,9 @@ fn print_finding_as<'a, O: CountedWrite>(
     }
 }
 
-/// Reads two circuits, then the list of kept free latches where the task has one, and then a stimulus where it has no random
-/// sequences, and prints the first difference of the circuits under it, as an object of JSON or in a line. The widths of a stimulus
-/// are those of the first circuit.
+/// Reads two circuits, then the list of kept free latches if the task has one, and then a stimulus
+/// unless it has random sequences. Prints the first difference of the circuits under it, as an
+/// object of JSON or in a line. The widths of a stimulus are those of the first circuit.
 pub fn print_comparison<'a, R: Files + Threads + Sync, I: CountedRead, O: CountedWrite>(
     rt: &R,
     alloc: Global,

@@ -1,4 +1,5 @@
-//! The waves of what is simulated: their names, room for their values, and how a dump of them is written.
+//! Dumps of what is simulated: the names of waves, room for their values, and how a dump is
+//! written.
 ghost use Rattle.std.specs.Prelude.{◌≡◌, true, false, IfErr, IfOk, MatchResult, OnOk};
 ghost use Rattle.counted_io.specs.Output.{Writes};
 ghost use Rattle.reports.specs.waves.Moments.{IsWaveRoomFor};
@@ -35,8 +36,8 @@ pub(crate) struct Waves {
     shown: Shown,
 }
 
-/// Whether the trace of a circuit under random sequences takes too much memory. Of a stimulus that is read its length says what a run
-/// will take.
+/// Returns true if the trace of a circuit under random sequences takes too much memory. A stimulus
+/// that is read says by its length what a run will take.
 fn are_too_long(stimuli: Stimuli<'_>, circuit: &Circuit) -> bool
     ensures { result ≡ wanted.are_too_long stimuli.entry circuit.now }
 {
@@ -46,7 +47,7 @@ fn are_too_long(stimuli: Stimuli<'_>, circuit: &Circuit) -> bool
     }
 }
 
-/// Room for the waves that a circuit has as its outputs.
+/// Returns room for the waves that a circuit has as its outputs.
 fn room_for<'a>(
     alloc: Global,
     circuit: &Circuit,
@@ -65,7 +66,7 @@ fn room_for<'a>(
     }
 }
 
-/// A circuit that has the waves of another one as its outputs, with room for simulating it.
+/// Returns a circuit that has the waves of another one as its outputs, with room for simulating it.
 fn with_room<'a>(
     alloc: Global,
     circuit: Circuit,
@@ -85,7 +86,7 @@ fn with_room<'a>(
     }
 }
 
-/// The circuit that has the waves as its outputs.
+/// Returns the circuit that has the waves as its outputs.
 fn shown_of<'a>(alloc: Global, given: &Case, task: &Simulation<'a>) -> Result<Shown, Failure<'a>>
     ensures shown { IfOk result (IsShownOf given.now) }
     ensures failed { IfErr result (IsFailureToShow task.now (probes.probed given.now.circuit)) }
@@ -96,7 +97,7 @@ fn shown_of<'a>(alloc: Global, given: &Case, task: &Simulation<'a>) -> Result<Sh
     }
 }
 
-/// The names of the waves of a circuit.
+/// Returns the names of the waves of a circuit.
 fn names<'a>(alloc: Global, circuit: &Circuit) -> Result<Sequence<Sequence<u8>>, Failure<'a>>
     ensures { MatchResult result (λ names. names ≡ named.wave_names circuit.now)
         (λ failure. failure ≡ Memory) }
@@ -107,7 +108,7 @@ fn names<'a>(alloc: Global, circuit: &Circuit) -> Result<Sequence<Sequence<u8>>,
     }
 }
 
-/// The waves of what is simulated.
+/// Returns the waves of what is simulated.
 pub(crate) fn waves_of<'a>(
     alloc: Global,
     given: &Case,
@@ -173,7 +174,8 @@ fn put_waves<R: OutputFiles, O: CountedWrite>(
     }
 }
 
-/// Writes a dump of waves to a file or to standard output, of which one is named where that failed. A file is made at its first byte.
+/// Writes a dump of waves to a file or to standard output. The one that failed is named. A file is
+/// made at its first byte.
 pub(crate) fn write_dump<'a, R: OutputFiles, O: CountedWrite>(
     rt: &R,
     given: &Case,

@@ -10,7 +10,7 @@ use rand_core::utils::NextWord;
 use rand_xoshiro::SplitMix64;
 use std::alloc::{AllocError, Global};
 
-/// The next word of a generator.
+/// Returns the next word of a generator.
 fn next_word(generator: &mut SplitMix64) -> u64
     ensures word { (seed k : ℕ) → generator.old ≡ state_after seed k → result ≡ word seed k }
     ensures state { (seed k : ℕ) → generator.old ≡ state_after seed k
@@ -19,7 +19,7 @@ fn next_word(generator: &mut SplitMix64) -> u64
     generator.next_word()
 }
 
-/// So many digits, 64 of each word.
+/// Returns `count` digits, 64 of each word.
 fn digits(alloc: Global, seed: u64, count: usize) -> Result<Sequence<bool>, AllocError>
     ensures { IfOk result (λ row. row ≡ digits seed count) }
 {
@@ -35,7 +35,7 @@ fn digits(alloc: Global, seed: u64, count: usize) -> Result<Sequence<bool>, Allo
     Ok(Sequence::from_vec(values))
 }
 
-/// So many steps, by words of a generator that has given one.
+/// Returns `count` steps, by words of a generator that has given one.
 fn steps(
     alloc: Global,
     generator: &mut SplitMix64,
@@ -67,8 +67,8 @@ fn sequence(
     Ok(InputSequence { choice, steps })
 }
 
-/// So many random sequences, each of so many steps, for a circuit with this many inputs and free latches. The time is linear in
-/// the digits.
+/// Returns `sequences` random sequences, each of `steps` steps, for a circuit with `inputs` inputs
+/// and `free` free latches. The time is linear in the digits.
 ///
 /// # Errors
 ///

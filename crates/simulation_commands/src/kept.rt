@@ -15,14 +15,14 @@ use std::rt::Files;
 
 /// Which free latches of the first circuit the second one has.
 #[derive(Drop)]
-pub(crate) enum Shared {
+pub enum Shared {
     /// Each, as it has as many.
     Each,
     /// Those at these places.
     Kept(Sequence<u32>),
 }
 
-/// The places of the bytes of a list.
+/// Reads the places of the bytes of a list.
 fn kept_of<'a>(
     alloc: Global,
     bytes: &[u8],
@@ -42,7 +42,7 @@ fn kept_of<'a>(
     }
 }
 
-/// The places of a list in a file or on standard input.
+/// Reads the places of a list in a file or on standard input.
 fn kept_at<'a, R: Files, I: CountedRead>(
     rt: &R,
     alloc: Global,
@@ -67,8 +67,8 @@ fn kept_at<'a, R: Files, I: CountedRead>(
     }
 }
 
-/// The free latches of a list, where there is one, and each where there is none.
-pub(crate) fn shared_by<'a, R: Files, I: CountedRead>(
+/// Returns the free latches of a list, or each if there is none.
+pub fn shared_by<'a, R: Files, I: CountedRead>(
     rt: &R,
     alloc: Global,
     list: Option<Source<'a>>,

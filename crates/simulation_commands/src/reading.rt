@@ -9,7 +9,7 @@ use counted_io::{CountedRead, Source};
 use std::alloc::Global;
 use std::rt::Files;
 
-/// The circuit that is read.
+/// Reads the circuit.
 pub(crate) fn read_circuit<'a, R: Files, I: CountedRead>(
     rt: &R,
     alloc: Global,

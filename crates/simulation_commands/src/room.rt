@@ -1,4 +1,5 @@
-//! How long random sequences may be. Where a file holds a stimulus, its length says what a run will take; two numbers don't.
+//! Bounds on random sequences. If a file holds a stimulus, its length says what a run will take;
+//! two numbers don't.
 ghost use Rattle.std.specs.Prelude.{◌≡◌, ◌-◌, ◌*◌, ◌<◌, ◌^◌, length, min, nat_lt};
 ghost use Rattle.aig_graph.specs.Streams.{property_literals};
 ghost use Rattle.simulation_commands.specs.Room as wanted;
@@ -18,7 +19,7 @@ const MOST_BITS: u64 = 1 << 31;
 /// The sequences that a trace has room for at least.
 const LANES: u32 = 256;
 
-/// How many literals the properties have, as far as the number goes.
+/// Returns the number of the properties' literals, as far as the type goes.
 fn literals(props: &Props) -> u64
     ensures { result ≡ min (length (property_literals props.now)) (2 ^ 64 - 1) }
 {
@@ -31,7 +32,7 @@ fn literals(props: &Props) -> u64
     count.saturating_add(props.fairness.len() as u64)
 }
 
-/// Whether a product is over a limit.
+/// Returns true if a product is over a limit.
 fn is_over(limit: u64, a: u64, b: u64) -> bool
     requires { limit < 2 ^ 64 - 1 }
     ensures { result ≡ nat_lt limit (a * b) }
@@ -70,13 +71,14 @@ fn trace_fills(circuit: &Circuit, sequences: u32, steps: u32) -> bool
 /// The most bytes of a trace that is made whole, beside those for each step that was read.
 const WHOLE_BYTES: u64 = 1 << 24;
 
-/// So many bytes of a trace may come with each step that was read, which takes some of them itself.
+/// For each step that was read, the bytes of a trace that may come with it. The step itself takes
+/// some of them.
 const BYTES_BY_STEP: u64 = 64;
 
 /// The bytes of a literal at a step of 256 sequences.
 const LANES_BYTES: u64 = 32;
 
-/// The steps of all sequences, and those of the longest.
+/// Returns the steps of all sequences, and those of the longest.
 fn counted_steps(sequences: &[InputSequence]) -> (u64, u64) {
     let mut all = 0u64;
     let mut longest = 0u64;
@@ -88,8 +90,8 @@ fn counted_steps(sequences: &[InputSequence]) -> (u64, u64) {
     (all, longest)
 }
 
-/// Whether a trace takes little beside a constant and what was read, so that it may be made whole, by all processors. A hint: what is printed
-/// doesn't rest on it.
+/// Returns true if a trace takes little beside a constant and what was read. It may then be made
+/// whole, by all processors. A hint: the printed text doesn't depend on it.
 pub(crate) fn is_small(circuit: &Circuit, stimulus: &Stimulus) -> bool {
     let sequences = stimulus.as_slice();
     let (all, longest) = counted_steps(sequences);
@@ -101,8 +103,8 @@ pub(crate) fn is_small(circuit: &Circuit, stimulus: &Stimulus) -> bool {
     bytes <= WHOLE_BYTES.saturating_add(all.saturating_mul(BYTES_BY_STEP))
 }
 
-/// Whether so many sequences, of so many steps each, or the trace of the circuit under them, take too much memory: what stays below
-/// takes some 800 megabytes.
+/// Returns true if `sequences` sequences of `steps` steps each, or the trace of the circuit under
+/// them, take too much memory. What stays below takes some 800 megabytes.
 pub fn is_too_long(circuit: &Circuit, sequences: u32, steps: u32) -> bool
     ensures { result ≡ wanted.is_too_long circuit.now sequences steps }
 {

@@ -40,7 +40,7 @@ enum Lines {
     Stepped(Room),
 }
 
-/// A circuit, and what the task has it simulated under.
+/// Returns a circuit, with the stimulus that the task has for it.
 fn case_with<'a, R: Files, I: CountedRead>(
     rt: &R,
     alloc: Global,
@@ -60,7 +60,7 @@ fn case_with<'a, R: Files, I: CountedRead>(
     }
 }
 
-/// What is read: a circuit, and then a stimulus where the task has no random sequences.
+/// Reads a circuit, and then a stimulus unless the task has random sequences.
 fn case_for<'a, R: Files, I: CountedRead>(
     rt: &R,
     alloc: Global,
@@ -75,7 +75,8 @@ fn case_for<'a, R: Files, I: CountedRead>(
     }
 }
 
-/// The trace of what is simulated, or room for simulating it where the trace would take much more memory than what was read.
+/// Returns the trace of what is simulated. If the trace would take much more memory than what was
+/// read, returns room for simulating it.
 fn lines_for<'a, R: Threads + Sync>(
     rt: &R,
     alloc: Global,
@@ -179,7 +180,8 @@ fn print_with_waves<'a, R: OutputFiles + Threads + Sync, O: CountedWrite>(
     }
 }
 
-/// Writes the waves of what is simulated, and then prints its trace. Nothing is written before there is room for both.
+/// Writes the waves of what is simulated, and then prints its trace. Nothing is written before
+/// there is room for both.
 fn print_with<'a, R: OutputFiles + Threads + Sync, O: CountedWrite>(
     rt: &R,
     alloc: Global,
@@ -205,7 +207,7 @@ fn print_with<'a, R: OutputFiles + Threads + Sync, O: CountedWrite>(
     }
 }
 
-/// Prints the trace of what is simulated, and before that writes its waves where the task asks for them.
+/// Prints the trace of what is simulated, after it has written its waves if the task asks for them.
 fn print_case<'a, R: OutputFiles + Threads + Sync, O: CountedWrite>(
     rt: &R,
     alloc: Global,
@@ -225,8 +227,8 @@ fn print_case<'a, R: OutputFiles + Threads + Sync, O: CountedWrite>(
     }
 }
 
-/// Reads a circuit, and then a stimulus where the task has no random sequences, writes the waves where they are asked for, and prints
-/// the trace. A file is made once nothing but a device can fail.
+/// Reads a circuit, and then a stimulus unless the task has random sequences. Writes the waves if
+/// they are asked for, and prints the trace. A file is made once nothing but a device can fail.
 pub fn print_simulation<
     'a,
     R: Files + OutputFiles + Threads + Sync,

@@ -15,7 +15,7 @@ use lane_sim::Stimulus;
 use std::alloc::Global;
 use std::rt::Files;
 
-/// Random sequences for a circuit, which was read here.
+/// Returns random sequences for a circuit, which was read here.
 fn random_for<'a>(
     alloc: Global,
     circuit: &Circuit,
@@ -39,7 +39,7 @@ fn random_for<'a>(
     }
 }
 
-/// What a circuit, which was read here, is simulated under.
+/// Returns the stimulus for a circuit, which was read here.
 pub(crate) fn stimuli_for<'a, R: Files, I: CountedRead>(
     rt: &R,
     alloc: Global,

@@ -39,7 +39,7 @@ enum Verdict {
     ShapesDiffer,
 }
 
-/// These places of as many free latches, where there are so many.
+/// Returns these places of `many` free latches if `free` is that number.
 fn if_many(many: u32, places: Sequence<u32>, free: u32) -> Option<Sequence<u32>>
     ensures { result ≡ if_many many places free }
 {
@@ -51,7 +51,7 @@ fn if_many(many: u32, places: Sequence<u32>, free: u32) -> Option<Sequence<u32>>
     }
 }
 
-/// The places that cleaning leaves, where there are so many.
+/// Returns the places that cleaning leaves if `free` is their number.
 fn places_left(cleaned: Cleaned, free: u32) -> Option<Sequence<u32>>
     ensures { result ≡ if_many (graphs.free_latches cleaned.circuit.aig) cleaned.kept_free free }
 {
@@ -65,7 +65,7 @@ fn places_left(cleaned: Cleaned, free: u32) -> Option<Sequence<u32>>
     if_many(many, kept_free, free)
 }
 
-/// The places that a retiming leaves, where there are so many.
+/// Returns the places that a retiming leaves if `free` is their number.
 fn places_of(retimed: Retimed, free: u32) -> Option<Sequence<u32>>
     ensures { result ≡ if_many (graphs.free_latches retimed.circuit.aig) retimed.kept_free free }
 {
@@ -81,7 +81,7 @@ fn places_of(retimed: Retimed, free: u32) -> Option<Sequence<u32>>
     if_many(many, kept_free, free)
 }
 
-/// The options of a retiming that merges latches and takes no frame.
+/// Returns the options of a retiming that merges latches and takes no frame.
 fn merge_options(alloc: Global) -> Options
     ensures { AreMergeOptions result }
 {
@@ -92,7 +92,8 @@ fn merge_options(alloc: Global) -> Options
     }
 }
 
-/// The places of the free latches that are left of a circuit once it is merged and cleaned, where there are so many.
+/// Returns the places of the free latches that are left of a circuit once it is merged and cleaned,
+/// if `free` is their number.
 fn places_merged<R: Threads + Sync>(
     rt: &R,
     alloc: Global,
@@ -108,7 +109,8 @@ fn places_merged<R: Threads + Sync>(
     }
 }
 
-/// The places of the free latches that cleaning leaves of a circuit, where there are so many.
+/// Returns the places of the free latches that cleaning leaves of a circuit if `free` is their
+/// number.
 fn places_cleaned(
     alloc: Global,
     circuit: &Circuit,
@@ -122,7 +124,8 @@ fn places_cleaned(
     }
 }
 
-/// The places of the free latches that are left of a circuit before the first frame, where there are so many.
+/// Returns the places of the free latches that are left of a circuit before the first frame, if
+/// `free` is their number.
 fn places_before<R: Threads + Sync>(
     rt: &R,
     alloc: Global,
@@ -139,8 +142,9 @@ fn places_before<R: Threads + Sync>(
     }
 }
 
-/// The places of a retimed circuit's free latches among those of the circuit that it was made of: they keep their order, so these are
-/// all where there are as many, and else those that are left before the first frame, where these are as many.
+/// Returns the places of a retimed circuit's free latches among those of the circuit that it was
+/// made of. They keep their order. So these are all if both circuits have equal numbers of free
+/// latches. Otherwise they are those that are left before the first frame, if they are as many.
 fn kept_places<R: Threads + Sync>(
     rt: &R,
     alloc: Global,
@@ -160,7 +164,7 @@ fn kept_places<R: Threads + Sync>(
     places_before(rt, alloc, circuit, free, merge)
 }
 
-/// Whether the circuits have as many properties and inputs.
+/// Returns true if the circuits have equal numbers of properties and inputs.
 fn have_same_widths(circuit: &Circuit, retimed: &Circuit) -> bool
     ensures { result ≡ wanted.have_same_widths circuit.now retimed.now }
 {
@@ -173,7 +177,7 @@ fn have_same_widths(circuit: &Circuit, retimed: &Circuit) -> bool
         && retimed.props().constraints.len() == constraints
 }
 
-/// The verdict on a witness, where these free latches were kept.
+/// Judges a witness, with these free latches kept.
 fn judged_with<'a>(
     alloc: Global,
     circuit: &Circuit,
@@ -221,7 +225,7 @@ fn judged<'a, R: Threads + Sync>(
     }
 }
 
-/// What becomes of the witness of a case.
+/// Judges the witness of a case.
 fn verdict_of<'a, R: Threads + Sync>(
     rt: &R,
     alloc: Global,
@@ -301,7 +305,8 @@ fn print_verdict<'a, O: CountedWrite>(
     }
 }
 
-/// Reads a circuit, the one that it was retimed to, and a witness for that one, in this order, and prints the witness for the first.
+/// Reads a circuit, the one that it was retimed to, and a witness for that one, in this order.
+/// Prints the witness for the first.
 pub fn print_witness_back<'a, R: Files + Threads + Sync, I: CountedRead, O: CountedWrite>(
     rt: &R,
     alloc: Global,

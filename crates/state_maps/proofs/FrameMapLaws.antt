@@ -87,17 +87,17 @@ module _ (g : Graph) (held : List ℕ) (s : State) where
         | by_earlier i less first duplicate known apart e ↦ ap (value_within g x s) e ∙ one.latch i duplicate.other duplicate.there ∙ sym (two.latch i duplicate.other duplicate.there) ∙ sym (ap (value_within g (λ i. false) s) e)
       ]
 
-  -- where the test of all latches passes, what stands for each latch is what the latch holds
+  -- if the test of all latches passes, what stands for each latch is what the latch holds
   pub test-holds : IsGraph g → substitute_right g held s 0 g.latches ≡ true → SubstitutesHold g held s
   test-holds valid e x j latch there =
       let place : 0 + j ≡ j = omega arith in
       substitute-steady valid x j latch there ∙ subst (λ (k : ℕ). substitute k latch ≡ s k) place (from-test 0 g.latches e j latch there)
 
-  -- where what stands for each latch is what the latch holds, the test of all latches passes
+  -- if what stands for each latch is what the latch holds, the test of all latches passes
   pub holds-test : SubstitutesHold g held s → substitute_right g held s 0 g.latches ≡ true
   holds-test holds = to-test 0 g.latches (λ k latch there. let place : k ≡ 0 + k = omega arith in subst (λ (j : ℕ). substitute j latch ≡ s j) place (holds (λ i. false) k latch there))
 
--- a map rests on any test that says the same
+-- a map depends on any test that is equivalent
 pub restated : (c d : Netlist) (kept : List ℕ) (holds other : State → Type 0) (to : State → State) → ((s : State) → holds s → other s) → ((s : State) → other s → holds s)
     → IsStateMap c d kept holds to → IsStateMap c d kept other to
 restated c d kept holds other to there back p = record {
@@ -134,7 +134,7 @@ cleans-has d _ _ _ (after_pass held c e first second still_held pass other rest)
     let streams : SameStreams e d second = cleans-streams d still_held e second rest whole in
     compose-has c e d first second left.graph streams.places (pass-has held c e first still_held valid pass) (cleans-has d still_held e second rest whole)
 
--- where all free latches stay, those that are left are the same
+-- if all free latches stay, those that are left are equal
 composed-same : (n : ℕ) (left : List ℕ) → All (λ place. place < n) left → composed (range_with_len 0 n) left ≡ left
 composed-same n left below =
     map-same (λ place. place < n) (λ place. get_or (range_with_len 0 n) place 0) (λ place. place) (λ place h. get_or-range_with_len 0 n place 0 h ∙ zero-add place) left below ∙ map-own left

@@ -63,7 +63,7 @@ rising-put : (b : Bool) (x : ℕ) (xs : List ℕ) → (b ≡ true → All (λ y.
 rising-put true x xs first rest = rising-cons x xs (first refl) rest
 rising-put false x xs first rest = rest
 
--- where the outputs of free latches rise, so do all outputs for them
+-- if the outputs of free latches rise, so do all outputs for them
 pub rising-free : (latches : List Latch) (lits : List ℕ) → length lits ≡ length latches
     → ((i j : ℕ) → i < j → is_free_latch (slice_get latches i) ≡ true → is_free_latch (slice_get latches j) ≡ true → get_or lits i 0 < get_or lits j 0) → IsStrictlyIncreasing (free_outputs latches lits)
 rising-free [] lits long each = λ k less. absurd (omega (arith, less))

@@ -28,7 +28,7 @@ use Rattle.state_maps.specs.MovedStates.{held_value, moved_state}
 use Rattle.state_maps.specs.Laws.{InvariantsComeBack, MapsCompose, MapsGiveStreams, MovingMaps}
 use Rattle.state_maps.proofs.MoveStepLaws.{moved_literal-value, next_latched-value}
 
--- properties that are mapped have the values that they had, where each literal does
+-- properties that are mapped have the values that they had, if each literal does
 module _ (f : ℕ → ℕ) (P : ℕ → Type 0) (after before : ℕ → Bool) (same : (lit : ℕ) → P lit → after (f lit) ≡ before lit) where
   mapped-list : (lits : List ℕ) → All P lits → map after (map f lits) ≡ map before lits
   mapped-list lits all = map-map after f lits ∙ map-same P (λ lit. after (f lit)) before same lits all
@@ -37,7 +37,7 @@ module _ (f : ℕ → ℕ) (P : ℕ → Type 0) (after before : ℕ → Bool) (s
   mapped-lists lists all =
       map-map (map after) (map f) lists ∙ map-same (λ lits. All P lits) (λ (lits : List ℕ). map after (map f lits)) (map before) mapped-list lists all
 
--- properties whose literals have their values under a new number read the same
+-- properties whose literals have their values under a new number read alike
 pub mapped-reads : (f : ℕ → ℕ) (P : ℕ → Type 0) (c d : Netlist) (x : Digits) (s t : State) → d.props ≡ mapped_props f c.props → OfProps P c.props
     → ((lit : ℕ) → P lit → value_within d.aig x t (f lit) ≡ value_within c.aig x s lit) → SameReads c d x s t
 unfolding mapped_props
@@ -129,7 +129,7 @@ opening-same g valid f h same = funext _ _ at
             ∙ (value_laws g valid x h).latch_at_start j latch e
             ∙ sym (ap (opening_at g h j) e)
 
--- the same reads, one after another
+-- reading alike, one after another
 pub reads-transitive : (c d e : Netlist) (x : Digits) (s t u : State) → SameReads c d x s t → SameReads d e x t u → SameReads c e x s u
 reads-transitive c d e x s t u p q = record {
   outputs = q.outputs ∙ p.outputs;
@@ -176,7 +176,7 @@ literals-read p a =
     let e4 = map-append a (p.outputs ++ p.bad ++ p.constraints ++ flat) p.fairness in
     cc
 
--- all properties have the same values where those of each kind have
+-- all properties have equal values if those of each kind have
 pub all-read : (c d : Netlist) (x : Digits) (s t : State) → SameReads c d x s t
     → map (value_within d.aig x t) (property_literals d.props) ≡ map (value_within c.aig x s) (property_literals c.props)
 all-read c d x s t same =
@@ -205,6 +205,6 @@ module _ (c d : Netlist) (kept : List ℕ) (holds : State → Type 0) (to : Stat
       ap (λ (s : State). map (value_within d.aig (x t) s) (property_literals d.props)) (sym now.1)
       ∙ all-read c d (x t) (latch_value c.aig x f t) (to (latch_value c.aig x f t)) (p.reads (x t) (latch_value c.aig x f t) now.0)
 
--- the properties have the same values at each step
+-- the properties have equal values at each step
 pub maps-give-streams : (c d : Netlist) (kept : List ℕ) (holds : State → Type 0) (to : State → State) → MapsGiveStreams c d kept holds to
 maps-give-streams c d kept holds to p x f t = same-values c d kept holds to p x f t

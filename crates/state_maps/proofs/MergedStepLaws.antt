@@ -1,4 +1,5 @@
--- A step of a circuit is a step of the circuit that its latches are merged to, where each latch holds what it reads as.
+-- A step of a circuit is a step of the circuit that its latches are merged to. Each latch has to
+-- hold the value of its reading.
 use Rattle.std.proofs.Common.{zero-add, ℕ, ◌+◌, ◌*◌, ◌<◌, ◌≤◌, ◌≡◌, suc, zero, length, Bool, ◌&&◌, Option, Some, None, slice_get, List, refl, arith, ap, sym, ◌∙◌, subst}
 use Rattle.std.specs.Bool.{IsTrue}
 use Rattle.std.specs.List.{range_with_len}
@@ -106,7 +107,7 @@ module _ (g : Graph) (held reads : List ℕ) (valid : IsGraph g) (kept : IsInduc
         signed-same (replaced (substitutes_by g reads) lit) (variable-value (suc (variable (replaced (substitutes_by g reads) lit))) (variable (replaced (substitutes_by g reads) lit)) (omega arith) (omega arith))
         ∙ substitute-value lit within
 
-    -- so a step is the same
+    -- so it is one step
     merged-step : after_step (replaced_graph (substitutes_by g reads) g) x s ≡ after_step g x s
     unfolding replaced_graph
     merged-step = funext _ _ at

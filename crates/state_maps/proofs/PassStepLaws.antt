@@ -1,4 +1,5 @@
--- A step of a circuit is a step of what a pass leaves of it, where what stands for each latch is what it holds.
+-- A step of a circuit is a step of what a pass leaves of it, if the substitute of each latch has
+-- its value.
 use Rattle.std.proofs.Common.{ℕ, ◌+◌, ◌-◌, ◌*◌, ◌<◌, ◌≤◌, ◌≡◌, inl, inr, suc, zero, length, Bool, true, false, not, ◌&&◌, nat_lt, Option, Some, None, slice_get, List, refl, arith, ap, sym, ◌∙◌, subst}
 use Rattle.std.proofs.lemmas.Bool.{cases_Bool, cases_lt, cond-true, cond-false, lt-ltb, le-ltb}
 use Rattle.std.proofs.lemmas.Option.{none-some, slice_get_within}
@@ -48,7 +49,7 @@ module _ (g : Graph) (held : List ℕ) (valid : IsGraph g) where
       latch_substitute-value g valid held (λ t. x) f 0 j latch there
       ∙ (within_laws g valid x (opening_state g f)).latch j latch there
 
-  -- and a step later where it was so before
+  -- and a step later if it was so before
   pub substitutes-keep : (x : Digits) (s : State) → SubstitutesHold g held s → SubstitutesHold g held (after_step g x s)
   substitutes-keep x s holds y j latch there =
       let now : WithinLaws g x s (value_within g x s) = within_laws g valid x s in
@@ -146,13 +147,14 @@ module _ (g : Graph) (held : List ℕ) (valid : IsGraph g) (x : Digits) (s : Sta
             ∙ sym (laws.gate k gate there) ∙ ap vals (sym place))
       ]
 
-  -- what stands for a literal has in the merged circuit the value that the literal has in the circuit
+  -- what stands for a literal has in the merged circuit the value that the literal has in the
+  -- circuit
   pub merged-value : (lit : ℕ) → variable lit < variables_end g → after (replaced (substitutes_of g held) lit) ≡ vals lit
   merged-value lit within =
       signed-same (replaced (substitutes_of g held) lit) (variable-value (suc (variable (replaced (substitutes_of g held) lit))) (variable (replaced (substitutes_of g held) lit)) (omega arith)
       (omega (arith, replaced-within g held valid lit within))) ∙ substitute-value lit within
 
-  -- so a step is the same
+  -- so it is one step
   pub merged-step : after_step (replaced_graph (substitutes_of g held) g) x s ≡ after_step g x s
   unfolding replaced_graph
   merged-step = funext _ _ at
@@ -210,7 +212,8 @@ module _ (c : Netlist) (held : List ℕ) (r : ℕ → Bool) (valid : IsGraph c.a
   abbrev small : Graph
   small = trimmed_graph c.aig r
 
-  -- a latch that remains has, renumbered, its rank among those that remain as its place in the trimmed circuit
+  -- a latch that remains has, renumbered, its rank among those that remain as its place in the
+  -- trimmed circuit
   pub small-latch : (j : ℕ) (latch : Latch) → slice_get c.aig.latches j ≡ Some latch → r (first_latch c.aig + j) ≡ true
       → slice_get small.latches (count_below (remains c.aig r) j) ≡ Some (renumbered_latch c.aig r latch)
   small-latch j latch there reached = latch_in c.aig r j (count_below (remains c.aig r) j) latch there reached (sym (new-rank c.aig r j))
@@ -292,11 +295,12 @@ module _ (c : Netlist) (held : List ℕ) (r : ℕ → Bool) (valid : IsGraph c.a
           ∙ sym (before-laws.gate k gate there) ∙ ap (λ (w : ℕ). before (2 * w)) (sym e))
     ]
 
-    -- a literal that stays has the same value in the trimmed circuit, under its new number
+    -- a literal that stays keeps its value in the trimmed circuit, under its new number
     pub trimmed-value : (lit : ℕ) → variable lit < variables_end c.aig → stays c.aig r (variable lit) ≡ true → trimmed (renumbered c.aig r lit) ≡ before lit
     trimmed-value lit within reached = literal-same lit (reached-value (suc (variable lit)) (variable lit) (omega arith) within reached)
 
-    -- what the latches that remain hold a step later is what the trimmed circuit's latches hold a step later
+    -- what the latches that remain hold a step later is what the trimmed circuit's latches hold a
+    -- step later
     pub trimmed-step : trimmed_state c.aig r (after_step c.aig x s) ≡ after_step small x (trimmed_state c.aig r s)
     trimmed-step = funext _ _ at
       where
@@ -314,7 +318,8 @@ module _ (c : Netlist) (held : List ℕ) (r : ℕ → Bool) (valid : IsGraph c.a
                 ∙ sym (trimmed-value latch.next (valid.latches j latch there.1) (next-reached c held r valid holds j latch there.1 ranks.passes))
                 ∙ sym (ap (next_value trimmed) (ap (slice_get small.latches) (sym ranks.rank) ∙ small-latch j latch there.1 ranks.passes))
 
-  -- what the latches that remain hold at step 0 is the first state of the trimmed circuit for the choice of the kept free latches
+  -- what the latches that remain hold at step 0 is the first state of the trimmed circuit for the
+  -- choice of the kept free latches
   pub trimmed-first : (f : Choice) → trimmed_state c.aig r (opening_state c.aig f) ≡ opening_state small (chosen (kept_free c.aig r) f)
   trimmed-first f = funext _ _ at
     where
@@ -335,7 +340,7 @@ module _ (c : Netlist) (held : List ℕ) (r : ℕ → Bool) (valid : IsGraph c.a
               ∙ opening-same latch.reset latch.next (f (free_before c.aig j)) (chosen (kept_free c.aig r) f (free_before small k)) same
               ∙ sym (ap (opening_at small (chosen (kept_free c.aig r) f) k) (ap (slice_get small.latches) (sym ranks.rank) ∙ small-latch j latch there.1 ranks.passes))
 
--- a pass maps states, where what stands for each latch is what it holds
+-- a pass maps states, if the substitute of each latch has its value
 pub cleaning-maps : (held : List ℕ) (c d : Netlist) (kept still_held : List ℕ) → CleaningMaps held c d kept still_held
 cleaning-maps held c d kept still_held valid netlist pass =
     let m : Netlist = merged_of held c in

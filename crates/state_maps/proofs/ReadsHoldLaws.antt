@@ -47,7 +47,7 @@ module _ (g : Graph) (valid : IsGraph g) (x : Digits) (s : State) where
       ∙ ap (flipped latch.reset) (from_reset-value first.reset (own_literal g i) ∙ ap (flipped first.reset) (laws.latch i first there))
 
 module _ (g : Graph) (held reads : List ℕ) (valid : IsGraph g) (kept : IsInductive g held reads) where
-  -- where each latch holds what it reads as, what merging makes of a literal has its value
+  -- if each latch holds what it reads as, what merging makes of a literal has its value
   module _ (x : Digits) (s : State) (holds : ReadsHold g reads s) where
     leaf-value : (v : ℕ) → v < first_gate g → vals g valid x s (get_or (leaves g reads) v 0) ≡ vals g valid x s (2 * v)
     leaf-value v h = elim (cases_lt v (first_latch g)) [
@@ -166,12 +166,12 @@ module _ (g : Graph) (held reads : List ℕ) (valid : IsGraph g) (kept : IsInduc
         by lit (as_first i first less first_there may may_first own e) =
             first-value g valid x s i latch first lit first_there e ∙ sym (first-value g valid (λ i. false) s i latch first lit first_there e)
 
-    -- where the test says so, each latch holds what it reads as
+    -- if the test says so, each latch holds what it reads as
     pub test-holds : reads_right g reads s 0 g.latches ≡ true → ReadsHold g reads s
     test-holds e x j latch there =
         let place : 0 + j ≡ j = omega arith in
         steady x j latch there ∙ subst (λ (k : ℕ). holds_at k ≡ s k) place (from-test 0 g.latches e j latch there)
 
-    -- where each latch holds what it reads as, the test says so
+    -- if each latch holds what it reads as, the test says so
     pub holds-test : ReadsHold g reads s → reads_right g reads s 0 g.latches ≡ true
     holds-test holds = to-test 0 g.latches (λ k latch there. let place : k ≡ 0 + k = omega arith in subst (λ (j : ℕ). holds_at j ≡ s j) place (holds (λ i. false) k latch there))

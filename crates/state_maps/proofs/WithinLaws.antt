@@ -17,7 +17,7 @@ pub record WithinLaws (g : Graph) (x : Digits) (s : State) (values : ℕ → Boo
   pub input : (i : ℕ) → i < g.inputs → values (2 * (1 + i)) ≡ x i
   -- a latch's literal has what the latch holds in the state
   pub latch : (j : ℕ) (latch : Latch) → slice_get g.latches j ≡ Some latch → values (2 * (first_latch g + j)) ≡ s j
-  -- a gate's literal is 1 where both fan-ins are
+  -- a gate's literal is 1 if both fan-ins are
   pub gate : (k : ℕ) (gate : Gate) → slice_get g.gates k ≡ Some gate → values (2 * (first_gate g + k)) ≡ (values gate.rhs0 && values gate.rhs1)
   -- a negated literal has the other value
   pub negation : (v : ℕ) → values (2 * v + 1) ≡ not (values (2 * v))

@@ -7,7 +7,8 @@ use Rattle.aig_graph.specs.Value.{value_within}
 use Rattle.cleaned_circuits.specs.Latches.{latch_substitute}
 use Rattle.state_maps.specs.States.{State, Digits}
 
--- what stands for a latch is what the latch holds: its constant where it is constant, the first latch that it duplicates where there is one
+-- the substitute of a latch has its value: its constant if it is constant, the first latch that it
+-- duplicates if there is one
 abbrev pub SubstitutesHold : Graph → List ℕ → State → Type 0
 SubstitutesHold g held s = (x : Digits) (j : ℕ) (latch : Latch) → slice_get g.latches j ≡ Some latch → value_within g x s (latch_substitute g held j (Some latch)) ≡ s j
 

@@ -11,7 +11,7 @@ use Rattle.state_maps.specs.States.{Digits, State}
 abbrev pub ReadsHold : Graph → List ℕ → State → Type 0
 ReadsHold g reads s = (x : Digits) (j : ℕ) (latch : Latch) → slice_get g.latches j ≡ Some latch → value_within g x s (read reads j) ≡ s j
 
--- the same as a test, of these latches, numbered from j on
+-- a test of that, of these latches, numbered from j on
 unfoldable pub reads_right : Graph → List ℕ → State → ℕ → List Latch → Bool
 reads_right g reads s j [] = true
 reads_right g reads s j (latch ∷ latches) = agrees (value_within g (λ i. false) s (read reads j)) (s j) && reads_right g reads s (suc j) latches

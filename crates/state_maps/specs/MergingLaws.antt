@@ -12,7 +12,7 @@ use Rattle.state_maps.specs.States.{IsStateMap}
 use Rattle.state_maps.specs.RetimedStates.{HasStateMap}
 use Rattle.state_maps.specs.MergedStates.{ReadsHold}
 
--- merging maps each state to itself, where each latch holds what it reads as
+-- merging maps each state to itself, if each latch holds the value of its reading
 abbrev pub MergingMaps : List ℕ → Netlist → Netlist → Type 0
 MergingMaps held c d = IsGraph c.aig → IsNetlist c → (merged : IsMerged held c d) → IsStateMap c d (all_free c.aig) (ReadsHold c.aig merged.reads) (λ s. s)
 

@@ -7,7 +7,7 @@ use Rattle.aig_graph.specs.Move.{Move}
 use Rattle.rebuild.specs.Moved.{is_latched}
 use Rattle.state_maps.specs.States.{State}
 
--- what the variable is in a state, where it rests on latches alone
+-- what the variable is in a state, if it depends on latches alone
 abbrev pub held_value : Graph → State → Option ℕ → Bool
 held_value g s None = false
 held_value g s (Some v) = value_within g (λ i. false) s (2 * v)

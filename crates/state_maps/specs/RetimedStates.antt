@@ -19,7 +19,8 @@ unfoldable pub substitute_right : Graph → List ℕ → State → ℕ → List 
 substitute_right g held s j [] = true
 substitute_right g held s j (latch ∷ latches) = agrees (value_within g (λ i. false) s (latch_substitute g held j (Some latch))) (s j) && substitute_right g held s (suc j) latches
 
--- there is a map of c's states to those of d, where something holds that is so at the start and from step to step
+-- there is a map of c's states to those of d, under a condition that holds at the start and from
+-- step to step
 abbrev pub HasStateMap : Netlist → Netlist → List ℕ → Type 0
 HasStateMap c d kept = (holds : State → Bool) × (to : State → State) × IsStateMap c d kept (λ s. IsTrue (holds s)) to
 

@@ -5,8 +5,9 @@ ghost use Rattle.aig_graph.specs.declared.choice.Choice.{Choice};
 ghost use Rattle.retimed_circuits.specs.declared.report.Retimed.{Retimed};
 ghost use Rattle.state_maps.specs.MergingLaws.{HasMergingMap, MergedRetimingMaps, MergingMaps};
 
-/// Merging maps each state of a circuit to itself, where each latch holds what it reads as. So a merged circuit has a map of the circuit's
-/// states, where something holds that can be tested in each state; and so has what a circuit is retimed to after its latches were merged.
+/// Merging maps each state of a circuit to itself, if each latch holds the value of its reading. So
+/// a merged circuit has a map of the circuit's states, under a condition that can be tested in each
+/// state. So has what a circuit is retimed to after its latches were merged.
 pub fn merging_map_laws()
     ensures merging { (held : List ℕ) (c d : Netlist) → MergingMaps held c d }
     ensures has_map { (held : List ℕ) (c d : Netlist) → HasMergingMap held c d }

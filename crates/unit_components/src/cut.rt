@@ -15,8 +15,8 @@ pub(crate) struct Cut<'a> {
 }
 
 impl<'a> Cut<'a> {
-    /// Returns the cut in which a part is large if it has over half of the share of one of
-    /// `workers` workers, and over `sizes.large` places. Fewer aren't worth pulses of a crew.
+    /// Returns the cut for these workers and sizes. A part is large if it has over half of a
+    /// worker's share, and over `sizes.large` places. Fewer aren't worth pulses of a crew.
     pub fn of(region: Region<'a>, parts: &'a Parts, workers: u32, sizes: Sizes) -> Cut<'a> {
         let share = parts.all_places() / workers.max(1) as usize;
         Cut {

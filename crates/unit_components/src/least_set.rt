@@ -16,7 +16,7 @@ use unit_flows::{Frame, UnitFlow, shown_chosen};
 use unit_pulses::chosen_least_brought;
 use unit_starts::Region;
 
-/// Returns true if the parts are worth the work of cutting: if one of them has over nine tenths of
+/// Returns true if the parts are worth the work of cutting. If one of them has over nine tenths of
 /// the places, the others hardly help.
 fn are_worth(parts: &Parts) -> bool {
     parts.largest() / 9 < parts.all_places() / 10
@@ -131,17 +131,17 @@ pub fn chosen_by_sizes<R: Threads + Sync, G: PhaseGate>(
     }
 }
 
-/// Returns the chosen least set of a circuit, whose held latches stay where they are, if a flow of
-/// units shows it. That flow is a start along `flow`, or what pulses make of such a start. `flow`
-/// is what the last flow did at the circuit's gates, or nothing; afterwards it is the flow that was
-/// found. Flows are hints: they decide if there is a set, and never which.
+/// Returns the chosen least set of a circuit, whose held latches stay, if a flow of units shows it.
+/// That flow is a start along `flow`, or what pulses make of such a start. `flow` is what the last
+/// flow did at the circuit's gates, or nothing; afterwards it is the flow that was found. Flows are
+/// hints: they decide if there is a set, and never which.
 ///
-/// A circuit of 2^19 or more latches and gates is cut if no flow of it is known and the crew has
-/// two or more workers. Its network's components, which share no arc, are gathered into parts of
-/// 2^13 places or more; each worker owns some and finds the flow there. Pulses of the whole crew
-/// work on a part with over half of a worker's share and over 2^16 places. They also work on a
-/// smaller circuit, and on one of which one part has over nine tenths. Along a last flow few units
-/// are left to bring, which costs less than to cut.
+/// A circuit of at least 2^19 latches and gates is cut if no flow of it is known and the crew has
+/// several workers. Its network's components, which share no arc, are gathered into parts of 2^13
+/// places or more. Each worker owns some and finds the flow there. Pulses of the whole crew work on
+/// a part with over half of a worker's share and over 2^16 places. They also work on a smaller
+/// circuit, and on one of which one part has over nine tenths. Along a last flow few units are left
+/// to bring, which costs less than to cut.
 ///
 /// # Errors
 ///

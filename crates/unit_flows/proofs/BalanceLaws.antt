@@ -152,7 +152,7 @@ module _ (c : Netlist) (held r : List ℕ) (flows : List GateFlow) (went came : 
   abbrev after_comes : ℕ → ℕ
   after_comes p = unit (comes_after c.aig flows p) * weight_after (first_latch c.aig + p)
 
-  -- where so many fewer go on than come
+  -- if n fewer go on than come
   after-less : (d : ℕ) → sum_below (latches_and_gates c.aig) after_goes + d ≤ sum_below (latches_and_gates c.aig) after_comes
       → sum_below (length c.aig.gates) (λ k. ups weight_after (nth_gate c.aig k) (nth_flow flows k)) + arrivals c held flows went + d
       ≤ sum_below (length c.aig.latches) (λ j. unit (borders c held r (first_latch c.aig + j)))
@@ -243,7 +243,7 @@ module _ (c : Netlist) (held r : List ℕ) (flows : List GateFlow) (went came : 
         (λ k. weight_before (first_gate c.aig + k) * (unit (nth_flow flows k).through + (nth_flow flows k).first_down + (nth_flow flows k).second_down)),
   )
 
-  -- where so many fewer go on from after variables than come there, and so many from before gates
+  -- if n fewer go on from after variables than come there, and m fewer from before gates
   total-less : (d e : ℕ) → sum_below (latches_and_gates c.aig) after_goes + d ≤ sum_below (latches_and_gates c.aig) after_comes → sum_below (length c.aig.gates) before_goes + e ≤ sum_below (length c.aig.gates) before_comes
       → arrivals c held flows went + sum_below (length c.aig.gates) goes_at + (d + e) ≤ border_size (move_of c held r) + sum_below (length c.aig.gates) comes_at
   total-less d e after before = omega (arith, after-less d after, before-less e before, border-sum, comes-sum, goes-sum)
@@ -266,7 +266,7 @@ module _ (c : Netlist) (held r : List ℕ) (flows : List GateFlow) (went came : 
   pub arrivals-le : arrivals c held flows went ≤ border_size (move_of c held r)
   arrivals-le = omega (arith, total, sum_below-le (length c.aig.gates) comes_at goes_at each-le)
 
-  -- where one is as small as that, as much goes on from far nodes at each gate as comes there
+  -- if one is as small as that, as much goes on from far nodes at each gate as comes there
   pub full-at : border_size (move_of c held r) ≤ arrivals c held flows went → (k : ℕ) → k < length c.aig.gates → goes_at k ≤ comes_at k
   full-at least k h = omega (arith, least, total, rise-le (length c.aig.gates) k comes_at goes_at each-le h)
 

@@ -49,7 +49,7 @@ sum-more f n t u so here =
     let next : n + 1 ≡ suc n = omega arith in
     omega (arith, so, here, ap (λ (i : ℕ). sum_below i f) next)
 
--- where one thing implies another and the one holds, so does the other
+-- if one thing implies another and the one holds, so does the other
 pub or-not : (i a : Bool) → (not i || a) ≡ true → i ≡ true → a ≡ true
 or-not true a e yes' = e
 or-not false a e yes' = absurd (cc)
@@ -66,7 +66,8 @@ cut-same first first' begin begin' var var' gate gate' xs ys a b d e cut =
 pub gate-read : (g : Graph) (gates : List Gate) (k : ℕ) (r : Gate) → gates ≡ g.gates → k < length gates → r ≡ get_or gates k r → r ≡ nth_gate g k
 gate-read g gates k r same h read = read ∙ get_or_default gates k r _ h ∙ ap (λ (xs : List Gate). get_or xs k (record { rhs0 = 0; rhs1 = 0 })) same
 
--- the gate that is read at place k of a graph's gates stands at the k-th variable from the first gate on
+-- the gate that is read at place k of a graph's gates stands at the k-th variable from the first
+-- gate on
 pub gate-there : (g : Graph) (gates : List Gate) (k var : ℕ) (r : Gate) → IsGraph g → gates ≡ g.gates → k < length gates → r ≡ get_or gates k r → var ≡ first_gate g + k → IsGateAt var r
 gate-there g gates k var r valid same h read at =
     subst (λ (v : ℕ). IsGateAt v r) (sym at) (valid.gates k r (slice_get_read g.gates (length gates) k r (ap length same) h (read ∙ ap (λ (xs : List Gate). get_or xs k r) same)))

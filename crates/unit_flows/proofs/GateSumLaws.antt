@@ -32,8 +32,9 @@ le-mul zero b h = omega arith
 le-mul (suc zero) b h = omega arith
 le-mul (suc (suc a)) b h = absurd (omega (arith, h))
 
--- The weights of the nodes before and after a gate and after and before its fan-ins, 1 on the far side of a cut and else 0, and 1 where the
--- gate is in the border: where the node before the gate lies on the far side ..
+-- The weights of the nodes before and after a gate, and of those of its fan-ins. A weight is 1 on
+-- the far side of a cut, else 0. `border` is 1 if the gate is in the border. Here the node before
+-- the gate is far.
 pub record IsFar (before after border after1 after2 before1 before2 : ℕ) : Type 0 where
   -- the node before the gate is far
   pub before_is : before ≡ 1
@@ -50,13 +51,13 @@ pub record IsFar (before after border after1 after2 before1 before2 : ℕ) : Typ
   -- the node before the second fan-in weighs 1 at most
   pub before2_le : before2 ≤ 1
 
--- .. and where it lies on the near side
+-- .. and if it lies on the near side
 pub record IsNear (before after border after1 after2 before1 before2 : ℕ) : Type 0 where
   -- the node before the gate is near
   pub before_is : before ≡ 0
   -- the node after the gate weighs 1 at most
   pub after_le : after ≤ 1
-  -- the gate is in the border just where the node after the gate is far
+  -- the gate is in the border just if the node after the gate is far
   pub border_is : border ≡ after
   -- the node before the first fan-in is near
   pub before1_is : before1 ≡ 0
@@ -79,27 +80,32 @@ module _ (through up1 up2 down1 down2 : ℕ) (small : through ≤ 1) (before aft
   comes-le (inl far) = rw (far.before_is, far.after_is, far.border_is, far.after1_is, far.after2_is) (omega (arith, mul-le down1 before1 far.before1_le, mul-le down2 before2 far.before2_le))
   comes-le (inr near) = rw (near.before_is, near.border_is, near.before1_is, near.before2_is) (omega (arith, le-mul through after small))
 
-  -- where as much goes on as comes, no unit goes to the near side, and each way to the far side is full
+  -- if as much goes on as comes, no unit goes to the near side, and each way to the far side is
+  -- full
   pub full-through : IsSplit before after border after1 after2 before1 before2 → goes ≤ comes → after ≡ 1 → through ≡ 0 → before ≡ 1
   full-through (inl far) full a t = far.before_is
   full-through (inr near) full a t = absurd (let f = rw (near.before_is, near.border_is, near.before1_is, near.before2_is, a, t) at full in omega (arith, f))
 
-  -- where no less comes than goes on, a unit from a far node after the first fan-in comes to a far node before the gate
+  -- if no less comes than goes on, a unit from a far node after the first fan-in comes to a far
+  -- node before the gate
   pub full-first_home : IsSplit before after border after1 after2 before1 before2 → goes ≤ comes → after1 ≡ 1 → up1 ≡ 1 → before ≡ 1
   full-first_home (inl far) full a u = far.before_is
   full-first_home (inr near) full a u = absurd (let f = rw (near.before_is, near.border_is, near.before1_is, near.before2_is, a, u) at full in omega (arith, f, le-mul through after small))
 
-  -- where no less comes than goes on, a unit from a far node after the second fan-in comes to a far node before the gate
+  -- if no less comes than goes on, a unit from a far node after the second fan-in comes to a far
+  -- node before the gate
   pub full-second_home : IsSplit before after border after1 after2 before1 before2 → goes ≤ comes → after2 ≡ 1 → up2 ≡ 1 → before ≡ 1
   full-second_home (inl far) full a u = far.before_is
   full-second_home (inr near) full a u = absurd (let f = rw (near.before_is, near.border_is, near.before1_is, near.before2_is, a, u) at full in omega (arith, f, le-mul through after small))
 
-  -- where no less comes than goes on, no unit goes from a far node before the gate to a near one before the first fan-in
+  -- if no less comes than goes on, no unit goes from a far node before the gate to a near one
+  -- before the first fan-in
   pub full-first_back : IsSplit before after border after1 after2 before1 before2 → goes ≤ comes → before ≡ 1 → 0 < down1 → before1 ≡ 0 → ⊥
   full-first_back (inl far) full b d z = let f = rw (far.before_is, far.after_is, far.border_is, far.after1_is, far.after2_is, z) at full in omega (arith, f, d, mul-le down2 before2 far.before2_le)
   full-first_back (inr near) full b d z = omega (arith, b, near.before_is)
 
-  -- where no less comes than goes on, no unit goes from a far node before the gate to a near one before the second fan-in
+  -- if no less comes than goes on, no unit goes from a far node before the gate to a near one
+  -- before the second fan-in
   pub full-second_back : IsSplit before after border after1 after2 before1 before2 → goes ≤ comes → before ≡ 1 → 0 < down2 → before2 ≡ 0 → ⊥
   full-second_back (inl far) full b d z = let f = rw (far.before_is, far.after_is, far.border_is, far.after1_is, far.after2_is, z) at full in omega (arith, f, d, mul-le down1 before1 far.before1_le)
   full-second_back (inr near) full b d z = omega (arith, b, near.before_is)

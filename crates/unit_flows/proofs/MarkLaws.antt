@@ -74,13 +74,14 @@ pub reach-same : (c : Netlist) (held : List ℕ) (flows : List GateFlow) (xs xs'
 reach-same c held flows xs xs' ys ys' e f reach =
     subst (λ (zs : List Bool). ReachSink c held flows zs ys') (sym e) (subst (λ (zs : List Bool). ReachSink c held flows xs zs) (sym f) reach)
 
--- the same, by numbers that are equal
+-- that, by numbers that are equal
 pub within-before_at : (first first' var var' : ℕ) (xs new ys : List Bool) (wished : Bool) (b a : ℕ → Bool) → first ≡ first' → var ≡ var' → AreWithin first' xs ys b a → Marks first xs new (λ v. wished && (var == v))
     → (wished ≡ true → b var' ≡ true) → AreWithin first' new ys b a
 within-before_at first first' var var' xs new ys wished b a e f within marks h =
     within-before first' var' xs new ys wished b a within (subst (λ (n : ℕ). Marks n xs new (λ v. wished && (var' == v))) e (subst (λ (n : ℕ). Marks first xs new (λ v. wished && (n == v))) f marks)) h
 
--- marks after variables stay within a set as a node of the set is marked, whose place is given by equal numbers
+-- marks after variables stay within a set as a node of the set is marked, whose place is given by
+-- equal numbers
 pub within-after_at : (first first' var var' : ℕ) (xs new ys : List Bool) (wished : Bool) (b a : ℕ → Bool) → first ≡ first' → var ≡ var' → AreWithin first' ys xs b a → Marks first xs new (λ v. wished && (var == v))
     → (wished ≡ true → a var' ≡ true) → AreWithin first' ys new b a
 within-after_at first first' var var' xs new ys wished b a e f within marks h =
@@ -126,7 +127,7 @@ turned-more old new k so here = record {
   same = λ i high. get_or-set_other new k i (not (get_or new k false)) false (λ e. omega (arith, high, e)) ∙ so.same i (omega (arith, high));
 }
 
--- what isn't marked where marks are turned is marked
+-- what isn't marked if marks are turned is marked
 pub flipped-off : (first n : ℕ) (xs ys : List Bool) (v : ℕ) → ((k : ℕ) → k < length xs → get_or ys k false ≡ not (get_or xs k false)) → length xs ≡ n → first ≤ v → v < first + n → mark_at first ys v ≡ false → mark_at first xs v ≡ true
 unfolding mark_at
 flipped-off first n xs ys v turned long low high off =

@@ -1,4 +1,5 @@
--- A full cut, all of whose near side is reached from where units are left, shows the smallest least set.
+-- A full cut, all of whose near side is reached from units that are left, shows the smallest least
+-- set.
 use Rattle.std.proofs.Common.{◌≡◌, ℕ, ◌+◌, ◌≤◌, Bool, true, false, not, IsTrue, List, length, arith, refl, ap, sym, ◌∙◌, subst}
 use Rattle.std.proofs.lemmas.Bool.{and_parts, not-true, true≢false}
 use Rattle.aig_graph.specs.Marking.{has, mark_at}
@@ -20,7 +21,7 @@ use Rattle.unit_flows.proofs.SideLaws.{far_after, far_before, far-outside}
 use Rattle.unit_flows.proofs.BalanceLaws.{arrivals-le, left_after-near, left_before-near}
 use Rattle.unit_flows.proofs.ShownLaws.{upstream, closed, border-le}
 
--- what doesn't hold of the ends of arcs where it doesn't of their beginnings
+-- what doesn't hold of the ends of arcs if it doesn't of their beginnings
 heads-of : (b a : ℕ → Bool) (w : ℕ) (gate : _) (flow : GateFlow) → HoldsTails b a w gate flow → HoldsHeads (λ v. not (b v)) (λ v. not (a v)) w gate flow
 heads-of b a w gate flow tails = record {
   through = λ near free. other (b w) (a w) near (λ e. tails.through e free);
@@ -50,7 +51,8 @@ module _ (c : Netlist) (held r : List ℕ) (flows : List GateFlow) (went came : 
     gates = λ k h. heads-of (far_before c r) (far_after c held r) (first_gate c.aig + k) (nth_gate c.aig k) (nth_flow flows k) ((upstream c held r flows went came set tallies balanced least).gates k h);
   }
 
--- a full cut, each of whose gates off the marks is reached from where a unit is left, shows the smallest least set
+-- a full cut, each of whose gates off the marks is reached from a unit that is left, shows the
+-- smallest least set
 pub shown-smallest-law : ShownSmallestLaw
 shown-smallest-law c held flows went came marks_before marks_after s valid tallies balanced cut far rising members =
     let before : ℕ → Bool = mark_at (first_latch c.aig) marks_before in

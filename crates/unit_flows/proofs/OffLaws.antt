@@ -88,13 +88,15 @@ off-here c held xs k n passes marked long pass read =
     let at : first_latch c.aig + (n + k) ≡ first_gate c.aig + k = omega (arith, long) in
     ap₂ (λ (p m : Bool). p && not m) (sym pass) (ap (λ (v : ℕ). mark_at (first_latch c.aig) xs v) (sym at) ∙ mark-at-place (first_latch c.aig) xs (n + k) ∙ sym read)
 
--- the list of passing variables up to a place, with the variable there where that passes, is the list up to the next place
+-- the list of passing variables up to a place, with the variable there if that passes, is the list
+-- up to the next place
 pub off-pass : (p : ℕ → Bool) (first place var : ℕ) (vars new : List ℕ) → var ≡ first + place → p var ≡ true → vars ≡ places p (first + place) → new ≡ vars ++ var ∷ [] → new ≡ places p (first + (place + 1))
 off-pass p first place var vars new at passes listed pushed =
     let next : first + (place + 1) ≡ suc (first + place) = omega arith in
     pushed ∙ ap₂ (λ (xs : List ℕ) (v : ℕ). xs ++ v ∷ []) listed at ∙ sym (places-pass p (first + place) (sym (ap p at) ∙ passes)) ∙ ap (λ (n : ℕ). places p n) (sym next)
 
--- the list of passing variables up to a place is the list up to the next place where the variable there doesn't pass
+-- the list of passing variables up to a place is the list up to the next place if the variable
+-- there doesn't pass
 pub off-fail : (p : ℕ → Bool) (first place var : ℕ) (vars new : List ℕ) → var ≡ first + place → p var ≡ false → vars ≡ places p (first + place) → new ≡ vars → new ≡ places p (first + (place + 1))
 off-fail p first place var vars new at fails listed same =
     let next : first + (place + 1) ≡ suc (first + place) = omega arith in

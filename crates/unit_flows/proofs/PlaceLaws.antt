@@ -1,4 +1,5 @@
--- What the judge has seen of the first places: that each holds, how many units arrive there, and how many variables cross.
+-- What the judge has seen of the first places: that each holds, how many units arrive there, and
+-- how many variables cross.
 use Rattle.std.proofs.Common.{◌≡◌, ℕ, ◌+◌, ◌-◌, ◌<◌, ◌≤◌, ◌==◌, nat_le, nat_lt, ◌&&◌, ◌||◌, not, Bool, true, false, cond, List, length, slice_index, get_or, Some, arith, refl, ap, sym, ◌∙◌}
 use Rattle.std.proofs.lemmas.Bool.{and_parts, leb-true, lt-ltb, le-ltb, and_left}
 use Rattle.std.proofs.lemmas.Option.{slice_get_read}
@@ -27,7 +28,8 @@ place_test comes went leaves reached = nat_le went (unit comes) && (not leaves |
 abbrev pub arrives_by : Bool → ℕ → Bool → Bool
 arrives_by comes went leaves = leaves && comes && (went == 0)
 
--- Of the first n places: each holds where all tests did, and so many units arrive and so many variables cross.
+-- Of the first n places each holds if all tests did. The numbers are those of units that arrive and
+-- of variables that cross.
 pub record AreSeen (c : Netlist) (held : List ℕ) (flows : List GateFlow) (went : List ℕ) (before after : ℕ → Bool) (n arrived crossed : ℕ) (holds : Bool) : Type 0 where
   -- as many units as places at most
   pub few_arrived : arrived ≤ n
@@ -37,7 +39,7 @@ pub record AreSeen (c : Netlist) (held : List ℕ) (flows : List GateFlow) (went
   pub arrived_is : arrived ≡ sum_below n (λ p. unit (arrives c held flows went p))
   -- the variables that cross there
   pub crossed_is : crossed ≡ sum_below n (λ p. unit (crosses c held before after (first_latch c.aig + p)))
-  -- where all tests held
+  -- if all tests held
   pub each : holds ≡ true → (p : ℕ) → p < n → PlaceHolds c held flows went after p
 
 -- nothing is seen of no places
@@ -50,7 +52,8 @@ seen-none c held flows went before after = record {
   each = λ t p h. absurd (omega (arith, h));
 }
 
--- what is read at a place: whether a unit comes after the variable there, how many go on, whether it leaves and is marked, and whether it crosses
+-- What is read at a place: whether a unit comes after the variable there, and the number that go
+-- on. Also whether it leaves and is marked, and whether it crosses.
 pub record IsPlace (c : Netlist) (held : List ℕ) (flows : List GateFlow) (went : List ℕ) (before after : ℕ → Bool) (p : ℕ) (comes : Bool) (goes : ℕ) (leaves reached crossing : Bool) : Type 0 where
   -- whether a unit comes after the variable
   pub comes_is : comes ≡ comes_after c.aig flows p

@@ -52,7 +52,8 @@ module _ (c : Netlist) (held r : List ℕ) (flows : List GateFlow) (went came : 
     far-from : has r (first_gate c.aig + k) ≡ false → far_before c r (first_gate c.aig + k) ≡ true
     far-from out = far-outside c r (first_gate c.aig + k) (omega arith) ∙ ap not out
 
-    -- the far side of a closed set with no more border than arrivals holds the beginning of each residual arc at a gate that ends there
+    -- Let a closed set have no more border than arrivals. Its far side holds the beginning of each
+    -- residual arc at a gate that ends there.
     pub tails : HoldsTails (far_before c r) (far_after c held r) (first_gate c.aig + k) (nth_gate c.aig k) (nth_flow flows k)
     tails = record {
       through = λ after stays. unit-one _ (full-through (unit (nth_flow flows k).through) (unit (nth_flow flows k).first_up) (unit (nth_flow flows k).second_up) (nth_flow flows k).first_down (nth_flow flows k).second_down (unit-le _)
@@ -78,7 +79,8 @@ module _ (c : Netlist) (held r : List ℕ) (flows : List GateFlow) (went came : 
       back = λ far through. (outside-gate c held r set (first_gate c.aig + k) (omega arith) (outside far)).0;
     }
 
-  -- this far side holds the beginning of each residual arc that ends there, and the node after each observed variable
+  -- this far side holds the beginning of each residual arc that ends there, and the node after each
+  -- observed variable
   pub upstream : IsUpstream c held flows (far_before c r) (far_after c held r)
   upstream = record { sink = λ v l. is_observed-far c held r set v l; gates = tails }
 
@@ -215,7 +217,7 @@ shown-law c held flows marks_before marks_after s valid shown reach rising membe
           (has_iff_contains s v).0 (subst (λ (b : Bool). IsTrue b) (sym (members v ∙ and_from (is_passable c.aig held v) (not (mark_at (first_latch c.aig) marks_before v)) passes (ap not off))) refl);
     }
 
--- where an optional list is v just if P holds, and P gives Q of v, a list that is there has Q
+-- if an optional list is v just if P holds, and P gives Q of v, a list that is there has Q
 pub if_some : (o : Option (List ℕ)) (P : Type 0) (v : List ℕ) (Q : List ℕ → Type 0) → SomeIff o P v → (P → Q v) → IfSome o Q
 if_some None P v Q is q = tt
 if_some (Some x) P v Q is q = subst Q (sym is.1) (q is.0)

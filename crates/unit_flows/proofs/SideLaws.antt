@@ -82,7 +82,7 @@ module _ (c : Netlist) (held r : List ℕ) (set : IsClosedSet c.aig held r) wher
   unfolding far_after
   reads-far v w reads out = or_right (not (is_known (latch_at c.aig v) || has r v)) _ (or_right (is_held c.aig held v) (is_read_outside c.aig c.props (has r) v) (read-by_gate c.aig c.props (has r) v w reads out))
 
-  -- where the node before a fan-in lies there, so does the one before the gate
+  -- if the node before a fan-in lies there, so does the one before the gate
   pub fan_in-far : (v w : ℕ) (gate : Gate) → gate_at c.aig w ≡ Some gate → is_fan_in v gate ≡ true → far_before c r v ≡ true → has r w ≡ false
   unfolding far_before
   fan_in-far v w gate there is_in far = false_from_ne_true (has r w) (λ member.
@@ -108,7 +108,7 @@ module _ (c : Netlist) (held r : List ℕ) (set : IsClosedSet c.aig held r) wher
         ap (λ (b : Bool). b && (is_held c.aig held v || is_read_outside c.aig c.props (has r) v)) none,
       )
 
-  -- a member, or a known latch, is in the border where the node after it lies there
+  -- a member, or a known latch, is in the border if the node after it lies there
   pub holder-borders : (v : ℕ) → (is_known (latch_at c.aig v) || has r v) ≡ true → borders c held r v ≡ far_after c held r v
   unfolding far_after borders
   holder-borders v h =

@@ -33,7 +33,7 @@ weigh-set first xs p units weight h =
     (λ i l other. ap (λ (x : ℕ). x * weight (first + i)) (get_or-set_other xs p i (slice_index xs p + units) 0 other))
     (ap (λ (x : ℕ). x * weight (first + p)) (get_or-set_same xs p (slice_index xs p + units) 0 h) ∙ mul-split (slice_index xs p) units (weight (first + p)))
 
--- the same of a variable's entry
+-- weighed, of a variable's entry
 pub weigh-add : (first var units : ℕ) (xs ys : List ℕ) (weight : ℕ → ℕ) → first ≤ var → var - first < length xs → ys ≡ slice_set xs (var - first) (slice_index xs (var - first) + units)
     → weigh first ys weight ≡ weigh first xs weight + units * weight var
 weigh-add first var units xs ys weight low h made =

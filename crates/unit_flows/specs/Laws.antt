@@ -1,4 +1,5 @@
--- That a flow of units bounds the border of each closed set, and which set it shows to be the greatest least one.
+-- A flow of units bounds the border of each closed set, and shows a set to be the greatest least
+-- one.
 use Rattle.std.specs.Prelude.{◌≡◌, ℕ, ◌≤◌, Bool, List, length}
 use Rattle.std.specs.List.Sorted.{IsStrictlyIncreasing}
 use Rattle.aig_graph.specs.Marking.{has, mark_at}
@@ -18,13 +19,15 @@ abbrev pub BorderLaw : Type 0
 BorderLaw = (c : Netlist) (held : List ℕ) (flows : List GateFlow) (went came r : List ℕ) → IsGraph c.aig → AreTallies c.aig flows (length c.aig.gates) went came
     → IsBalanced c.aig flows went came → IsClosedSet c.aig held r → arrivals c held flows went ≤ border_size (move_of c held r)
 
--- the passable gates off the marks of a full cut, each of which reaches the sink, are the greatest least set
+-- the passable gates off the marks of a full cut, each of which reaches the sink, are the greatest
+-- least set
 abbrev pub ShownLaw : Type 0
 ShownLaw = (c : Netlist) (held : List ℕ) (flows : List GateFlow) (before after : List Bool) (s : List ℕ) → IsGraph c.aig
     → HasFullCut c held flows (mark_at (first_latch c.aig) before) (mark_at (first_latch c.aig) after) → ReachSink c held flows before after
     → IsStrictlyIncreasing s → ((v : ℕ) → has s v ≡ is_off c held (mark_at (first_latch c.aig) before) v) → IsGreatestLeast c held s
 
--- the passable gates off the marks of a full cut, each of which is reached from where a unit is left, are the smallest least set
+-- The passable gates off the marks of a full cut are the smallest least set. For that each of them
+-- has to be reached from a node at which a unit is left.
 abbrev pub ShownSmallestLaw : Type 0
 ShownSmallestLaw = (c : Netlist) (held : List ℕ) (flows : List GateFlow) (went came : List ℕ) (before after : List Bool) (s : List ℕ) → IsGraph c.aig
     → AreTallies c.aig flows (length c.aig.gates) went came → IsBalanced c.aig flows went came

@@ -8,9 +8,11 @@ use Rattle.frame_net.specs.Capacity.{is_observed}
 use Rattle.unit_flows.specs.declared.gate_flow.GateFlow.{GateFlow}
 use Rattle.unit_flows.specs.Units.{nth_gate, nth_flow}
 
--- A set of nodes, by those before and those after a variable, holds with each end of a residual arc at the gate w the arc's beginning. From
--- before a gate a unit may go through it where none does, on to before a fan-in, or home to after one from which a unit came; from after a
--- fan-in on to before the gate; from before a fan-in back to before the gate where one went on; from after the gate back where one went through.
+-- Let a set have nodes before and after variables. With each end of a residual arc at the gate w it
+-- has the arc's beginning. From before a gate a unit may go through it if none does. It may also go
+-- on to before a fan-in, or back to after one from which a unit came. From after a fan-in it may go
+-- on to before the gate. From before a fan-in it may go back to before the gate if one went on.
+-- From after the gate it may go back if one went through.
 pub record HoldsTails (before after : ℕ → Bool) (w : ℕ) (gate : Gate) (flow : GateFlow) : Type 0 where
   pub through : after w ≡ true → flow.through ≡ false → before w ≡ true
   pub first_on : before (variable gate.rhs1) ≡ true → before w ≡ true
@@ -33,6 +35,7 @@ pub record AreWithin (first : ℕ) (marks_before marks_after : List Bool) (befor
   pub each_before : (v : ℕ) → mark_at first marks_before v ≡ true → before v ≡ true
   pub each_after : (v : ℕ) → mark_at first marks_after v ≡ true → after v ≡ true
 
--- all that is marked reaches the sink over residual arcs: it lies in each set that these lead back to from there
+-- all that is marked reaches the sink over residual arcs: it lies in each set that these lead back
+-- to from there
 abbrev pub ReachSink : Netlist → List ℕ → List GateFlow → List Bool → List Bool → Type 0
 ReachSink c held flows marks_before marks_after = (before after : ℕ → Bool) → IsUpstream c held flows before after → AreWithin (first_latch c.aig) marks_before marks_after before after

@@ -9,7 +9,8 @@ use Rattle.unit_flows.specs.declared.gate_flow.GateFlow.{GateFlow}
 use Rattle.unit_flows.specs.Units.{unit, nth_gate, nth_flow, comes_after}
 use Rattle.unit_flows.specs.Marks.{AreWithin}
 
--- a set of nodes, by those before and those after a variable, holds with each beginning of a residual arc at the gate w the arc's end
+-- Let a set have nodes before and after variables. With each beginning of a residual arc at the
+-- gate w it has the arc's end.
 pub record HoldsHeads (before after : ℕ → Bool) (w : ℕ) (gate : Gate) (flow : GateFlow) : Type 0 where
   pub through : before w ≡ true → flow.through ≡ false → after w ≡ true
   pub first_on : before w ≡ true → before (variable gate.rhs1) ≡ true
@@ -26,17 +27,20 @@ pub record HoldsHeads (before after : ℕ → Bool) (w : ℕ) (gate : Gate) (flo
 abbrev pub waits : Netlist → List ℕ → List GateFlow → List ℕ → ℕ → Bool
 waits c held flows went p = not (is_observed c.aig c.props held (first_latch c.aig + p)) && comes_after c.aig flows p && (slice_index went p == 0)
 
--- more units come to before a gate than go on from there, if `came` of these come from gates that read it
+-- more units come to before a gate than go on from there, if `came` of these come from gates that
+-- read it
 abbrev pub IsFuller : GateFlow → ℕ → Type 0
 IsFuller flow came = unit flow.through + flow.first_down + flow.second_down < unit flow.first_up + unit flow.second_up + came
 
--- a set that holds with each beginning of a residual arc its end, and each node at which a unit is left
+-- a set that holds with each beginning of a residual arc its end, and each node at which a unit is
+-- left
 pub record IsDownstream (c : Netlist) (held : List ℕ) (flows : List GateFlow) (went came : List ℕ) (before after : ℕ → Bool) : Type 0 where
   pub left_after : (p : ℕ) → p < latches_and_gates c.aig → waits c held flows went p ≡ true → after (first_latch c.aig + p) ≡ true
   pub left_before : (k : ℕ) → k < length c.aig.gates → IsFuller (nth_flow flows k) (slice_index came (length c.aig.latches + k)) → before (first_gate c.aig + k) ≡ true
   pub gates : (k : ℕ) → k < length c.aig.gates → HoldsHeads before after (first_gate c.aig + k) (nth_gate c.aig k) (nth_flow flows k)
 
--- all that is marked is reached over residual arcs from where a unit is left: it lies in each of these sets
+-- all that is marked is reached over residual arcs from a node at which a unit is left: it lies in
+-- each of these sets
 abbrev pub AreReachedFromLeft : Netlist → List ℕ → List GateFlow → List ℕ → List ℕ → List Bool → List Bool → Type 0
 AreReachedFromLeft c held flows went came marks_before marks_after = (before after : ℕ → Bool) → IsDownstream c held flows went came before after → AreWithin (first_latch c.aig) marks_before marks_after before after
 

@@ -8,12 +8,13 @@ use Rattle.unit_flows.specs.declared.gate_flow.GateFlow.{GateFlow}
 use Rattle.unit_flows.specs.Units.{nth_gate, nth_flow, IsBalancedAfter, IsBalancedBefore, arrivals}
 use Rattle.unit_flows.specs.Shown.{IsCutAt, crossings}
 
--- the k-th gate gives no more than it gets, and where it is passable the marks are a cut there
+-- the k-th gate gives no more than it gets, and if it is passable the marks are a cut there
 pub record GateHolds (c : Netlist) (held : List ℕ) (flows : List GateFlow) (came : List ℕ) (before after : ℕ → Bool) (k : ℕ) : Type 0 where
   pub balanced : IsBalancedBefore (nth_flow flows k) (slice_index came (length c.aig.latches + k))
   pub cut : is_passable c.aig held (first_gate c.aig + k) ≡ true → IsCutAt (first_gate c.aig) before after (first_gate c.aig + k) (nth_gate c.aig k)
 
--- no more goes on from after the variable at a place than comes there, and it is marked where it leaves
+-- no more goes on from after the variable at a place than comes there, and it is marked if it
+-- leaves
 pub record PlaceHolds (c : Netlist) (held : List ℕ) (flows : List GateFlow) (went : List ℕ) (after : ℕ → Bool) (p : ℕ) : Type 0 where
   pub balanced : IsBalancedAfter c.aig flows went p
   pub marked : is_observed c.aig c.props held (first_latch c.aig + p) ≡ true → after (first_latch c.aig + p) ≡ true

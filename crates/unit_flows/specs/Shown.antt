@@ -13,8 +13,8 @@ use Rattle.unit_flows.specs.Units.{unit, nth_gate, AreTallies, IsBalanced, arriv
 abbrev pub is_off : Netlist → List ℕ → (ℕ → Bool) → ℕ → Bool
 is_off c held before v = is_passable c.aig held v && not (before v)
 
--- The marks have the form of a cut at the gate w, where gates begin at `first`: no gate that it reads is marked before where it isn't itself,
--- and what it reads is marked after where it is.
+-- The marks have the form of a cut at the gate w; gates begin at `first`. If w isn't marked before,
+-- no gate that it reads is. If w is, all that it reads is marked after.
 pub record IsCutAt (first : ℕ) (before after : ℕ → Bool) (w : ℕ) (gate : Gate) : Type 0 where
   pub first_off : before w ≡ false → (nat_lt (variable gate.rhs1) first || not (before (variable gate.rhs1))) ≡ true
   pub second_off : before w ≡ false → (nat_lt (variable gate.rhs0) first || not (before (variable gate.rhs0))) ≡ true
@@ -35,7 +35,8 @@ pub record IsFullCut (c : Netlist) (held : List ℕ) (flows : List GateFlow) (we
   pub gates : (k : ℕ) → k < length c.aig.gates → is_passable c.aig held (first_gate c.aig + k) ≡ true → IsCutAt (first_gate c.aig) before after (first_gate c.aig + k) (nth_gate c.aig k)
   pub full : crossings c held before after ≤ arrivals c held flows went
 
--- a flow in which no node gives more than it gets, by its tallies, and for which the marks are a full cut
+-- a flow in which no node gives more than it gets, by its tallies, and for which the marks are a
+-- full cut
 pub record HasFullCut (c : Netlist) (held : List ℕ) (flows : List GateFlow) (before after : ℕ → Bool) : Type 0 where
   pub went : List ℕ
   pub came : List ℕ

@@ -1,8 +1,8 @@
 //! The flow of units at a gate.
 
-/// The units of a flow at a gate: if one came from the output of a fan-in (`up`), for each of the
-/// two; if one went through; and the number that went on to before a fan-in that is a gate
-/// (`down`). The first fan-in is the one of the smaller variable.
+/// The units of a flow at a gate. For each fan-in, `up` is true if one came from its output. One
+/// may have gone through the gate. `down` is the number that went on to before a fan-in that is a
+/// gate. The first fan-in is the one of the smaller variable.
 #[derive(Clone, Copy, PartialEq, Eq)]
 pub struct GateFlow {
     pub first_up: bool,

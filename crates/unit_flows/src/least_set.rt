@@ -1,5 +1,5 @@
-//! The chosen least set of a circuit, the greatest or the smallest, by a flow of units, if the
-//! judge says that the flow shows it.
+//! The chosen least set of a circuit, the greatest or the smallest, by a flow of units. It is found
+//! if the judge says that the flow shows it.
 ghost use Rattle.std.specs.Prelude.{IfOk, IfSome};
 ghost use Rattle.aig_graph.specs.Chosen.{IsChosen};
 

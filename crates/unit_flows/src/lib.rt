@@ -44,8 +44,8 @@ pub fn shown_law()
     ensures { ShownLaw }
 {}
 
-/// The passable gates off the marks of a full cut are the smallest least set, if all of them are
-/// reached from where units are left.
+/// The passable gates off the marks of a full cut are the smallest least set. For that all of them
+/// have to be reached from units that are left.
 pub fn shown_smallest_law()
     ensures { ShownSmallestLaw }
 {}

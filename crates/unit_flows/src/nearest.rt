@@ -1,7 +1,7 @@
-//! Judges if a flow shows the smallest least set, which has the gates that are reached from where
-//! units are left. Suppose that no closed set has a smaller border than units arrive. Then all
-//! units that are left stand on the near side of each least set, and no residual arc leads from
-//! there to the far side.
+//! Judges if a flow shows the smallest least set, which has the gates that are reached from units
+//! that are left. Suppose that no closed set has a smaller border than units arrive. Then all units
+//! that are left stand on the near side of each least set. No residual arc leads from there to the
+//! far side.
 ghost use Rattle.std.specs.Prelude.{◌≡◌, ◌<◌, ℕ, IfOk, IfSome, IsTrue, false, length, not, replicate};
 ghost use Rattle.std.specs.List.{slice_index_or};
 ghost use Rattle.aig_graph.specs.Marking.{mark_at};
@@ -33,7 +33,7 @@ fn flip(marks: &mut [bool])
     }
 }
 
-/// Marks the nodes that aren't reached from where units are left, by the tallies `went` and `came`
+/// Marks the nodes that aren't reached from units that are left, by the tallies `went` and `came`
 /// of the flow.
 fn far_marks(
     alloc: Global,
@@ -60,8 +60,8 @@ fn far_marks(
     Ok(marks)
 }
 
-/// Returns true if no node of a flow with the tallies `went` and `came` gives more than it gets,
-/// and the marks are a full cut for it.
+/// Returns true if no node of the flow gives more than it gets, and the marks are a full cut for
+/// it. `went` and `came` are the flow's tallies.
 fn is_full_cut(
     frame: &Frame,
     flows: &[GateFlow],
@@ -134,9 +134,9 @@ fn shown_by_zeros(
     }
 }
 
-/// Returns the smallest least set, if a flow shows it. A flow does so if no node gives more than it
-/// gets, and the nodes that aren't reached from units that are left are a full cut. Nothing of the
-/// flow is trusted. It takes the time and memory of `shown_set`.
+/// Returns the smallest least set, if a flow shows it. In such a flow no node gives more than it
+/// gets. The nodes that aren't reached from units that are left are a full cut. Nothing of the flow
+/// is trusted. It takes the time and memory of `shown_set`.
 ///
 /// # Errors
 ///

@@ -1,5 +1,5 @@
 //! Marks of the nodes to which units that are left could go, by variable from the first latch on.
-//! Each is set by a residual arc from a marked node, so all that is marked is reached from a node
+//! Each is set by a residual arc from a marked node. So all that is marked is reached from a node
 //! at which a unit is left.
 ghost use Rattle.std.specs.Prelude.{◌≡◌, ◌&&◌, ◌==◌, ℕ, Bool, IsTrue, true, length};
 ghost use Rattle.aig_graph.specs.Marking.{Marks};

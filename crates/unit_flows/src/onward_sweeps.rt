@@ -178,7 +178,7 @@ fn open_gates(alloc: Global, frame: &Frame) -> Result<Vec<u32>, NoMemory> {
     Ok(still_open)
 }
 
-/// Marks all that is reached from where units are left, by the tallies of a flow.
+/// Marks all that is reached from units that are left, by the tallies of a flow.
 ///
 /// # Errors
 ///

@@ -1,7 +1,7 @@
 //! The judge's two passes. One is over the gates: no more units go on from before a gate than come
 //! there, and the marks are a cut. The other is over the places of all variables, the latches' and
-//! then the gates'. There, no more units go on from after a place than come to it, what leaves is
-//! marked, and no more variables cross than units arrive.
+//! then the gates'. There, no more units go on from after a place than come to it, and what leaves
+//! is marked. No more variables cross than units arrive.
 ghost use Rattle.std.specs.Prelude.{◌≡◌, ◌+◌, ◌<◌, ◌≤◌, ◌==◌, ◌&&◌, ◌||◌, nat_le, not, ℕ, IsTrue, length};
 ghost use Rattle.aig_graph.specs.Marking.{mark_at};
 ghost use Rattle.aig_graph.specs.Graph.{first_latch, latches_and_gates, is_free};

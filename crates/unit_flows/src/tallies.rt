@@ -46,7 +46,7 @@ fn add_units(table: &mut [u32], first: u32, var: u32, units: u32) -> bool
     true
 }
 
-/// Adds units to the entry of a variable as [`add_units`] does, in a table of bytes: more than one
+/// Adds units to the entry of a variable as [`add_units`] does, in a table of bytes. More than one
 /// unit never goes on from after a variable.
 fn add_few(table: &mut [u8], first: u32, var: u32, units: u8) -> bool
     ensures len { length table.new ≡ length table.old }

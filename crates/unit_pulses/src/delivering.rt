@@ -36,8 +36,8 @@ fn note(flows: &mut [GateFlow], first_gate: u32, push: &Push) {
     }
 }
 
-/// Adds the units of a push to its head, if `spots` has that place, and lists the head in `next` as
-/// it gets its first unit. `spots` begins at the place `first`.
+/// Adds the units of a push to its head, if `spots` has that place. Lists the head in `next` as it
+/// gets its first unit. `spots` begins at the place `first`.
 fn come(spots: &mut [Spot], first: u32, push: &Push, next: &mut Nodes) {
     let at = push.head.wrapping_sub(first) as usize;
     if at < spots.len() {

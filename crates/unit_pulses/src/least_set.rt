@@ -1,4 +1,4 @@
-//! The chosen least set of a circuit by a flow of units, of a start or of pulses from it; and such
+//! The chosen least set of a circuit by a flow of units, of a start or of pulses from it. Also such
 //! a flow over some components of a frame's network, which nothing judges.
 ghost use Rattle.std.specs.Prelude.{IfOk, IfSome};
 ghost use Rattle.aig_graph.specs.Chosen.{IsChosen};

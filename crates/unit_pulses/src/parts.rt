@@ -201,8 +201,8 @@ impl Part {
     }
 }
 
-/// A worker's part of a delivery phase: the nodes of its places to which units came, and the labels
-/// of its nodes before gates that kept some.
+/// A worker's part of a delivery phase. It has the nodes of its places to which units came, and the
+/// labels of its nodes before gates that kept some.
 #[derive(Drop)]
 pub(crate) struct Delivery {
     pub next: Nodes,

@@ -15,9 +15,9 @@ enum Way {
 }
 
 impl<'a> Search<'a> {
-    /// Returns the way of the unit after `place`: to the first node with the label `below`, of that
-    /// before its own gate and those before its readers. No other node changes this node's arcs in
-    /// a pulse, so the label of a node that keeps its unit is known at once.
+    /// Returns the way of the unit after `place`: to the first node with the label `below`. That is
+    /// the node before its own gate or one before a reader. No other node changes this node's arcs
+    /// in a pulse, so the label of a node that keeps its unit is known at once.
     fn way(&self, place: u32, below: u32, part: &mut Part) -> Way {
         let labels = self.labels.as_slice();
         let mut least = label_before(labels, place);

@@ -121,8 +121,8 @@ impl<'a> Search<'a> {
         }
     }
 
-    /// Returns true if `reader` reads `place` by its second fan-in, and the number of units that
-    /// went from before the reader down to before that place.
+    /// Returns true if `reader` reads `place` by its second fan-in. The number is that of the units
+    /// that went from before the reader down to before that place.
     pub fn came_from(&self, reader: u32, place: u32) -> (bool, u32) {
         let second = self.fan_ins(reader).is_second(place);
         (second, self.flow(reader).down(second))
@@ -164,8 +164,8 @@ fn add_before(spots: &mut [Spot], place: u32, units: u32) {
     }
 }
 
-/// Notes the unit that came to before a gate from after a fan-in (`came`), and the number of units
-/// that went on to before that fan-in (`went`).
+/// Notes the units of a gate at a fan-in. `came` says that one came to before the gate from after
+/// the fan-in. `went` is the number that went on to before the fan-in.
 fn note_fan_in(spots: &mut [Spot], place: u32, fan_in: u32, came: bool, went: u32) {
     if came {
         add_before(spots, place, 1);

@@ -21,8 +21,8 @@ impl Labels {
 #[derive(Clone, Copy)]
 pub(crate) struct Spot {
     pub excess: u32,
-    /// True if it is a known latch or a passable gate, and units could come to the sink from before
-    /// it, as far as is known. If they can't, they can't either after more pushes.
+    /// True if it is a known latch or a passable gate, from before which units could come to the
+    /// sink, as far as is known. If they can't, they can't either after more pushes.
     pub reaches: bool,
     /// True if it is a known latch or a passable gate, and an arc leads from after it to the sink.
     pub is_observed: bool,

@@ -8,8 +8,8 @@ use aig_graph::{Lit, NoMemory};
 use std::alloc::Global;
 use std::marker::Model;
 
-/// By literal, the last question in which it was 1; and the literals of the question that was begun
-/// last, in the order in which they were found.
+/// By literal, the last question in which it was 1. Also the literals of the question that was
+/// begun last, in the order in which they were found.
 pub(crate) struct Assigned {
     question: u32,
     marks: Vec<u32>,
@@ -38,7 +38,7 @@ impl Model for Assigned {
 }
 
 impl Assigned {
-    /// No question yet, of this number of variables.
+    /// Returns a state of no question yet, of `variables` variables.
     pub(crate) fn of(alloc: Global, variables: usize) -> Result<Assigned, NoMemory>
         requires { variables ≤ 268435456 }
     {
@@ -62,7 +62,7 @@ impl Assigned {
         true
     }
 
-    /// Whether a literal is known to be 1.
+    /// Returns true if a literal is known to be 1.
     pub(crate) fn is_one(&self, lit: Lit) -> bool
         ensures { result ≡ true → (values : ℕ → Bool) → Holds self.now values → values lit ≡ true }
     {
@@ -88,7 +88,7 @@ impl Assigned {
         Ok(false)
     }
 
-    /// The literals that are known to be 1, in the order in which they were found.
+    /// Returns the literals that are known to be 1, in the order in which they were found.
     pub(crate) fn trail(&self) -> &[Lit] {
         self.trail.as_slice()
     }

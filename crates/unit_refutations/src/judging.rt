@@ -1,6 +1,6 @@
-//! The judge of classes of latches, over gates in which each literal reads what stands for it
-//! already: whether each latch is told what that which it reads as is told. Nobody has to believe
-//! how the classes were found.
+//! The judge of classes of latches, over gates in which each literal reads its substitute already.
+//! It judges if a latch and its reading have equal signatures. Nobody has to believe how the
+//! classes were found.
 ghost use Rattle.std.specs.Prelude.{◌≡◌, Bool, true, IfOk, IfNone, length};
 ghost use Rattle.unit_refutations.specs.Classes.{AreAlike, IsAlike, told};
 
@@ -9,7 +9,7 @@ use crate::propagating::Propagation;
 use aig_graph::{Aig, Latch, Lit, NoMemory, opening_literal};
 use std::alloc::Global;
 
-/// What a latch is told: its next literal, negated if its reset is 1.
+/// Returns a latch's signature: its next literal, negated if its reset is 1.
 fn told(latch: &Latch) -> Lit
     ensures { result ≡ told latch.now }
 {
@@ -18,7 +18,7 @@ fn told(latch: &Latch) -> Lit
         .signed_as(opening_literal(latch.reset, Lit::FALSE))
 }
 
-/// Whether the latch at a place is shown to be told what that which it reads as is told.
+/// Returns true if the latch at a place and its reading are shown to have equal signatures.
 fn is_alike(
     alloc: Global,
     propagation: &mut Propagation,
@@ -40,8 +40,8 @@ fn is_alike(
     }
 }
 
-/// The first latch that isn't shown to be told what that which it reads as is told, with this
-/// number of visits of gates for each latch.
+/// Returns the first latch whose reading isn't shown to have its signature, with `visits` visits of
+/// gates for each latch.
 ///
 /// # Errors
 ///

@@ -1,6 +1,6 @@
-//! Probing: which literals near a question are 0 wherever its literals are 1 is learnt one by one,
-//! each by propagation alone, and helps with the next. Which literals are tried is no part of what
-//! is proved.
+//! Probing learns which literals near a question are 0 if its literals are 1. It learns them one by
+//! one, each by propagation alone, and each helps with the next. The choice of literals is no part
+//! of what is proved.
 ghost use Rattle.std.specs.Prelude.{ℕ, ◌≡◌, Bool, true, IfOk, OnOk};
 ghost use Rattle.aig_graph.specs.Gates.{AreEqualIn, AreOne, Refutes, Respects, gates_of};
 
@@ -15,7 +15,7 @@ const TRIED: usize = 400;
 /// something.
 const PASSES: u32 = 16;
 
-/// The variables nearest to two literals, among those on which they rest.
+/// Returns the variables nearest to two literals, among those on which they depend.
 fn cone(
     alloc: Global,
     propagation: &mut Propagation,
@@ -119,8 +119,8 @@ fn probe(
     Ok(())
 }
 
-/// Whether propagation shows that these literals can't all be 1, once it has learnt what the tried
-/// ones are where they are.
+/// Returns true if propagation shows that these literals can't all be 1. It first learns the values
+/// of the tried literals under them.
 fn refuted_by_probing(
     alloc: Global,
     propagation: &mut Propagation,
@@ -136,13 +136,13 @@ fn refuted_by_probing(
     propagation.refuted(aig, known.as_slice())
 }
 
-/// Whether propagation shows that two literals are always equal, by itself or once it has learnt
-/// what the variables are on which they rest, as far as the visits of gates that are left for it
-/// go. The answer no says nothing.
+/// Returns true if propagation shows that two literals are always equal, by itself or by probing.
+/// Probing learns the values of the variables on which they depend, as far as the visits of gates
+/// that are left for it go. The answer no says nothing.
 ///
 /// # Errors
 ///
-/// `NoMemory` if memory is refused; another question may be asked all the same.
+/// `NoMemory` if memory is refused; another question may still be asked.
 pub fn equal_by_probing(
     alloc: Global,
     propagation: &mut Propagation,

@@ -1,4 +1,4 @@
-//! The literals that must be 1 where some are, found gate by gate. A budget bounds the visits of
+//! The literals that must be 1 if some are, found gate by gate. A budget bounds the visits of
 //! gates: a question that spends it stays open.
 ghost use Rattle.std.specs.Prelude.{ℕ, ◌≡◌, Bool, true, false, IfOk, All};
 ghost use Rattle.aig_graph.specs.Gates.{AreEqualIn, AreOne, IsNegated, Respects, gates_of};
@@ -82,7 +82,8 @@ fn assume_all(assigned: &mut Assigned, lits: &[Lit]) -> Result<bool, NoMemory>
 impl Propagation {
     ghost use Rattle.aig_graph.specs.Gates.{IsZeroWhere, Refutes};
 
-    /// For questions about a graph's gates, with no visits left for them yet. Linear.
+    /// Returns a state for questions about a graph's gates, with no visits left for them yet.
+    /// Linear.
     ///
     /// # Errors
     ///
@@ -95,15 +96,21 @@ impl Propagation {
         })
     }
 
-    /// Sets how many visits of gates the next questions may take in all.
+    /// Sets the number of visits of gates that the next questions may take in all.
     pub fn allow(&mut self, visits: u32) {
         self.left = visits;
     }
 
-    /// How many visits are left. If none are, a question that wasn't refuted may have been given
-    /// up.
+    /// Returns the number of visits that are left. If none are, a question that wasn't refuted may
+    /// have been given up.
     pub fn left(&self) -> u32 {
         self.left
+    }
+
+    /// The literals that the last question took or found to be 1, in the order in which they were
+    /// found. If it stayed open, a state that parts its sides may lie there.
+    pub fn trail(&self) -> &[Lit] {
+        self.assigned.trail()
     }
 
     /// Whether propagation shows that a literal is 0 wherever these are 1. The answer no says
@@ -130,23 +137,24 @@ impl Propagation {
         propagate(&mut self.assigned, &mut self.readers, aig, &mut self.left)
     }
 
-    /// Whether propagation shows that these literals can't all be 1. The answer no says nothing.
+    /// Returns true if propagation shows that these literals can't all be 1. The answer no says
+    /// nothing.
     ///
     /// # Errors
     ///
-    /// `NoMemory` if memory is refused; another question may be asked all the same.
+    /// `NoMemory` if memory is refused; another question may still be asked.
     pub fn refuted(&mut self, aig: &Aig, lits: &[Lit]) -> Result<bool, NoMemory>
         ensures { IfOk result (λ refuted. refuted ≡ true → Refutes (gates_of aig.now) lits.now) }
     {
         self.refuted_with(aig, lits, Lit::TRUE)
     }
 
-    /// Whether propagation shows that two literals are always equal: that neither can be 1 without
-    /// the other. The answer no says nothing.
+    /// Returns true if propagation shows that two literals are always equal: that neither can be 1
+    /// without the other. The answer no says nothing.
     ///
     /// # Errors
     ///
-    /// `NoMemory` if memory is refused; another question may be asked all the same.
+    /// `NoMemory` if memory is refused; another question may still be asked.
     pub fn equal(&mut self, aig: &Aig, a: Lit, b: Lit) -> Result<bool, NoMemory>
         ensures { IfOk result (λ equal. equal ≡ true → AreEqualIn (gates_of aig.now) a b) }
     {

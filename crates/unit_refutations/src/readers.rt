@@ -3,9 +3,9 @@
 use aig_graph::{Aig, Lit, NoMemory};
 use std::alloc::Global;
 
-/// By variable the link to the last fan-in that reads it, and by fan-in, two a gate, the link to
-/// the one before it: one more than its number, and 0 where there is none. And how far the walk
-/// along a trail has come.
+/// Links by variable and by fan-in. A variable has the link to the last fan-in that reads it. A
+/// fan-in, two a gate, has the link to the one before it. A link is a fan-in's number plus one, and
+/// 0 is none. Also the place that the walk along a trail has come to.
 pub(crate) struct Readers {
     first_gate: u32,
     last: Vec<u32>,
@@ -30,7 +30,7 @@ impl Drop for Readers {
 }
 
 impl Readers {
-    /// Those of a graph's gates.
+    /// Returns those of a graph's gates.
     pub(crate) fn of(alloc: Global, aig: &Aig) -> Result<Readers, NoMemory> {
         let mut readers = Readers {
             first_gate: aig.first_gate(),
@@ -47,7 +47,7 @@ impl Readers {
         Ok(readers)
     }
 
-    /// One more fan-in.
+    /// Adds a fan-in.
     fn add(&mut self, lit: Lit) -> Result<(), NoMemory> {
         let var = lit.var() as usize;
         let mut link = 0;
@@ -68,8 +68,8 @@ impl Readers {
         self.link = 0;
     }
 
-    /// The place of the gate that is to be looked at next, or one past all gates; none where the
-    /// trail is at its end.
+    /// Returns the place of the gate that is to be looked at next, or one past all gates. Gives
+    /// none if the trail is at its end.
     pub(crate) fn next(&mut self, trail: &[Lit]) -> Option<usize> {
         if self.link == 0 {
             if self.head >= trail.len() {

@@ -130,7 +130,8 @@ fn comes_to(
     Some(goes)
 }
 
-/// Sends the unit after a latch as far as its way is known, and notes where it is left.
+/// Sends the unit after a latch as far as its way is known, and notes the place at which it is
+/// left.
 fn send(
     region: &Region,
     known: &[GateFlow],

@@ -67,8 +67,8 @@ fn take_waiting(region: &Region, start: &mut Start, gate: usize, first: FanIn, s
     }
 }
 
-/// Lets each passable gate that has taken nothing take a unit that waits after a fan-in, in one
-/// pass up the gates: after `first`, else after `second`.
+/// Lets each passable gate that has taken nothing take a unit that waits after a fan-in. One pass
+/// goes up the gates. A gate takes the unit after `first`, else that after `second`.
 #[inline(always)]
 fn take_all_waiting(region: &Region, start: &mut Start, first: FanIn, second: FanIn) {
     for gate in 0..region.gates.len() {
@@ -139,8 +139,8 @@ pub(crate) struct FirstStart {
     pub left: LeftUnits,
 }
 
-/// Replaces a flow by that of a start. Returns the number of units that it brings, and where it
-/// leaves the others.
+/// Replaces a flow by that of a start. Returns the number of units that it brings, and the places
+/// at which it leaves the others.
 fn put_first(
     alloc: Global,
     flows: &mut Vec<GateFlow>,

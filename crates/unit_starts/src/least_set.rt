@@ -143,8 +143,8 @@ fn started_down(
 }
 
 /// Returns the chosen least set, if a start shows it. The start goes along `flow`, what the last
-/// flow did at the circuit's gates, or along nothing if there is none; then `flow` is that of the
-/// start. Flows are hints: they decide if there is a set, and never which.
+/// flow did at the circuit's gates, or along nothing if there is none. Afterwards `flow` is that of
+/// the start. Flows are hints: they decide if there is a set, and never which.
 ///
 /// # Errors
 ///

@@ -14,24 +14,24 @@ use Rattle.state_maps.specs.States.{Digits, State, after_step}
 use Rattle.state_maps.proofs.WithinLaws.{within_laws}
 use Rattle.aig_graph.proofs.StreamLaws.{funext}
 
--- as many inputs and latches, and the same gates
+-- equal numbers of inputs and latches, and equal gates
 pub record AreAlike (g h : Graph) : Type 0 where
   -- there are as many inputs
   pub inputs : h.inputs ≡ g.inputs
   -- there are as many latches
   pub latches : length h.latches ≡ length g.latches
-  -- the gates are the same
+  -- the gates are equal
   pub gates : h.gates ≡ g.gates
 
 -- each graph is alike to itself
 pub alike-itself : (g : Graph) → AreAlike g g
 alike-itself g = record { inputs = refl; latches = refl; gates = refl }
 
--- the inputs and latches have the same values
+-- the inputs and latches have equal values
 pub record HaveSame (g : Graph) (x y : Digits) (s t : State) : Type 0 where
-  -- each input has the same value
+  -- each input has equal values
   pub inputs : (i : ℕ) → i < g.inputs → y i ≡ x i
-  -- each latch has the same value
+  -- each latch has equal values
   pub latches : (j : ℕ) → j < length g.latches → t j ≡ s j
 
 module _ (g h : Graph) (one : IsGraph g) (two : IsGraph h) (alike : AreAlike g h) (x y : Digits) (s t : State) (same : HaveSame g x y s t) where
@@ -74,11 +74,11 @@ module _ (g h : Graph) (one : IsGraph g) (two : IsGraph h) (alike : AreAlike g h
             ∙ sym (old.gate k own there) ∙ sym (ap before at))
       ]
 
-  -- a literal has the same value in both graphs
+  -- a literal has equal values in both graphs
   pub literal-alike : (lit : ℕ) → IsLiteralOf g lit → after lit ≡ before lit
   literal-alike lit within = signed-alike lit (variable-alike (suc (variable lit)) (variable lit) (omega arith) within)
 
-  -- the literals of a list have the same values in both graphs
+  -- the literals of a list have equal values in both graphs
   pub literals-alike : (lits : List ℕ) → AreLiteralsOf g lits → map after lits ≡ map before lits
   literals-alike lits within = map-same (λ lit. IsLiteralOf g lit) after before literal-alike lits within
 

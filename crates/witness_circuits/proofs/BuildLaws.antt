@@ -30,7 +30,8 @@ use Rattle.witness_circuits.specs.Parts.{AreLiftedProps, AreParts, both_nexts, b
 use Rattle.witness_circuits.proofs.AgreeLaws.{AreAlike, literal-alike, literals-alike}
 use Rattle.witness_circuits.proofs.LatchLaws.{length-with_nexts, next-read}
 
--- inputs, and latches with any resets and the constant as next literal, are a graph where they are few enough
+-- inputs, and latches with any resets and the constant as next literal, are a graph if they are few
+-- enough
 pub begun-graph : (inputs : ℕ) (resets : List Reset) → inputs + length resets < MAX_VARIABLES → IsGraph (without_gates inputs resets)
 begun-graph inputs resets room = record {
   small = omega (arith, room, length-map resets (λ (r : Reset). new r));

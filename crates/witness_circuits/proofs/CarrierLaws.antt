@@ -1,4 +1,5 @@
--- A witness circuit that is lifted over a circuit whose first latches are a model's passes the five checks for the model.
+-- A witness circuit that is lifted over a circuit whose first latches are a model's passes the five
+-- checks for the model.
 use Rattle.std.proofs.Common.{ℕ, ◌<◌, ◌≤◌, ◌≡◌, ◌↔◌, Bool, true, false, List, [], ◌∷◌, length, get_or, slice_get, Some, None, refl, arith, ap, sym, ◌∙◌, subst}
 use Rattle.std.specs.List.{All}
 use Rattle.std.proofs.lemmas.Option.{same_Some}
@@ -40,11 +41,12 @@ module _ (m : Netlist) (graph : IsGraph m.aig) (netlist : IsNetlist m) (s u : St
   pub kept-alike : is_kept m s → is_kept m u
   kept-alike here = subst (λ (bs : List Bool). All (λ b. b ≡ true) bs) (sym (image-alike m.props.constraints netlist.props.constraints)) here
 
-  -- it gives the same for them
+  -- it gives equal values for them
   pub mapped-alike : mapped m u ≡ mapped m s
   mapped-alike = ap (λ (bs : List Bool). λ (j : ℕ). get_or bs j false) (image-alike m.props.outputs netlist.props.outputs)
 
--- a circuit with the inputs of a model c and, first among its latches, c's; a map gives the states of d for those of its own in which the map's constraints hold
+-- A circuit with the inputs of a model c and, first among its latches, c's. A map gives the states
+-- of d for those of its own in which the map's constraints hold.
 pub record IsCarrier (c d b m : Netlist) : Type 0 where
   -- there are as many inputs
   pub inputs : b.aig.inputs ≡ c.aig.inputs
@@ -66,9 +68,9 @@ pub record IsCarrier (c d b m : Netlist) : Type 0 where
   pub keeps : (x : Digits) (s : State) → is_kept m s → is_kept m (after_step b.aig x s)
   -- a step is one of d
   pub steps : (x : Digits) (s : State) → is_kept m s → mapped m (after_step b.aig x s) ≡ after_step d.aig x (mapped m s)
-  -- d's constraints hold where c's do
+  -- d's constraints hold if c's do
   pub allows : (x : Digits) (s : State) → is_kept m s → IsAllowed c x s → IsAllowed d x (mapped m s)
-  -- c is good where d is
+  -- c is good if d is
   pub shows : (x : Digits) (s : State) → is_kept m s → IsGood d x (mapped m s) → IsGood c x s
 
 module _ (c d b m w : Netlist) (k : Sharing) (r : Netlist) (valid : IsGraph c.aig) (net : IsNetlist c) (carrier : IsCarrier c d b m) (sharing : IsSharing d w k) (passes : IsWitness d w k)
@@ -85,7 +87,7 @@ module _ (c d b m w : Netlist) (k : Sharing) (r : Netlist) (valid : IsGraph c.ai
   abbrev ss : State → State
   ss u = witness_state b m k u
 
-  -- what the witness reads are d's digits and state, where it shares them
+  -- what the witness reads are d's digits and state, if it shares them
   joint : (z : Digits) (u : State) → AreJoint k z (mapped m u) (sd z) (ss u)
   joint z u = (joined-agrees k.inputs z (λ i. z (own_at b.aig.inputs k.inputs i)), joined-agrees k.latches (mapped m u) (λ j. u (own_at nb k.latches j)))
 
@@ -234,11 +236,13 @@ module _ (c d b m w : Netlist) (k : Sharing) (r : Netlist) (valid : IsGraph c.ai
           let goes : GoesAs r.aig (own_at nb k.latches j) latch (in_witness b m w k) = lifted.own j latch e there in
           ap (next_value (value_within r.aig z u)) goes.there ∙ goes.next z u
 
-  -- the lifted witness passes the five checks for the model, of which all inputs and latches are shared
+  -- the lifted witness passes the five checks for the model, of which all inputs and latches are
+  -- shared
   pub witness-carried : IsWitness c r (first_shared c r)
   witness-carried = record { reset = reset; transition = transition; property = property; base = base; step = step }
 
-  -- the places of the first inputs and latches, which the lifted witness shares, are those of the model
+  -- the places of the first inputs and latches, which the lifted witness shares, are those of the
+  -- model
   pub sharing-carried : IsSharing c r (first_shared c r)
   sharing-carried = record {
     inputs = length-first_places c.aig.inputs r.aig.inputs (omega (arith, lifted.inputs, carrier.inputs));

@@ -37,7 +37,8 @@ literal-names-below first n all fits = record {
         ∙ ap (λ (s : Symbol). s.position) (table-at 0 n (literal_name first) k d short) ∙ place
 
 module _ (h : Graph) (c m w : Netlist) (k : Sharing) (props : Props) (filled : IsFilled h c m w k props) where
-  -- the filled graph with its properties and the names of a graph with no more inputs and latches than the circuit is a netlist
+  -- the filled graph with its properties and the names of a graph with no more inputs and latches
+  -- than the circuit is a netlist
   pub lifted-netlist : (g : Graph) → HasRoomFor g c.aig → IsNetlist (record { aig = h; props = props; symbols = named g })
   lifted-netlist g room = record {
     props = filled.props.within;

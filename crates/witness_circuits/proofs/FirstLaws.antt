@@ -13,7 +13,7 @@ use Rattle.aig_graph.proofs.KindLaws.{element}
 use Rattle.state_maps.specs.States.{Digits, State, after_step, opening_state}
 use Rattle.witness_circuits.specs.Lifting.{GoesAs, in_circuit}
 
--- a latch is free where its reset is
+-- a latch is free if its reset is
 free-by_reset : (one two : Latch) → one.reset ≡ two.reset → is_free one ≡ is_free two
 free-by_reset one two same = ap by_reset same
   where

@@ -19,7 +19,8 @@ below-count many count i p places filled e =
     let less : 0 + i < count = ltb-true (0 + i) count both.0 in
     omega (arith, less, both.1)
 
--- each input and latch of the witness is shared, by names or by places, with one that the model has or with none
+-- each input and latch of the witness is shared, by names or by places, with one that the model has
+-- or with none
 pub shared-fits : (c w : Netlist) (k : Sharing) → IsSharedBy c w k → IsSharing c w k
 shared-fits c w k (inl named) =
     let p : IsByNames c w k = named.1 in

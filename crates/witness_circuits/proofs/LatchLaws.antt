@@ -66,7 +66,7 @@ next-more nexts latches k short less =
     let place : suc k ≡ k + 1 = omega arith in
     next-suc nexts latches k short less ∙ ap (λ (n : ℕ). with_nexts (take n nexts) latches) place
 
--- there are as many latches after their next literals were set, where these are no more
+-- there are as many latches after their next literals were set, if these are no more
 pub length-with_nexts : (nexts : List ℕ) (latches : List Latch) → length nexts ≤ length latches → length (with_nexts nexts latches) ≡ length latches
 length-with_nexts [] latches h = refl
 length-with_nexts (next ∷ nexts) [] h = refl

@@ -1,4 +1,5 @@
--- A witness circuit of a mapped circuit, read through the map, passes the five checks for the circuit.
+-- A witness circuit of a mapped circuit, read through the map, passes the five checks for the
+-- circuit.
 use Rattle.std.proofs.Common.{ℕ, ◌≡◌, Bool, true, false, List, [], ◌∷◌, map, sym, subst, refl, arith}
 use Rattle.std.specs.List.{All}
 use Rattle.aig_graph.specs.Circuits.{Netlist}
@@ -13,16 +14,17 @@ use Rattle.witness_circuits.specs.LiftedLaws.{LiftsWitnesses}
 use Rattle.witness_circuits.proofs.CarrierLaws.{IsCarrier, sharing-carried, witness-carried}
 use Rattle.witness_circuits.proofs.FirstLaws.{goes-itself}
 
--- bad states of two circuits have the same values, where their bad literals and their outputs do
+-- bad states of two circuits have equal values, if their bad literals and their outputs do
 bad-same : (f g : ℕ → Bool) (b o p q : List ℕ) → map f b ≡ map g p → map f o ≡ map g q → map f (bad_or b o) ≡ map g (bad_or p q)
 bad-same f g [] o [] q bad outputs = outputs
 bad-same f g [] o (x ∷ p) q bad outputs = absurd (cc)
 bad-same f g (x ∷ b) o [] q bad outputs = absurd (cc)
 bad-same f g (x ∷ b) o (y ∷ p) q bad outputs = bad
 
--- where the properties of one circuit have the values of another's, its constraints hold where the other's do, and it is good where the other is
+-- Let the properties of one circuit have the values of another's. Then its constraints hold if the
+-- other's do, and it is good if the other is.
 module _ (c d : Netlist) (x : Digits) (s t : State) (reads : SameReads c d x s t) where
-  -- its constraints hold where the other's do
+  -- its constraints hold if the other's do
   pub allowed-there : IsAllowed c x s → IsAllowed d x t
   allowed-there h = subst (λ (bs : List Bool). All (λ b. b ≡ true) bs) (sym reads.constraints) h
 
@@ -30,7 +32,7 @@ module _ (c d : Netlist) (x : Digits) (s t : State) (reads : SameReads c d x s t
   pub allowed-back : IsAllowed d x t → IsAllowed c x s
   allowed-back h = subst (λ (bs : List Bool). All (λ b. b ≡ true) bs) reads.constraints h
 
-  -- it is good where the other is
+  -- it is good if the other is
   pub good-there : IsGood c x s → IsGood d x t
   good-there h = subst (λ (bs : List Bool). All (λ b. b ≡ false) bs)
       (sym (bad-same (value_within d.aig x t) (value_within c.aig x s) d.props.bad d.props.outputs c.props.bad c.props.outputs reads.bad reads.outputs)) h

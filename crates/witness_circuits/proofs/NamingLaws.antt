@@ -201,7 +201,7 @@ pub names-below : (n m : ℕ) (names now : List Symbol) → m ≡ n → now ≡ 
 names-below n m names now many same below =
     subst (λ (ns : List Symbol). AreNamesBelow m ns) (sym same) (subst (λ (k : ℕ). AreNamesBelow k names) (sym many) below)
 
--- a name that begins with `= ` is refused where no place that is left is the one that its digits say
+-- a name that begins with `= ` is refused if no place that is left is the one that its digits say
 pub refused-where : (first : ℕ) (name : Symbol) (digits : List ℕ) (taken : List Bool) → name.name ≡ codes "= " ++ digits
     → ((place : ℕ) → slice_get taken place ≡ Some false → number_of digits ≡ Some (2 * (first + place)) → ⊥) → IsRefused first name taken
 refused-where first name digits taken begins none = (
@@ -211,7 +211,7 @@ refused-where first name digits taken begins none = (
       none place free (ap number_of same ∙ says.2),
 )
 
--- the same where it is marked
+-- so it is if the place is marked
 pub refused-taken : (first : ℕ) (name : Symbol) (digits : List ℕ) (taken : List Bool) (place : ℕ) (mark : Bool) → name.name ≡ codes "= " ++ digits → number_of digits ≡ Some (2 * (first + place))
     → mark ≡ get_or taken place mark → mark ≡ true → IsRefused first name taken
 refused-taken first name digits taken place mark begins number there is = refused-where first name digits taken begins (λ other free said.

@@ -20,7 +20,7 @@ opening-twice Zero b = refl
 opening-twice One b = refl
 opening-twice Free b = refl
 
--- a known latch holds the same, whatever was chosen
+-- a known latch holds one value, whatever was chosen
 pub opening-known : (r : Reset) (a b : Bool) → (r ≡ Free → a ≡ b) → opening r b ≡ b → opening r a ≡ b
 opening-known Zero a b same holds = holds
 opening-known One a b same holds = holds

@@ -28,7 +28,8 @@ module _ (h : Graph) (c m w : Netlist) (k : Sharing) (literals : List ℕ) (view
   held-same : (z : Digits) (u : State) → held_by h (map (substitute literals) m.props.outputs) z u ≡ mapped m u
   held-same z u = ap (λ (bs : List Bool). λ (j : ℕ). get_or bs j false) (substitutes-values h m.aig (λ z u. value_within m.aig u (λ j. false)) literals view z u m.props.outputs net.props.outputs)
 
-  -- a view of the witness over literals that hold what the map gives is a view over what the map gives
+  -- a view of the witness over literals that hold what the map gives is a view over what the map
+  -- gives
   pub shared-view : (i : Graph) (seen : List ℕ) → IsView i w.aig (in_shared h (map (substitute literals) m.props.outputs) c.aig w.aig k) seen → IsView i w.aig (in_witness c m w k) seen
   shared-view i seen p = record {
     many = p.many;

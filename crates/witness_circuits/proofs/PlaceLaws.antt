@@ -43,6 +43,6 @@ place-first n all k place e = elim (cases_lt k n) [
       | inr beyond ↦ none-some (Some p) (sym (slice_get_past (replicate (all - n) None) i (omega (arith, beyond, length-replicate {A = Option ℕ} (all - n) None))) ∙ there)
     ]
 
--- there are as many places as inputs or latches in all, where the model has no more of them
+-- there are as many places as inputs or latches in all, if the model has no more of them
 pub length-first_places : (n all : ℕ) → n ≤ all → length (first_places n all) ≡ all
 length-first_places n all h = omega (arith, h, length-append (firsts n) (replicate (all - n) None), length-firsts n, length-replicate {A = Option ℕ} (all - n) None)

@@ -78,7 +78,8 @@ module _ (h g : Graph) (own : Digits → State → ℕ → Bool) (literals : Lis
       let here : IsLiteralOf h (substitute literals (get_or lits k d)) = substitute-within h literals (get_or lits k d) view.within (omega (arith, within k d less, view.many)) in
       omega (arith, here, variable-signed_as 1 (substitute literals (get_or lits k d))))
 
-  -- the variables of a graph's literals lie below the number of literals that stand for its variables
+  -- the variables of a graph's literals lie below the number of literals that stand for its
+  -- variables
   pub all-within : (n : ℕ) (lits : List ℕ) → n ≡ length literals → AreLiteralsOf g lits → All (λ lit. variable lit < n) lits
   all-within n lits same within k d less = omega (arith, within k d less, view.many, same)
 
@@ -92,7 +93,7 @@ module _ (h : Graph) (c m w : Netlist) (k : Sharing) (p : Parts) (valid : IsGrap
   ones : (xs ys : List Bool) → xs ≡ ys → All (λ b. b ≡ true) xs ↔ All (λ b. b ≡ true) ys
   ones xs ys same = (λ all. subst (λ (bs : List Bool). All (λ b. b ≡ true) bs) same all, λ all. subst (λ (bs : List Bool). All (λ b. b ≡ true) bs) (sym same) all)
 
-  -- the lifted constraints are 1 just where the circuit's are
+  -- the lifted constraints are 1 just if the circuit's are
   pub constraints-say : (z : Digits) (u : State) → All (λ b. b ≡ true) (map (value_within h z u) (substitutes p.first c.props.constraints)) ↔ IsAllowed c z u
   constraints-say z u =
       ones (map (value_within h z u) (map (substitute p.first) c.props.constraints)) (map (value_within c.aig z u) c.props.constraints)
@@ -115,7 +116,8 @@ module _ (h : Graph) (c m w : Netlist) (k : Sharing) (p : Parts) (valid : IsGrap
       (substitutes-within h w.aig (in_witness c m w k) p.witness parts.witness w.props.constraints three.props.constraints))
       (negations-within h w.aig (in_witness c m w k) p.witness parts.witness (bad_states w.props) (bad-within w three))
 
-  -- the literals of what a good state has to be are 1 just where the map's and the witness's constraints are and the witness is good
+  -- the literals of the demands are 1 just if the map's and the witness's constraints are and the
+  -- witness is good
   pub demands-say : (z : Digits) (u : State) → All (λ l. value_within h z u l ≡ true) (demands m w p) ↔ (is_kept m u × IsAllowed w (wd z) (ws u) × IsGood w (wd z) (ws u))
   demands-say z u =
       let V : ℕ → Bool = value_within h z u in
@@ -135,7 +137,7 @@ module _ (h : Graph) (c m w : Netlist) (k : Sharing) (p : Parts) (valid : IsGrap
             (all-mapped (λ b. b ≡ true) V no-bad (of_bad.1 (turned.1 says.2))),
       )
 
-  -- the properties: a bad state where what is demanded fails, and the constraints
+  -- the properties: a bad state if what is demanded fails, and the constraints
   pub lifted-props : (good bad : ℕ) (constraints : List ℕ) (props : Props) → AreAll h (demands m w p) good → bad ≡ negated good → constraints ≡ substitutes p.first c.props.constraints
       → props ≡ record { outputs = []; bad = bad ∷ []; constraints = constraints; justice = []; fairness = [] } → AreLiftedProps h c m w k props
   lifted-props good bad constraints props all turned filled made =
@@ -179,12 +181,13 @@ parts-grow h i c m w k p more parts = record {
   witness = view-grows h i w.aig (in_witness c m w k) p.witness more parts.witness;
 }
 
--- the variables of a graph's literals lie below the number of its variables, wherever these literals and that number are read
+-- the variables of a graph's literals lie below the number of its variables, wherever these
+-- literals and that number are read
 pub literals-below : (g : Graph) (n : ℕ) (lits now : List ℕ) → n ≡ variables_end g → now ≡ lits → AreLiteralsOf g lits → All (λ lit. variable lit < n) now
 literals-below g n lits now many same within =
     subst (λ (ls : List ℕ). All (λ lit. variable lit < n) ls) (sym same) (subst (λ (m : ℕ). All (λ lit. variable lit < m) lits) (sym many) within)
 
--- the same of the next literals of its latches
+-- the next literals of its latches too
 pub nexts-below : (g : Graph) (n : ℕ) (now : List Latch) → n ≡ variables_end g → now ≡ g.latches → IsGraph g → All (λ latch. variable latch.next < n) now
 nexts-below g n now many same valid =
     subst (λ (ls : List Latch). All (λ latch. variable latch.next < n) ls) (sym same)

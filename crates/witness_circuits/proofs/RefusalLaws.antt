@@ -77,7 +77,7 @@ module _ (names : List Symbol) (rising : IsStrictlyIncreasing (map (λ s. s.posi
           let at : before.1.position ≡ name.position = named.once before.1.position name.position place (other.2 ∙ ap (λ (q : ℕ). Some (Some q)) same) put in
           omega (arith, before.2, one_place before.0 n before.1 name before.3 there at)
 
--- no sharing is by the names where there is none by their inputs, or by their latches
+-- no sharing is by the names if there is none by their inputs, or by their latches
 pub not-shared : (c w : Netlist) → SomeSays w.symbols.inputs ⊎ SomeSays w.symbols.latches → ((k : Sharing) → IsByNames c w k → ⊥) → (k : Sharing) → IsSharedBy c w k → ⊥
 not-shared c w some none k (inl named) = none k named.1
 not-shared c w (inl inputs) none k (inr unnamed) = unnamed.0 inputs.0 inputs.1 inputs.2 inputs.3

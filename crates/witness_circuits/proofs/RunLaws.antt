@@ -41,7 +41,8 @@ resets-open w places shared own long resets starts =
           | inr beyond ↦ absurd (let past = slice_get_past w.aig.latches j (omega (arith, beyond, long)) in cc)
         ]
 
--- a state whose shared latches go on as the witness's, and whose own ones do too, is the one after a step
+-- a state whose shared latches go on as the witness's, and whose own ones do too, is the one after
+-- a step
 pub goes-joined : (w : Netlist) (places : List (Option ℕ)) (y : Digits) (t shared own : State) → length places ≡ length w.aig.latches → GoesOn w places y t (joined places shared own)
     → ((j : ℕ) (latch : Latch) → slice_get places j ≡ Some None → slice_get w.aig.latches j ≡ Some latch → own j ≡ value_within w.aig y t latch.next)
     → joined places shared own ≡ after_step w.aig y t

@@ -50,7 +50,7 @@ module _ (h g : Graph) (inputs latches : List ℕ) (one : IsGraph h) (two : IsGr
       read-past 0 (inputs ++ latches) (length inputs + j) 0
       ∙ get_or-append_right inputs latches (length inputs) (length inputs + j) 0 refl (omega arith) ∙ ap (λ (k : ℕ). get_or latches k 0) place
 
-  -- the leaves have the values of a step where the literals of the inputs and of the latches do
+  -- the leaves have the values of a step if the literals of the inputs and of the latches do
   pub leaves-have : (z x : Digits) (u s : State) → ((i : ℕ) → i < g.inputs → value_within h z u (get_or inputs i 0) ≡ x i) → ((j : ℕ) → j < length g.latches → value_within h z u (get_or latches j 0) ≡ s j)
       → HaveValues h leaves z u (value_within g x s)
   leaves-have z x u s of_inputs of_latches v less = elim (cases_eq v 0) [
@@ -77,7 +77,7 @@ module _ (h g : Graph) (inputs latches : List ℕ) (one : IsGraph h) (two : IsGr
     ]
   ]
 
-  -- the leaves are literals of the graph where those of the inputs and of the latches are
+  -- the leaves are literals of the graph if those of the inputs and of the latches are
   pub leaves-within : AreLiteralsOf h inputs → AreLiteralsOf h latches → AreLiteralsOf h leaves
   leaves-within of_inputs of_latches k d less = elim (cases_eq k 0) [
     | inl none ↦ subst (λ (n : ℕ). IsLiteralOf h (get_or leaves n d)) (sym none) (omega arith)
@@ -222,7 +222,7 @@ module _ (h : Graph) (valid : IsGraph h) where
     pub witness-long : length leaves ≡ first_gate w
     witness-long = ap length p.are ∙ length-leaves h w p.inputs p.latches valid graph (p.of_inputs.many ∙ fits.inputs) (p.of_latches.many ∙ fits.latches)
 
-    -- the witness's leaves are literals of the graph where the map's outputs are
+    -- the witness's leaves are literals of the graph if the map's outputs are
     pub witness-within : AreLiteralsOf h outputs → AreLiteralsOf h leaves
     witness-within of_outputs = subst (λ (ls : List ℕ). AreLiteralsOf h ls) (sym p.are)
         (leaves-within h w p.inputs p.latches valid graph (p.of_inputs.many ∙ fits.inputs) (p.of_latches.many ∙ fits.latches)

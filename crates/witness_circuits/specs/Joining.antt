@@ -11,7 +11,7 @@ is_own (Some place) = false
 abbrev pub own_count : List (Option ℕ) → ℕ
 own_count places = count_by is_own places
 
--- the number of one of the witness's own, where they are numbered from n on
+-- the number of one of the witness's own, if they are numbered from n on
 abbrev pub own_at : ℕ → List (Option ℕ) → ℕ → ℕ
 own_at n places k = n + own_count (take k places)
 

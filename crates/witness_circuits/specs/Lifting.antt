@@ -12,16 +12,18 @@ use Rattle.witness_circuits.specs.declared.sharing.Sharing.{Sharing}
 use Rattle.witness_circuits.specs.Witnesses.{IsGood}
 use Rattle.witness_circuits.specs.Joining.{joined, own_at, own_count}
 
--- what the witness's inputs and latches hold: what is shared comes from the circuit and through the map, and its own stand after the circuit's
+-- The values of the witness's inputs and latches. What is shared comes from the circuit and through
+-- the map, and its own come after the circuit's.
 abbrev pub witness_digits : Netlist → Sharing → Digits → Digits
 witness_digits c k z = joined k.inputs z (λ i. z (own_at c.aig.inputs k.inputs i))
 
--- what the latches of the witness hold in a step of the lifted one: what is shared comes through
--- the map, its own latches stand after the circuit's
+-- The values of the witness's latches in a step of the lifted one. What is shared comes through the
+-- map, and its own come after the circuit's.
 abbrev pub witness_state : Netlist → Netlist → Sharing → State → State
 witness_state c m k u = joined k.latches (mapped m u) (λ j. u (own_at (length c.aig.latches) k.latches j))
 
--- latch j of g has the reset of this one, and its next literal the value that this one's has by `own`
+-- latch j of g has the reset of this one, and its next literal the value that this one's has by
+-- `own`
 pub record GoesAs (g : Graph) (j : ℕ) (latch : Latch) (own : Digits → State → ℕ → Bool) : Type 0 where
   pub is : Latch
   pub there : slice_get g.latches j ≡ Some is
@@ -44,8 +46,9 @@ literal_name first i = record { position = i; name = codes "= " ++ decimal (2 * 
 abbrev pub literal_names : ℕ → ℕ → List Symbol
 literal_names first n = table 0 n (literal_name first)
 
--- r has the inputs and latches of c, with c's resets and steps, and after them those of w that are its own, which read through the map what w
--- shares. Its constraints are c's; it is good where the map's constraints hold, w's do, and w is.
+-- r has the inputs and latches of c, with c's resets and steps, and after them those of w that are
+-- its own. These read through the map what w shares. Its constraints are c's. It is good if the
+-- map's constraints hold, w's do, and w is.
 pub record IsLiftedOver (c m w : Netlist) (k : Sharing) (r : Netlist) : Type 0 where
   pub inputs : r.aig.inputs ≡ c.aig.inputs + own_count k.inputs
   pub latches : length r.aig.latches ≡ length c.aig.latches + own_count k.latches

@@ -37,15 +37,15 @@ TellsWhether names false = NoneSays names
 abbrev pub IsSaid : List Symbol → ℕ → ℕ → Type 0
 IsSaid names position lit = (j : ℕ) × (name : Symbol) × (slice_get names j ≡ Some name) × (name.position ≡ position) × Says name.name lit
 
--- Of so many inputs or latches those are shared whose names begin with `= `: each is the variable, from `first` on, whose literal its name
--- says, and no two are the same.
+-- Of `many` inputs or latches those are shared whose names begin with `= `. Each is the variable,
+-- from `first` on, whose literal its name says, and no two are one variable.
 pub record AreNamed (first count : ℕ) (names : List Symbol) (many : ℕ) (places : List (Option ℕ)) : Type 0 where
   pub long : length places ≡ many
   pub shared : (i place : ℕ) → slice_get places i ≡ Some (Some place) → (place < count) × IsSaid names i (2 * (first + place))
   pub each : (j : ℕ) (name : Symbol) → slice_get names j ≡ Some name → IsSaying name.name → (place : ℕ) × (slice_get places name.position ≡ Some (Some place))
   pub once : (i j place : ℕ) → slice_get places i ≡ Some (Some place) → slice_get places j ≡ Some (Some place) → i ≡ j
 
--- a name is left out, or its place is put at its position and marked, where it wasn't marked before
+-- a name is left out, or its place is put at its position and marked, if it wasn't marked before
 abbrev pub Takes : ℕ → Symbol → List (Option ℕ) → List Bool → List (Option ℕ) → List Bool → Type 0
 Takes first name places taken new marked =
     ((IsSaying name.name → ⊥) × (new ≡ places) × (marked ≡ taken))
@@ -70,7 +70,7 @@ pub record IsByPlaces (c w : Netlist) (k : Sharing) : Type 0 where
   pub inputs : k.inputs ≡ table 0 w.aig.inputs (place_below c.aig.inputs)
   pub latches : k.latches ≡ table 0 (length w.aig.latches) (place_below (length c.aig.latches))
 
--- as the names of w say, where one says a literal; else by the numbers of its inputs and latches
+-- as the names of w say, if one says a literal; else by the numbers of its inputs and latches
 abbrev pub IsSharedBy : Netlist → Netlist → Sharing → Type 0
 IsSharedBy c w k =
     ((SomeSays w.symbols.inputs ⊎ SomeSays w.symbols.latches) × IsByNames c w k)

@@ -18,7 +18,7 @@ use Rattle.aig_graph.specs.Tables.{table}
 use Rattle.witness_circuits.specs.Literals.{AreSources, negated}
 use Rattle.witness_circuits.specs.Lifting.{in_circuit, in_witness, witness_digits, witness_state}
 
--- a witness that shares inputs of c, and latches among so many
+-- a witness that shares inputs of c, and latches among `outputs`
 pub record IsFitting (c : Graph) (outputs : ℕ) (w : Graph) (k : Sharing) : Type 0 where
   pub inputs : length k.inputs ≡ w.inputs
   pub latches : length k.latches ≡ length w.latches
@@ -42,7 +42,8 @@ pub record IsView (h g : Graph) (own : Digits → State → ℕ → Bool) (liter
   pub within : AreLiteralsOf h literals
   pub values : (z : Digits) (u : State) (lit : ℕ) → variable lit < variables_end g → value_within h z u (substitute literals lit) ≡ own z u lit
 
--- what stands for the constant, the inputs and the latches: the first inputs, and the latches from a first variable on
+-- the literals that stand for the constant, the inputs and the latches: the first inputs, and the
+-- latches from a first variable on
 abbrev pub first_leaves : ℕ → Graph → List ℕ
 first_leaves at c = 0 ∷ (table 0 c.inputs (λ i. 2 * (1 + i)) ++ table 0 (length c.latches) (λ j. 2 * (at + j)))
 
@@ -62,7 +63,7 @@ pub record AreWitnessLeaves (at : ℕ) (c : Graph) (outputs : List ℕ) (k : Sha
 abbrev pub over_latches : Graph → Digits → State → ℕ → Bool
 over_latches g z u = value_within g u (λ j. false)
 
--- the values of a witness's literals, where it shares latches that hold what these literals are
+-- the values of a witness's literals, if it shares latches that hold what these literals are
 abbrev pub held_by : Graph → List ℕ → Digits → State → State
 held_by h lits z u = λ j. slice_index_or (map (value_within h z u) lits) j false
 
@@ -81,7 +82,8 @@ pub record AreParts (h : Graph) (c m w : Netlist) (k : Sharing) (p : Parts) : Ty
 abbrev pub substitutes : List ℕ → List ℕ → List ℕ
 substitutes literals lits = map (substitute literals) lits
 
--- what a good state has to be: the constraints of the map and of the witness, and no bad state of the witness
+-- what a good state has to be: the constraints of the map and of the witness, and no bad state of
+-- the witness
 abbrev pub demands : Netlist → Netlist → Parts → List ℕ
 demands m w p = map (substitute p.map) m.props.constraints ++ map (substitute p.witness) w.props.constraints ++ map (λ lit. negated (substitute p.witness lit)) (bad_states w.props)
 

@@ -22,7 +22,7 @@ Agree places model witness = (k place : ℕ) → slice_get places k ≡ Some (So
 abbrev pub AreJoint : Sharing → Digits → State → Digits → State → Type 0
 AreJoint k x s y t = Agree k.inputs x y × Agree k.latches s t
 
--- the bad states: the outputs, where a file has none
+-- the bad states: the outputs, if a file has none
 abbrev pub bad_or : List ℕ → List ℕ → List ℕ
 bad_or [] outputs = outputs
 bad_or (lit ∷ lits) outputs = lit ∷ lits
@@ -43,8 +43,9 @@ HasResets w places t = (j place : ℕ) (latch : Latch) → slice_get places j �
 abbrev pub GoesOn : Netlist → List (Option ℕ) → Digits → State → State → Type 0
 GoesOn w places y t u = (j place : ℕ) (latch : Latch) → slice_get places j ≡ Some (Some place) → slice_get w.aig.latches j ≡ Some latch → u j ≡ value_within w.aig y t latch.next
 
--- The five checks. A first state of c is one of what w shares, and w's constraints hold; a step of c is one of what w shares, and w's
--- constraints go on to hold; where w's state is good, so is c's; w's first states are good; and a step of w keeps a state good.
+-- The five checks. A first state of c is one of what w shares, and w's constraints hold. A step of
+-- c is one of what w shares, and w's constraints go on to hold. If w's state is good, so is c's.
+-- w's first states are good. A step of w keeps a state good.
 pub record IsWitness (c w : Netlist) (k : Sharing) : Type 0 where
   pub reset : (f : Choice) (x y : Digits) (t : State) → AreJoint k x (opening_state c.aig f) y t → IsAllowed c x (opening_state c.aig f)
       → HasResets w k.latches t × IsAllowed w y t

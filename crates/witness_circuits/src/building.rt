@@ -24,7 +24,7 @@ pub(crate) struct Built {
     pub(crate) props: Props,
 }
 
-/// The resets of the circuit's latches, and of the witness's own.
+/// Returns the resets of the circuit's latches, and of the witness's own.
 fn resets_of(alloc: Global, first: &[Latch], own: &[Latch]) -> Result<Vec<Reset>, NoMemory>
     ensures { IfOk result (λ resets. resets.items ≡ both_resets first.now own.now) }
 {
@@ -34,7 +34,8 @@ fn resets_of(alloc: Global, first: &[Latch], own: &[Latch]) -> Result<Vec<Reset>
     Ok(resets)
 }
 
-/// A graph without gates that has the inputs and latches of the circuit, and the witness's own.
+/// Returns a graph without gates that has the inputs and latches of the circuit, and the witness's
+/// own.
 fn begun(
     alloc: Global,
     first: &Aig,
@@ -52,7 +53,8 @@ fn begun(
     Ok(gates)
 }
 
-/// What stands for the next literals of the circuit's latches, and of the witness's own.
+/// Returns the literals that stand for the next literals of the circuit's latches, and of the
+/// witness's own.
 fn nexts_of(alloc: Global, parts: &Parts, first: &Aig, own: &[Latch]) -> Result<Vec<Lit>, NoMemory>
     requires first { length parts.now.first ≡ variables_end first.now }
     requires own { All (λ latch. variable latch.next < length parts.now.witness) own.now }
@@ -97,7 +99,7 @@ fn filled(
     Ok(props)
 }
 
-/// The graph of the lifted witness, and its properties.
+/// Returns the graph of the lifted witness, and its properties.
 pub(crate) fn assembled(
     alloc: Global,
     first: &Circuit,

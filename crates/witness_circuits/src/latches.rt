@@ -1,5 +1,5 @@
-//! The latches: those of the circuit, then the witness's own. A builder begins with their resets, and they get their next literals when the
-//! gates are there.
+//! The latches: those of the circuit, then the witness's own. A builder begins with their resets,
+//! and they get their next literals when the gates are there.
 ghost use Rattle.std.specs.Prelude.{ℕ, ◌≡◌, ◌<◌, ◌++◌, All, IfOk, OnOk, length, map};
 ghost use Rattle.aig_graph.specs.Circuits.{AreLiteralsOf};
 ghost use Rattle.aig_graph.specs.Graph.{IsGraph, variable};
@@ -11,7 +11,7 @@ use aig_graph::{AigBuilder, Latch, Lit, NoMemory, Reset};
 use map_circuits::Instance;
 use std::alloc::Global;
 
-/// The latches whose places are shared with none.
+/// Returns the latches whose places are shared with none.
 pub(crate) fn own_latches(
     alloc: Global,
     places: &[Option<u32>],
@@ -29,11 +29,11 @@ pub(crate) fn own_latches(
     Ok(own)
 }
 
-/// The resets of latches are put after those before.
+/// Appends the resets of latches.
 ///
 /// # Errors
 ///
-/// `NoMemory` where memory is refused; some may have been put then.
+/// `NoMemory` if memory is refused; some may have been appended.
 pub fn push_resets(resets: &mut Vec<Reset>, latches: &[Latch]) -> Result<(), NoMemory>
     ensures { OnOk result (resets.new.items ≡ resets.old.items ++ map (λ latch. latch.reset)
         latches.now) }
@@ -44,11 +44,11 @@ pub fn push_resets(resets: &mut Vec<Reset>, latches: &[Latch]) -> Result<(), NoM
     Ok(())
 }
 
-/// What stands for the next literals of latches is put after those before.
+/// Appends the literals that stand for the next literals of latches.
 ///
 /// # Errors
 ///
-/// `NoMemory` where memory is refused; some may have been put then.
+/// `NoMemory` if memory is refused; some may have been appended.
 pub fn push_nexts(
     nexts: &mut Vec<Lit>,
     instance: &Instance,

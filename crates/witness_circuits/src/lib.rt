@@ -1,10 +1,13 @@
-//! Witness circuits: what a model checker hands in to show that no bad state of a model is reached, and what that shows. They are
-//! the certificates of the hardware model checking competition: five checks of one or two steps each, which any SAT solver answers.
+//! Witness circuits: what a model checker hands in to show that no bad state of a model is reached,
+//! and what that shows. They are the certificates of the hardware model checking competition: five
+//! checks of one or two steps each, which any SAT solver answers.
 //!
-//! Proofs that come back: a witness circuit of a circuit to which another one has a map, read through the map, is one of the other.
+//! Lifted proofs: let a map lead from the states of a circuit to those of another one. A witness
+//! circuit of the other one, read through the map, is a witness circuit of the first.
 //!
-//! Which inputs and latches a witness circuit shares with the model. The names of its inputs and latches say so, as `= 12` does of the
-//! literal 12 of the model; where no name does, the first ones of the witness are the model's, in order.
+//! Sharing: a witness circuit shares inputs and latches with the model. The names of its inputs and
+//! latches tell which, as `= 12` names the literal 12 of the model. If no name does, the first ones
+//! of the witness are the model's, in order.
 #![tactic(auto)]
 
 mod building;

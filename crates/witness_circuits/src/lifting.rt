@@ -1,5 +1,6 @@
-//! A witness circuit is lifted in one graph: each latch that it shares is replaced by what the map gives, so that no latch of the mapped
-//! circuit is left. A latch that is only equated with it would start by itself, and could start otherwise.
+//! A witness circuit is lifted in one graph. Each latch that it shares is replaced by what the map
+//! gives, so no latch of the mapped circuit is left. A latch that is only equated with it would
+//! start by itself, and could start otherwise.
 ghost use Rattle.std.specs.Prelude.{◌≡◌, IfOk};
 ghost use Rattle.aig_graph.specs.Circuits.{IsNetlist};
 ghost use Rattle.witness_circuits.specs.Built.{circuit_of};
@@ -13,7 +14,7 @@ use crate::sharing::Sharing;
 use aig_graph::{Aig, Circuit, Symbols};
 use std::alloc::Global;
 
-/// The graph and its properties as a circuit with these names. Takes no memory.
+/// Returns the graph and its properties as a circuit with these names. Takes no memory.
 fn finished(built: Built, symbols: Symbols) -> Circuit
     requires { IsNetlist (circuit_of built symbols) }
     ensures { result ≡ circuit_of built symbols }
@@ -22,13 +23,16 @@ fn finished(built: Built, symbols: Symbols) -> Circuit
     Circuit::new(gates.finish(), props, symbols)
 }
 
-/// A witness circuit for a model, made of one for the circuit to which a map maps the states of the first circuit. That is the model, or has
-/// the model's inputs and latches and more latches. What is made has the inputs and latches of the first circuit, and after them those that
-/// are the witness's own. Its names say that its first inputs and latches are those of the model. Linear in all three.
+/// Makes a witness circuit for a model, of one for the circuit to which a map maps the states of
+/// the first circuit. The first circuit is the model, or has the model's inputs and latches and
+/// more latches. The result has the inputs and latches of the first circuit, and after them those
+/// that are the witness's own. Its names say that its first inputs and latches are those of the
+/// model. Linear in all three.
 ///
 /// # Errors
 ///
-/// `NoMemory` where memory is refused, `TooLarge` where it would have more variables than a graph may have.
+/// `NoMemory` if memory is refused, `TooLarge` if it would have more variables than a graph may
+/// have.
 pub fn witness_lifted_over(
     alloc: Global,
     model: &Aig,
@@ -52,12 +56,14 @@ pub fn witness_lifted_over(
     }
 }
 
-/// A witness circuit for a circuit, made of one for the circuit to which a map maps its states. It has the inputs and latches of the
-/// circuit, which its names say, and after them those that are the witness's own. Linear in all three.
+/// Makes a witness circuit for a circuit, of one for the circuit to which a map maps its states. It
+/// has the inputs and latches of the circuit, which its names say, and after them those that are
+/// the witness's own. Linear in all three.
 ///
 /// # Errors
 ///
-/// `NoMemory` where memory is refused, `TooLarge` where it would have more variables than a graph may have.
+/// `NoMemory` if memory is refused, `TooLarge` if it would have more variables than a graph may
+/// have.
 pub fn lifted_witness(
     alloc: Global,
     first: &Circuit,

@@ -1,4 +1,5 @@
-//! What stands for the constant, the inputs and the latches of each circuit, before its gates are added.
+//! The literals that stand for the constant, the inputs and the latches of each circuit, before its
+//! gates are added.
 ghost use Rattle.std.specs.Prelude.{ℕ, ◌≡◌, ◌+◌, ◌*◌, ◌<◌, ◌≤◌, ◌++◌, ◌∷◌, All, IfOk, OnOk, Some, length, map, slice_get, true, if◌then◌else◌};
 ghost use Rattle.aig_graph.specs.declared.literal.TheConstants.{MAX_VARIABLES};
 ghost use Rattle.aig_graph.specs.Graph.{variable};
@@ -11,11 +12,11 @@ use aig_graph::{Lit, NoMemory};
 use map_circuits::Instance;
 use std::alloc::Global;
 
-/// The literals of this many variables, from a first one on.
+/// Returns the literals of `count` variables, from `first` on.
 ///
 /// # Errors
 ///
-/// `NoMemory` where memory is refused.
+/// `NoMemory` if memory is refused.
 pub fn numbered(alloc: Global, first: u32, count: usize) -> Result<Vec<Lit>, NoMemory>
     requires { first + count ≤ MAX_VARIABLES }
     ensures { IfOk result (λ lits. lits.items ≡ table 0 count (λ k. 2 * (first + k))) }
@@ -27,14 +28,14 @@ pub fn numbered(alloc: Global, first: u32, count: usize) -> Result<Vec<Lit>, NoM
     Ok(lits)
 }
 
-/// Whether the place is shared with none.
+/// Returns true if the place is shared with none.
 pub(crate) fn is_own(place: &Option<u32>) -> bool
     ensures { result ≡ is_own place.now }
 {
     place.is_none()
 }
 
-/// 1 where the place is shared with none, else 0.
+/// Returns 1 if the place is shared with none, else 0.
 fn one_if_own(place: &Option<u32>) -> u32
     ensures value { result ≡ (if is_own place.now then 1 else 0) }
     ensures small { result ≤ 1 }
@@ -42,7 +43,7 @@ fn one_if_own(place: &Option<u32>) -> u32
     u32::from(is_own(place))
 }
 
-/// How many places are shared with none.
+/// Returns the number of places that are shared with none.
 pub(crate) fn own_count(places: &[Option<u32>]) -> u32
     requires { length places.now < MAX_VARIABLES }
     ensures value { result ≡ own_count places.now }
@@ -55,7 +56,7 @@ pub(crate) fn own_count(places: &[Option<u32>]) -> u32
     count
 }
 
-/// The literal of what is shared, or that of the next variable.
+/// Returns the literal of what is shared, or that of the next variable.
 fn source(shared: &[Lit], place: &Option<u32>, next: u32) -> Lit
     requires below { (at : ℕ) → place.now ≡ Some at → at < length shared.now }
     requires next { is_own place.now ≡ true → next < MAX_VARIABLES }
@@ -67,7 +68,8 @@ fn source(shared: &[Lit], place: &Option<u32>, next: u32) -> Lit
     }
 }
 
-/// Where the witness's inputs or latches come from: those that it shares from these literals, its own from variables of their own.
+/// Returns the literals that stand for the witness's inputs or latches. Those that it shares have
+/// these literals, its own have variables of their own.
 pub(crate) fn sources(
     alloc: Global,
     places: &[Option<u32>],
@@ -87,11 +89,11 @@ pub(crate) fn sources(
     Ok(lits)
 }
 
-/// A table of leaves: the constant, these inputs and these latches.
+/// Returns a table of leaves: the constant, these inputs and these latches.
 ///
 /// # Errors
 ///
-/// `NoMemory` where memory is refused.
+/// `NoMemory` if memory is refused.
 pub fn leaves(alloc: Global, inputs: &[Lit], latches: &[Lit]) -> Result<Instance, NoMemory>
     ensures { IfOk result (λ leaves. leaves ≡ 0 ∷ (inputs.now ++ latches.now)) }
 {
@@ -102,11 +104,11 @@ pub fn leaves(alloc: Global, inputs: &[Lit], latches: &[Lit]) -> Result<Instance
     Ok(Instance::of(literals))
 }
 
-/// What stands for each of these literals is put after those before.
+/// Appends the literals that stand for these.
 ///
 /// # Errors
 ///
-/// `NoMemory` where memory is refused; some may have been put then.
+/// `NoMemory` if memory is refused; some may have been appended.
 pub fn push_substitutes(
     substitutes: &mut Vec<Lit>,
     instance: &Instance,
@@ -123,7 +125,7 @@ pub fn push_substitutes(
     Ok(())
 }
 
-/// The same, of their negations.
+/// Appends the literals that stand for the negations of these.
 pub(crate) fn push_negations(
     substitutes: &mut Vec<Lit>,
     instance: &Instance,

@@ -10,7 +10,7 @@ use aig_graph::{Aig, Lit, NoMemory, Sequence, Symbol, Symbols};
 use itoa::Buffer;
 use std::alloc::Global;
 
-/// The bytes of a name that says a literal.
+/// Returns the bytes of a name that says a literal.
 fn name_bytes(alloc: Global, lit: Lit) -> Result<Vec<u8>, NoMemory>
     ensures { IfOk result (λ bytes. bytes.items ≡ codes "= " ++ decimal lit) }
 {
@@ -20,7 +20,7 @@ fn name_bytes(alloc: Global, lit: Lit) -> Result<Vec<u8>, NoMemory>
     Ok(bytes)
 }
 
-/// The name at a position, which says the literal of a variable.
+/// Returns the name at a position, which says the literal of a variable.
 fn name(alloc: Global, first: u32, position: u32) -> Result<Symbol, NoMemory>
     requires { first + position + 1 ≤ MAX_VARIABLES }
     ensures { IfOk result (λ symbol. symbol ≡ literal_name first position) }
@@ -32,7 +32,7 @@ fn name(alloc: Global, first: u32, position: u32) -> Result<Symbol, NoMemory>
     })
 }
 
-/// The names of this many variables, from a first one on.
+/// Returns the names of `count` variables, from `first` on.
 fn names(alloc: Global, first: u32, count: u32) -> Result<Sequence<Symbol>, NoMemory>
     requires { first + count ≤ MAX_VARIABLES }
     ensures { IfOk result (λ names. names ≡ literal_names first count) }
@@ -44,7 +44,7 @@ fn names(alloc: Global, first: u32, count: u32) -> Result<Sequence<Symbol>, NoMe
     Ok(Sequence::from_vec(names))
 }
 
-/// Names that say which inputs and latches are those of a graph: the first ones, in order.
+/// Returns names that say that the first inputs and latches are those of a graph, in order.
 pub(crate) fn names_of(alloc: Global, aig: &Aig) -> Result<Symbols, NoMemory>
     ensures { IfOk result (λ symbols. symbols ≡ record no_symbols {
       inputs = literal_names 1 aig.now.inputs;

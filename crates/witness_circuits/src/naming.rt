@@ -11,7 +11,7 @@ use aig_graph::Symbol;
 use file_words::number;
 use std::alloc::Global;
 
-/// The text after these letters, where it begins with them.
+/// Returns the text after these letters, if it begins with them.
 fn after_letters<'a>(text: &'a [u8], letters: &[u8]) -> Option<&'a [u8]>
     ensures { MatchOption result ((rest : List ℕ) → text.now ≡ letters.now ++ rest
         → ⊥) (λ rest. text.now ≡ letters.now ++ rest.now) }
@@ -19,7 +19,7 @@ fn after_letters<'a>(text: &'a [u8], letters: &[u8]) -> Option<&'a [u8]>
     text.strip_prefix(letters)
 }
 
-/// What follows `= ` in a name that begins so.
+/// Returns what follows `= ` in a name that begins so.
 fn digits_of(name: &[u8]) -> Option<&[u8]>
     ensures { MatchOption result ((digits : List ℕ) → name.now ≡ codes "= " ++ digits
         → ⊥) (λ digits. name.now ≡ codes "= " ++ digits.now) }
@@ -27,7 +27,8 @@ fn digits_of(name: &[u8]) -> Option<&[u8]>
     after_letters(name, b"= ")
 }
 
-/// The place, among so many variables from a first one on, of the one whose literal digits say.
+/// Returns the place of the variable whose literal the digits say, among `count` variables from
+/// `first` on.
 fn place_of(digits: &[u8], first: u32, count: u32) -> Option<u32>
     ensures { MatchOption result ((place : ℕ) → place < count
         → number_of digits.now ≡ Some (2 * (first + place))
@@ -42,7 +43,7 @@ fn place_of(digits: &[u8], first: u32, count: u32) -> Option<u32>
     Some((var - from) as u32)
 }
 
-/// Whether a name says a literal.
+/// Returns true if a name says a literal.
 fn says(name: &Symbol) -> bool
     ensures { Tells name.now result }
 {
@@ -52,7 +53,7 @@ fn says(name: &Symbol) -> bool
     }
 }
 
-/// Whether one of the names says a literal.
+/// Returns true if one of the names says a literal.
 pub(crate) fn any_says(names: &[Symbol]) -> bool
     ensures { TellsWhether names.now result }
 {
@@ -72,7 +73,7 @@ struct NamedPlaces {
 }
 
 impl NamedPlaces {
-    /// Nothing, for so many inputs or latches, and so many of the model's.
+    /// Returns no places, for `many` inputs or latches of the witness and `count` of the model.
     fn none(alloc: Global, many: usize, count: usize) -> Result<NamedPlaces, SharingError>
         ensures places { IfOk result (λ named. named.places.items ≡ replicate many None) }
         ensures taken { IfOk result (λ named. named.taken.items ≡ replicate count false) }
@@ -106,7 +107,8 @@ impl NamedPlaces {
     }
 }
 
-/// The places that names say, for so many inputs or latches, among those of the model: so many variables from a first one on.
+/// Returns the places that names say, for `many` inputs or latches of the witness. They are among
+/// `count` variables of the model, from `first` on.
 pub(crate) fn named_places(
     alloc: Global,
     many: usize,

@@ -1,5 +1,5 @@
-//! The circuit, its map and the witness, each once among the gates of one graph: the map over the circuit's latches, and the witness over
-//! the map where it shares latches.
+//! The circuit, its map and the witness, each once among the gates of one graph. The map reads the
+//! circuit's latches. The witness reads the map for the latches that it shares.
 ghost use Rattle.std.specs.Prelude.{ℕ, ◌≡◌, ◌+◌, ◌*◌, ◌≤◌, ◌<◌, [], IfOk, OnOk, Some, length, slice_get};
 ghost use Rattle.aig_graph.specs.declared.literal.TheConstants.{MAX_VARIABLES};
 ghost use Rattle.aig_graph.specs.Circuits.{AreLiteralsOf};
@@ -27,7 +27,8 @@ pub(crate) struct Parts {
     pub(crate) witness: Instance,
 }
 
-/// What stands for the inputs and latches of the circuit: the first ones, the latches from this variable on.
+/// Returns the literals of the inputs and latches of the circuit: the inputs are the first
+/// variables, and the latches begin with `first_latch`.
 fn first_leaves(alloc: Global, first_latch: u32, first: &Aig) -> Result<Instance, NoMemory>
     requires { first_latch + length first.now.latches ≤ MAX_VARIABLES }
     ensures { IfOk result (λ leaves. leaves ≡ first_leaves first_latch first.now) }
@@ -37,7 +38,7 @@ fn first_leaves(alloc: Global, first_latch: u32, first: &Aig) -> Result<Instance
     leaves(alloc, inputs.as_slice(), latches.as_slice())
 }
 
-/// What stands for the inputs of the map: latches.
+/// Returns the literals of the inputs of the map, which are latches.
 fn map_leaves(alloc: Global, first_latch: u32, map: &Aig) -> Result<Instance, NoMemory>
     requires { first_latch + map.now.inputs ≤ MAX_VARIABLES }
     ensures { IfOk result (λ leaves. leaves ≡ map_leaves first_latch map.now) }
@@ -46,7 +47,8 @@ fn map_leaves(alloc: Global, first_latch: u32, map: &Aig) -> Result<Instance, No
     leaves(alloc, inputs.as_slice(), &[])
 }
 
-/// Where the inputs of the witness come from: inputs of the circuit, or its own after those.
+/// Returns the literals of the inputs of the witness: inputs of the circuit, or its own after
+/// those.
 fn input_sources(alloc: Global, first: &Aig, sharing: &Sharing) -> Result<Vec<Lit>, NoMemory>
     requires below { (i at : ℕ) → slice_get sharing.now.inputs i ≡ Some (Some at) → at < first.now.inputs }
     requires room { 1 + first.now.inputs + own_count sharing.now.inputs ≤ MAX_VARIABLES }
@@ -62,7 +64,8 @@ fn input_sources(alloc: Global, first: &Aig, sharing: &Sharing) -> Result<Vec<Li
     )
 }
 
-/// What stands for the inputs and latches of the witness: where it shares latches, these literals.
+/// Returns the literals of the inputs and latches of the witness. The latches that it shares are
+/// these literals.
 fn witness_leaves(
     alloc: Global,
     first_latch: u32,
@@ -83,7 +86,7 @@ fn witness_leaves(
     leaves(alloc, inputs.as_slice(), latches.as_slice())
 }
 
-/// The gates of the circuit.
+/// Adds the gates of the circuit.
 fn add_first(
     alloc: Global,
     gates: &mut AigBuilder,
@@ -103,7 +106,7 @@ fn add_first(
     Ok(part)
 }
 
-/// The gates of the map.
+/// Adds the gates of the map.
 fn add_map(
     alloc: Global,
     gates: &mut AigBuilder,
@@ -123,7 +126,7 @@ fn add_map(
     Ok(part)
 }
 
-/// The gates of the witness, where it shares latches over these literals.
+/// Adds the gates of the witness. The latches that it shares are these literals.
 fn add_witness(
     alloc: Global,
     gates: &mut AigBuilder,
@@ -148,7 +151,7 @@ fn add_witness(
     Ok(part)
 }
 
-/// What stands for the outputs of the map.
+/// Returns the literals that stand for the outputs of the map.
 fn outputs_of(alloc: Global, part: &Instance, map: &Circuit) -> Result<Vec<Lit>, NoMemory>
     requires { length part.now ≡ variables_end map.now.aig }
     ensures { IfOk result (λ lits. lits.items ≡ substitutes part.now map.now.props.outputs) }
@@ -159,7 +162,7 @@ fn outputs_of(alloc: Global, part: &Instance, map: &Circuit) -> Result<Vec<Lit>,
     Ok(outputs)
 }
 
-/// The gates of all three.
+/// Adds the gates of all three.
 pub(crate) fn add_parts(
     alloc: Global,
     gates: &mut AigBuilder,

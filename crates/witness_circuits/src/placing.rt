@@ -5,7 +5,7 @@ ghost use Rattle.witness_circuits.specs.Naming.{place_below};
 
 use std::alloc::{AllocError, Global};
 
-/// The number of an input or latch, where the model has one of this number.
+/// Returns the number of an input or latch, if the model has one of this number.
 fn place_below(place: u32, count: usize) -> Option<u32>
     ensures { result ≡ place_below count place }
 {
@@ -16,11 +16,11 @@ fn place_below(place: u32, count: usize) -> Option<u32>
     }
 }
 
-/// For each of so many inputs or latches that of the model with its number, if there is one.
+/// Returns for each of `many` inputs or latches that of the model with its number, if there is one.
 ///
 /// # Errors
 ///
-/// `AllocError` where memory is refused.
+/// `AllocError` if memory is refused.
 pub fn first_places(alloc: Global, many: u32, count: usize) -> Result<Vec<Option<u32>>, AllocError>
     ensures { IfOk result (λ places. places.items ≡ table 0 many (place_below count)) }
 {

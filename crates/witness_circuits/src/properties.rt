@@ -1,5 +1,6 @@
-//! The constraints and the bad state. The constraints are the circuit's alone: that the map's and the witness's hold is a part of what a good
-//! state is, since a latch of the witness's own holds anything where a check begins.
+//! The constraints and the bad state. The constraints are the circuit's alone. Those of the map and
+//! of the witness are demands on a good state. They can't be constraints, since the witness's own
+//! latches hold anything at the first state of a check.
 ghost use Rattle.std.specs.Prelude.{◌≡◌, ◌∷◌, [], IfOk, OnOk, length};
 ghost use Rattle.aig_graph.specs.Graph.{IsGraph, variables_end};
 ghost use Rattle.map_circuits.specs.Growing.{Extends};
@@ -14,7 +15,7 @@ use aig_graph::{AigBuilder, Circuit, Lit, NoMemory, Props, Sequence};
 use map_circuits::add_conjunction_of;
 use std::alloc::Global;
 
-/// The bad states: the outputs, where there are none.
+/// Returns the bad states, or the outputs if there are none.
 fn bad_states(props: &Props) -> &[Lit]
     ensures { result.now ≡ bad_states props.now }
 {
@@ -25,7 +26,7 @@ fn bad_states(props: &Props) -> &[Lit]
     }
 }
 
-/// The constraints of the circuit.
+/// Returns the constraints of the circuit.
 fn constraints_of(alloc: Global, parts: &Parts, first: &Circuit) -> Result<Vec<Lit>, NoMemory>
     requires { length parts.now.first ≡ variables_end first.now.aig }
     ensures { IfOk result (λ lits. lits.items
@@ -41,7 +42,8 @@ fn constraints_of(alloc: Global, parts: &Parts, first: &Circuit) -> Result<Vec<L
     Ok(lits)
 }
 
-/// What a good state has to be: one in which the map's and the witness's constraints are 1, and the witness's bad states are not.
+/// Returns the demands on a good state: the map's and the witness's constraints are 1, and the
+/// witness's bad states are not.
 fn demands_of(
     alloc: Global,
     parts: &Parts,
@@ -62,11 +64,11 @@ fn demands_of(
     Ok(demands)
 }
 
-/// The properties of a circuit that is checked for safety: one bad state, and constraints.
+/// Returns the properties of a circuit that is checked for safety: one bad state, and constraints.
 ///
 /// # Errors
 ///
-/// `NoMemory` where memory is refused.
+/// `NoMemory` if memory is refused.
 pub fn safety_props(alloc: Global, bad: Lit, constraints: Vec<Lit>) -> Result<Props, NoMemory>
     ensures { IfOk result (λ props. props ≡ record {
       outputs = [];
@@ -84,7 +86,7 @@ pub fn safety_props(alloc: Global, bad: Lit, constraints: Vec<Lit>) -> Result<Pr
     Ok(props)
 }
 
-/// The properties of the lifted witness.
+/// Adds the properties of the lifted witness.
 pub(crate) fn add_props(
     alloc: Global,
     gates: &mut AigBuilder,

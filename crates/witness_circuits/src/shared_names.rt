@@ -1,5 +1,5 @@
-//! Which latches and inputs a witness circuit shares with its model: those that its names say, where any of them names one, else by
-//! places.
+//! The latches and inputs that a witness circuit shares with its model: by names if any of its
+//! names says a literal, else by places.
 ghost use Rattle.std.specs.Prelude.{◌≡◌, IfErr, IfOk, IsErrOf};
 ghost use Rattle.witness_circuits.specs.Witnesses.{IsSharing};
 ghost use Rattle.witness_circuits.specs.Naming.{IsByNames, IsByPlaces, IsSharedBy};
@@ -13,7 +13,7 @@ use crate::sharing_errors::SharingError;
 use aig_graph::{Circuit, Sequence};
 use std::alloc::Global;
 
-/// As the names say.
+/// Returns the sharing that the names say.
 fn by_names(alloc: Global, model: &Circuit, witness: &Circuit) -> Result<Sharing, SharingError>
     ensures named { IfOk result (IsByNames model.now witness.now) }
     ensures refused { IsErrOf result NoSuchLiteral → (k : Shares) → IsByNames model.now witness.now k → ⊥ }
@@ -43,7 +43,7 @@ fn by_names(alloc: Global, model: &Circuit, witness: &Circuit) -> Result<Sharing
     })
 }
 
-/// By their numbers.
+/// Returns the sharing by numbers.
 fn by_places(alloc: Global, model: &Circuit, witness: &Circuit) -> Result<Sharing, SharingError>
     ensures placed { IfOk result (IsByPlaces model.now witness.now) }
     ensures memory { IfErr result (λ error. error ≡ NoMemory) }
@@ -64,7 +64,7 @@ fn by_places(alloc: Global, model: &Circuit, witness: &Circuit) -> Result<Sharin
     })
 }
 
-/// The same, by names where one says a literal.
+/// Returns the sharing by names if one says a literal, else by numbers.
 fn shared(alloc: Global, model: &Circuit, witness: &Circuit) -> Result<Sharing, SharingError>
     ensures shared { IfOk result (IsSharedBy model.now witness.now) }
     ensures refused { IsErrOf result NoSuchLiteral → (k : Shares) → IsSharedBy model.now witness.now k → ⊥ }
@@ -79,13 +79,14 @@ fn shared(alloc: Global, model: &Circuit, witness: &Circuit) -> Result<Sharing, 
     }
 }
 
-/// Which inputs and latches of a witness circuit are those of the model: as the names of its inputs and latches say or, where none says a
-/// literal, by their numbers.
+/// Returns the inputs and latches of a witness circuit that are those of the model. The names of
+/// its inputs and latches say which. If none says a literal, their numbers do.
 ///
 /// # Errors
 ///
-/// `NoMemory` where memory is refused; `NoSuchLiteral` where the name of an input says what isn't the positive literal of an input of the
-/// model, the name of a latch what isn't that of a latch, or a name what an earlier one says.
+/// `NoMemory` if memory is refused. `NoSuchLiteral` if the name of an input says another thing than
+/// the positive literal of an input of the model. Likewise for a latch, and for a name that says
+/// what an earlier one says.
 pub fn sharing_of(
     alloc: Global,
     model: &Circuit,

@@ -1,7 +1,7 @@
 use aig_graph::Sequence;
 
-/// Which inputs and latches a witness circuit shares with the model: of each of the witness's the place, from 0, of the model's that it
-/// is, and none where it is the witness's own.
+/// The inputs and latches that a witness circuit shares with the model. Each of the witness's has
+/// the place, from 0, of that of the model. One of the witness's own has none.
 #[derive(Drop)]
 pub struct Sharing {
     pub inputs: Sequence<Option<u32>>,

@@ -7,7 +7,8 @@ pub enum SharingError {
     /// Memory was refused.
     #[error("out of memory")]
     NoMemory,
-    /// A name says what is no literal of an input, or of a latch, of the model, or one that an earlier name says.
+    /// A name says what is no literal of an input, or of a latch, of the model, or one that an
+    /// earlier name says.
     #[error("a name says a literal that the model hasn't, or one twice")]
     NoSuchLiteral,
 }

@@ -23,14 +23,14 @@ is_there [] n at = absurd (none-some true at)
 is_there (b ∷ row) zero at = same_Some b true at
 is_there (b ∷ row) (suc n) at = is_there row n at
 
--- all are 1 where each is
+-- all are 1 if each is
 pub all_true : (f : ℕ → Bool) (xs : List ℕ) → AreTrue f xs → list_all (λ b. b) (map f xs) ≡ true
 all_true f [] each = refl
 all_true f (x ∷ xs) each = both (f x) (list_all (λ b. b) (map f xs)) (each 0 (omega arith)) (all_true f xs (λ k h. each (suc k) (omega (arith, h)))) where
   both : (a b : Bool) → a ≡ true → b ≡ true → (a && b) ≡ true
   both a b first second = ap₂ (λ (x y : Bool). x && y) first second
 
--- and each is where all are
+-- and each is if all are
 pub each_true : (f : ℕ → Bool) (xs : List ℕ) → list_all (λ b. b) (map f xs) ≡ true → AreTrue f xs
 each_true f [] all k h = absurd (omega (arith, h))
 each_true f (x ∷ xs) all zero h = (and_parts (f x) (list_all (λ b. b) (map f xs)) all).0
@@ -69,7 +69,7 @@ module _ (c : Netlist) (run : InputSequence) where
   noted_more t (Bad n) None all none = noted_now n t (get_or (row t) n false) refl all none
   noted_more t (Justice n) found all before = tt
 
-  -- where no later step reaches it, what was found so far is what is found
+  -- if no later step reaches it, what was found so far is what is found
   pub finished : (t : ℕ) (p : Property) (found : Option ℕ) → t ≤ length run.steps → ((n u : ℕ) → t ≤ u → u < length run.steps → ReachesIn c run n u → ⊥)
       → IsFoundBelow c run t p found → IsReachingStep c run p found
   finished t (Bad n) None within later none = λ u less r. elim (cases_lt u t) [

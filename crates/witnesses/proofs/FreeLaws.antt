@@ -43,7 +43,7 @@ module _ (latch : Latch) (latches : List Latch) where
   taken_put reset.Free n [] long back = absurd (omega (arith, long))
   taken_put reset.Free n (digit ∷ free) long back = ap (λ ds. digit ∷ ds) (back free (omega (arith, long)))
 
--- values for the free latches that are put among the resets, and taken out again, are the same
+-- values for the free latches that are put among the resets, and taken out again, are as they were
 pub taken_back : (latches : List Latch) (free : List Digit) → length free ≡ frees latches → free_digits latches (opening_digits latches free) ≡ free
 unfolding free_digits opening_digits
 taken_back [] [] long = refl
@@ -159,7 +159,7 @@ spread-kept (suc count) place (k ∷ kept) digits r j d h at =
     by_test rest same true e = at_kept rest j h at (eqb-true k place e)
     by_test rest same false e = at_other same (eqb-false k place e)
 
--- ---- in loops, where lists are followed from a place on
+-- ---- in loops, if lists are followed from a place on
 
 from : {X : Type 0} (xs : List X) (k : ℕ) (x : X) → k < length xs → x ≡ get_or xs k x → drop k xs ≡ x ∷ drop (k + 1) xs
 from xs k x h is = drop-cons xs k x h ∙ ap₂ (λ (y : _) (ys : List _). y ∷ ys) (sym is) (ap (λ (n : ℕ). drop n xs) (sym (add-one k)))
@@ -214,15 +214,15 @@ module _ (latches : List Latch) (digits : List Digit) (k : ℕ) where
 
 -- ---- the kept places
 
--- a place is the first of the kept ones that are left exactly where it is the next kept place
+-- a place is the first of the kept ones that are left if and only if it is the next kept place
 pub first_at : (kept : List ℕ) (next place k : ℕ) → next < length kept → k ≡ get_or kept next k → is_first (drop next kept) place ≡ (k == place)
 first_at kept next place k h is = ap (λ (ks : List ℕ). is_first ks place) (from kept next k h is)
 
--- where no kept place is left, no place is the first of them
+-- if no kept place is left, no place is the first of them
 pub first_none : (kept : List ℕ) (next place : ℕ) → length kept ≤ next → is_first (drop next kept) place ≡ false
 first_none kept next place h = ap (λ (ks : List ℕ). is_first ks place) (past kept next h)
 
--- the first of the values that are left is the next one, or either where there is none
+-- the first of the values that are left is the next one, or either if there is none
 pub first-from : (digits : List Digit) (next : ℕ) → first_of (drop next digits) ≡ get_or digits next Either
 first-from digits next = get_or-drop next digits 0 Either ∙ ap (λ (n : ℕ). get_or digits n Either) zeroth
   where

@@ -50,7 +50,8 @@ back_same f g (x ∷ xs) (y ∷ ys) zs ws long same = back_same f g xs ys zs ws 
 abbrev pub others : Props → List ℕ
 others p = flat_map (λ lits. lits) p.justice ++ p.fairness
 
--- the literals of properties are those of outputs, bad states and constraints, and then those of the other kinds
+-- the literals of properties are those of outputs, bad states and constraints, and then those of
+-- the other kinds
 pub property_literals-parts : (p : Props) → property_literals p ≡ ((p.outputs ++ p.bad) ++ p.constraints) ++ others p
 property_literals-parts p = append_assoc ((p.outputs ++ p.bad) ++ p.constraints) (flat_map (λ lits. lits) p.justice) p.fairness
 
@@ -103,13 +104,13 @@ module _ (c d : Netlist) (kept : List ℕ) (s : SameStreams c d kept) (x : Input
     constrained = λ u h. ap (list_all (λ b. b)) (rows_at u).constraints ∙ r.constrained u h;
   }
 
--- circuits with the same streams reach each bad state at the same steps
+-- circuits with equal streams reach each bad state at equal steps
 pub reaches_alike : (c d : Netlist) (kept : List ℕ) → ReachesAlike c d kept
 reaches_alike c d kept s x f n t = (there c d kept s x f n t, back c d kept s x f n t)
 
 -- ---- witnesses
 
--- a witness of a circuit, carried back, is one of the circuit with the same streams that it came from
+-- a witness of a circuit, carried back, is one of the circuit with equal streams that it came from
 pub is_carried_back : (c d : Netlist) (kept : List ℕ) (w : Witness) → IsCarriedBack c d kept w
 is_carried_back c d kept w s n t wins x f agrees =
     there c d kept s x f n t (wins x (chosen kept f) (record {

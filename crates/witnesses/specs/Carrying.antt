@@ -23,7 +23,8 @@ abbrev pub is_first : List ℕ → ℕ → Bool
 is_first [] place = false
 is_first (k ∷ kept) place = k == place
 
--- values for count free latches, which have the places from place on: those at the kept places have these, in order, and all others either
+-- Values for count free latches, which have the places from place on. Those at the kept places have
+-- these, in order, and all others either.
 unfoldable pub spread : ℕ → ℕ → List ℕ → List Digit → List Digit
 spread zero place kept digits = []
 spread (suc count) place kept digits =
@@ -40,11 +41,12 @@ unfoldable pub opening_digits : List Latch → List Digit → List Digit
 opening_digits [] free = []
 opening_digits (latch ∷ latches) free = opened latch.reset free ∷ opening_digits latches (if is_free latch then drop 1 free else free)
 
--- what c's latches hold at step 0, where those of its free latches at the kept places hold these values
+-- what c's latches hold at step 0, if those of its free latches at the kept places hold these
+-- values
 abbrev pub carried_digits : Graph → List ℕ → List Digit → List Digit
 carried_digits c kept free = opening_digits c.latches (spread (free_latches c) 0 kept free)
 
--- a witness of d as one of c, where d's free latches are those at the kept places among c's
+-- a witness of d as one of c, if d's free latches are those at the kept places among c's
 abbrev pub carried : Graph → Graph → List ℕ → Witness → Witness
 carried c d kept w = record {
   properties = w.properties;

@@ -23,7 +23,7 @@ name_of (Truncated at) = codes "Truncated"
 name_of (Trailing at) = codes "Trailing"
 name_of NoMemory = codes "NoMemory"
 
--- the offset of what is at fault, where it has one
+-- the offset of what is at fault, if it has one
 abbrev pub offset_of : WitnessError → Option ℕ
 offset_of (BadHeader at) = Some at
 offset_of (BadLine at) = Some at

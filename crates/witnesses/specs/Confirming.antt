@@ -67,7 +67,7 @@ with_reached w (Err objection) = Err objection
 abbrev pub settled_back : Netlist → Netlist → List ℕ → Witness → Witness
 settled_back c d kept w = settled_witness (carried c.aig d.aig kept w)
 
--- that witness, and what is said of its properties, where c is simulated as it says
+-- that witness, and what is said of its properties, with c simulated as it says
 pub record IsConfirmedBack (c d : Netlist) (kept : List ℕ) (w : Witness) (found : Result Confirmed Objection) : Type 0 where
   pub said : Result (List Reached) Objection
   pub is : found ≡ with_reached (settled_back c d kept w) said

@@ -17,7 +17,7 @@ abbrev pub is_one_of : List Bool → Property → Bool
 is_one_of row (Bad n) = slice_index_or row n false
 is_one_of row (Justice n) = false
 
--- what was found of a property, or this step where nothing was found before and it is reached here
+-- what was found of a property, or this step if nothing was found before and it is reached here
 abbrev pub noted : List Bool → ℕ → Property → Option ℕ → Option ℕ
 noted row step p (Some found) = Some found
 noted row step p None = if is_one_of row p then Some step else None
@@ -28,7 +28,7 @@ pub record IsFirstBelow (c : Netlist) (run : InputSequence) (n t u : ℕ) : Type
   pub reaches : ReachesIn c run n u
   pub before : (w : ℕ) → w < u → ReachesIn c run n w → ⊥
 
--- what was found by the steps below t, where it is a bad state
+-- what was found by the steps below t, if it is a bad state
 abbrev pub IsFoundBelow : Netlist → InputSequence → ℕ → Property → Option ℕ → Type 0
 IsFoundBelow c run t (Bad n) found = MatchOption found ((u : ℕ) → u < t → ReachesIn c run n u → ⊥) (IsFirstBelow c run n t)
 IsFoundBelow c run t (Justice n) found = Unit {0}

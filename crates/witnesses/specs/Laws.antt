@@ -1,4 +1,4 @@
--- What becomes of a witness where step by step the properties of two circuits have the same values.
+-- What becomes of a witness if step by step the properties of two circuits have equal values.
 use Rattle.std.specs.Prelude.{ℕ, ◌≡◌, ◌↔◌, Bool, true, false, List, Some, slice_get}
 use Rattle.aig_graph.specs.Graph.{Graph}
 use Rattle.aig_graph.specs.Circuits.{Netlist}
@@ -29,7 +29,7 @@ pub record Agrees (g : Graph) (w : Witness) (x : Inputs) (f : Choice) : Type 0 w
 abbrev pub ShowsBadState : Netlist → Witness → ℕ → ℕ → Type 0
 ShowsBadState c w n t = (x : Inputs) (f : Choice) → Agrees c.aig w x f → ReachesBadState c x f n t
 
--- each bad state is reached at the same steps
+-- each bad state is reached at equal steps
 abbrev pub ReachesAlike : Netlist → Netlist → List ℕ → Type 0
 ReachesAlike c d kept = SameStreams c d kept → (x : Inputs) (f : Choice) (n t : ℕ) → ReachesBadState d x (chosen kept f) n t ↔ ReachesBadState c x f n t
 

@@ -22,7 +22,7 @@ abbrev pub has_property : Widths → Property → Bool
 has_property w (Bad n) = nat_lt n w.bad
 has_property w (Justice n) = nat_lt n w.justice
 
--- the property, where there is one
+-- the property, if there is one
 abbrev pub checked : Widths → ℕ → Option Property → Result Property WitnessError
 checked w at None = Err (BadLine at)
 checked w at (Some property) = if has_property w property then Ok property else Err (NoSuchProperty at)

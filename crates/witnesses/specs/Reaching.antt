@@ -19,7 +19,7 @@ pub record ReachesBadState (c : Netlist) (x : Inputs) (f : Choice) (n t : ℕ) :
   pub bad : slice_get (bad_row c x f t) n ≡ Some true
   pub constrained : (u : ℕ) → u ≤ t → list_all (λ b. b) (constraint_row c x f u) ≡ true
 
--- the same under an input sequence
+-- it is reached under an input sequence
 abbrev pub ReachesIn : Netlist → InputSequence → ℕ → ℕ → Type 0
 ReachesIn c run n t = ReachesBadState c (inputs_of run) (choice_of run) n t
 

@@ -13,7 +13,7 @@ is_ternary_digit b = (b == 48 || b == 49) || b == 120
 abbrev pub digit_of : ℕ → Digit
 digit_of b = if b == 48 then Zero else (if b == 49 then One else Either)
 
--- the values of a line, of which there are to be so many
+-- the values of a line, of which there are to be n
 abbrev pub row_of : ℕ → ℕ → List ℕ → Result (List Digit) WitnessError
 row_of width at text =
     if list_all is_ternary_digit text then (if length text == width then Ok (map digit_of text) else Err (Width at)) else Err (BadLine at)

@@ -7,7 +7,7 @@ use Rattle.witnesses.specs.declared.witness.Digit.TheVariants.{Zero, One, Either
 use Rattle.witnesses.specs.declared.witness.Witness.{Witness}
 use Rattle.witnesses.specs.Carrying.{free_digits}
 
--- where either value does, 0 is taken
+-- 0 is taken for either value
 abbrev pub is_one : Digit → Bool
 is_one Zero = false
 is_one One = true

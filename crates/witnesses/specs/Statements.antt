@@ -3,7 +3,7 @@ use Rattle.std.specs.Prelude.{ℕ, ◌+◌, ◌-◌, ◌==◌, Bool, false, List
 use Rattle.file_words.specs.Lines.{lines}
 use Rattle.file_words.specs.declared.lines.Lines.{Lines}
 
--- a line of a witness without its end, and where it begins
+-- a line of a witness without its end, and its offset
 pub record Statement : Type 0 where
   pub at : ℕ
   pub text : List ℕ

@@ -6,7 +6,8 @@ use crate::witness::{Digit, Witness};
 use aig_graph::{Aig, NoMemory, Sequence};
 use std::alloc::Global;
 
-/// The values of all latches of a graph, from those of the free latches of another that are its own at the kept places.
+/// Returns the values of all latches of a graph, from those of another's free latches, which are
+/// its own at the kept places.
 fn carried_latches(
     alloc: Global,
     aig: &Aig,
@@ -19,12 +20,13 @@ fn carried_latches(
     opening(alloc, aig.latches(), spread.as_slice())
 }
 
-/// The witness for a circuit, from one for the circuit that it was retimed to: `kept` has the places, among the free latches of the
-/// first circuit, of those that the second has left (`frames::Retimed`, `clean::Cleaned`). Latches with a known reset hold it,
-/// those free latches hold what they did, and the others either value; properties and inputs are the same.
+/// Carries a witness for a retimed circuit back to the circuit that it was made of. `kept` has the
+/// places, among the free latches of the first circuit, of those that the second has left
+/// (`frames::Retimed`, `clean::Cleaned`). Latches with a known reset hold it, those free latches
+/// hold what they did, and the others either value. Properties and inputs stay.
 ///
-/// Where step by step the properties of both circuits have the same values, this is a witness of the first at the steps
-/// at which the other one is of the second (`witness_laws`).
+/// Let the properties of both circuits have equal values, step by step. Then the result is a
+/// witness of the first at the steps at which `witness` is one of the second (`witness_laws`).
 pub fn carried_back(
     alloc: Global,
     aig: &Aig,

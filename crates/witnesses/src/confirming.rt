@@ -1,5 +1,6 @@
-//! Whether a witness, carried back, shows in the one circuit what it shows in the other. The laws have it so where the properties
-//! of both always agree; whether two files are such a pair isn't known here, so both are simulated.
+//! Confirms that a witness, carried back, shows in the one circuit what it shows in the other. By
+//! the laws it does if the properties of both always agree. Two files needn't be such a pair, so
+//! both are simulated.
 ghost use Rattle.std.specs.Prelude.{◌≡◌, IfOk, length};
 ghost use Rattle.aig_graph.specs.Circuits.{Netlist};
 ghost use Rattle.lane_sim.specs.declared.stimulus.InputSequence.{InputSequence};
@@ -21,7 +22,7 @@ pub enum Objection {
     Unchecked(Property),
     /// The property doesn't fail in the retimed circuit.
     Unreached(Property),
-    /// It fails there, but not first at the same step in the other circuit.
+    /// It fails there, but first at another step than in the other circuit.
     Lost(Property),
 }
 
@@ -36,7 +37,7 @@ impl Objection {
     ghost use Rattle.std.specs.Prelude.{◌≡◌};
     ghost use Rattle.witnesses.specs.Texts.{property_in};
 
-    /// The property that it is about.
+    /// Returns the property that it is about.
     pub fn property(self) -> Property
         ensures { result ≡ property_in self }
     {
@@ -48,7 +49,7 @@ impl Objection {
     }
 }
 
-/// Whether this step was found.
+/// Returns true if this step was found.
 fn is_step(found: Option<usize>, step: usize) -> bool
     ensures { result ≡ is_step found step }
 {
@@ -58,7 +59,8 @@ fn is_step(found: Option<usize>, step: usize) -> bool
     }
 }
 
-/// The step at which a bad state is reached first in both circuits, by what was found in each.
+/// Returns the step at which a bad state is reached first in both circuits, by what was found in
+/// each.
 fn agreed_step(
     number: usize,
     found: Option<usize>,
@@ -78,7 +80,7 @@ fn agreed_step(
     Err(Objection::Lost(property))
 }
 
-/// The step at which a property fails first in both circuits.
+/// Returns the step at which a property fails first in both circuits.
 fn agreed(
     property: Property,
     found: Option<usize>,
@@ -93,7 +95,7 @@ fn agreed(
     }
 }
 
-/// The steps at which properties fail first in both circuits, or the first objection.
+/// Returns the steps at which properties fail first in both circuits, or the first objection.
 fn all_agreed(
     alloc: Global,
     properties: &[Property],
@@ -120,8 +122,9 @@ fn all_agreed(
     Ok(Ok(Sequence::from_vec(reached)))
 }
 
-/// Carries the witness of a retimed circuit back to the circuit that it was made of, as `carried_back` does, and simulates both, with 0 for
-/// each x: what was simulated there, and the first step at which each property fails, where that is the same in both circuits; or the
+/// Carries the witness of a retimed circuit back to the circuit that it was made of, as
+/// `carried_back` does. Simulates both, with 0 for each x. Returns what was simulated there, with
+/// the first step at which each property fails, if both circuits agree on it. Otherwise returns the
 /// first objection.
 pub fn confirm(
     alloc: Global,

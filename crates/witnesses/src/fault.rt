@@ -1,4 +1,5 @@
-//! Why a witness isn't read. What a report says of a fault, its name and offset, stands here, beside the fault.
+//! The reasons why a witness isn't read. A report's words for a fault, its name and offset, stand
+//! here.
 ghost use Rattle.std.specs.Prelude.{◌≡◌};
 
 use std::alloc::{AllocError, AllocFailed};
@@ -6,8 +7,8 @@ use std::error::Error;
 use std::fmt;
 use std::fmt::{Debug, Display, Formatter};
 
-/// Why bytes were not read as a witness. The number is the offset of the first byte of the line at fault; a line that is missing would
-/// begin at the end.
+/// Why bytes were not read as a witness. The number is the offset of the first byte of the line at
+/// fault. A missing line has the offset of the end.
 #[derive(Clone, Copy)]
 pub enum WitnessError {
     /// The first line isn't `1`: a checker that found no way to a bad state writes `0` or `2`.
@@ -29,7 +30,7 @@ pub enum WitnessError {
 impl WitnessError {
     ghost use Rattle.witnesses.specs.Codes.{code_of, name_of, offset_of};
 
-    /// The number of the kind of fault, from 1 on.
+    /// Returns the number of the kind of fault, from 1 on.
     pub fn code(self) -> u8
         ensures { result ≡ code_of self }
     {
@@ -44,7 +45,7 @@ impl WitnessError {
         }
     }
 
-    /// The name, as messages and reports have it.
+    /// Returns the name that messages and reports have for it.
     pub fn name(self) -> &'static str
         ensures { result.now ≡ name_of self }
     {
@@ -59,7 +60,7 @@ impl WitnessError {
         }
     }
 
-    /// The offset of the first byte of the line at fault, where it has one.
+    /// Returns the offset of the first byte of the line at fault, if it has one.
     pub fn offset(self) -> Option<u64>
         ensures { result ≡ offset_of self }
     {

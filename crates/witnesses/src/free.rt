@@ -1,5 +1,6 @@
-//! A witness has a value for each latch, and a stimulus for the free ones alone, since the others begin with their reset. So
-//! values are taken from all latches to the free ones, from circuit to circuit, and back to all.
+//! A witness has a value for each latch, and a stimulus for the free ones alone, since the others
+//! begin with their reset. So values are taken from all latches to the free ones, from circuit to
+//! circuit, and back to all.
 ghost use Rattle.std.specs.Prelude.{◌≡◌, IfOk, drop};
 ghost use Rattle.std.specs.List.{slice_index_or};
 ghost use Rattle.aig_graph.specs.Graph.{is_free};
@@ -16,7 +17,7 @@ fn is_free(latch: &Latch) -> bool
     latch.reset == Reset::Free
 }
 
-/// The values of the free latches, in order, from those of all latches.
+/// Returns the values of the free latches, in order, from those of all latches.
 pub(crate) fn free_digits(
     alloc: Global,
     latches: &[Latch],
@@ -34,14 +35,14 @@ pub(crate) fn free_digits(
     Ok(free)
 }
 
-/// The value at a place, and either where there is none.
+/// Returns the value at a place, or either if there is none.
 fn digit_at(digits: &[Digit], place: usize) -> Digit
     ensures { result ≡ slice_index_or digits.now place Either }
 {
     digits.get(place).copied().unwrap_or(Digit::Either)
 }
 
-/// Whether the next of the kept places is this one.
+/// Returns true if the next of the kept places is this one.
 fn is_next(kept: &[u32], next: usize, place: usize) -> bool
     ensures { result ≡ is_first (drop next kept.now) place }
 {
@@ -51,7 +52,8 @@ fn is_next(kept: &[u32], next: usize, place: usize) -> bool
     }
 }
 
-/// Values for this many free latches: at the kept places these, in order, and either at all others.
+/// Returns values for `count` free latches: at the kept places these, in order, and either at all
+/// others.
 pub(crate) fn spread(
     alloc: Global,
     count: usize,
@@ -73,7 +75,8 @@ pub(crate) fn spread(
     Ok(free)
 }
 
-/// What a latch with this reset holds at step 0, where `next` is the place of the value of the next free one.
+/// Returns the value of a latch with this reset at step 0. `next` is the place of the next free
+/// one's value.
 fn opened(reset: Reset, free: &[Digit], next: usize) -> Digit
     ensures { result ≡ opened reset (drop next free.now) }
 {
@@ -84,7 +87,8 @@ fn opened(reset: Reset, free: &[Digit], next: usize) -> Digit
     }
 }
 
-/// The values of all latches: the reset of each known one, and these for the free ones, in order.
+/// Returns the values of all latches: the reset of each known one, and these for the free ones, in
+/// order.
 pub(crate) fn opening(
     alloc: Global,
     latches: &[Latch],

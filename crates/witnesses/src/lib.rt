@@ -1,5 +1,5 @@
-//! Witnesses of AIGER's tools, which say how a circuit comes to a bad state: read, printed and simulated, and carried back from a
-//! retimed circuit to the one that it was made of.
+//! Witnesses of AIGER's tools, which say how a circuit comes to a bad state. They are read, printed
+//! and simulated, and carried back from a retimed circuit to the one that it was made of.
 #![tactic(auto)]
 
 mod carrying;

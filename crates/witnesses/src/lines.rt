@@ -1,4 +1,5 @@
-//! Comments may stand anywhere in a witness: they are passed over here, and the reader never meets one.
+//! Comments may stand anywhere in a witness: they are passed over here, and the reader never meets
+//! one.
 ghost use Rattle.std.specs.Prelude.{◌≡◌, ◌<◌, ◌∷◌, [], length, IfOk, IfErr, MatchOption, OnSome};
 ghost use Rattle.witnesses.specs.declared.fault.WitnessError.TheVariants.{Truncated};
 ghost use Rattle.witnesses.specs.Statements.{left};
@@ -7,7 +8,7 @@ use crate::fault::WitnessError;
 use crate::marks::is_comment;
 use file_words::{Line, Lines};
 
-/// Takes the next line that is no comment, where there is one.
+/// Takes the next line that is no comment, if there is one.
 pub(crate) fn following<'a>(lines: &mut Lines<'a>) -> Option<Line<'a>>
     ensures end { lines.new.end ≡ lines.old.end }
     ensures shorter { OnSome result (length lines.new.rest.now < length lines.old.rest.now) }
@@ -27,7 +28,7 @@ pub(crate) fn following<'a>(lines: &mut Lines<'a>) -> Option<Line<'a>>
 ///
 /// # Errors
 ///
-/// `Truncated` at the end of the text where there is none.
+/// `Truncated` at the end of the text, if there is none.
 pub(crate) fn next_line<'a>(lines: &mut Lines<'a>) -> Result<Line<'a>, WitnessError>
     ensures end { lines.new.end ≡ lines.old.end }
     ensures ok { IfOk result (λ line. left lines.old
@@ -41,7 +42,7 @@ pub(crate) fn next_line<'a>(lines: &mut Lines<'a>) -> Result<Line<'a>, WitnessEr
     }
 }
 
-/// The fault that a line is missing at the end.
+/// Returns the fault of a line that is missing at the end.
 pub(crate) fn truncated(lines: &Lines<'_>) -> WitnessError
     ensures { result ≡ Truncated lines.now.end }
 {

@@ -1,5 +1,5 @@
-//! At which steps bad states are reached under one sequence. The circuit is simulated a step after another, and of each the named bad states and
-//! the constraints alone are read.
+//! The steps at which bad states are reached under one sequence. The circuit is simulated a step
+//! after another, and of each the named bad states and the constraints alone are read.
 ghost use Rattle.std.specs.Prelude.{ℕ, ◌≡◌, ◌<◌, ◌↔◌, false, All, IfOk, IsTrue, List, length, map, None};
 ghost use Rattle.std.specs.List.{slice_index_or};
 ghost use Rattle.aig_graph.specs.Graph.{Graph, variable};
@@ -16,7 +16,7 @@ use aig_graph::{Circuit, Lit, NoMemory};
 use lane_sim::{InputSequence, State, Values};
 use std::alloc::Global;
 
-/// Whether each of these literals is 1.
+/// Returns true if each of these literals is 1.
 fn are_true(values: &Values, literals: &[Lit]) -> bool
     requires { All (λ lit. variable lit < length values.now.table.items) literals.now }
     ensures { (g : Graph) (sequences : List Sequenced) (t : ℕ) → AreAt g sequences values.now t
@@ -30,7 +30,7 @@ fn are_true(values: &Values, literals: &[Lit]) -> bool
     true
 }
 
-/// Whether there is a bad state with this number, and it is 1.
+/// Returns true if there is a bad state with this number, and it is 1.
 fn is_one(values: &Values, bad: &[Lit], number: usize) -> bool
     requires { All (λ lit. variable lit < length values.now.table.items) bad.now }
     ensures { (g : Graph) (sequences : List Sequenced) (t : ℕ) → AreAt g sequences values.now t
@@ -42,7 +42,7 @@ fn is_one(values: &Values, bad: &[Lit], number: usize) -> bool
     false
 }
 
-/// Whether a property is a bad state that is 1.
+/// Returns true if a property is a bad state that is 1.
 fn is_one_of(values: &Values, bad: &[Lit], property: Property) -> bool
     requires { All (λ lit. variable lit < length values.now.table.items) bad.now }
     ensures { (g : Graph) (sequences : List Sequenced) (t : ℕ) → AreAt g sequences values.now t
@@ -54,7 +54,7 @@ fn is_one_of(values: &Values, bad: &[Lit], property: Property) -> bool
     }
 }
 
-/// The step, where nothing was found before and the property is a bad state that is 1.
+/// Returns the step if nothing was found before and the property is a bad state that is 1.
 fn noted(
     found: Option<usize>,
     values: &Values,
@@ -99,8 +99,8 @@ fn note_step(
     }
 }
 
-/// Simulates the circuit under the one sequence, and notes at which step each property is reached first. After a step in which a constraint is
-/// 0 nothing is reached.
+/// Simulates the circuit under the one sequence, and notes the step at which each property is
+/// reached first. After a step in which a constraint is 0 nothing is reached.
 fn note_steps(
     circuit: &Circuit,
     sequences: &[InputSequence],
@@ -129,8 +129,9 @@ fn note_steps(
     }
 }
 
-/// For each property, if it is a bad state, the first step of the one sequence at which it is reached: it is 1, and each constraint has been 1
-/// up to then. In a circuit without bad states the outputs are those.
+/// Returns for each property that is a bad state the first step of the one sequence at which it is
+/// reached. It is 1 then, and each constraint has been 1 up to then. A circuit without bad states
+/// has its outputs in their place.
 pub(crate) fn first_steps(
     alloc: Global,
     circuit: &Circuit,

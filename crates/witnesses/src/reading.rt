@@ -1,5 +1,5 @@
-//! The lines of a witness in their order, a function for each. What a line may be never rests on a later one, so the fault that
-//! is met first is the first of the text.
+//! The lines of a witness in their order, a function for each. No line depends on a later one, so
+//! the fault that is met first is the first of the text.
 ghost use Rattle.std.specs.Prelude.{ℕ, ◌≡◌, ◌⊎◌, [], IfOk, IfErr, Ok, Err};
 ghost use Rattle.witnesses.specs.declared.fault.WitnessError.TheVariants.{NoMemory};
 ghost use Rattle.file_words.specs.Answering.{Gives};
@@ -92,7 +92,7 @@ fn step_lines(
     Err(truncated(lines))
 }
 
-/// The witness, where nothing but comments follows.
+/// Returns the witness, if nothing but comments follows.
 fn closed(lines: &mut Lines<'_>, witness: Witness) -> Result<Witness, WitnessError>
     ensures { result ≡ closed_witness witness (left lines.old) }
 {
@@ -120,9 +120,10 @@ fn read(alloc: Global, bytes: &[u8], widths: &Widths) -> Result<Witness, Witness
 
 /// Reads a witness for a circuit with these widths, as model checkers write it.
 ///
-/// The lines are: `1`; the properties that fail, with one space between, `b` and the number of a bad state, or `j` and that of a justice
-/// property; a value 0, 1 or x for each latch; for each step a value for each input; and `.` at the end. A line that begins
-/// with `c` is a comment, wherever it stands. The time is linear in the bytes.
+/// The first line is `1`. The next has the properties that fail, with one space between: `b` and
+/// the number of a bad state, or `j` and that of a justice property. A line has a value 0, 1 or x
+/// for each latch. A line for each step has a value for each input, and `.` is the end. A line that
+/// begins with `c` is a comment, wherever it stands. The time is linear in the bytes.
 ///
 /// # Errors
 ///

@@ -20,7 +20,7 @@ fn digit(byte: u8) -> Digit
     }
 }
 
-/// Whether each byte is 0, 1 or x.
+/// Returns true if each byte is 0, 1 or x.
 fn are_digits(bytes: &[u8]) -> bool
     ensures { result ≡ list_all is_ternary_digit bytes.now }
 {
@@ -39,7 +39,7 @@ fn digits(alloc: Global, bytes: &[u8]) -> Result<Sequence<Digit>, AllocError>
     Ok(Sequence::from_vec(digits))
 }
 
-/// The line as one of this many values.
+/// Reads the line as one of `width` values.
 pub(crate) fn row(
     alloc: Global,
     line: &Line<'_>,

@@ -38,7 +38,7 @@ fn steps(alloc: Global, inputs: &[Sequence<Digit>]) -> Result<Sequence<Sequence<
     Ok(Sequence::from_vec(steps))
 }
 
-/// The input sequence of a witness, with 0 for each x.
+/// Returns the input sequence of a witness, with 0 for each x.
 fn run_of(alloc: Global, aig: &Aig, witness: &Witness) -> Result<InputSequence, NoMemory>
     ensures { IfOk result (λ run. run ≡ run_of aig.now witness.now) }
 {
@@ -48,7 +48,8 @@ fn run_of(alloc: Global, aig: &Aig, witness: &Witness) -> Result<InputSequence, 
     Ok(InputSequence { choice, steps })
 }
 
-/// At which step each property of a witness is reached first, where the circuit is simulated as it says, with 0 for each x.
+/// Returns the step at which each property of a witness is reached first. The circuit is simulated
+/// as the witness says, with 0 for each x.
 pub(crate) fn steps_found(
     alloc: Global,
     circuit: &Circuit,

@@ -40,7 +40,7 @@ fn settled_rows(
     Ok(Sequence::from_vec(all))
 }
 
-/// The witness with 0 for each x.
+/// Returns the witness with 0 for each x.
 pub(crate) fn settled_witness(alloc: Global, witness: Witness) -> Result<Witness, NoMemory>
     ensures { IfOk result (λ made. made ≡ settled_witness witness) }
 {

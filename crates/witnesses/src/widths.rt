@@ -14,7 +14,7 @@ pub struct Widths {
 }
 
 impl Widths {
-    /// Those of a circuit.
+    /// Returns those of a circuit.
     pub fn of(circuit: &Circuit) -> Widths
         ensures { result ≡ widths_of circuit.now }
     {
@@ -29,7 +29,7 @@ impl Widths {
     }
 }
 
-/// The literals of the bad states, or of the outputs where there is no bad state.
+/// Returns the literals of the bad states, or of the outputs if there is no bad state.
 pub(crate) fn bad_literals(props: &Props) -> &[Lit]
     ensures { result.now ≡ bad_literals props.now }
 {

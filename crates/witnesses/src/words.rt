@@ -1,4 +1,5 @@
-//! The words of the line of properties. A number is read up to 2^64 - 1, which is past every circuit's properties, and stays there.
+//! The words of the line of properties. A number is read up to 2^64 - 1, which is past every
+//! circuit's properties, and stays there.
 ghost use Rattle.std.specs.Prelude.{◌≡◌, []};
 ghost use Rattle.file_words.specs.Lines.{pieces};
 ghost use Rattle.witnesses.specs.declared.fault.WitnessError.TheVariants.{NoMemory};
@@ -12,7 +13,7 @@ use aig_graph::Sequence;
 use file_words::{Line, cut, number};
 use std::alloc::Global;
 
-/// The property that a word names: `b` or `j`, and its number.
+/// Returns the property that a word names: `b` or `j`, and its number.
 fn property(word: &[u8]) -> Option<Property>
     ensures { result ≡ property_of word.now }
 {
@@ -25,7 +26,7 @@ fn property(word: &[u8]) -> Option<Property>
     }
 }
 
-/// Whether there is the property.
+/// Returns true if the circuit has the property.
 fn has(widths: &Widths, property: Property) -> bool
     ensures { result ≡ has_property widths.now property }
 {
@@ -55,7 +56,7 @@ fn push_property(
     Ok(())
 }
 
-/// The line as one of properties, with one space between.
+/// Reads the line as one of properties, with one space between.
 pub(crate) fn properties(
     alloc: Global,
     line: &Line<'_>,

@@ -1,5 +1,5 @@
-//! A witness as AIGER's tools read it. What was found of it follows after its end, as comments, so that what is printed is a
-//! witness still.
+//! A witness as AIGER's tools read it. What was found of it follows after its end, as comments, so
+//! the text is still a witness.
 ghost use Rattle.std.specs.Prelude.{◌≡◌, ◌∷◌, [], decimal};
 ghost use Rattle.std.specs.List.{flat_map};
 ghost use Rattle.counted_io.specs.Buffered.{Puts};
@@ -128,11 +128,13 @@ fn put_whole<W: CountedWrite>(out: &mut Buffered<'_, W>, witness: &Witness, reac
     put_all_reached(out, reached);
 }
 
-/// Prints a witness, as AIGER's tools write it, and after its end a comment for each of these steps: `c b0 holds at step 3`.
+/// Prints a witness, as AIGER's tools write it, and after its end a comment for each of these
+/// steps: `c b0 holds at step 3`.
 ///
 /// # Errors
 ///
-/// `Device` where a write failed: a beginning of the text was written then, and the writer isn't called again.
+/// `Device` if a write failed: a beginning of the text was written then, and the writer isn't
+/// called again.
 pub fn print_witness<W: CountedWrite>(
     witness: &Witness,
     reached: &[Reached],
@@ -168,7 +170,8 @@ fn put_objection<W: CountedWrite>(out: &mut Buffered<'_, W>, objection: Objectio
 ///
 /// # Errors
 ///
-/// `Device` where a write failed: a beginning of the text was written then, and the writer isn't called again.
+/// `Device` if a write failed: a beginning of the text was written then, and the writer isn't
+/// called again.
 pub fn print_objection<W: CountedWrite>(
     objection: Objection,
     writer: &mut W,

@@ -5,7 +5,7 @@ ghost use Rattle.aag_text.specs.Arranging.{AreMovable, IsBelow, HasFanInsBelow, 
 use aig_graph::{Gate, Latch, Lit, NoMemory};
 use std::alloc::Global;
 
-/// The literal with its gate's rank in the place of its file place.
+/// Returns the literal with its gate's rank in the place of its file place.
 fn literal(first: u32, ranks: &[u32], lit: Lit) -> Lit
     requires movable { AreMovable first ranks.now }
     requires below { IsBelow (first + length ranks.now) lit }
@@ -19,7 +19,7 @@ fn literal(first: u32, ranks: &[u32], lit: Lit) -> Lit
     }
 }
 
-/// The numbers of the literals.
+/// Returns the numbers of the literals.
 pub(crate) fn literals(
     alloc: Global,
     first: u32,
@@ -37,7 +37,7 @@ pub(crate) fn literals(
     Ok(codes)
 }
 
-/// The latches.
+/// Returns the latches, with their literals by rank.
 pub(crate) fn latches(
     alloc: Global,
     first: u32,
@@ -58,7 +58,7 @@ pub(crate) fn latches(
     Ok(found)
 }
 
-/// The gates in order, the larger fan-in of each first.
+/// Returns the gates in order, the larger fan-in of each first.
 pub(crate) fn gates(
     alloc: Global,
     first: u32,

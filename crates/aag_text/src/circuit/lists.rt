@@ -1,12 +1,12 @@
-//! What the sections of a file left, and whether it fits the header. That is looked at here once more, in linear time, so that
-//! `resolve` needn't ask its caller for it.
+//! The lists that the sections of a file left. That they fit the header is looked at here once
+//! more, in linear time, so `resolve` needn't require it of its caller.
 use crate::circuit::placing::{Placed, place_all};
 use ascii_file::{Header, Names, Places, PropertyLists, RawGate, RawLatch};
 use file_words::ReadError;
 use std::alloc::Global;
 
-/// The lists that the sections of a file left, by the file's own literals, and the place of each variable that a line
-/// defines, counted from 0 in file order.
+/// The lists that the sections of a file left, by the file's own literals. Each variable that a
+/// line defines has its place, counted from 0 in file order.
 #[derive(Drop)]
 pub struct RawLists {
     pub header: Header,
@@ -28,7 +28,8 @@ impl RawLists {
     ghost use Rattle.aag_text.specs.Numbering.{placed_lists};
     ghost use Rattle.aag_text.specs.Resolving.{IsConsistent};
 
-    /// Whether there are as many items of each section as the header says, and names of such alone.
+    /// Returns true if there are as many items of each section as the header says, and names of
+    /// such alone.
     pub(crate) fn are_consistent(&self) -> bool
         requires within { IsHeaderWithin self.now.header }
         ensures { IsTrue result ↔ IsConsistent self.now }
@@ -60,7 +61,7 @@ impl RawLists {
             && self.properties.liveness_len() == liveness
     }
 
-    /// The lists by places, or `Undefined`.
+    /// Returns the lists by places, or `Undefined`.
     pub(crate) fn placed(&self, alloc: Global) -> Result<Placed, ReadError>
         requires { 1 + length self.now.inputs.items + length self.now.latches.items + length
             self.now.gates.items ≤ 2 ^ 28 }

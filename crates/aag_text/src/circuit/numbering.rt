@@ -10,7 +10,7 @@ use ascii_file::{Places, RawGate, RawLatch};
 use file_words::ReadError;
 use std::alloc::Global;
 
-/// The literal of the place of its variable, if that has one of so many.
+/// Returns the literal of the place of its variable, if that has a place below `count`.
 fn literal(places: &Places, count: u32, lit: u32) -> Option<Lit>
     requires few { count < 2 ^ 28 }
     ensures { result ≡ (if is_placed places.now count lit then Some
@@ -25,7 +25,7 @@ fn literal(places: &Places, count: u32, lit: u32) -> Option<Lit>
     }
 }
 
-/// The literals, or `Undefined`.
+/// Returns the literals, or `Undefined`.
 pub(crate) fn literals(
     alloc: Global,
     places: &Places,
@@ -45,7 +45,7 @@ pub(crate) fn literals(
     Ok(found)
 }
 
-/// The reset that a number on a latch's line stands for.
+/// Returns the reset that a number on a latch's line stands for.
 fn reset_of(number: u32) -> Reset
     ensures { result ≡ meaning.reset_of number }
 {
@@ -56,7 +56,7 @@ fn reset_of(number: u32) -> Reset
     }
 }
 
-/// The latches, or `Undefined`.
+/// Returns the latches, or `Undefined`.
 pub(crate) fn latches(
     alloc: Global,
     places: &Places,
@@ -79,7 +79,7 @@ pub(crate) fn latches(
     Ok(found)
 }
 
-/// The fan-ins of a gate, in the order of its line.
+/// Returns the fan-ins of a gate, in the order of its line.
 fn gate(places: &Places, count: u32, raw: &RawGate) -> Option<Gate>
     requires few { count < 2 ^ 28 }
     ensures { result ≡ (if is_gate_placed places.now count raw.now then Some
@@ -90,7 +90,7 @@ fn gate(places: &Places, count: u32, raw: &RawGate) -> Option<Gate>
     Some(Gate { rhs0, rhs1 })
 }
 
-/// The gates in the order of the file, or `Undefined`.
+/// Returns the gates in the order of the file, or `Undefined`.
 pub(crate) fn gates(
     alloc: Global,
     places: &Places,

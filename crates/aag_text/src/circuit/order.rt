@@ -11,7 +11,7 @@ use ascii_file::{Reads, gate_order};
 use file_words::ReadError;
 use std::alloc::Global;
 
-/// The place in the file of the gate that the literal reads.
+/// Returns the place in the file of the gate that the literal reads.
 fn gate_place(first: u32, lit: Lit) -> Option<u32>
     ensures { result ≡ gate_read first lit }
 {
@@ -22,7 +22,7 @@ fn gate_place(first: u32, lit: Lit) -> Option<u32>
     }
 }
 
-/// What each gate reads of the others, where their variables begin with `first`.
+/// Returns the gates that each gate reads. Variables of gates begin with `first`.
 fn reads_of(alloc: Global, first: u32, gates: &[Gate]) -> Result<Vec<Reads>, NoMemory>
     ensures { IfOk result (λ reads. reads.items ≡ map (arranging.reads_of_gate first) gates.now) }
 {
@@ -36,7 +36,7 @@ fn reads_of(alloc: Global, first: u32, gates: &[Gate]) -> Result<Vec<Reads>, NoM
     Ok(reads)
 }
 
-/// The file places of the gates in the order that they take in the circuit, or `Cycle`.
+/// Returns the file places of the gates in the order that they take in the circuit, or `Cycle`.
 pub(crate) fn order(alloc: Global, first: u32, gates: &[Gate]) -> Result<Vec<u32>, ReadError>
     requires few { length gates.now < 2 ^ 28 }
     requires in_file { AreReadsInFile (map (arranging.reads_of_gate first) gates.now) }
@@ -53,7 +53,7 @@ pub(crate) fn order(alloc: Global, first: u32, gates: &[Gate]) -> Result<Vec<u32
     }
 }
 
-/// The place of each number in the order.
+/// Returns the place of each number in the order.
 pub(crate) fn ranks(alloc: Global, order: &[u32]) -> Result<Vec<u32>, NoMemory>
     requires few { length order.now < 2 ^ 28 }
     requires distinct { AreDistinct order.now }

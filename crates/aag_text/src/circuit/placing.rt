@@ -27,7 +27,7 @@ impl Model for Placed {
     ghost view = { λ p. record { latches = p.latches.items; safety = p.safety.items; liveness = p.liveness.items; gates = p.gates.items } };
 }
 
-/// The lists by places, or `Undefined`.
+/// Returns the lists by places, or `Undefined`.
 pub(crate) fn place_all(
     alloc: Global,
     places: &Places,

@@ -1,6 +1,7 @@
-//! From the lists of a file to its circuit: each literal's variable becomes its place in file order (`placing`), the gates are
-//! put in an order in which fan-ins come first (`gate_order`), and places become the ranks in that order (`arranging`). The
-//! file's own lists go after the first of these steps.
+//! From the lists of a file to its circuit. Each literal's variable becomes its place in file order
+//! (`placing`). The gates are put in an order in which fan-ins come first (`gate_order`), and
+//! places become the ranks in that order (`arranging`). The file's own lists go after the first of
+//! these steps.
 ghost use Rattle.std.specs.Prelude.{ℕ, List, ◌≡◌, ◌+◌, ◌≤◌, ◌^◌, ◌↔◌, length, map, All, IsTrue, IfOk, IfErr};
 ghost use Rattle.aig_graph.specs.declared.properties.Symbols.{Symbols};
 ghost use Rattle.aig_graph.specs.Circuits.{IsNetlist};
@@ -24,7 +25,7 @@ use ascii_file::{Header, Names, props};
 use file_words::ReadError;
 use std::alloc::Global;
 
-/// The graph with its gates in order.
+/// Returns the graph with its gates in order.
 fn graph(
     alloc: Global,
     header: &Header,
@@ -45,7 +46,7 @@ fn graph(
     Ok(Aig::from_parts(header.inputs, latches, gates))
 }
 
-/// The properties by the ranks of the gates.
+/// Returns the properties by the ranks of the gates.
 fn properties(
     alloc: Global,
     header: &Header,
@@ -76,7 +77,7 @@ struct Unnamed {
     props: Props,
 }
 
-/// The circuit with its gates in this order, before its names.
+/// Returns the circuit with its gates in this order, without its names.
 fn without_names(
     alloc: Global,
     header: &Header,
@@ -97,7 +98,7 @@ fn without_names(
     Ok(Unnamed { aig, props })
 }
 
-/// The circuit of a graph and its properties, with these names.
+/// Returns the circuit of a graph and its properties, with these names.
 fn named(alloc: Global, aig: Aig, props: Props, names: Names) -> Result<Circuit, NoMemory>
     requires { IsNetlist (record { aig = aig; props = props; symbols = names }) }
     ensures { IfOk result (λ circuit. circuit ≡ record
@@ -107,7 +108,7 @@ fn named(alloc: Global, aig: Aig, props: Props, names: Names) -> Result<Circuit,
     Ok(Circuit::new(aig, props, symbols))
 }
 
-/// The circuit with its gates in this order.
+/// Returns the circuit with its gates in this order, and with its names.
 fn circuit(
     alloc: Global,
     header: &Header,
@@ -128,7 +129,7 @@ fn circuit(
     }
 }
 
-/// The circuit, or `Cycle`.
+/// Returns the circuit, or `Cycle`.
 fn in_order(
     alloc: Global,
     header: &Header,
@@ -150,16 +151,16 @@ fn in_order(
     }
 }
 
-/// The circuit of the lists that the sections of an ASCII file left.
+/// Returns the circuit of the lists that the sections of an ASCII file left.
 ///
-/// Takes linear time where each gate stands after those that it reads, and else time in the number of gates times its
-/// logarithm; beside the circuit some forty bytes a gate, once the lists have been let go.
+/// Takes linear time if each gate stands after those that it reads, else n log n for n gates. Takes
+/// some forty bytes a gate beside the circuit, once the lists have been dropped.
 ///
 /// # Errors
 ///
-/// `Undefined` where a literal is read whose variable no line defines, else `Cycle` where gates read one another in a
-/// circle. `NoMemory` where memory is refused. Lists of a reader are never of other lengths than the header says; such are
-/// `Undefined`.
+/// `Undefined` if a literal is read whose variable no line defines, else `Cycle` if gates read one
+/// another in a cycle. `NoMemory` if memory is refused. Lists of a reader are never of other
+/// lengths than the header says; such are `Undefined`.
 pub fn resolve(alloc: Global, lists: RawLists) -> Result<Circuit, ReadError>
     requires within { IsHeaderWithin lists.header }
     requires small { 1 + length lists.inputs.items + length lists.latches.items + length

@@ -5,7 +5,7 @@ ghost use Rattle.aag_text.specs.Items as items;
 
 use ascii_file::{RawGate, RawLatch};
 
-/// The only number of a line.
+/// Returns the only number of a line.
 pub(crate) fn only(numbers: &[u32]) -> Option<u32>
     ensures { result ≡ items.only numbers.now }
 {
@@ -15,7 +15,7 @@ pub(crate) fn only(numbers: &[u32]) -> Option<u32>
     }
 }
 
-/// The latch of two or three numbers.
+/// Returns the latch of two or three numbers.
 pub(crate) fn latch_of(numbers: &[u32]) -> Option<RawLatch>
     ensures { result ≡ items.latch_of_numbers numbers.now }
 {
@@ -34,7 +34,7 @@ pub(crate) fn latch_of(numbers: &[u32]) -> Option<RawLatch>
     }
 }
 
-/// The gate of three numbers.
+/// Returns the gate of three numbers.
 pub(crate) fn gate_of(numbers: &[u32]) -> Option<RawGate>
     ensures { result ≡ items.gate_of_numbers numbers.now }
 {
@@ -48,7 +48,7 @@ pub(crate) fn gate_of(numbers: &[u32]) -> Option<RawGate>
     }
 }
 
-/// Whether one of the literals is past the greatest.
+/// Returns true if one of the literals is past the greatest.
 pub(crate) fn is_past(greatest: u32, lit: u32, others: &[u32]) -> bool
     ensures { result ≡ list_any (λ other. nat_lt greatest other) (lit ∷ others.now) }
 {
@@ -61,14 +61,14 @@ fn is_any_past(greatest: u32, lits: &[u32]) -> bool
     lits.iter().any(|lit| *lit > greatest)
 }
 
-/// Whether the literal can't be defined: it is odd, or 0.
+/// Returns true if the literal can't be defined: it is odd, or 0.
 pub(crate) fn is_undefinable(lit: u32) -> bool
     ensures { result ≡ reading.is_undefinable lit }
 {
     lit % 2 != 0 || lit == 0
 }
 
-/// Whether the latch's reset is neither 0 nor 1 nor its own literal.
+/// Returns true if the latch's reset is neither 0 nor 1 nor its own literal.
 pub(crate) fn is_bad_reset(latch: &RawLatch) -> bool
     ensures { result ≡ reading.is_bad_reset latch.now }
 {

@@ -1,4 +1,5 @@
-//! The deltas of gates wait until there are many, and go to the buffer together: a put costs more than the few bytes of a gate.
+//! The deltas of gates wait until there are many, and go to the buffer together. A put costs more
+//! than the few bytes of a gate.
 ghost use Rattle.std.specs.Prelude.{ℕ, ◌≡◌, ◌+◌, ◌≤◌, ◌<◌, ◌++◌, length, slice_get, Some};
 ghost use Rattle.aig_graph.specs.declared.graph.Gate.{Gate as GateOf};
 ghost use Rattle.aig_graph.specs.Graph.{IsGateAt};
@@ -20,7 +21,7 @@ const GATE_BYTES: usize = 10;
 /// Deltas that wait, one after the other.
 type Deltas = ArrayVec<u8, CAPACITY>;
 
-/// Puts the deltas that wait where a gate's may find no room beside them.
+/// Puts the deltas that wait if those of a gate may find no room beside them.
 fn leave_room<W: CountedWrite>(out: &mut Buffered<'_, W>, deltas: &mut Deltas)
     ensures room { length deltas.new.items + GATE_BYTES ≤ CAPACITY }
     ensures keeps { KeepsText W.output out.old deltas.old.items out.new deltas.new.items }

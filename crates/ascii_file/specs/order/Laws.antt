@@ -27,11 +27,11 @@ abbrev pub ReadsBefore : List Reads → List ℕ → Type 0
 ReadsBefore gates order =
     IsOrder gates order → (k g h : ℕ) → slice_get order k ≡ Some g → ReadsGate gates g h → (j : ℕ) × (j < k) × (slice_get order j ≡ Some h)
 
--- none is computed exactly where there is a cycle
+-- none is computed if and only if there is a cycle
 abbrev pub CycleLaw : List Reads → Type 0
 CycleLaw gates = AreReadsInFile gates → ((ordered gates ≡ None) ↔ HasCycle gates)
 
--- there is an order exactly where there is no cycle
+-- there is an order if and only if there is no cycle
 abbrev pub ExistsLaw : List Reads → Type 0
 ExistsLaw gates = AreReadsInFile gates → (((order : List ℕ) × IsOrder gates order) ↔ ¬ HasCycle gates)
 

@@ -37,7 +37,7 @@ unfoldable pub first_below : (ℕ → Bool) → ℕ → Option ℕ
 first_below p zero = None
 first_below p (suc n) = option_or (first_below p n) (if p n then Some n else None)
 
--- those placed, and so many more after them, each the next one; none where there is no next one
+-- those placed, and n more after them, each the next one; none if there is no next one
 unfoldable pub order_from : List Reads → List ℕ → ℕ → Option (List ℕ)
 order_from gates placed zero = Some placed
 order_from gates placed (suc more) =

@@ -32,7 +32,8 @@ mark_of marks g = slice_index_or marks g false
 unfoldable pub is_released : List Reads → Side → List Bool → ℕ → ℕ → Bool
 is_released gates side marks p g = is_gate (read_by side gates g) p && are_met (mark_of marks) (slice_get gates g)
 
--- the marks are of those placed, whose fan-ins are all placed, and the heap has each gate that may follow, once
+-- the marks are of those placed, whose fan-ins are all placed, and the heap has each gate that may
+-- follow, once
 pub record IsState (gates : List Reads) (placed : List ℕ) (marks : List Bool) (ready : List (Reverse ℕ)) : Type 0 where
   pub as_many : length marks ≡ length gates
   pub marked : (g : ℕ) → mark_of marks g ≡ has_gate placed g

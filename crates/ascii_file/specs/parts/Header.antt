@@ -9,6 +9,6 @@ use Rattle.ascii_file.specs.parts.Open.{numbers_with}
 unfoldable pub header_row : List ℕ → List ℕ → Option (List ℕ)
 header_row letters line = if starts_with nat_eq line letters then row_of (drop 4 line) else None
 
--- the same, where these bytes are the rest of the line
+-- the header of the line, if these bytes are the rest of it
 abbrev pub header_with : HeaderLine → List ℕ → Option (List ℕ)
 header_with h rest = if starts_with nat_eq rest (drop h.count h.letters) then numbers_with h.line (drop (4 - h.count) rest) else None

@@ -16,7 +16,7 @@ symbol_at kind position name = record { kind = kind; position = position; name =
 abbrev pub AreNamesOf : Symbols → List RawSymbol → Type 0
 AreNamesOf names symbols = names ≡ symbols_of symbols
 
--- the symbols, with one more where it is new
+-- the symbols, with one more if it is new
 abbrev pub with_new : Bool → List RawSymbol → RawSymbol → List RawSymbol
 with_new is_new symbols symbol = if is_new then symbols ++ symbol ∷ [] else symbols
 

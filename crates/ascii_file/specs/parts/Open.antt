@@ -7,6 +7,6 @@ use Rattle.ascii_file.specs.parts.Rows.{clamped, read_on, finished}
 abbrev pub ended : NumberLine → Option (List ℕ) → Option (List ℕ)
 ended line more = if line.is_spelt then finished (take line.len line.numbers) more else None
 
--- the numbers of the line, where these bytes are the rest of it
+-- the numbers of the line, if these bytes are the rest of it
 abbrev pub numbers_with : NumberLine → List ℕ → Option (List ℕ)
 numbers_with line rest = ended line (read_on clamped line.number rest)

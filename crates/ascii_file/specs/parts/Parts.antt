@@ -10,7 +10,8 @@ use Rattle.ascii_file.specs.Reading.{is_of_same}
 use Rattle.ascii_file.specs.Meaning.{props_of, symbols_of}
 use Rattle.ascii_file.specs.parts.Lists.{Lists}
 
--- as many of each kind as the header says, literals of the graph, and symbols that name a thing of their own
+-- the numbers of things that the header says, literals of the graph, and symbols that name a thing
+-- of their own
 pub record PartsFitHeader (h : Header) (g : Graph) (symbols : List RawSymbol) (l : Lists) : Type 0 where
   pub inputs : g.inputs ≡ h.inputs
   pub latches : length g.latches ≡ h.latches

@@ -4,21 +4,21 @@ use Rattle.std.specs.Char.{is_ascii_digit}
 use Rattle.std.specs.Option.{option_and_then}
 use Rattle.file_words.specs.Lines.{numbers_of}
 
--- the number, or the greatest of 32 bits where it is greater
+-- the number, or the greatest of 32 bits if it is greater
 abbrev pub clamped : ℕ → ℕ
 clamped n = min n (2 ^ 32 - 1)
 
--- the numbers, where there are at most nine
+-- the numbers, if there are at most nine
 abbrev pub up_to_nine : List ℕ → Option (List ℕ)
 up_to_nine ns = if nat_le (length ns) 9 then Some ns else None
 
--- the numbers of a line, where there are at most nine
+-- the numbers of a line, if there are at most nine
 unfoldable pub row_of : List ℕ → Option (List ℕ)
 row_of line = option_and_then (λ ns. up_to_nine (map clamped ns)) (numbers_of line)
 
 -- ---- byte by byte
 
--- one number more at the front, where it is there
+-- one number more at the front, if it is there
 abbrev pub in_front : Option ℕ → Option (List ℕ) → Option (List ℕ)
 in_front None rest = None
 in_front (Some n) None = None

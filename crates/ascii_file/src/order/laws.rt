@@ -2,8 +2,8 @@ ghost use Rattle.std.specs.Prelude.{ℕ, List};
 ghost use Rattle.ascii_file.specs.declared.order.reads.Reads.{Reads};
 ghost use Rattle.ascii_file.specs.order.Laws.{OrderedLaw, HasAtMostOneOrder, HasEachGateOnce, ReadsBefore, CycleLaw, ExistsLaw, KeepsOrder};
 
-/// What is computed is the order, there is at most one, each gate of the file stands at one place of it, and
-/// after the gates that it reads.
+/// The computed order is an order of the gates, and there is at most one. Each gate of the file
+/// stands at one place of it, after the gates that it reads.
 pub fn order_laws()
     ensures computed { (gates : List Reads) (order : List ℕ) → OrderedLaw gates order }
     ensures one { (gates : List Reads) (first second : List ℕ) → HasAtMostOneOrder gates first second }
@@ -11,7 +11,7 @@ pub fn order_laws()
     ensures before { (gates : List Reads) (order : List ℕ) → ReadsBefore gates order }
 {}
 
-/// There is an order exactly where no gates read each other in a cycle.
+/// There is an order if and only if no gates read each other in a cycle.
 pub fn cycle_laws()
     ensures computed { (gates : List Reads) → CycleLaw gates }
     ensures exists { (gates : List Reads) → ExistsLaw gates }

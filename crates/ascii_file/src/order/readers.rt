@@ -1,6 +1,6 @@
-//! The readers of each gate, as linked lists in two tables: from the last reader of a gate back to the first. A link is one more
-//! than a place in the file, and 0 ends the list, so both tables begin as zeros. There is one pair of tables for each of the two
-//! fan-ins.
+//! The readers of each gate, as linked lists in two tables: from the last reader of a gate back to
+//! the first. A link is one more than a place in the file, and 0 ends the list, so both tables
+//! begin as zeros. There is one pair of tables for each of the two fan-ins.
 ghost use Rattle.std.specs.Prelude.{◌≡◌, ◌<◌, ◌≤◌, ◌^◌, length, IfOk};
 ghost use Rattle.ascii_file.specs.order.Order.{AreReadsInFile};
 ghost use Rattle.ascii_file.specs.order.Readers.{AreReaderTables, read_by};
@@ -9,12 +9,12 @@ use crate::order::reads::{Reads, Side};
 use aig_graph::NoMemory;
 use std::alloc::Global;
 
-/// The gates that read a gate by one of their fan-ins, from the last one back: the tables hold one more than a place, and
-/// 0 for none.
+/// The gates that read a gate by one of their fan-ins, from the last one back. The tables hold a
+/// place plus one, and 0 for none.
 pub(crate) struct Readers {
     /// For each gate the last one that reads it.
     pub(crate) last: Vec<u32>,
-    /// For each gate the one before it that reads the same gate.
+    /// For each gate the one before it that reads its fan-in too.
     pub(crate) before: Vec<u32>,
 }
 
@@ -45,7 +45,7 @@ fn link(gates: &[Reads], side: Side, last: &mut [u32], before: &mut [u32])
 }
 
 impl Readers {
-    /// The readers by this fan-in.
+    /// Returns the readers by this fan-in.
     pub(crate) fn new(alloc: Global, gates: &[Reads], side: Side) -> Result<Readers, NoMemory>
         requires few { length gates.now < 2 ^ 32 }
         requires in_file { AreReadsInFile gates.now }

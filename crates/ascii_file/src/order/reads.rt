@@ -1,11 +1,11 @@
-//! Of a gate only the gates that it reads count for the order. One that both fan-ins read is read once: otherwise the gate would
-//! be met twice among its readers.
+//! Of a gate only the gates that it reads count for the order. One that both fan-ins read is read
+//! once: otherwise the gate would be met twice among its readers.
 ghost use Rattle.std.specs.Prelude.{◌≡◌, ◌<◌, ◌↔◌, false, length, IsTrue, IfSome};
 ghost use Rattle.ascii_file.specs.order.Order.{is_met};
 ghost use Rattle.ascii_file.specs.order.Ready.{mark_of};
 
-/// What a gate reads of the other gates: for each of its two fan-ins that is a gate, that gate's place in the file,
-/// counted from 0. `None` for a fan-in that is an input, a latch or the constant.
+/// The gates that a gate reads: for each of its two fan-ins that is a gate, that gate's place in
+/// the file, counted from 0. An input, a latch or the constant gives `None`.
 #[derive(Clone, Copy)]
 pub struct Reads {
     pub first: Option<u32>,
@@ -19,7 +19,7 @@ pub(crate) enum Side {
     Second,
 }
 
-/// Whether a fan-in is no gate, or one before this place.
+/// Returns true if a fan-in is no gate, or one before this place.
 fn is_before(fan_in: Option<u32>, place: usize) -> bool
     ensures { IsTrue result ↔ IfSome fan_in (λ g. g < place) }
 {
@@ -29,7 +29,7 @@ fn is_before(fan_in: Option<u32>, place: usize) -> bool
     }
 }
 
-/// Whether a fan-in is no gate, or one that is marked.
+/// Returns true if a fan-in is no gate, or a marked one.
 fn is_marked(marks: &[bool], fan_in: Option<u32>) -> bool
     requires { IfSome fan_in (λ g. g < length marks.now) }
     ensures { result ≡ is_met (mark_of marks.now) fan_in }
@@ -44,21 +44,21 @@ impl Reads {
     ghost use Rattle.ascii_file.specs.order.Readers.{fan_in};
     ghost use Rattle.ascii_file.specs.order.Order.{ReadsBelow, are_met};
 
-    /// Whether the gates that are read stand before this place.
+    /// Returns true if the gates that are read stand before this place.
     pub(crate) fn are_before(&self, place: usize) -> bool
         ensures { IsTrue result ↔ ReadsBelow place self.now }
     {
         is_before(self.first, place) && is_before(self.second, place)
     }
 
-    /// Whether no gate is read.
+    /// Returns true if no gate is read.
     pub(crate) fn is_free(&self) -> bool
         ensures { result ≡ are_met (λ g. false) (Some self.now) }
     {
         self.first.is_none() && self.second.is_none()
     }
 
-    /// Whether the gates that are read are all marked.
+    /// Returns true if the gates that are read are all marked.
     pub(crate) fn are_marked(&self, marks: &[bool]) -> bool
         requires { ReadsBelow (length marks.now) self.now }
         ensures { result ≡ are_met (mark_of marks.now) (Some self.now) }
@@ -66,7 +66,8 @@ impl Reads {
         is_marked(marks, self.first) && is_marked(marks, self.second)
     }
 
-    /// The gate that is read by this fan-in: by the second one only where it is another one than by the first.
+    /// Returns the gate that is read by this fan-in. The second fan-in gives none if the first one
+    /// reads that gate.
     pub(crate) fn by(&self, side: Side) -> Option<u32>
         ensures { result ≡ fan_in side self.now }
     {

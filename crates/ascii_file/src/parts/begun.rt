@@ -1,10 +1,10 @@
 //! A line after the gates, byte by byte.
 //!
-//!     Nothing ──one of i l o b c j f──► Letter ──digit──► Position ──space──► Name, which keeps all further bytes
+//!     Nothing ──one of i l o b c j f──► Letter ──digit──► Position ──space──► Name
 //!     Nothing ──any other──► NoSymbol
 //!     Letter c ──no digit──► Comment
 //!     Letter, Position ──any other──► Malformed
-//!     NoSymbol, Comment, Malformed stay
+//!     NoSymbol, Comment, Malformed stay, and so does Name, which keeps all further bytes
 ghost use Rattle.std.specs.Prelude.{◌≡◌, ◌==◌, ℕ, List, [], ◌∷◌};
 ghost use Rattle.ascii_file.specs.Items as items;
 ghost use Rattle.ascii_file.specs.Raw.{kind_number};
@@ -26,7 +26,7 @@ pub(crate) enum Begun {
     NoSymbol,
 }
 
-/// The kind that a symbol's first byte stands for.
+/// Returns the kind that a symbol's first byte stands for.
 fn kind_of(byte: u8) -> Option<SymbolKind>
     ensures { result ≡ items.kind_of byte }
 {
@@ -48,7 +48,7 @@ pub(crate) fn is_constraint(kind: SymbolKind) -> bool
     matches!(kind, SymbolKind::Constraint)
 }
 
-/// After the first byte.
+/// Takes the first byte.
 fn after_nothing(byte: u8) -> Begun
     ensures { (rest : List ℕ) → begun_with result [] rest ≡ text_of (byte ∷ rest) }
 {
@@ -58,7 +58,7 @@ fn after_nothing(byte: u8) -> Begun
     }
 }
 
-/// After the byte that follows the letter.
+/// Takes the byte that follows the letter.
 fn after_letter(kind: SymbolKind, byte: u8) -> Begun
     ensures { (rest : List ℕ) → begun_with result [] rest ≡ letter_with kind (byte ∷ rest) }
 {
@@ -68,7 +68,7 @@ fn after_letter(kind: SymbolKind, byte: u8) -> Begun
     after_position(kind, None, byte)
 }
 
-/// After one more digit of a position, or the space that ends it.
+/// Takes one more digit of a position, or the space that ends it.
 fn after_position(kind: SymbolKind, number: Option<u32>, byte: u8) -> Begun
     ensures { (rest : List ℕ) → begun_with result [] rest
         ≡ position_with kind number (byte ∷ rest) }
@@ -82,7 +82,7 @@ fn after_position(kind: SymbolKind, number: Option<u32>, byte: u8) -> Begun
     Begun::Malformed
 }
 
-/// Where the position ends, which has to be a number.
+/// Ends the position, which has to be a number.
 fn named(kind: SymbolKind, number: Option<u32>) -> Begun
     ensures { (rest : List ℕ) → begun_with result [] rest ≡ named_at kind number rest }
 {
@@ -97,7 +97,7 @@ impl Begun {
     ghost use Rattle.ascii_file.specs.parts.Named.{is_named};
     ghost use Rattle.ascii_file.specs.parts.Symbols.{begun_with};
 
-    /// After one more byte, where that isn't of a name.
+    /// Takes one more byte, if that isn't one of a name.
     pub(crate) fn after(self, byte: u8) -> Begun
         requires { is_named self ≡ false }
         ensures { (rest : List ℕ) → begun_with result [] rest ≡ begun_with self [] (byte ∷ rest) }

@@ -1,5 +1,5 @@
-//! Properties by kind. A file's sections of one form come as one list (outputs, bad states and constraints; justice literals and
-//! fairness), and the header's numbers part it.
+//! Properties by kind. A file's sections of one form come as one list (outputs, bad states and
+//! constraints; justice literals and fairness), and the header's numbers part it.
 ghost use Rattle.std.specs.Prelude.{◌≡◌, ◌+◌, ◌<◌, ◌≤◌, ◌^◌, length, take, drop, All, IfOk};
 ghost use Rattle.std.specs.List.{sum};
 ghost use Rattle.ascii_file.specs.Raw.{safety_count};
@@ -9,7 +9,7 @@ use crate::Header;
 use aig_graph::{Lit, NoMemory, Props, Sequence};
 use std::alloc::Global;
 
-/// The literals with these numbers.
+/// Returns the literals with these numbers.
 fn literals(alloc: Global, codes: &[u32]) -> Result<Sequence<Lit>, NoMemory>
     requires { All (λ lit. lit < 2 ^ 29) codes.now }
     ensures { IfOk result (λ literals. literals ≡ codes.now) }
@@ -21,7 +21,7 @@ fn literals(alloc: Global, codes: &[u32]) -> Result<Sequence<Lit>, NoMemory>
     Ok(Sequence::from_vec(literals))
 }
 
-/// The literals of justice properties of these sizes, one after the other.
+/// Returns the literals of justice properties of these sizes, one after the other.
 fn justice(alloc: Global, sizes: &[u32], codes: &[u32]) -> Result<Sequence<Sequence<Lit>>, NoMemory>
     requires fit { sum sizes.now ≤ length codes.now }
     requires literals { All (λ lit. lit < 2 ^ 29) codes.now }
@@ -37,7 +37,7 @@ fn justice(alloc: Global, sizes: &[u32], codes: &[u32]) -> Result<Sequence<Seque
     Ok(Sequence::from_vec(properties))
 }
 
-/// Outputs, bad states and constraints, one after the other.
+/// Returns outputs, bad states and constraints, one after the other.
 fn safety_props(
     alloc: Global,
     header: &Header,
@@ -60,12 +60,13 @@ fn safety_props(
     ))
 }
 
-/// The properties by kind of these literals, by their numbers in the circuit: `safety` has those of outputs, bad states and
-/// constraints, `liveness` those of justice properties of these sizes, and then of fairness.
+/// Returns the properties by kind, with literals by their numbers in the circuit. `safety` has
+/// those of outputs, bad states and constraints. `liveness` has those of justice properties of
+/// these sizes, and then of fairness.
 ///
 /// # Errors
 ///
-/// `NoMemory` where memory is refused.
+/// `NoMemory` if memory is refused.
 pub fn props(
     alloc: Global,
     header: &Header,

@@ -1,5 +1,6 @@
-//! The first line, byte by byte: letters, and then five to nine numbers. Its faults are looked for once it has ended, in their
-//! order: form, then limits, then whether the greatest variable leaves room for all that are counted.
+//! The first line, byte by byte: letters, and then five to nine numbers. Its faults are looked for
+//! once it has ended. They are, in order, of form, of limits, and of a greatest variable that
+//! leaves no room for what is counted.
 ghost use Rattle.std.specs.Prelude.{◌≡◌, ◌≤◌, ◌^◌, ◌||◌, ◌∷◌, [], nat_lt, length, get_or, Ok};
 ghost use Rattle.ascii_file.specs.Headers as headers;
 ghost use Rattle.ascii_file.specs.Reading.{unless};
@@ -13,7 +14,8 @@ use file_words::ReadError;
 /// The greatest number of variables, the constant left out.
 const GREATEST_VARIABLE: u32 = (1 << 28) - 1;
 
-/// The greatest number of outputs, bad states, constraints, justice properties and fairness constraints, each.
+/// The greatest number of outputs, and likewise of bad states, of constraints, of justice
+/// properties and of fairness constraints.
 const MAX_PROPERTIES: u32 = 1 << 24;
 
 /// How many letters the first line begins with.
@@ -39,7 +41,7 @@ impl HeaderLine {
     ghost use Rattle.ascii_file.specs.parts.Header.{header_row, header_with};
     ghost use Rattle.ascii_file.specs.parts.Limits.{limited};
 
-    /// A line of which no byte has come, and which is to begin with these letters.
+    /// Returns a line of which no byte has come, and which is to begin with these letters.
     pub fn new(letters: [u8; LETTERS]) -> HeaderLine
         ensures { (rest : List ℕ) → header_with result rest ≡ header_row letters rest }
     {
@@ -60,7 +62,7 @@ impl HeaderLine {
         }
     }
 
-    /// The header of an ASCII file that the line spells, of which all bytes have come.
+    /// Returns the header of an ASCII file that the line spells. All its bytes have come.
     pub fn header(&mut self) -> Result<Header, ReadError>
         ensures value { (line : List ℕ) → header_with self.old [] ≡ header_row (codes "aag ") line
             → result ≡ reading.read_header line }
@@ -72,12 +74,12 @@ impl HeaderLine {
         }
     }
 
-    /// The header that the line spells, of which all bytes have come. A number past `u32::MAX` is `u32::MAX`, and whether
-    /// there are as many variables as the file's form wants isn't looked at.
+    /// Returns the header that the line spells. All its bytes have come. A number past `u32::MAX`
+    /// is `u32::MAX`, and the number of variables isn't compared with what the file's form wants.
     ///
     /// # Errors
     ///
-    /// `BadHeader` where the line is no header, `TooLarge` where one of its numbers is past its limit.
+    /// `BadHeader` if the line is no header, `TooLarge` if one of its numbers is past its limit.
     pub fn limited(&mut self) -> Result<Header, ReadError>
         ensures { result ≡ limited (option_and_then headers.header_in (header_with self.old [])) }
     {
@@ -104,7 +106,7 @@ impl HeaderLine {
     }
 }
 
-/// The number at a place of the header, 0 where it isn't given.
+/// Returns the number at this place of the header, or 0 if it isn't given.
 fn number_at(numbers: &[u32], place: usize) -> u32
     ensures { result ≡ get_or numbers.now place 0 }
 {
@@ -114,7 +116,7 @@ fn number_at(numbers: &[u32], place: usize) -> u32
     }
 }
 
-/// The header of five to nine numbers.
+/// Returns the header of five to nine numbers.
 fn header_in(numbers: &[u32]) -> Option<Header>
     requires { length numbers.now ≤ 9 }
     ensures { result ≡ headers.header_in numbers.now }
@@ -135,7 +137,7 @@ fn header_in(numbers: &[u32]) -> Option<Header>
     })
 }
 
-/// Whether there are more of some kind of property than a header may count.
+/// Returns true if the header counts more properties of some kind than it may.
 fn is_any_past(header: &Header) -> bool
     ensures { result ≡ (nat_lt (2 ^ 24) header.now.outputs ||
         (nat_lt (2 ^ 24) header.now.bad || (nat_lt (2 ^ 24) header.now.constraints
@@ -148,7 +150,7 @@ fn is_any_past(header: &Header) -> bool
         || header.fairness > MAX_PROPERTIES
 }
 
-/// The header, where it is one and each of its numbers is within its limit.
+/// Returns the header if there is one and each of its numbers is within its limit.
 fn within_limits(header: Option<Header>) -> Result<Header, ReadError>
     ensures { result ≡ limited header }
 {
@@ -161,7 +163,7 @@ fn within_limits(header: Option<Header>) -> Result<Header, ReadError>
     Ok(header)
 }
 
-/// The header, where it counts no more variables than its greatest.
+/// Returns the header if it counts no more variables than its greatest.
 fn with_variables(header: Header) -> Result<Header, ReadError>
     ensures { result ≡ unless ((counts_past_greatest header, MaxIndex 0) ∷ []) (Ok header) }
 {

@@ -1,5 +1,5 @@
-//! Names by position, in an ordered map: a file may list its symbols in any order, few of them or all, while a circuit has them
-//! by rising position, and no position twice.
+//! Names by position, in an ordered map. A file may list its symbols in any order, few of them or
+//! all. A circuit has them by rising position, and no position twice.
 ghost use Rattle.std.specs.Prelude.{◌<◌, ◌↔◌, All, IsTrue};
 ghost use Rattle.std.specs.Ordering.{nat_cmp};
 ghost use Rattle.std.specs.BTreeMap.{keys, IsOrdered};
@@ -26,7 +26,7 @@ impl Model for KindNames {
     ghost view = { λ n. symbols_in n.names.entries };
 }
 
-/// Whether all keys are below the count.
+/// Returns true if all keys are below the count.
 fn are_keys_below(names: &BTreeMap<u32, Sequence<u8>>, count: u32) -> bool
     ensures below { IsTrue result ↔ All (λ position. position < count) (keys names.now) }
     ensures ordered { IsOrdered nat_cmp names.now }
@@ -40,7 +40,7 @@ impl KindNames {
     ghost use Rattle.ascii_file.specs.Meaning.{with_name};
     ghost use Rattle.ascii_file.specs.parts.Names.{has_position};
 
-    /// No name. Takes no memory.
+    /// Returns a map of no names. Takes no memory.
     pub(crate) fn new(alloc: Global) -> KindNames
         ensures { result ≡ [] }
     {
@@ -49,7 +49,7 @@ impl KindNames {
         }
     }
 
-    /// One more name, and whether its position is new: where it has a name already, nothing changes.
+    /// Adds a name, and returns true if its position is new. A position that has a name keeps it.
     pub(crate) fn insert(&mut self, position: u32, name: Sequence<u8>) -> Result<bool, NoMemory>
         ensures new { IfOk result (λ is_new. is_new ≡ not (has_position self.old position)) }
         ensures names { IfOk result (λ is_new. self.new
@@ -64,21 +64,21 @@ impl KindNames {
         Ok(true)
     }
 
-    /// Whether all positions are below the count.
+    /// Returns true if all positions are below the count.
     pub(crate) fn are_below(&self, count: u32) -> bool
         ensures { IsTrue result ↔ AreNamesBelow count self.now }
     {
         are_keys_below(&self.names, count)
     }
 
-    /// The names in one sequence; none are left.
+    /// Takes the names as one sequence; none are left.
     pub(crate) fn take_sequence(&mut self, alloc: Global) -> Result<Sequence<Symbol>, NoMemory>
         ensures { IfOk result (λ names. names ≡ self.old) }
     {
         mem::replace(self, KindNames::new(alloc)).into_sequence(alloc)
     }
 
-    /// The names in one sequence.
+    /// Returns the names in one sequence.
     fn into_sequence(self, alloc: Global) -> Result<Sequence<Symbol>, NoMemory>
         ensures { IfOk result (λ names. names ≡ self) }
     {

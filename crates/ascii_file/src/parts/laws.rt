@@ -5,8 +5,8 @@ ghost use Rattle.ascii_file.specs.Raw.{RawSymbol};
 ghost use Rattle.ascii_file.specs.parts.Lists.{Lists};
 ghost use Rattle.ascii_file.specs.parts.Parts.{NetlistLaw};
 
-/// A graph, properties' literals in its range and symbols that name a thing of their own, as many of each as the header
-/// says, make a circuit.
+/// A graph, properties and symbols make a circuit, in the numbers that the header says. The
+/// literals of the properties are in the graph's range, and each symbol names a thing of its own.
 pub fn netlist_law()
     ensures { (h : Header) (g : Graph) (symbols : List RawSymbol) (l : Lists)
         → NetlistLaw h g symbols l }

@@ -1,13 +1,14 @@
-//! The properties of a file, as two lists of literals and one of sizes. Outputs, bad states and constraints have lines of one
-//! form, and so have justice and fairness: they are parted at the end, by the header's numbers.
+//! The properties of a file, as two lists of literals and one of sizes. Outputs, bad states and
+//! constraints have lines of one form, and so have justice and fairness. They are parted at the
+//! end, by the header's numbers.
 use crate::Header;
 use crate::parts::by_kind::props;
 use aig_graph::{NoMemory, Props};
 use std::alloc::Global;
 use std::marker::Model;
 
-/// The literals of a file's properties as they come, and the numbers of literals of its justice properties. Literals are
-/// the file's own.
+/// The literals of a file's properties as they come, and the number of literals of each justice
+/// property. Literals are the file's own.
 pub struct PropertyLists {
     safety: Vec<u32>,
     sizes: Vec<u32>,
@@ -47,7 +48,7 @@ impl PropertyLists {
     ghost use Rattle.ascii_file.specs.Meaning.{props_of};
     ghost use Rattle.ascii_file.specs.parts.Lists.{no_lists};
 
-    /// No property. Takes no memory.
+    /// Returns lists of no property. Takes no memory.
     pub fn new(alloc: Global) -> PropertyLists
         ensures { result ≡ no_lists }
     {
@@ -59,7 +60,7 @@ impl PropertyLists {
         }
     }
 
-    /// One more literal of an output, a bad state or a constraint.
+    /// Adds a literal of an output, a bad state or a constraint.
     pub fn push_safety(&mut self, lit: u32) -> Result<(), NoMemory>
         ensures ok { OnOk result (self.new ≡ record self.old
             { safety = self.old.safety ++ lit ∷ [] }) }
@@ -69,7 +70,7 @@ impl PropertyLists {
         Ok(())
     }
 
-    /// One more justice property, by the number of its literals.
+    /// Adds a justice property, by the number of its literals.
     pub fn push_size(&mut self, size: u32) -> Result<(), NoMemory>
         requires { sum self.old.sizes + size < 2 ^ 32 }
         ensures ok { OnOk result (self.new ≡ record self.old
@@ -81,7 +82,7 @@ impl PropertyLists {
         Ok(())
     }
 
-    /// One more literal of a justice property, or after those a fairness literal.
+    /// Adds a literal of a justice property, or after those a fairness literal.
     pub fn push_liveness(&mut self, lit: u32) -> Result<(), NoMemory>
         ensures ok { OnOk result (self.new ≡ record self.old
             { liveness = self.old.liveness ++ lit ∷ [] }) }
@@ -91,56 +92,57 @@ impl PropertyLists {
         Ok(())
     }
 
-    /// The number of literals of all justice properties.
+    /// Returns the number of literals of all justice properties.
     pub fn size_sum(&self) -> u32
         ensures { result ≡ sum self.now.sizes }
     {
         self.size_sum
     }
 
-    /// How many literals of outputs, bad states and constraints there are.
+    /// Returns the number of literals of outputs, bad states and constraints.
     pub fn safety_len(&self) -> usize
         ensures { result ≡ length self.now.safety }
     {
         self.safety.len()
     }
 
-    /// How many justice properties there are.
+    /// Returns the number of justice properties.
     pub fn sizes_len(&self) -> usize
         ensures { result ≡ length self.now.sizes }
     {
         self.sizes.len()
     }
 
-    /// How many literals of justice properties and fairness there are.
+    /// Returns the number of literals of justice properties and fairness.
     pub fn liveness_len(&self) -> usize
         ensures { result ≡ length self.now.liveness }
     {
         self.liveness.len()
     }
 
-    /// The literals of outputs, bad states and constraints.
+    /// Returns the literals of outputs, bad states and constraints.
     pub fn safety(&self) -> &[u32]
         ensures { result.now ≡ self.now.safety }
     {
         self.safety.as_slice()
     }
 
-    /// The number of literals of each justice property.
+    /// Returns the number of literals of each justice property.
     pub fn sizes(&self) -> &[u32]
         ensures { result.now ≡ self.now.sizes }
     {
         self.sizes.as_slice()
     }
 
-    /// The literals of all justice properties, and then of fairness.
+    /// Returns the literals of all justice properties, and then of fairness.
     pub fn liveness(&self) -> &[u32]
         ensures { result.now ≡ self.now.liveness }
     {
         self.liveness.as_slice()
     }
 
-    /// The literals of outputs, bad states and constraints, the sizes, and the literals of justice properties and fairness.
+    /// Returns the literals of outputs, bad states and constraints, the sizes, and the literals of
+    /// justice properties and fairness.
     pub fn into_parts(self) -> (Vec<u32>, Vec<u32>, Vec<u32>)
         ensures safety { result.0.items ≡ self.safety }
         ensures sizes { result.1.items ≡ self.sizes }
@@ -155,11 +157,11 @@ impl PropertyLists {
         (safety, sizes, liveness)
     }
 
-    /// The properties by kind, as the header's numbers part them.
+    /// Returns the properties by kind, as the header's numbers part them.
     ///
     /// # Errors
     ///
-    /// `NoMemory` where memory is refused.
+    /// `NoMemory` if memory is refused.
     pub fn into_props(self, alloc: Global, header: &Header) -> Result<Props, NoMemory>
         requires safety { length self.safety ≡ safety_count header.now }
         requires liveness { length self.liveness ≡ sum self.sizes + header.now.fairness }

@@ -1,11 +1,13 @@
-//! The symbols of a file, by kind and position: they may come in any order, and a second one of a position is a fault.
+//! The symbols of a file, by kind and position: they may come in any order, and a second one of a
+//! position is a fault.
 use crate::parts::kind_names::KindNames;
 use crate::{Header, SymbolKind};
 use aig_graph::{NoMemory, Sequence, Symbols};
 use std::alloc::Global;
 use std::marker::Model;
 
-/// The symbols of a file as they come: the names of each kind, by rising position. A position of a kind has one name.
+/// The symbols of a file as they come: the names of each kind, by rising position. A position of a
+/// kind has one name.
 pub struct Names {
     inputs: KindNames,
     latches: KindNames,
@@ -47,7 +49,7 @@ impl Names {
     ghost use Rattle.ascii_file.specs.parts.Parts.{AreNamesWithin};
     ghost use Rattle.ascii_file.specs.parts.Names.{AreNamesOf, symbol_at, with_new, has_position, names_of_kind, with_symbol_in};
 
-    /// No name. Takes no memory.
+    /// Returns a table of no names. Takes no memory.
     pub fn new(alloc: Global) -> Names
         ensures { AreNamesOf result [] }
     {
@@ -62,12 +64,12 @@ impl Names {
         }
     }
 
-    /// One more symbol, and whether it is new: where one of its kind and position is there already, nothing changes. Takes
-    /// time in the logarithm of the number of names of the kind.
+    /// Adds a symbol, and returns true if its position is new. A position of a kind that has a name
+    /// keeps it. Takes time in the logarithm of the number of names of the kind.
     ///
     /// # Errors
     ///
-    /// `NoMemory` where memory is refused.
+    /// `NoMemory` if memory is refused.
     pub fn insert(
         &mut self,
         kind: SymbolKind,
@@ -87,7 +89,7 @@ impl Names {
         self.put(kind, position, name)
     }
 
-    /// The same, by the names alone.
+    /// Adds a symbol as [`Names::insert`] does, to the names alone.
     fn put(&mut self, kind: SymbolKind, position: u32, name: Sequence<u8>) -> Result<bool, NoMemory>
         ensures new { IfOk result (λ is_new. is_new
             ≡ not (has_position (names_of_kind self.old kind) position)) }
@@ -107,7 +109,8 @@ impl Names {
         }
     }
 
-    /// Whether all positions are below the numbers that the header states. Takes time in the number of names.
+    /// Returns true if all positions are below the numbers that the header states. Takes time in
+    /// the number of names.
     pub fn are_within(&self, header: &Header) -> bool
         ensures { IsTrue result ↔ AreNamesWithin header.now self.now }
     {
@@ -120,11 +123,11 @@ impl Names {
             && self.fairness.are_below(header.fairness)
     }
 
-    /// The symbol table of a circuit.
+    /// Returns the symbol table of a circuit.
     ///
     /// # Errors
     ///
-    /// `NoMemory` where memory is refused.
+    /// `NoMemory` if memory is refused.
     pub fn into_symbols(self, alloc: Global) -> Result<Symbols, NoMemory>
         ensures { IfOk result (λ symbols. symbols ≡ self) }
     {
@@ -132,7 +135,7 @@ impl Names {
         names.take_symbols(alloc)
     }
 
-    /// The names as a symbol table; none are left where the answer is `Ok`.
+    /// Takes the names as a symbol table; none are left if the answer is `Ok`.
     fn take_symbols(&mut self, alloc: Global) -> Result<Symbols, NoMemory>
         ensures { IfOk result (λ symbols. symbols ≡ self.old) }
     {

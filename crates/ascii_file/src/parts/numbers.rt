@@ -1,12 +1,14 @@
-//! The numbers of a line, byte by byte, with no room for the bytes themselves. A number stays at `u32::MAX` once it is past that:
-//! each limit is far below, so every comparison is that of the whole number.
+//! The numbers of a line, byte by byte, with no room for the bytes themselves. A number stays at
+//! `u32::MAX` once it is past that: each limit is far below, so every comparison is that of the
+//! whole number.
 ghost use Rattle.std.specs.Prelude.{◌≡◌, ◌+◌, ◌*◌, ◌≤◌};
 ghost use Rattle.ascii_file.specs.parts.Rows.{clamped};
 
 /// The most numbers that a line has.
 const MAX_NUMBERS: usize = 9;
 
-/// The numbers of a line that comes in pieces. None of them is past `u32::MAX`: that stands for each greater one.
+/// The numbers of a line that comes in pieces. None of them is past `u32::MAX`: that stands for
+/// each greater one.
 #[derive(Clone, Copy)]
 pub struct NumberLine {
     numbers: [u32; MAX_NUMBERS],
@@ -23,7 +25,7 @@ impl NumberLine {
     ghost use Rattle.ascii_file.specs.parts.Rows.{in_front, row_of};
     ghost use Rattle.ascii_file.specs.parts.Open.{ended, numbers_with};
 
-    /// A line of which no byte has come.
+    /// Returns a line of which no byte has come.
     pub fn new() -> NumberLine
         ensures { (rest : List ℕ) → numbers_with result rest ≡ row_of rest }
     {
@@ -45,8 +47,8 @@ impl NumberLine {
         }
     }
 
-    /// The numbers of the line, of which all bytes have come, or `None` where it isn't at most nine numbers with one space
-    /// between.
+    /// Returns the numbers of the line, of which all bytes have come. Gives `None` unless it is at
+    /// most nine numbers with one space between.
     pub fn numbers(&mut self) -> Option<&[u32]>
         ensures { MatchOption result (numbers_with self.old [] ≡ None)
             (λ ns. numbers_with self.old [] ≡ Some ns.now) }
@@ -73,7 +75,7 @@ impl NumberLine {
         }
     }
 
-    /// The line isn't numbers, whatever follows.
+    /// Marks the line as no numbers, whatever follows.
     pub(crate) fn refuse(&mut self)
         ensures { (rest : List ℕ) → numbers_with self.new rest ≡ None }
     {
@@ -98,7 +100,7 @@ impl NumberLine {
     }
 }
 
-/// The number with one more digit after it.
+/// Returns the number with one more digit after it.
 pub(crate) fn with_digit(number: u32, digit: u8) -> u32
     ensures { result ≡ clamped (10 * number + digit) }
 {

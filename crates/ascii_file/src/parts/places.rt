@@ -1,16 +1,17 @@
-//! The places of a file's variables. Variables that are small beside the number of lines so far have them in a table, and others
-//! by hashing: so an ordinary file needs no hashing, and one of few lines with great numbers little room.
+//! The places of a file's variables. Variables that are small beside the number of lines so far
+//! have them in a table, and others by hashing. An ordinary file needs no hashing, and one of few
+//! lines with great numbers needs little room.
 use indexmap::IndexMap;
 use std::alloc::{AllocError, Global};
 
-/// Room for so many variables is asked for at first, and for each place so many times.
+/// The number of variables that there is room for at first, and that each place adds room for.
 const SPARE: u32 = 256;
 
 const VARIABLES_A_PLACE: u32 = 4;
 
 /// For some variables a place each.
 pub struct Places {
-    /// One more than the place of each variable from 0 on; 0 where it has none here.
+    /// The place of each variable from 0 on, plus one; 0 for a variable that has none here.
     near: Vec<u32>,
     /// The places of variables that are far above their number.
     far: IndexMap<u32, u32>,
@@ -30,7 +31,7 @@ impl Places {
     ghost use Rattle.std.specs.Prelude.{ℕ, ◌≡◌, ◌==◌, ◌^◌, ◌<◌, None, Some, OnOk, OnErr, get_or, length, if◌then◌else◌};
     ghost use Rattle.ascii_file.specs.parts.Places.{place_of};
 
-    /// No variable has a place. Takes no memory.
+    /// Returns a table of no places. Takes no memory.
     pub fn new(alloc: Global) -> Places
         ensures { (v : ℕ) → place_of result v ≡ None }
     {
@@ -40,7 +41,7 @@ impl Places {
         }
     }
 
-    /// The place of the variable.
+    /// Returns the place of the variable.
     pub fn place(&self, variable: u32) -> Option<u32>
         ensures { result ≡ place_of self.now variable }
     {
@@ -52,7 +53,7 @@ impl Places {
         }
     }
 
-    /// What the table has for the variable.
+    /// Returns what the table has for the variable.
     fn next(&self, variable: u32) -> u32
         ensures { result ≡ get_or self.now.near.items variable 0 }
     {
@@ -64,7 +65,8 @@ impl Places {
 
     /// Gives a variable that has no place this one. An `Err` changes nothing.
     ///
-    /// The room grows with the greatest place so far, and beyond that with the variables, however great they are.
+    /// The room grows with the greatest place so far, and beyond that with the variables, however
+    /// great they are.
     pub fn insert(&mut self, variable: u32, place: u32) -> Result<(), AllocError>
         requires absent { place_of self.old variable ≡ None }
         requires few { place < 2 ^ 29 }

@@ -1,4 +1,5 @@
-//! A line after the gates: `begun` is the automaton of what comes before the name, and each byte after that is one of the name.
+//! A line after the gates: `begun` is the automaton of what comes before the name, and each byte
+//! after that is one of the name.
 ghost use Rattle.std.specs.Prelude.{◌≡◌, [], false};
 ghost use Rattle.ascii_file.specs.parts.Named.{is_named};
 
@@ -16,11 +17,13 @@ pub enum SymbolText {
     Comment,
     /// It begins as a symbol and isn't one.
     Malformed,
-    /// The name of what stands at a position, where `u32::MAX` stands for each greater one.
+    /// A position and a name for what stands there. A position of `u32::MAX` stands for each
+    /// greater one too.
     Name(SymbolKind, u32, Sequence<u8>),
 }
 
-/// A line after the gates, which comes in pieces: a symbol, or the first of the comment. Of its bytes the name is held.
+/// A line after the gates, which comes in pieces: a symbol, or the first of the comment. Of its
+/// bytes the name is held.
 #[derive(Drop)]
 pub struct SymbolLine {
     begun: Begun,
@@ -32,7 +35,7 @@ impl SymbolLine {
     ghost use Rattle.std.specs.Prelude.{ℕ, List, [], ◌∷◌, ◌++◌, ◌≡◌, OnOk};
     ghost use Rattle.ascii_file.specs.parts.Symbols.{text_of, text_with};
 
-    /// A line of which no byte has come. Takes no memory.
+    /// Returns a line of which no byte has come. Takes no memory.
     pub fn new(alloc: Global) -> SymbolLine
         ensures { (rest : List ℕ) → text_with result rest ≡ text_of rest }
     {
@@ -53,7 +56,7 @@ impl SymbolLine {
         Ok(())
     }
 
-    /// What the line is, of which all bytes have come.
+    /// Returns what the line is. All its bytes have come.
     pub fn text(self) -> SymbolText
         ensures { result ≡ text_with self [] }
     {

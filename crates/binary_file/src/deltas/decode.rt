@@ -1,4 +1,5 @@
-//! Deltas from bytes: seven bits of the number a byte, the lowest first, and the top bit set in all bytes but the last.
+//! Deltas from bytes: seven bits of the number a byte, the lowest first, and the top bit set in all
+//! bytes but the last.
 ghost use Rattle.std.specs.Prelude.{◌≡◌, ◌+◌, ◌<◌, ◌≤◌, ◌^◌, ◌++◌, ◌∷◌, [], length, nat_eq, IsTrue, Ok, Err, Some, None};
 ghost use Rattle.binary_file.specs.Deltas.{delta_value, is_delta};
 ghost use Rattle.binary_file.specs.declared.deltas.decode.DeltaError.TheVariants.{TooLong};
@@ -16,7 +17,8 @@ pub enum DeltaError {
 /// The most bytes that may come before a delta's last.
 const MOST_BEFORE: usize = 4;
 
-/// Reads deltas byte by byte. Contracts see the bytes of the delta that has begun, all of which have their top bit set.
+/// Reads deltas byte by byte. Contracts see the bytes of the delta that has begun, all of which
+/// have their top bit set.
 #[derive(Drop)]
 pub struct DeltaReader {
     begun: ArrayVec<u8, MOST_BEFORE>,
@@ -34,7 +36,7 @@ impl Model for DeltaReader {
     ghost invariant = { λ r. All (λ byte. 127 < byte) r.begun.items };
 }
 
-/// What the bytes of a delta before its last and its last byte spell.
+/// Returns the number that a delta spells, by its bytes before the last and its last byte.
 fn value(before: &[u8], last: u8) -> u64
     requires { length before.now ≤ 4 }
     ensures value { result ≡ delta_value (before.now ++ last ∷ []) }
@@ -47,7 +49,7 @@ fn value(before: &[u8], last: u8) -> u64
 }
 
 impl DeltaReader {
-    /// No byte of a delta is read yet. Takes no memory.
+    /// Returns a reader that has read no byte of a delta. Takes no memory.
     pub fn new() -> DeltaReader
         ensures { result ≡ [] }
     {
@@ -56,14 +58,15 @@ impl DeltaReader {
         }
     }
 
-    /// Whether no byte of a delta has come.
+    /// Returns true if no byte of a delta has come.
     pub fn is_new(&self) -> bool
         ensures { result ≡ nat_eq (length self.now) 0 }
     {
         self.begun.is_empty()
     }
 
-    /// Takes the next byte: the number, where this is a delta's last byte; `None`, where more bytes follow.
+    /// Takes the next byte. Returns the number if this is a delta's last byte, or `None` if more
+    /// bytes follow.
     ///
     /// # Errors
     ///

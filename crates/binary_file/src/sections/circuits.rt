@@ -14,11 +14,11 @@ impl Sections {
     ghost use Rattle.binary_file.specs.Contents.{IsAt, section_to_fill, netlist_of_contents};
     ghost use Rattle.binary_file.specs.Taking.{circuit_at_end};
 
-    /// The circuit of all that was read of an input of this length.
+    /// Returns the circuit of an input of this length, of which all was read.
     ///
     /// # Errors
     ///
-    /// `Truncated` where an item is missing; `NoMemory`.
+    /// `Truncated` if an item is missing; `NoMemory`.
     pub fn finish(self, alloc: Global, end: u64) -> Result<Circuit, ReadError>
         ensures { (h : Header) (raw : Raw) → IsAt self h raw
             → Gives NoMemory (λ c. c) result (circuit_at_end end h raw) }

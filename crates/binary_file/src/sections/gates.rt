@@ -1,4 +1,5 @@
-//! Gates of a binary file: one by its two deltas as they come, or all that are whole at the front of some bytes.
+//! Gates of a binary file: one by its two deltas as they come, or all that are whole at the front
+//! of some bytes.
 use crate::delta::{GATE_BYTES, whole_gate};
 use crate::sections::Sections;
 use crate::sections::numbers::literal;
@@ -17,11 +18,11 @@ impl Sections {
     ghost use Rattle.binary_file.specs.ReaderItems.{contents_with_gate};
     ghost use Rattle.binary_file.specs.Taking.{Takes, TakesGates, read_first_delta, read_second_delta};
 
-    /// The first fan-in of the next gate, by its delta, which begins at the offset.
+    /// Returns the first fan-in of the next gate, by its delta, which begins at offset `at`.
     ///
     /// # Errors
     ///
-    /// `BadDelta` where the delta is 0 or above the gate's literal.
+    /// `BadDelta` if the delta is 0 or above the gate's literal.
     pub fn first_fan_in(&self, at: u64, delta: u64) -> Result<u32, ReadError>
         ensures { (h : Header) (raw : Raw) → IsAt self.now h raw
             → result ≡ read_first_delta h raw at delta }
@@ -33,11 +34,12 @@ impl Sections {
         Ok(gate - delta as u32)
     }
 
-    /// Takes the next gate, by its first fan-in and its second delta, which begins at the offset.
+    /// Takes the next gate, by its first fan-in and its second delta, which begins at offset `at`.
     ///
     /// # Errors
     ///
-    /// `BadDelta` where the delta is above the first fan-in; `NoMemory`. The sections are of no more use then.
+    /// `BadDelta` if the delta is above the first fan-in; `NoMemory`. The sections are then of no
+    /// more use.
     pub fn take_gate(&mut self, at: u64, rhs0: u32, delta: u64) -> Result<(), ReadError>
         ensures { (h : Header) (raw : Raw) → IsAt self.old h raw → next_section h raw ≡ Gates
             → rhs0 < next_gate h raw
@@ -49,12 +51,12 @@ impl Sections {
         self.push_gate(at, rhs0, rhs0 - delta as u32)
     }
 
-    /// Takes whole gates while one is missing and so many bytes are left as a gate may have, up to one with a fault. What is
-    /// left of the bytes is the answer.
+    /// Takes whole gates, up to one with a fault, while a gate is missing and as many bytes are
+    /// left as the longest gate has. Returns what is left of the bytes.
     ///
     /// # Errors
     ///
-    /// `NoMemory`. The sections are of no more use then.
+    /// `NoMemory`. The sections are then of no more use.
     pub(crate) fn take_gates<'a>(&mut self, bytes: &'a [u8]) -> Result<&'a [u8], ReadError>
         ensures taken { (h : Header) (raw : Raw) (at : ℕ) → IsAt self.old h raw
             → next_section h raw ≡ Gates → TakesGates h raw at self.new bytes.now result }
@@ -71,7 +73,7 @@ impl Sections {
         Ok(left)
     }
 
-    /// Adds a gate, where one is missing and these are fan-ins below its own literal.
+    /// Adds a gate if one is missing and these are fan-ins below its own literal.
     fn push_gate(&mut self, at: u64, rhs0: u32, rhs1: u32) -> Result<(), ReadError>
         requires { rhs1 ≤ rhs0 }
         ensures { section_to_fill self.old ≡ Gates → rhs0 < gate_literal self.old
@@ -101,7 +103,7 @@ impl Sections {
         Ok(())
     }
 
-    /// The literal of the next gate.
+    /// Returns the literal of the next gate.
     fn gate_literal(&self) -> u32
         ensures value { result ≡ gate_literal self.now }
         ensures small { result < 2 ^ 30 }

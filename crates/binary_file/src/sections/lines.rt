@@ -1,5 +1,5 @@
-//! Lines of numbers, a function for each section. Which section a line is of follows from what has come (`sections`), and never
-//! from the line: so each function knows how many numbers to expect.
+//! Lines of numbers, a function for each section. The section of a line follows from what has come
+//! (`sections`), and never from the line. So each function knows the count of numbers to expect.
 use crate::sections::Sections;
 use crate::sections::numbers::{latch_numbers, literal, literal_within, only_number, reset_in};
 use aig_graph::Latch;
@@ -24,15 +24,16 @@ impl Sections {
     ghost use Rattle.binary_file.specs.ReaderItems.{latch_taken, safety_taken, size_taken, liveness_taken};
     ghost use Rattle.binary_file.specs.Taking.{Takes};
 
-    /// Takes the line of the next item, which begins at the offset, by its numbers, or by `None` where it isn't at most
-    /// nine numbers with one space between. `u32::MAX` stands for each greater number. The section isn't that of symbols;
-    /// gates have no lines.
+    /// Takes the line of the next item, which begins at offset `at`, by its numbers. They are
+    /// `None` unless the line is at most nine numbers with one space between. `u32::MAX` stands for
+    /// each greater number too. The section isn't that of symbols; gates have no lines.
     ///
     /// # Errors
     ///
-    /// `BadLine` where there aren't as many numbers as the section wants; `MaxIndex` at a literal past the greatest variable;
-    /// `BadReset` at a reset that is neither 0 nor 1 nor the latch's own literal; `TooLarge` where the sizes of justice
-    /// properties sum to more than 2^24; `NoMemory`. The sections are of no more use then.
+    /// `BadLine` if there aren't as many numbers as the section wants. `MaxIndex` at a literal past
+    /// the greatest variable. `BadReset` at a reset that is neither 0 nor 1 nor the latch's own
+    /// literal. `TooLarge` if the sizes of justice properties sum to more than 2^24. `NoMemory`.
+    /// The sections are then of no more use.
     pub fn take_numbers(&mut self, at: u64, numbers: Option<&[u32]>) -> Result<(), ReadError>
         ensures { (h : Header) (raw : Raw) (line : List ℕ) → IsAt self.old h raw
             → is_symbols (next_section h raw) ≡ false

@@ -5,7 +5,7 @@ use aig_graph::{Lit, Reset};
 use ascii_file::Header;
 use file_words::ReadError;
 
-/// The only number of the line at an offset.
+/// Returns the only number of the line at offset `at`.
 pub(crate) fn only_number(at: u64, numbers: &[u32]) -> Result<u32, ReadError>
     ensures { result ≡ only_number at numbers.now }
 {
@@ -15,7 +15,7 @@ pub(crate) fn only_number(at: u64, numbers: &[u32]) -> Result<u32, ReadError>
     }
 }
 
-/// The next literal and the reset of a latch's line; a reset that is left out is 0.
+/// Returns the next literal and the reset of a latch's line; a reset that is left out is 0.
 pub(crate) fn latch_numbers(at: u64, numbers: &[u32]) -> Result<(u32, u32), ReadError>
     ensures { result ≡ latch_numbers at numbers.now }
 {
@@ -26,7 +26,7 @@ pub(crate) fn latch_numbers(at: u64, numbers: &[u32]) -> Result<(u32, u32), Read
     }
 }
 
-/// The literal of this number, where it isn't past the greatest variable.
+/// Returns the literal of this number, if it isn't past the greatest variable.
 pub(crate) fn literal_within(header: &Header, at: u64, number: u32) -> Result<u32, ReadError>
     requires { header.now.greatest < 2 ^ 28 }
     ensures value { result ≡ literal_within header.now at number }
@@ -38,7 +38,7 @@ pub(crate) fn literal_within(header: &Header, at: u64, number: u32) -> Result<u3
     Ok(number)
 }
 
-/// The reset that a number stands for, of a latch with this literal.
+/// Returns the reset of a number, for a latch with this literal.
 pub(crate) fn reset_in(current: u32, number: u32) -> Option<Reset>
     ensures { result ≡ reset_in current number }
 {
@@ -50,7 +50,7 @@ pub(crate) fn reset_in(current: u32, number: u32) -> Option<Reset>
     }
 }
 
-/// The literal with this number.
+/// Returns the literal with this number.
 pub(crate) fn literal(number: u32) -> Lit
     requires { number < 2 ^ 29 }
     ensures { result ≡ number }

@@ -20,12 +20,14 @@ impl Sections {
     ghost use Rattle.binary_file.specs.ReaderItems.{symbol_taken};
     ghost use Rattle.binary_file.specs.Taking.{Takes};
 
-    /// Takes a symbol's line, which begins at the offset. All other sections are full, and the line isn't that of a comment.
+    /// Takes a symbol's line, which begins at offset `at`. All other sections are full, and the
+    /// line isn't that of a comment.
     ///
     /// # Errors
     ///
-    /// `Trailing` where it doesn't begin as a symbol; `BadSymbol` where it isn't one, its position is out of range, or there
-    /// is one of its kind and position; `NoMemory`. The sections are of no more use then.
+    /// `Trailing` if it doesn't begin as a symbol. `BadSymbol` if it isn't one, its position is out
+    /// of range, or one of its kind and position has come. `NoMemory`. The sections are then of no
+    /// more use.
     pub fn take_symbol(&mut self, at: u64, text: SymbolText) -> Result<(), ReadError>
         ensures { (h : Header) (raw : Raw) (line : List ℕ) → IsAt self.old h raw
             → next_section h raw ≡ Symbols

@@ -20,7 +20,8 @@ abbrev pub or_else : Option ℕ → Option ℕ → Option ℕ
 or_else None later = later
 or_else (Some place) later = Some place
 
--- the place of the nearest name, by the edits to each: that of the first 0, else of the first 1, else of the first 2
+-- the place of the nearest name, by the edits to each: that of the first 0, else of the first 1 or
+-- 2
 unfoldable pub nearest_of : List ℕ → Option ℕ
 nearest_of counts =
     or_else (position (λ count. count == 0) counts)

@@ -1,5 +1,5 @@
-//! Nothing that is told beside the fixed text of a failure changes how the run ends: a file that can't be read again, want of memory
-//! and a failed write leave it out.
+//! Hints beside the fixed text of a failure. No hint changes how the run ends: a file that can't be
+//! read again, want of memory and a failed write leave it out.
 use crate::Failure;
 use crate::pages::line::{is_ascii, line_number, line_of_file};
 use crate::pages::name_hints::put_name;
@@ -17,7 +17,7 @@ pub struct Told<'a> {
     pub failure: Failure<'a>,
     /// The name of its fault.
     pub fault: &'static str,
-    /// The offset of the line at fault, where it has one.
+    /// The offset of the line at fault, if it has one.
     pub offset: Option<u64>,
     /// Whether a name that nothing has may be that of anything, and not of a latch alone.
     pub of_all: bool,
@@ -25,8 +25,8 @@ pub struct Told<'a> {
     pub is_written: bool,
 }
 
-/// Whether what a failure names is a file that can be read again: not standard input, whose name is `stdin`, and no pipe, since
-/// opening one again would wait for a writer.
+/// Returns true if a failure names a file that can be read again. Standard input, whose name is
+/// `stdin`, can't. Nor can a pipe, since opening one again would wait for a writer.
 pub(crate) fn can_be_read_again<R: Files>(rt: &R, name: &str) -> bool {
     if name == "stdin" {
         return false;
@@ -71,7 +71,8 @@ fn put_line_of<R: Files, W: CountedWrite>(
     }
 }
 
-/// Puts what a failure is about: the line at fault of a text, the nearest name. Of a circuit those in ASCII have lines.
+/// Puts the line at fault of a text, or the nearest name, as the failure asks. Of circuits those in
+/// ASCII have lines.
 fn put_place<R: Files, W: CountedWrite>(
     rt: &R,
     alloc: Global,
@@ -117,14 +118,15 @@ fn put_meaning<R: Files, W: CountedWrite>(
     }
 }
 
-/// Puts where the page of a fault is.
+/// Puts the command that prints the page of a fault.
 fn put_pointer<W: CountedWrite>(fault: Fault, out: &mut Buffered<'_, W>) {
     out.put(b" 'fretime explain ");
     out.put(fault.name().as_bytes());
     out.put(b"' says more.\n");
 }
 
-/// Says on a terminal what a fault is, and where its page is. A write that fails changes nothing.
+/// Says on a terminal what a fault is, and the command that prints its page. A write that fails
+/// changes nothing.
 pub fn tell_page<E: CountedWrite>(fault: Fault, err: &mut E) {
     let mut out = Buffered::new(err);
     out.put(fault.page().meaning.as_bytes());
@@ -132,9 +134,11 @@ pub fn tell_page<E: CountedWrite>(fault: Fault, err: &mut E) {
     let _ = out.flush();
 }
 
-/// Says more of a failure on standard error, where that is a terminal: the line at fault of a text, the nearest name to one that no
-/// latch has, or where `of_all` nothing, why a file can't be read or written; what the fault is, and where its page is. Elsewhere a
-/// program may compare what is said, and it is the fixed text alone. Only a regular file is read again, and none of the name `stdin`.
+/// Says more of a failure on standard error, if that is a terminal. That is the line at fault of a
+/// text, or the nearest name to one that no latch has, or that nothing has if `of_all`. It is also
+/// why a file can't be read or written, what the fault is, and the command that prints its page.
+/// Elsewhere a program may compare the text, which is then the fixed one alone. Only a regular file
+/// is read again, and none of the name `stdin`.
 pub fn give_hint<R: Files, E: CountedWrite>(
     rt: &R,
     alloc: Global,

@@ -10,7 +10,7 @@ use std::rt::Files;
 /// How many bytes are read again at a time.
 const PIECE: usize = 4096;
 
-/// Reads bytes of a file, from an offset on, as many as one read gives; none where that fails.
+/// Reads bytes of a file, from an offset on, as many as one read gives; none if that fails.
 pub(crate) fn read_piece<R: Files>(rt: &R, path: &str, from: u64, piece: &mut [u8]) -> usize
     ensures { result ≤ length piece.new }
 {
@@ -23,7 +23,7 @@ pub(crate) fn read_piece<R: Files>(rt: &R, path: &str, from: u64, piece: &mut [u
     file.read(piece).unwrap_or(0)
 }
 
-/// Whether a file begins as an ASCII circuit.
+/// Returns true if a file begins as an ASCII circuit.
 pub(crate) fn is_ascii<R: Files>(rt: &R, path: &str) -> bool {
     let mut letters = [0u8; 3];
     read_piece(rt, path, 0, &mut letters) == 3 && letters.as_slice() == b"aag".as_slice()
@@ -39,7 +39,8 @@ fn newlines(bytes: &[u8]) -> u64 {
     count
 }
 
-/// The number of the line at an offset, from 1, by the newlines before it; none where these can't be read.
+/// Returns the number of the line at an offset, from 1, by the newlines before it. Gives none if
+/// these can't be read.
 pub(crate) fn line_number<R: Files>(rt: &R, path: &str, offset: u64) -> Option<u64> {
     let Ok(mut file) = File::open(rt, path) else {
         return None;
@@ -64,7 +65,7 @@ pub(crate) fn line_number<R: Files>(rt: &R, path: &str, offset: u64) -> Option<u
     Some(number)
 }
 
-/// The line of a file at an offset; nothing where the line is missing.
+/// Returns the line of a file at an offset, or nothing if the line is missing.
 pub(crate) fn line_of_file<R: Files>(
     rt: &R,
     alloc: Global,

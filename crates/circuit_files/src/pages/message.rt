@@ -1,5 +1,6 @@
-//! The texts on standard error. A name in one may come from a file, so on a terminal each byte of it that isn't printable ASCII is shown
-//! as `?`, as in a line at fault. Elsewhere a program may compare the text, so it is given byte for byte.
+//! The texts on standard error. A name in one may come from a file. So on a terminal each byte of
+//! it that isn't printable ASCII is shown as `?`, as in a line at fault. Elsewhere a program may
+//! compare the text, so it is given byte for byte.
 ghost use Rattle.std.specs.Prelude.{◌≡◌, IsOk, true};
 ghost use Rattle.counted_io.specs.Buffered.{Puts};
 ghost use Rattle.circuit_files.specs.pages.Messages.{said, said_byte};
@@ -15,7 +16,7 @@ pub struct Message<'a, W> {
     is_terminal: bool,
 }
 
-/// A byte of a text as a terminal is shown it: newlines end its lines.
+/// Returns a byte of a text as a terminal is shown it: newlines end its lines.
 fn said_byte(byte: u8) -> u8
     ensures { result ≡ said_byte byte }
 {
@@ -34,7 +35,7 @@ fn put_said<W: CountedWrite>(out: &mut Buffered<'_, W>, bytes: &[u8])
 impl<'a, W: CountedWrite> Message<'a, W> {
     ghost use Rattle.circuit_files.specs.pages.Messages.{Says};
 
-    /// Nothing is said yet.
+    /// Returns a message of which nothing is said yet.
     pub fn new(err: &'a mut W, is_terminal: bool) -> Message<'a, W>
         ensures { result.is_terminal ≡ is_terminal }
     {

@@ -22,7 +22,7 @@ fn put_printable<W: CountedWrite>(out: &mut Buffered<'_, W>, name: &[u8])
     }
 }
 
-/// What the line of the nearest name begins with.
+/// Returns the beginning of the line of the nearest name.
 fn lead(of_all: bool) -> &'static [u8]
     ensures { result.now ≡ lead of_all }
 {
@@ -41,7 +41,8 @@ fn put_found<W: CountedWrite>(name: &[u8], of_all: bool, out: &mut Buffered<'_, 
     out.put_byte(b'\n');
 }
 
-/// How many bytes of the word a part of a name has with this one more; `None` where it isn't the beginning of the word.
+/// Returns the number of bytes of the word that a part of a name has with this one more. Gives
+/// `None` if the part isn't the beginning of the word.
 fn longer(matched: Option<usize>, word: &[u8], byte: u8) -> Option<usize> {
     match matched {
         Some(count) if count < word.len() && word[count] == byte => Some(count + 1),
@@ -49,7 +50,7 @@ fn longer(matched: Option<usize>, word: &[u8], byte: u8) -> Option<usize> {
     }
 }
 
-/// Whether a part that has so many bytes of the word is the word.
+/// Returns true if a part that has `matched` bytes of the word is the word.
 fn is_whole(matched: Option<usize>, word: &[u8]) -> bool {
     match matched {
         Some(count) => count == word.len(),
@@ -57,7 +58,8 @@ fn is_whole(matched: Option<usize>, word: &[u8]) -> bool {
     }
 }
 
-/// Whether a name is several words, of which this is one, as where a tool wrote all names of a latch as one.
+/// Returns true if a name is several words, and this is one of them. Some tools write all names of
+/// a latch as one.
 fn has_word(name: &[u8], word: &[u8]) -> bool {
     let mut matched = Some(0);
     for byte in name {
@@ -72,7 +74,7 @@ fn has_word(name: &[u8], word: &[u8]) -> bool {
     is_whole(matched, word)
 }
 
-/// The place of the first name that has the word.
+/// Returns the place of the first name that has the word.
 fn with_word(names: &[&[u8]], word: &[u8]) -> Option<usize> {
     for (place, name) in names.iter().enumerate() {
         if has_word(*name, word) {
@@ -112,7 +114,8 @@ fn push_names_of<'a>(
     Ok(())
 }
 
-/// Puts the name of a latch, or of anything, that has this one as a word, else the nearest one, if one is near.
+/// Puts the name of a latch, or of anything, that has this one as a word, else the nearest one, if
+/// one is near.
 fn put_nearest<W: CountedWrite>(
     alloc: Global,
     circuit: &Circuit,
@@ -132,7 +135,8 @@ fn put_nearest<W: CountedWrite>(
     Ok(())
 }
 
-/// Puts the nearest name to one that the circuit of a file hasn't. The file is read again, for its names.
+/// Puts the nearest name to one that the circuit of a file hasn't. The file is read again, for its
+/// names.
 pub(crate) fn put_name<R: Files, W: CountedWrite>(
     rt: &R,
     alloc: Global,

@@ -1,5 +1,6 @@
-//! Circuits, certificates, stimuli, witnesses and lists have faults of the same names, and a user looks for the name that was
-//! printed. So a fault is a name here, and has one page for all kinds of files.
+//! Circuits, certificates, stimuli, witnesses and lists have some faults of one name, and a user
+//! looks for the name that was printed. So a fault is a name here, and has one page for all kinds
+//! of files.
 ghost use Rattle.std.specs.Prelude.{◌≡◌, MatchOption, true};
 ghost use Rattle.circuit_files.specs.pages.Faults.{all_faults, has_name, HaveOtherNames, IsCalled, IsNoName, name_of, said_of};
 
@@ -72,7 +73,7 @@ const FAULTS: [Fault; 30] = [
 ];
 
 impl Fault {
-    /// All faults: those of a circuit first, in the order of `docs/FORMAT.md`.
+    /// Returns all faults: those of a circuit first, in the order of `docs/FORMAT.md`.
     #[tactic(auto, unfolding(crate::specs::pages::Faults::all_faults))]
     pub fn all() -> &'static [Fault]
         ensures { result.now ≡ all_faults }
@@ -80,7 +81,7 @@ impl Fault {
         &FAULTS
     }
 
-    /// The name, as reports have it, and most messages.
+    /// Returns the name that reports have for it, and most messages.
     pub fn name(self) -> &'static str
         ensures { result.now ≡ name_of self }
     {
@@ -118,7 +119,7 @@ impl Fault {
         }
     }
 
-    /// What a message says: the name, but of three faults words.
+    /// Returns the words of a message: the name, but of three faults other words.
     fn said(self) -> &'static str
         ensures { result.now ≡ said_of self }
     {
@@ -130,7 +131,7 @@ impl Fault {
         }
     }
 
-    /// The fault of this name, or of which a message says this.
+    /// Returns the fault of this name, or the one of which a message says this.
     pub fn named(name: &str) -> Option<Fault>
         ensures { MatchOption result (IsNoName name.now) (IsCalled name.now) }
     {
@@ -138,14 +139,14 @@ impl Fault {
     }
 }
 
-/// Whether a fault has the name, or a message says this of it.
+/// Returns true if a fault has the name, or a message says this of it.
 fn has_name(fault: Fault, name: &str) -> bool
     ensures { result ≡ has_name name.now fault }
 {
     fault.name() == name || fault.said() == name
 }
 
-/// The first of these faults that has the name.
+/// Returns the first of these faults that has the name.
 fn named_among(faults: &[Fault], name: &str) -> Option<Fault>
     ensures { MatchOption result (HaveOtherNames faults.now name.now)
         (λ fault. has_name name.now fault ≡ true) }

@@ -6,7 +6,7 @@ use crate::pages::named_fault::Fault;
 use crate::pages::near_names::{edits, nearest_of};
 use std::alloc::{AllocError, Global};
 
-/// The edits to the name of each of the faults.
+/// Counts the edits to the name of each of the faults.
 fn edits_to_faults(alloc: Global, name: &[u8], faults: &[Fault]) -> Result<Vec<usize>, AllocError>
     ensures { IfOk result (λ counts. counts.items
         ≡ map (λ fault. edits name.now (name_of fault)) faults.now) }
@@ -25,7 +25,7 @@ fn fault_at(faults: &[Fault], place: usize) -> Option<Fault>
 }
 
 impl Fault {
-    /// The fault whose name is the nearest to one that no fault has, if any name is near.
+    /// Returns the fault whose name is the nearest to one that no fault has, if any name is near.
     pub fn nearest(alloc: Global, name: &str) -> Result<Option<Fault>, AllocError>
         ensures { IfOk result (λ found. found ≡ nearest_fault name.now) }
     {

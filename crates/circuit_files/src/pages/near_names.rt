@@ -1,5 +1,5 @@
-//! The name that a user may have meant, by the fewest bytes that are inserted, dropped or replaced (Levenshtein, 1966). Where
-//! none is near there is no answer, since a wrong one would mislead.
+//! The name that a user may have meant, by the fewest bytes that are inserted, dropped or replaced
+//! (Levenshtein, 1966). If none is near there is no answer, since a wrong one would mislead.
 ghost use Rattle.std.specs.Prelude.{◌≡◌, ◌==◌, IfOk, map, position};
 ghost use Rattle.circuit_files.specs.pages.Nearest.{are_alike_in_length, edits, nearest_of};
 
@@ -15,15 +15,16 @@ const MOST_EDITS: usize = 2;
 /// The number of edits to a name that isn't near.
 const FAR: usize = 3;
 
-/// Whether a name is short, and the other about as long: else the table of edits would be large, for nothing.
+/// Returns true if a name is short, and the other about as long. Otherwise the table of edits would
+/// be large, for nothing.
 fn are_alike_in_length(name: &[u8], other: &[u8]) -> bool
     ensures { result ≡ are_alike_in_length name.now other.now }
 {
     name.len() <= LONGEST && name.len().abs_diff(other.len()) <= MOST_EDITS
 }
 
-/// How many bytes have to be inserted, dropped or replaced to make the one name of the other; `FAR` where that is more than half
-/// the name's bytes, or the names aren't compared.
+/// Counts the bytes that have to be inserted, dropped or replaced to make the one name of the
+/// other. Returns `FAR` if that is more than half the name's bytes, or the names aren't compared.
 #[tactic(auto, unfolding(crate::specs::pages::Nearest::edits))]
 pub fn edits(alloc: Global, name: &[u8], other: &[u8]) -> Result<usize, AllocError>
     ensures { IfOk result (λ count. count ≡ edits name.now other.now) }
@@ -39,7 +40,7 @@ pub fn edits(alloc: Global, name: &[u8], other: &[u8]) -> Result<usize, AllocErr
     }
 }
 
-/// The edits to each of the names.
+/// Counts the edits to each of the names.
 fn edits_to_all(alloc: Global, name: &[u8], names: &[&[u8]]) -> Result<Vec<usize>, AllocError>
     ensures { IfOk result (λ counts. counts.items
         ≡ map (λ other. edits name.now other.now) names.now) }
@@ -51,14 +52,14 @@ fn edits_to_all(alloc: Global, name: &[u8], names: &[&[u8]]) -> Result<Vec<usize
     Ok(counts)
 }
 
-/// The place of the first of these numbers that is the wanted one.
+/// Returns the place of the first of these numbers that is the wanted one.
 fn place_of(counts: &[usize], wanted: usize) -> Option<usize>
     ensures { result ≡ position (λ count. count == wanted) counts.now }
 {
     counts.iter().position(|count| *count == wanted)
 }
 
-/// The place of the first of the least numbers, where these are at most `MOST_EDITS`.
+/// Returns the place of the first of the least numbers, if these are at most `MOST_EDITS`.
 #[tactic(auto, unfolding(crate::specs::pages::Nearest::nearest_of))]
 pub fn nearest_of(counts: &[usize]) -> Option<usize>
     ensures { result ≡ nearest_of counts.now }
@@ -72,9 +73,9 @@ pub fn nearest_of(counts: &[usize]) -> Option<usize>
     place_of(counts, MOST_EDITS)
 }
 
-/// The place of the name to which the fewest edits lead, the first of those, where two edits at most do, and at most half as many as
-/// the name has bytes: each inserts, drops or replaces a byte. A name of over 64 bytes has no near one. Time linear in the bytes of
-/// the names.
+/// Returns the place of the first name to which the fewest edits lead. An edit inserts, drops or
+/// replaces a byte. They are at most two, and at most half the name's bytes. A name of over 64
+/// bytes has no near one. Time linear in the bytes of the names.
 pub fn nearest(alloc: Global, name: &[u8], names: &[&[u8]]) -> Result<Option<usize>, AllocError>
     ensures { IfOk result (λ place. place
         ≡ nearest_of (map (λ other. edits name.now other.now) names.now)) }

@@ -83,7 +83,7 @@ are of one run and in the order of the command. Where 'retime' left free latches
 out, 'same' takes --kept LIST.",
 };
 
-/// What to do where a certificate is rejected.
+/// The advice if a certificate is rejected.
 const CHECK_AGAIN: &str =
     "See that the certificates are of this IN, and give what 'retime' got: --keep,
 --keep-latch, --merge. Else they are wrong: 'fretime retime IN OUT --cert FILE'

@@ -1,4 +1,5 @@
-/// What a user is told of a fault. The texts end without a newline; some have several lines, of at most 79 columns.
+/// What a user is told of a fault. The texts end without a newline; some have several lines, of at
+/// most 79 columns.
 #[derive(Clone, Copy)]
 pub struct Page {
     /// What the fault is: one sentence, on one line.

@@ -1,11 +1,11 @@
-//! Why a file can't be read or written, in the system's words. A run counts what fails, and keeps no words: what failed is tried once
-//! more, in a way that changes no file.
+//! The reason why a file can't be read or written, in the system's words. A run counts what fails,
+//! and keeps no words. So what failed is tried once more, in a way that changes no file.
 use std::fs;
 use std::fs::{File, OpenOptions};
 use std::io::{Error, ErrorKind, Read};
 use std::rt::Files;
 
-/// Why the file, or folder, that is there can't be read.
+/// Returns why the existing file or folder can't be read.
 fn why_unread<R: Files>(rt: &R, path: &str) -> Option<Error> {
     match File::open(rt, path) {
         Ok(file) => {
@@ -17,14 +17,15 @@ fn why_unread<R: Files>(rt: &R, path: &str) -> Option<Error> {
     }
 }
 
-/// Why the file, or folder, that is there can't be written. It isn't emptied.
+/// Returns why the existing file or folder can't be written. It isn't emptied.
 fn why_unwritten<R: Files>(rt: &R, path: &str) -> Option<Error> {
     let mut options = OpenOptions::new();
     options.write(true);
     options.open(rt, path).err()
 }
 
-/// Why the file, which isn't there, can't be made. One that is made after all is taken away.
+/// Returns why the file, which doesn't exist, can't be made. One that is made after all is taken
+/// away.
 fn why_unmade<R: Files>(rt: &R, path: &str) -> Option<Error> {
     match File::create_new(rt, path) {
         Ok(file) => {
@@ -37,8 +38,8 @@ fn why_unmade<R: Files>(rt: &R, path: &str) -> Option<Error> {
     }
 }
 
-/// Why the file with this path can't be read, or written. Nothing is known of a standard stream, whose name is no path, nor of a pipe
-/// or a device, where trying again could wait.
+/// Returns why the file with this path can't be read, or written. Nothing is known of a standard
+/// stream, whose name is no path. Nor is it of a pipe or a device, since trying again could wait.
 pub(crate) fn reason<R: Files>(rt: &R, path: &str, is_written: bool) -> Option<Error> {
     if path == "stdin" || path == "stdout" {
         return None;

@@ -8,7 +8,7 @@ use std::rt::Files;
 /// How many bytes of a list are looked at.
 const PIECE: usize = 4096;
 
-/// Whether the first line ends with a carriage return.
+/// Returns true if the first line ends with a carriage return.
 fn has_return(bytes: &[u8]) -> bool {
     for k in 1..bytes.len() {
         if bytes[k] == b'\n' {
@@ -18,8 +18,8 @@ fn has_return(bytes: &[u8]) -> bool {
     false
 }
 
-/// Says on standard error, where that is a terminal, that the lines of a list end with carriage returns. Only a regular file is read
-/// again. A write that fails changes nothing.
+/// Says on standard error, if that is a terminal, that the lines of a list end with carriage
+/// returns. Only a regular file is read again. A write that fails changes nothing.
 pub fn tell_returns<R: Files, E: CountedWrite>(
     rt: &R,
     list: Source<'_>,

@@ -4,7 +4,8 @@ ghost use Rattle.circuit_files.specs.pages.Files.{smallest_file};
 use crate::pages::named_fault::Fault;
 
 impl Fault {
-    /// A circuit file with this fault, of as few bytes as any; `None` where no circuit has it.
+    /// Returns a circuit file with this fault, of as few bytes as any, or `None` if no circuit has
+    /// it.
     pub fn smallest_file(self) -> Option<&'static str>
         ensures { option_map (λ file. file.now) result ≡ smallest_file self }
     {

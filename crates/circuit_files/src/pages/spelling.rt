@@ -4,13 +4,13 @@ use crate::pages::line::read_piece;
 use counted_io::{CountedWrite, write_all};
 use std::rt::Files;
 
-/// What is told where a file of binary name is in ASCII.
+/// The hint if a file of binary name is in ASCII.
 const IN_ASCII: &[u8] = b"written in ASCII: --binary writes binary\n";
 
-/// What is told where a file of ASCII name is binary.
+/// The hint if a file of ASCII name is binary.
 const IN_BINARY: &[u8] = b"written in binary: --ascii writes ASCII\n";
 
-/// What is told of a circuit in a file of this name, by the second of its bytes.
+/// Returns the hint for a circuit in a file of this name, by the second of its bytes.
 fn surprise_of(path: &str, second: u8) -> Option<&'static [u8]> {
     if path.ends_with(".aig") && second == b'a' {
         Some(IN_ASCII)
@@ -21,8 +21,8 @@ fn surprise_of(path: &str, second: u8) -> Option<&'static [u8]> {
     }
 }
 
-/// Says on standard error where a circuit that was written has another spelling than the name of its file says. Only a regular file is
-/// read again. A write that fails changes nothing.
+/// Says on standard error if a circuit that was written has another spelling than the name of its
+/// file says. Only a regular file is read again. A write that fails changes nothing.
 pub fn tell_spelling<R: Files, E: CountedWrite>(rt: &R, path: &str, err: &mut E) {
     if !can_be_read_again(rt, path) {
         return;

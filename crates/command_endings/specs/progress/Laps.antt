@@ -39,7 +39,7 @@ unfoldable pub time_in : Part → List Lap → ℕ
 time_in part [] = 0
 time_in part (lap ∷ laps) = if is_part lap.part part then lap.microseconds else time_in part laps
 
--- how long latches moved in a part; in one of another kind, and where there is none, they didn't
+-- how long latches moved in a part; in one of another kind, and if there is none, they didn't
 abbrev pub moving_in : Lap → ℕ
 moving_in lap = if is_part lap.part Moving then lap.microseconds else 0
 
@@ -47,11 +47,11 @@ abbrev pub moving_of : Option Lap → ℕ
 moving_of None = 0
 moving_of (Some lap) = moving_in lap
 
--- how long latches moved, where they did first
+-- how long latches moved, if they did first
 abbrev pub moving_first : List Lap → ℕ
 moving_first laps = moving_of (slice_get laps 0)
 
--- where a set was looked for, how long that took, and moving over it next
+-- if a set was looked for, how long that took, and moving over it next
 abbrev pub look_of : Lap → List Lap → Option FrameTimes
 look_of lap rest = if is_part lap.part Looking then Some (record { looking = lap.microseconds; moving = moving_first rest }) else None
 
@@ -60,19 +60,21 @@ unfoldable pub frames_in : List Lap → List FrameTimes
 frames_in [] = []
 frames_in (lap ∷ laps) = option_to_list (look_of lap laps) ++ frames_in laps
 
--- what was measured of a run of these parts, in which networks found so many sets
+-- what was measured of a run of these parts, in which networks found n sets
 abbrev pub times_of : ℕ → List Lap → Times
 times_of networks laps = record { reading = time_in Reading laps; cleaning = time_in Cleaning laps; frames = frames_in laps; writing = time_in Writing laps; networks = networks }
 
--- the part that went on has ended at the time that the clock told, its time is the last one, and the next one is counted from there
+-- The part that went on has ended at the time that the clock told. Its time is the last one, and
+-- the next one is counted from there.
 pub record EndsPart (old new : Stopwatch) : Type 0 where
   pub laps : new.laps.items ≡ old.laps.items ++ record { part = old.part; microseconds = microseconds_of (instant_nanos new.since - instant_nanos old.since) } ∷ []
 
--- where the clock was read and there was memory, so far and now
+-- if the clock was read and there was memory, so far and now
 abbrev pub IsEnded : Stopwatch → Stopwatch → Type 0
 IsEnded old new = new.has_failed ≡ false → EndsPart old new
 
--- the last part has ended so, and these are the times of all parts, with how many sets networks found
+-- the last part has ended so, and these are the times of all parts, with the number of sets that
+-- networks found
 pub record IsStopped (watch : Stopwatch) (times : Times) : Type 0 where
   pub last : Stopwatch
   pub ended : EndsPart watch last

@@ -4,7 +4,7 @@ use Rattle.command_endings.specs.declared.progress.lines.Frame.{Frame}
 use Rattle.command_endings.specs.declared.progress.lines.State.{State}
 use Rattle.command_endings.specs.declared.progress.lines.State.TheVariants.{Cleaning, Looking, Moving, Checking, Writing}
 
--- the seconds since the beginning, where a clock told them
+-- the seconds since the beginning, if a clock told them
 abbrev pub seconds_text : Option ℕ → List ℕ
 seconds_text None = []
 seconds_text (Some seconds) = codes ", seconds " ++ decimal seconds

@@ -1,4 +1,5 @@
-//! The parts of a run that have ended, with the time that each took, and what a report says of them.
+//! The parts of a run that have ended, with the time that each took, and what a report says of
+//! them.
 ghost use Rattle.std.specs.Prelude.{◌≡◌, ◌++◌, IfOk, OnOk};
 ghost use Rattle.std.specs.Option.{option_to_list};
 ghost use Rattle.command_endings.specs.progress.Laps as wanted;
@@ -19,7 +20,7 @@ pub(crate) enum Part {
 }
 
 impl Part {
-    /// The part that begins with the stage.
+    /// Returns the part that begins with the stage.
     pub(crate) fn of(stage: Stage<'_>) -> Part
         ensures { result ≡ wanted.part_of stage.entry }
     {
@@ -31,7 +32,7 @@ impl Part {
         }
     }
 
-    /// Its place among the parts.
+    /// Returns its place among the parts.
     fn place(self) -> u8
         ensures { result ≡ wanted.place_of self }
     {
@@ -58,7 +59,7 @@ pub(crate) struct Lap {
     pub microseconds: u64,
 }
 
-/// How long the first part of this kind took; 0 where there was none.
+/// Returns the time that the first part of this kind took, or 0 if there was none.
 fn time_in(part: Part, laps: &[Lap]) -> u64
     ensures { result ≡ wanted.time_in part laps.now }
 {
@@ -70,7 +71,7 @@ fn time_in(part: Part, laps: &[Lap]) -> u64
     0
 }
 
-/// How long latches moved in a part; 0 in one of another kind.
+/// Returns the time that latches moved in a part, or 0 in one of another kind.
 fn moving_in(lap: &Lap) -> u64
     ensures { result ≡ wanted.moving_in lap.now }
 {
@@ -81,7 +82,7 @@ fn moving_in(lap: &Lap) -> u64
     }
 }
 
-/// How long latches moved, where they did next.
+/// Returns the time that latches moved, if they did next.
 fn moving_first(laps: &[Lap]) -> u64
     ensures { result ≡ wanted.moving_first laps.now }
 {
@@ -91,7 +92,7 @@ fn moving_first(laps: &[Lap]) -> u64
     }
 }
 
-/// The times of a circuit of which a set was looked for in this part, before these.
+/// Returns the times of a circuit of which a set was looked for in this part, before these.
 fn look_of(lap: &Lap, rest: &[Lap]) -> Option<FrameTimes>
     ensures { result ≡ wanted.look_of lap.now rest.now }
 {
@@ -114,7 +115,7 @@ fn add(frames: &mut Vec<FrameTimes>, times: Option<FrameTimes>) -> Result<(), Al
     Ok(())
 }
 
-/// The times of each circuit of which a set was looked for.
+/// Returns the times of each circuit of which a set was looked for.
 fn frames_in(alloc: Global, laps: &[Lap]) -> Result<Vec<FrameTimes>, AllocError>
     ensures { IfOk result (λ frames. frames.items ≡ wanted.frames_in laps.now) }
 {
@@ -125,7 +126,7 @@ fn frames_in(alloc: Global, laps: &[Lap]) -> Result<Vec<FrameTimes>, AllocError>
     Ok(frames)
 }
 
-/// Returns what was measured of a run of these parts, in which networks found so many sets.
+/// Returns what was measured of a run of these parts, in which networks found `networks` sets.
 pub(crate) fn times_of(alloc: Global, laps: &[Lap], networks: u32) -> Result<Times, AllocError>
     ensures { IfOk result (λ times. times ≡ wanted.times_of networks laps.now) }
 {

@@ -32,7 +32,7 @@ pub enum State {
     Writing,
 }
 
-/// Puts the seconds, where they are known.
+/// Puts the seconds, if they are known.
 fn put_seconds<W: CountedWrite>(out: &mut Buffered<'_, W>, seconds: Option<u64>)
     ensures { Puts W.output out.old out.new (seconds_text seconds) }
 {
@@ -85,7 +85,8 @@ pub(crate) fn write_line<W: CountedWrite>(
     out.flush()
 }
 
-/// Writes what a run does in the place of what the line shows. What is past the width of the terminal is cut off.
+/// Writes what a run does in the place of what the line shows. What is past the width of the
+/// terminal is cut off.
 pub(crate) fn write_in_place<W: CountedWrite>(
     state: State,
     seconds: Option<u64>,

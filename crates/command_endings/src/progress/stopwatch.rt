@@ -10,14 +10,15 @@ use json_reports::Times;
 use std::alloc::Global;
 use std::time::{Clock, Duration, Instant};
 
-/// Whole microseconds, `u64::MAX` at most.
+/// Returns whole microseconds, `u64::MAX` at most.
 fn microseconds(passed: Duration) -> u64
     ensures { result ≡ microseconds_of (as_nanos passed) }
 {
     passed.as_micros().min(u128::from(u64::MAX)) as u64
 }
 
-/// Takes the time of each part of a run. Where the clock can't be read, or memory is refused, there are no times in the end.
+/// Takes the time of each part of a run. If the clock can't be read, or memory is refused, there
+/// are no times in the end.
 #[derive(Drop)]
 pub(crate) struct Stopwatch {
     alloc: Global,
@@ -67,7 +68,7 @@ impl Stopwatch {
         }
     }
 
-    /// A stage begins.
+    /// Begins a stage.
     pub(crate) fn enter<R: Clock>(&mut self, clock: &R, stage: Stage<'_>)
         ensures ended { IsEnded self.old self.new }
         ensures part { self.new.part ≡ part_of stage.entry }
@@ -86,7 +87,7 @@ impl Stopwatch {
         self.networks = networks;
     }
 
-    /// The last part ends.
+    /// Ends the last part.
     pub(crate) fn stop<R: Clock>(self, clock: &R) -> Option<Times>
         ensures { IfSome result (IsStopped self) }
     {

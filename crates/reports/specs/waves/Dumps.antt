@@ -5,7 +5,7 @@ use Rattle.std.specs.Str.{byte}
 use Rattle.counted_io.specs.Line.{numbered_lines}
 use Rattle.lane_sim.specs.Traces.{at_place}
 
--- what a value is written as: a digit, or an x after the last step of a sequence, where it has none
+-- what a value is written as: a digit, or an x after the last step of a sequence
 abbrev pub value_character : Option Bool → ℕ
 value_character None = byte "x"
 value_character (Some false) = byte "0"
@@ -38,7 +38,7 @@ dump_header names sequences = codes "$timescale 1 ns $end\n" ++ (flat_map (scope
 unfoldable pub value_line : ℕ → ℕ → ℕ → List ℕ
 value_line sequence place value = value ∷ (code sequence place ++ 10 ∷ [])
 
--- a value is written at the start, and where it changes
+-- a value is written at the start, and if it changes
 abbrev pub is_dumped : List (List (List Bool)) → ℕ → ℕ → ℕ → Bool
 is_dumped trace sequence time place = time == 0 || not (value_character_at trace sequence (time - 1) place == value_character_at trace sequence time place)
 
@@ -46,7 +46,7 @@ is_dumped trace sequence time place = time == 0 || not (value_character_at trace
 unfoldable pub value_at : List (List (List Bool)) → ℕ → ℕ → ℕ → List ℕ
 value_at trace time sequence place = if is_dumped trace sequence time place then value_line sequence place (value_character_at trace sequence time place) else []
 
--- those of a sequence with so many waves, and of all sequences
+-- those of a sequence with n waves, and of all sequences
 unfoldable pub values_of : List (List (List Bool)) → ℕ → ℕ → ℕ → List ℕ
 values_of trace places time sequence = flat_map (value_at trace time sequence) (range_with_len 0 places)
 

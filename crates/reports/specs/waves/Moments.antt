@@ -12,7 +12,8 @@ use Rattle.lane_sim.specs.Traces.{trace, value_in}
 use Rattle.reports.specs.declared.waves.moment.Moment.{Moment}
 use Rattle.reports.specs.declared.waves.room.WaveRoom.{WaveRoom}
 
--- what a sequence has at a time of the literal at a place, where it has the step and there is such a literal
+-- the value of the literal at a place, at a time of a sequence, if that has the step and there is
+-- such a literal
 abbrev pub shown_of : Graph → InputSequence → List ℕ → ℕ → ℕ → Option Bool
 shown_of g s literals time place = if nat_lt time (length s.steps) then slice_get (map (value_in g s time) literals) place else None
 
@@ -20,18 +21,20 @@ shown_of g s literals time place = if nat_lt time (length s.steps) then slice_ge
 abbrev pub trace_of : Moment → List (List (List Bool))
 trace_of m = trace m.circuit.now m.sequences.now
 
--- the literals are those of the circuit's properties, and the values are those of a block, at the time and at the one before
+-- the literals are those of the circuit's properties, and the values are those of a block, at the
+-- time and at the one before
 pub record IsMoment (number : ℕ) (m : Moment) : Type 0 where
   pub literals : m.literals.now ≡ property_literals m.circuit.now.props
   pub inside : AreLiteralsOf m.circuit.now.aig m.literals.now
   pub before : AreAt m.circuit.now.aig (block_of m.sequences.now number) m.before.now (m.time - 1)
   pub values : AreAt m.circuit.now.aig (block_of m.sequences.now number) m.values.now m.time
 
--- how many blocks so many sequences are
+-- the number of blocks of n sequences
 abbrev pub blocks : ℕ → ℕ
 blocks n = n / 256 + min 1 (n % 256)
 
--- room for a circuit under sequences, where the states of the blocks below n are as Done says, and the others as Waiting does
+-- room for a circuit under sequences, if the states of the blocks below n are as Done says, and the
+-- others as Waiting does
 pub record HasStates (c : Netlist) (sequences : List InputSequence) (Done Waiting : ℕ → State → Type 0) (n : ℕ) (room : WaveRoom) : Type 0 where
   pub literals : room.literals.items ≡ property_literals c.props
   pub before : AreFor c.aig room.before
@@ -52,6 +55,6 @@ IsAt c sequences t b state = HoldsAt c.aig (block_of sequences b) state t
 abbrev pub IsWaveRoomFor : Netlist → List InputSequence → WaveRoom → Type 0
 IsWaveRoomFor c sequences room = HasStates c sequences (HasRoom c) (HasRoom c) 0 room
 
--- the same, where the latches of all blocks hold what they do at a step
+-- that room, if the latches of all blocks hold what they do at a step
 abbrev pub IsRoomAt : Netlist → List InputSequence → ℕ → WaveRoom → Type 0
 IsRoomAt c sequences t room = HasStates c sequences (IsAt c sequences t) (IsAt c sequences t) 0 room

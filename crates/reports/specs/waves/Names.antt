@@ -8,8 +8,8 @@ use Rattle.aig_graph.specs.declared.properties.Symbol.{Symbol}
 use Rattle.aig_graph.specs.declared.properties.Symbols.{Symbols}
 use Rattle.aig_graph.specs.Circuits.{Netlist}
 
--- a byte of a name in a reference: printable ASCII but blanks stands for itself, except for the dollar sign, with which the words of the
--- format begin, and the sign by which names are told apart
+-- A byte of a name in a reference. Printable ASCII but blanks stands for itself. The words of the
+-- format begin with the dollar sign, and names are told apart by another sign, so these two don't.
 abbrev pub is_legal : ℕ → Bool
 is_legal b = ((nat_lt 32 b && nat_lt b 127) && not (b == byte "$")) && not (b == byte "@")
 
@@ -32,7 +32,7 @@ abbrev pub with_symbols : List (List ℕ) → List Symbol → List (List ℕ)
 with_symbols names [] = names
 with_symbols names (s ∷ symbols) = with_symbols (with_legal_name names s) symbols
 
--- the names of a kind, of which there are so many
+-- the names of a kind, of which there are n
 unfoldable pub kind_names : ℕ → ℕ → List Symbol → List (List ℕ)
 kind_names letter count symbols = with_symbols (table 0 count (default_name letter)) symbols
 
@@ -62,7 +62,7 @@ abbrev pub own_names : Netlist → List (List ℕ)
 own_names c =
     with_properties (kind_names (byte "i") c.aig.inputs c.symbols.inputs ++ kind_names (byte "l") (length c.aig.latches) c.symbols.latches) c.props c.symbols
 
--- a name, which says its place where that is asked for
+-- a name, which says its place if that is asked for
 abbrev pub apart_where : Bool → List ℕ → ℕ → List ℕ
 apart_where again name place = if again then name ++ byte "@" ∷ decimal place else name
 

@@ -46,7 +46,7 @@ fn put_scope<W: CountedWrite>(out: &mut Buffered<'_, W>, names: &[Sequence<u8>],
     out.put(b"$upscope $end\n");
 }
 
-/// Puts the scopes of so many sequences.
+/// Puts the scopes of `sequences` sequences.
 fn put_scopes<W: CountedWrite>(out: &mut Buffered<'_, W>, names: &[Sequence<u8>], sequences: usize)
     ensures { Puts W.output out.old out.new
         (flat_map (scope_text names.now) (range_with_len 0 sequences)) }
@@ -84,16 +84,19 @@ fn put_dump<W: CountedWrite>(
     put_times(out, &shown, room);
 }
 
-/// Writes the waves with these names, whose values are those of a circuit's property literals under a stimulus, as a value change dump: a
-/// scope for each sequence, and a time for each step and one more, at which each wave of the longest sequences ends. The circuit is
-/// simulated while they are written, in this room.
+/// Writes the waves with these names, as a value change dump. Their values are those of a circuit's
+/// property literals under a stimulus. A scope is a sequence. There is a time for each step and one
+/// more, at which each wave of the longest sequences ends. The circuit is simulated while they are
+/// written, in this room.
 ///
-/// Takes no memory, and calls the writer about once for each 8 KiB of text. The time is linear in the number of sequences times the steps
-/// of the longest one times the waves, and each block of 256 sequences is simulated twice at each of these steps.
+/// Takes no memory, and calls the writer about once for each 8 KiB of text. The time is linear in
+/// the number of sequences times the steps of the longest one times the waves. Each block of 256
+/// sequences is simulated twice at each of these steps.
 ///
 /// # Errors
 ///
-/// `Device` where a write failed: a beginning of the text was written then, and the writer isn't called again.
+/// `Device` if a write failed: a beginning of the text was written then, and the writer isn't
+/// called again.
 pub fn write_waves<W: CountedWrite>(
     names: &[Sequence<u8>],
     circuit: &Circuit,

@@ -1,4 +1,5 @@
-//! What the waves of a block's sequences are at a time and at the one before: a dump tells what changes from one to the other.
+//! The values of the waves of a block's sequences at a time and at the one before. A dump tells
+//! what changes from one to the other.
 ghost use Rattle.std.specs.Prelude.{◌≡◌, ◌-◌, ◌/◌, ◌<◌, All, List, length};
 ghost use Rattle.aig_graph.specs.Graph.{Graph, variable};
 ghost use Rattle.lane_sim.specs.declared.stimulus.InputSequence.{InputSequence as Sequenced};
@@ -13,8 +14,8 @@ use lane_sim::{InputSequence, Values};
 /// The sequences of a block.
 pub(crate) const LANES: usize = 256;
 
-/// The sequences of a block at a time: the values of all variables then, and at the time before. What is shown of them are the property
-/// literals of a circuit.
+/// The sequences of a block at a time: the values of all variables then, and at the time before.
+/// The property literals of a circuit are shown of them.
 #[derive(Clone, Copy)]
 pub(crate) struct Moment<'a> {
     pub(crate) circuit: &'a Circuit,
@@ -26,7 +27,7 @@ pub(crate) struct Moment<'a> {
     pub(crate) time: usize,
 }
 
-/// What a value is written as.
+/// Returns the letter that a value is written as.
 fn mark(value: Option<bool>) -> u8
     ensures { result ≡ value_character value }
 {
@@ -37,7 +38,7 @@ fn mark(value: Option<bool>) -> u8
     }
 }
 
-/// The value of a literal at a time of a sequence, and `None` after its last step.
+/// Returns the value of a literal at a time of a sequence, or `None` after its last step.
 fn value_at(
     values: &Values,
     literals: &[Lit],
@@ -60,7 +61,7 @@ fn value_at(
 }
 
 impl Moment<'_> {
-    /// The mark of a wave's value at the time.
+    /// Returns the mark of a wave's value at the time.
     pub(crate) fn mark(&self, sequence: usize, place: usize) -> u8
         requires moment { IsMoment (sequence / 256) self.now }
         requires sequence { sequence < length self.now.sequences.now }
@@ -71,7 +72,7 @@ impl Moment<'_> {
         mark(value_at(self.values, self.literals, run, lane, self.time, place))
     }
 
-    /// The mark of a wave's value at the time before.
+    /// Returns the mark of a wave's value at the time before.
     fn mark_before(&self, sequence: usize, place: usize) -> u8
         requires moment { IsMoment (sequence / 256) self.now }
         requires sequence { sequence < length self.now.sequences.now }
@@ -84,7 +85,7 @@ impl Moment<'_> {
         mark(value_at(self.before, self.literals, run, lane, time, place))
     }
 
-    /// Whether a wave's value is written: at the start, and where it has changed.
+    /// Returns true if a wave's value is written: at the start, and if it has changed.
     pub(crate) fn is_written(&self, sequence: usize, place: usize) -> bool
         requires moment { IsMoment (sequence / 256) self.now }
         requires sequence { sequence < length self.now.sequences.now }

@@ -1,6 +1,7 @@
-//! What waves are called. A file names what it likes, with any bytes, and one name may stand at several places, while a reference of a
-//! dump has no blank, and viewers find a wave by its name: so bytes that a reference can't have are written as underscores, and of
-//! waves with one name all but the first say their places too.
+//! The names of waves. A file names what it likes, with any bytes, and one name may stand at
+//! several places. But a reference of a dump has no blank, and viewers find a wave by its name. So
+//! bytes that a reference can't have are written as underscores. Of waves with one name all but the
+//! first say their places too.
 ghost use Rattle.std.specs.Prelude.{ℕ, List, ◌≡◌, ◌++◌, ◌∷◌, ◌<◌, ◌==◌, not, decimal, map, length, get_or, take, bytes_eq, IfOk, OnOk};
 ghost use Rattle.std.specs.List.{list_any};
 ghost use Rattle.aig_graph.specs.Tables.{table};
@@ -11,7 +12,7 @@ use itoa::Buffer;
 use std::alloc::Global;
 use std::collections::HashSet;
 
-/// Whether a byte of a name may stand in a reference.
+/// Returns true if a byte of a name may stand in a reference.
 fn is_legal(byte: u8) -> bool
     ensures { result ≡ is_legal byte }
 {
@@ -24,7 +25,7 @@ fn legal_byte(byte: u8) -> u8
     if is_legal(byte) { byte } else { b'_' }
 }
 
-/// A name as a reference may have it.
+/// Returns a name as a reference may have it.
 fn legal_name(alloc: Global, name: &[u8]) -> Result<Sequence<u8>, NoMemory>
     ensures { IfOk result (λ bytes. bytes ≡ legal_name name.now) }
 {
@@ -44,7 +45,7 @@ fn append_number(bytes: &mut Vec<u8>, number: usize) -> Result<(), NoMemory>
     Ok(())
 }
 
-/// A letter and a number.
+/// Returns a letter and a number.
 fn word_bytes(alloc: Global, letter: u8, position: usize) -> Result<Vec<u8>, NoMemory>
     ensures { IfOk result (λ bytes. bytes.items ≡ default_name letter position) }
 {
@@ -54,7 +55,7 @@ fn word_bytes(alloc: Global, letter: u8, position: usize) -> Result<Vec<u8>, NoM
     Ok(bytes)
 }
 
-/// The words of a kind, of which there are so many.
+/// Returns the `count` words of a kind.
 fn words(alloc: Global, letter: u8, count: usize) -> Result<Vec<Sequence<u8>>, NoMemory>
     ensures { IfOk result (λ words. words.items ≡ table 0 count (default_name letter)) }
 {
@@ -86,7 +87,7 @@ fn set_names(alloc: Global, names: &mut [Sequence<u8>], symbols: &[Symbol]) -> R
     Ok(())
 }
 
-/// The names of a kind: those of its symbols, and words where there is none.
+/// Returns the names of a kind: those of its symbols, and words for the rest.
 fn kind_names(
     alloc: Global,
     letter: u8,
@@ -115,7 +116,7 @@ fn add_kind(
     Ok(())
 }
 
-/// The word of a literal of a justice property.
+/// Returns the word of a literal of a justice property.
 fn literal_word(alloc: Global, property: usize, position: usize) -> Result<Sequence<u8>, NoMemory>
     ensures { IfOk result (λ bytes. bytes ≡ literal_word property position) }
 {
@@ -176,7 +177,7 @@ fn add_properties(
     add_kind(alloc, names, b'f', props.fairness.len(), &symbols.fairness)
 }
 
-/// The names of all waves, of which several may be one.
+/// Returns the names of all waves, several of which may be equal.
 fn own_names(alloc: Global, circuit: &Circuit) -> Result<Vec<Sequence<u8>>, NoMemory>
     ensures { IfOk result (λ names. names.items ≡ own_names circuit.now) }
 {
@@ -201,7 +202,7 @@ fn own_names(alloc: Global, circuit: &Circuit) -> Result<Vec<Sequence<u8>>, NoMe
     Ok(names)
 }
 
-/// A name that says its place too, where it isn't new.
+/// Returns a name, with its place if it isn't new.
 fn apart_where(
     alloc: Global,
     name: &[u8],
@@ -218,7 +219,7 @@ fn apart_where(
     Ok(Sequence::from_vec(bytes))
 }
 
-/// The names, told apart.
+/// Returns the names, told apart.
 fn told_apart(alloc: Global, names: &[Sequence<u8>]) -> Result<Vec<Sequence<u8>>, NoMemory>
     ensures { IfOk result (λ told. told.items ≡ told_apart names.now) }
 {
@@ -231,7 +232,8 @@ fn told_apart(alloc: Global, names: &[Sequence<u8>]) -> Result<Vec<Sequence<u8>>
     Ok(told)
 }
 
-/// What each wave of a circuit is called, told apart by places. Time and memory are linear in the names.
+/// Returns the name of each wave of a circuit, told apart by places. Time and memory are linear in
+/// the names.
 ///
 /// # Errors
 ///

@@ -1,4 +1,5 @@
-//! A circuit whose outputs are all that is shown of another one: so the simulator, as it stands, gives the values of all waves.
+//! A circuit whose outputs are all that is shown of another one. So the simulator, as it stands,
+//! gives the values of all waves.
 ghost use Rattle.std.specs.Prelude.{◌≡◌, ◌++◌, ◌*◌, IfOk, OnOk};
 ghost use Rattle.reports.specs.waves.Probes.{leaf_literals, probed, shown_literals};
 
@@ -13,7 +14,7 @@ fn append(literals: &mut Vec<Lit>, more: &[Lit]) -> Result<(), NoMemory>
     Ok(())
 }
 
-/// The literals of the inputs and the latches.
+/// Returns the literals of the inputs and the latches.
 fn leaf_literals(alloc: Global, aig: &Aig) -> Result<Vec<Lit>, NoMemory>
     ensures { IfOk result (λ literals. literals.items ≡ leaf_literals aig.now) }
 {
@@ -26,7 +27,7 @@ fn leaf_literals(alloc: Global, aig: &Aig) -> Result<Vec<Lit>, NoMemory>
     Ok(literals)
 }
 
-/// The literals of the inputs, of the latches and of the properties.
+/// Returns the literals of the inputs, of the latches and of the properties.
 fn shown_literals(alloc: Global, circuit: &Circuit) -> Result<Vec<Lit>, NoMemory>
     ensures { IfOk result (λ literals. literals.items ≡ shown_literals circuit.now) }
 {
@@ -45,7 +46,7 @@ fn copied_aig(alloc: Global, aig: &Aig) -> Result<Aig, NoMemory>
     Ok(Aig::from_parts(aig.inputs(), latches, gates))
 }
 
-/// The circuit with all that is shown as its outputs: its trace has the value of each wave.
+/// Returns the circuit with all that is shown as its outputs: its trace has the value of each wave.
 ///
 /// # Errors
 ///

@@ -1,5 +1,6 @@
-//! Room for simulating a circuit while its waves are written: what the latches hold is kept for each block of sequences, since a dump goes
-//! from time to time and not from sequence to sequence; the values of all variables aren't.
+//! Room for simulating a circuit while its waves are written. A dump goes from time to time and not
+//! from sequence to sequence, so the values of latches are kept for each block of sequences. Those
+//! of all variables aren't.
 ghost use Rattle.std.specs.Prelude.{◌≡◌, ◌+◌, ◌^◌, ◌<◌, ◌≤◌, All, IfOk, length};
 ghost use Rattle.lane_sim.specs.Steps.{AreAt, AreFor, HoldsAt, IsStateFor};
 ghost use Rattle.reports.specs.waves.Moments.{IsWaveRoomFor};
@@ -21,7 +22,7 @@ pub struct WaveRoom {
     pub(crate) values: Values,
 }
 
-/// Room for what the latches hold in so many blocks.
+/// Returns room for the values of the latches in `blocks` blocks.
 fn states(alloc: Global, aig: &Aig, blocks: usize) -> Result<Vec<State>, NoMemory>
     ensures many { IfOk result (λ states. length states.items ≡ blocks) }
     ensures each { IfOk result (λ states. All (IsStateFor aig.now) states.items) }
@@ -35,7 +36,8 @@ fn states(alloc: Global, aig: &Aig, blocks: usize) -> Result<Vec<State>, NoMemor
 }
 
 impl WaveRoom {
-    /// Room for this circuit and this stimulus: a table for each block of 256 sequences by latch, and two tables by variable.
+    /// Returns room for this circuit and this stimulus: a table for each block of 256 sequences by
+    /// latch, and two tables by variable.
     ///
     /// # Errors
     ///
@@ -57,7 +59,7 @@ impl WaveRoom {
     }
 }
 
-/// The values of a block at its first step.
+/// Computes the values of a block at its first step.
 pub(crate) fn open_block(
     state: &mut State,
     values: &mut Values,
@@ -74,7 +76,7 @@ pub(crate) fn open_block(
     values.evaluate(aig, state, sequences, 0);
 }
 
-/// The values of a block at a step and at the next one, which its latches come to.
+/// Computes the values of a block at a step and at the next one, which its latches come to.
 pub(crate) fn advance_block(
     state: &mut State,
     before: &mut Values,

@@ -1,4 +1,5 @@
-//! The times of a dump: at each of them all blocks of sequences are simulated a step on, and what has changed is put.
+//! The times of a dump. At each of them all blocks of sequences are simulated a step on, and what
+//! has changed is put.
 ghost use Rattle.std.specs.Prelude.{◌≡◌, ◌+◌, ◌*◌, ◌^◌, ◌<◌, ◌≤◌, length, max};
 ghost use Rattle.std.specs.List.{flat_map, range_with_len};
 ghost use Rattle.counted_io.specs.Buffered.{Puts};
@@ -14,7 +15,8 @@ use aig_graph::Circuit;
 use counted_io::{Buffered, CountedWrite};
 use lane_sim::InputSequence;
 
-/// What is dumped: so many waves, which are a circuit's property literals, under sequences.
+/// The waves of a dump: their number, and the circuit whose property literals they are, under
+/// sequences.
 #[derive(Clone, Copy)]
 pub(crate) struct Shown<'a> {
     pub(crate) circuit: &'a Circuit,
@@ -22,7 +24,7 @@ pub(crate) struct Shown<'a> {
     pub(crate) places: usize,
 }
 
-/// The sequences of a block.
+/// Returns the sequences of a block.
 fn block_at(sequences: &[InputSequence], block: usize) -> &[InputSequence]
     requires { 256 * block ≤ length sequences.now }
     ensures value { result.now ≡ block_of sequences.now block }
@@ -183,7 +185,7 @@ fn larger(a: usize, b: usize) -> usize
     if a < b { b } else { a }
 }
 
-/// The number of steps of the longest sequence.
+/// Returns the number of steps of the longest sequence.
 fn longest(shown: &Shown<'_>) -> usize
     ensures { result ≡ longest (trace shown.now.circuit.now shown.now.sequences.now) }
 {

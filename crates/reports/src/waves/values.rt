@@ -33,7 +33,7 @@ fn put_value_line<W: CountedWrite>(
     out.put_byte(b'\n');
 }
 
-/// Puts a wave's value, where it is written.
+/// Puts a wave's value, if it is written.
 fn put_value<W: CountedWrite>(
     out: &mut Buffered<'_, W>,
     moment: &Moment<'_>,
@@ -51,7 +51,7 @@ fn put_value<W: CountedWrite>(
     }
 }
 
-/// Puts the values of a sequence that are written, of so many waves.
+/// Puts the values of a sequence that are written, of `places` waves.
 fn put_sequence<W: CountedWrite>(
     out: &mut Buffered<'_, W>,
     moment: &Moment<'_>,
@@ -68,7 +68,7 @@ fn put_sequence<W: CountedWrite>(
     }
 }
 
-/// Puts the values of a block's sequences that are written, of so many waves.
+/// Puts the values of a block's sequences that are written, of `places` waves.
 pub(crate) fn put_block<W: CountedWrite>(
     out: &mut Buffered<'_, W>,
     moment: &Moment<'_>,

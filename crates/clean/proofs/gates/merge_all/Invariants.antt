@@ -4,7 +4,8 @@ use Rattle.clean.specs.Kept.{pairs, next_variable}
 use Rattle.clean.proofs.MergeAllLaws.{HalfMerged}
 use Rattle.clean.proofs.gates.merge_all.Given as goal
 
--- the gates that are left make of what is known now what all of them make of the start; those before have what stands for their literals
+-- The gates that are left make of what is known now what all of them make of the start. Those
+-- before have the substitutes of their literals.
 abbrev pub invariant-loop-place : goal.invariant-loop-place
 invariant-loop-place l = record {
   rest : merge_gates (drop l.place l.fn.kept.gates) (record { substitutes = l.substitutes; kept = pairs l.kept }) ≡ merge_gates l.fn.kept.gates (record { substitutes = l.fn.substitutes; kept = [] });

@@ -5,7 +5,7 @@ use Rattle.clean.specs.Normalised.{AreLowNormalised}
 use Rattle.clean.proofs.GatherLaws.{shared-sliced, spoilt-sliced, normalised-sliced}
 use Rattle.clean.proofs.low.are_low_normalised.Goals as goal
 
--- a test that is no where it isn't so
+-- a test that is no if it isn't so
 yes_where : {A : Type 0} (b : Bool) → (b ≡ false → A → ⊥) → A → b ≡ true
 yes_where true fails a = refl
 yes_where false fails a = absurd (fails refl a)

@@ -5,7 +5,8 @@ use Rattle.frames.specs.Stages.{Notifies, frame_stages}
 use Rattle.frames.specs.Following.{IsFollowed}
 use Rattle.frames.proofs.retiming.all_frames.Given as goal
 
--- whatever circuit d the first one is the cleaning of, and c was read; the watcher has been notified of each frame, and the bound stays
+-- The first circuit is the cleaning of whatever circuit d, and c was read. The watcher has been
+-- notified of each frame, and the bound stays.
 abbrev pub invariant-loop : goal.invariant-loop
 invariant-loop g l =
     let start = l.fn.start in

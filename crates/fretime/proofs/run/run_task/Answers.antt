@@ -18,8 +18,8 @@ returns-in-Retime-clause-does g c =
 pub returns-in-Retime-clause-prints : goal.returns-in-Retime-clause-prints
 returns-in-Retime-clause-prints g c = by_command c.print_retimed.result _ _ c.print_retimed.ensures.prints
 
-pub returns-in-Backward-clause-prints : goal.returns-in-Backward-clause-prints
-returns-in-Backward-clause-prints g c = by_command c.print_moves.result _ _ c.print_moves.ensures.prints
+pub returns-in-Move-clause-prints : goal.returns-in-Move-clause-prints
+returns-in-Move-clause-prints g c = by_command c.print_moves.result _ _ c.print_moves.ensures.prints
 
 pub returns-in-Batch-clause-prints : goal.returns-in-Batch-clause-prints
 returns-in-Batch-clause-prints g c = by_batch c.in-Batch.batch.json c.retime_list.result _ _ c.retime_list.ensures
@@ -40,7 +40,7 @@ pub returns-in-Verify-clause-prints : goal.returns-in-Verify-clause-prints
 returns-in-Verify-clause-prints g c = by_command c.verify.result _ _ c.verify.ensures.prints
 
 pub returns-in-Check-clause-prints : goal.returns-in-Check-clause-prints
-returns-in-Check-clause-prints g c = by_command c.print_check.result _ _ c.print_check.ensures.prints
+returns-in-Check-clause-prints g c = by_command c.check.result _ _ c.check.ensures.prints
 
 pub returns-in-Miter-clause-prints : goal.returns-in-Miter-clause-prints
 returns-in-Miter-clause-prints g c = by_command c.write_miter.result _ _ c.write_miter.ensures.prints

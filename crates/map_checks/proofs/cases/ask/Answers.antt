@@ -1,7 +1,7 @@
 use Rattle.std.proofs.Common.{◌≡◌, ◌∙◌, ap}
 use Rattle.aig_graph.specs.Gates.{Gates}
 use Rattle.aig_graph.specs.Graph.{first_gate}
-use Rattle.map_checks.specs.Equal.{Equal}
+use Rattle.gate_sharing.specs.Equal.{Equal}
 use Rattle.map_checks.proofs.StepLaws.{are-shown}
 use Rattle.map_checks.proofs.cases.ask.Goals as goal
 

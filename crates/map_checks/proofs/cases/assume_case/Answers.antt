@@ -1,6 +1,6 @@
 use Rattle.std.proofs.Common.{ℕ, ◌≡◌, ◌∙◌, ◌<◌, not, true, subst, sym, arith, ap}
 use Rattle.aig_graph.specs.Graph.{Graph, first_gate, variable}
-use Rattle.map_checks.specs.Equal.{Equal, IsRight}
+use Rattle.gate_sharing.specs.Equal.{Equal, IsRight}
 use Rattle.map_checks.specs.Images.{in_first}
 use Rattle.map_checks.proofs.ImageLaws.{leaf-value}
 use Rattle.map_checks.proofs.cases.assume_case.Goals as goal

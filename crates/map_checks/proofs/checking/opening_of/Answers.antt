@@ -3,7 +3,7 @@ use Rattle.std.specs.List.{All}
 use Rattle.aig_graph.specs.declared.properties.Props.{Props}
 use Rattle.aig_graph.specs.Graph.{Graph}
 use Rattle.map_checks.specs.declared.openings.Start.{Start}
-use Rattle.map_checks.specs.Copies.{copy_of}
+use Rattle.gate_sharing.specs.Copies.{copy_of}
 use Rattle.map_checks.specs.Openings.{IsLookAtStart}
 use Rattle.map_checks.specs.Starts.{AreStarts, IsResetImage}
 use Rattle.map_checks.proofs.StartLaws.{begins}

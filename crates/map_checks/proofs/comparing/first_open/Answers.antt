@@ -1,6 +1,6 @@
 use Rattle.std.proofs.Common.{◌∙◌, arith, ap}
 use Rattle.std.proofs.lemmas.List.{get_or_default}
-use Rattle.map_checks.specs.Copies.{copy_of}
+use Rattle.gate_sharing.specs.Copies.{copy_of}
 use Rattle.map_checks.proofs.comparing.first_open.Goals as goal
 
 pub returns : goal.returns

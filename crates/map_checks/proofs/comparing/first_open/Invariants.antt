@@ -1,5 +1,5 @@
 use Rattle.std.proofs.Common.{ℕ, ◌≡◌, ◌<◌, get_or}
-use Rattle.map_checks.specs.Copies.{copy_of}
+use Rattle.gate_sharing.specs.Copies.{copy_of}
 use Rattle.map_checks.proofs.comparing.first_open.Given as goal
 
 abbrev pub invariant-loop-place : goal.invariant-loop-place

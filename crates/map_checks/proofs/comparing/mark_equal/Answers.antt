@@ -1,6 +1,6 @@
 use Rattle.std.proofs.Common.{ℕ, ◌≡◌, ◌∙◌, ◌<◌, Bool, true, List, length, get_or, arith, ap, sym}
 use Rattle.std.proofs.lemmas.List.{get_or_default}
-use Rattle.map_checks.specs.Equal.{Equal}
+use Rattle.gate_sharing.specs.Equal.{Equal}
 use Rattle.map_checks.specs.Parts.{AreEqualAt}
 use Rattle.map_checks.proofs.MarkLaws.{marked-push}
 use Rattle.map_checks.proofs.comparing.mark_equal.Goals as goal

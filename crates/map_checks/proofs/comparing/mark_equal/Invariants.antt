@@ -1,6 +1,6 @@
 use Rattle.std.proofs.Common.{◌≡◌, length}
 use Rattle.aig_graph.specs.Gates.{Gates}
-use Rattle.map_checks.specs.Equal.{StaysRight}
+use Rattle.gate_sharing.specs.Equal.{StaysRight}
 use Rattle.map_checks.specs.Parts.{AreMarkedEqual}
 use Rattle.map_checks.proofs.comparing.mark_equal.Given as goal
 

@@ -1,7 +1,7 @@
 use Rattle.std.proofs.Common.{subst, arith}
 use Rattle.std.proofs.lemmas.Result.{IfOk-weaker, on_ok_weaker}
 use Rattle.aig_graph.specs.Graph.{Graph}
-use Rattle.map_checks.specs.Copies.{IsCopy}
+use Rattle.gate_sharing.specs.Copies.{IsCopy}
 use Rattle.map_checks.proofs.ImageLaws.{latches-shared, view-map}
 use Rattle.map_checks.proofs.learning.image.Goals as goal
 

@@ -1,4 +1,4 @@
-use Rattle.map_checks.proofs.SharedLaws.{grows-transitive}
+use Rattle.gate_sharing.proofs.SharedLaws.{grows-transitive}
 use Rattle.map_checks.proofs.ImageLaws.{learns-then}
 use Rattle.map_checks.proofs.learning.learn_all.Goals as goal
 

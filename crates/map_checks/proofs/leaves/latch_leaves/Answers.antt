@@ -1,7 +1,7 @@
 use Rattle.std.proofs.Common.{◌≡◌, ◌∙◌, ◌+◌, ◌*◌, ◌≤◌, ap, sym, refl, subst, arith, ℕ, List, length}
 use Rattle.aig_graph.specs.declared.graph.Latch.{Latch}
 use Rattle.aig_graph.specs.Graph.{Graph, first_latch, variable}
-use Rattle.map_checks.specs.Copies.{Copy}
+use Rattle.gate_sharing.specs.Copies.{Copy}
 use Rattle.map_checks.specs.Images.{StandForLatches}
 use Rattle.map_checks.proofs.ImageLaws.{each-push}
 use Rattle.map_checks.proofs.leaves.latch_leaves.Goals as goal

@@ -1,7 +1,7 @@
 use Rattle.std.proofs.Common.{ℕ, ◌≡◌, ◌+◌, ◌*◌, ◌<◌, ◌≤◌, Bool, length, get_or}
 use Rattle.aig_graph.specs.Graph.{first_latch, variable}
 use Rattle.aig_graph.specs.Gates.{IsNegated}
-use Rattle.map_checks.specs.Equal.{IsRight, StaysRight}
+use Rattle.gate_sharing.specs.Equal.{IsRight, StaysRight}
 use Rattle.map_checks.proofs.leaves.latch_leaves.Given as goal
 
 abbrev pub invariant-loop-place : goal.invariant-loop-place

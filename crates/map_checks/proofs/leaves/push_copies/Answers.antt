@@ -1,6 +1,6 @@
 use Rattle.std.proofs.Common.{[], ◌∷◌, ◌++◌, ◌∙◌, ap, ap₂, sym, ℕ, List}
 use Rattle.std.proofs.lemmas.List.{append_assoc, map_more}
-use Rattle.map_checks.specs.Copies.{copy_of}
+use Rattle.gate_sharing.specs.Copies.{copy_of}
 use Rattle.map_checks.proofs.leaves.push_copies.Goals as goal
 
 pub loop-lit-preserved : goal.loop-lit-preserved

@@ -1,5 +1,5 @@
 use Rattle.std.proofs.Common.{◌≡◌, ◌++◌, map, take}
-use Rattle.map_checks.specs.Copies.{copy_of}
+use Rattle.gate_sharing.specs.Copies.{copy_of}
 use Rattle.map_checks.proofs.leaves.push_copies.Given as goal
 
 abbrev pub invariant-loop-lit : goal.invariant-loop-lit

@@ -1,5 +1,5 @@
 use Rattle.std.proofs.Common.{get_or}
-use Rattle.map_checks.specs.Copies.{copy_of}
+use Rattle.gate_sharing.specs.Copies.{copy_of}
 use Rattle.map_checks.specs.Starts.{AreStarts}
 use Rattle.map_checks.proofs.openings.start_of.Given as goal
 

@@ -3,7 +3,7 @@ use Rattle.std.specs.List.{All}
 use Rattle.aig_graph.specs.Circuits.{Netlist}
 use Rattle.aig_graph.specs.Graph.{variable}
 use Rattle.aig_graph.specs.Streams.{property_literals}
-use Rattle.map_checks.specs.Copies.{copied_end}
+use Rattle.gate_sharing.specs.Copies.{copied_end}
 use Rattle.map_checks.proofs.PartLaws.{properties-within}
 use Rattle.map_checks.proofs.pairs.given_literals.Goals as goal
 

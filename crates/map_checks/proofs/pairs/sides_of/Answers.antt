@@ -1,9 +1,9 @@
 use Rattle.std.proofs.Common.{subst}
 use Rattle.aig_graph.specs.Graph.{Graph}
-use Rattle.map_checks.specs.Equal.{Equal, StaysRight}
+use Rattle.gate_sharing.specs.Equal.{Equal, StaysRight}
 use Rattle.aig_graph.specs.Gates.{Gates}
 use Rattle.map_checks.specs.Images.{IsFaithfulCopy, Learns, in_map, in_second_mapped}
-use Rattle.map_checks.proofs.SharedLaws.{grows-transitive}
+use Rattle.gate_sharing.proofs.SharedLaws.{grows-transitive}
 use Rattle.map_checks.proofs.ImageLaws.{shared-later}
 use Rattle.map_checks.proofs.SideLaws.{are-sides}
 use Rattle.map_checks.proofs.pairs.sides_of.Goals as goal

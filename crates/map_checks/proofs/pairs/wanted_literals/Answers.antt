@@ -3,7 +3,7 @@ use Rattle.std.specs.List.{All}
 use Rattle.aig_graph.specs.Circuits.{Netlist}
 use Rattle.aig_graph.specs.Graph.{Graph, variable}
 use Rattle.aig_graph.specs.Streams.{property_literals}
-use Rattle.map_checks.specs.Copies.{copied_end}
+use Rattle.gate_sharing.specs.Copies.{copied_end}
 use Rattle.map_checks.specs.Images.{nexts_of}
 use Rattle.map_checks.proofs.ImageLaws.{nexts-within}
 use Rattle.map_checks.proofs.PartLaws.{properties-within}

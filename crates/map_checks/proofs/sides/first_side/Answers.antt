@@ -1,7 +1,7 @@
 use Rattle.std.proofs.Common.{◌≡◌, ◌∙◌, ap, subst, arith, ℕ}
 use Rattle.std.proofs.lemmas.Result.{IfOk-weaker, on_ok_weaker}
 use Rattle.aig_graph.specs.Graph.{Graph, first_latch}
-use Rattle.map_checks.specs.Copies.{IsCopy}
+use Rattle.gate_sharing.specs.Copies.{IsCopy}
 use Rattle.map_checks.specs.Images.{StandForLatches}
 use Rattle.map_checks.proofs.ImageLaws.{latches-shared, view-first}
 use Rattle.map_checks.proofs.sides.first_side.Goals as goal

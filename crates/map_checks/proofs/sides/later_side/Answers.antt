@@ -1,7 +1,7 @@
 use Rattle.std.proofs.Common.{◌≡◌, ◌∙◌, ◌<◌, ap, sym, subst, arith, ℕ, List}
 use Rattle.std.specs.List.{All}
 use Rattle.aig_graph.specs.Graph.{Graph, variable}
-use Rattle.map_checks.specs.Copies.{AreShared, Copy, IsCopy, copied_end}
+use Rattle.gate_sharing.specs.Copies.{AreShared, Copy, IsCopy, copied_end}
 use Rattle.map_checks.specs.Images.{nexts_of, copy_of_literals}
 use Rattle.map_checks.proofs.ImageLaws.{nexts-within, picked-shared, view-later_map}
 use Rattle.map_checks.proofs.sides.later_side.Goals as goal

@@ -2,7 +2,7 @@ use Rattle.std.proofs.Common.{◌≡◌, ◌∙◌, ◌<◌, ap, sym, subst, ari
 use Rattle.std.specs.List.{All}
 use Rattle.aig_graph.specs.declared.properties.Props.{Props}
 use Rattle.aig_graph.specs.Graph.{Graph, first_latch, variable}
-use Rattle.map_checks.specs.Copies.{AreShared, Copy, IsCopy}
+use Rattle.gate_sharing.specs.Copies.{AreShared, Copy, IsCopy}
 use Rattle.map_checks.specs.Images.{copy_of_literals}
 use Rattle.map_checks.proofs.ImageLaws.{picked-shared, view-second}
 use Rattle.map_checks.proofs.sides.second_side.Goals as goal

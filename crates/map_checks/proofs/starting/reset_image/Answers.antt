@@ -1,8 +1,8 @@
 use Rattle.std.proofs.Common.{◌≡◌, ◌∙◌, ap, subst}
 use Rattle.aig_graph.specs.Graph.{Graph, first_gate}
 use Rattle.aig_graph.specs.Gates.{Gates}
-use Rattle.map_checks.specs.Equal.{Equal}
-use Rattle.map_checks.specs.Copies.{IsCopy}
+use Rattle.gate_sharing.specs.Equal.{Equal}
+use Rattle.gate_sharing.specs.Copies.{IsCopy}
 use Rattle.map_checks.proofs.ResetLaws.{reset-image, resets-shared}
 use Rattle.map_checks.proofs.starting.reset_image.Goals as goal
 

@@ -5,8 +5,8 @@ use Rattle.map_circuits.specs.Following.{AreWithin, Follows}
 use Rattle.map_circuits.specs.Packing.{ArePacked, packed}
 use Rattle.map_circuits.proofs.map_gates.add_in_room.Given as goal
 
--- The bytes, with those that wait, are those of the gates so far; the entries follow below the next member, and there is room for the gates
--- of those that are left.
+-- The bytes, with those that wait, are those of the gates so far. The entries follow below the next
+-- member, and there is room for the gates that are left.
 abbrev pub invariant-loop-var : goal.invariant-loop-var
 invariant-loop-var l = record {
   are : ArePacked l.inputs (l.count + l.var-index) (l.deltas.items ++ take l.waiting l.chunk);

@@ -2,7 +2,7 @@ use Rattle.std.proofs.Common.{◌+◌, ◌-◌, ◌≤◌, ◌≡◌, length, ta
 use Rattle.binary_file.proofs.DeltaLaws.{Spells}
 use Rattle.map_circuits.proofs.packing.put_delta.Given as goal
 
--- so many bytes stand from the place on, and what is left of the number is spelt by those that follow
+-- n bytes stand from the place on, and what is left of the number is spelt by those that follow
 abbrev pub invariant-loop-rest : goal.invariant-loop-rest
 invariant-loop-rest l = record {
   from : l.at ≤ l.end;

@@ -1,6 +1,0 @@
-use Rattle.std.proofs.Common.{rules}
-use Rattle.counted_io.proofs.BufferedLaws.{writes-whole}
-use Rattle.backward_command.proofs.lines.print_lines.Goals as goal
-
-pub returns : goal.returns
-returns g c = writes-whole c.new-out.ensures c.put_moves.ensures c.flush.ensures (search rules)

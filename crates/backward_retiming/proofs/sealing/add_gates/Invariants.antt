@@ -1,5 +1,0 @@
-use Rattle.backward_retiming.specs.Sealed.{IsGrown}
-use Rattle.backward_retiming.proofs.sealing.add_gates.Given as goal
-
-abbrev pub invariant-loop-place : goal.invariant-loop-place
-invariant-loop-place l = IsGrown l.fn.builder l.place l.builder

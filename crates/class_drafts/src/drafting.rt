@@ -1,0 +1,414 @@
+//! Openings one after another, until none leaves fewer latches.
+
+use crate::attempts::{Attempt, Plan, Scene};
+use crate::maps::{GrowingMap, NumberMap};
+use crate::running::{Limits, sealed};
+use aig_graph::{Circuit, Keep, Memory, NoMemory, Sequence, property_literals};
+use backward_sets::{entry, number};
+use frames::Retimed;
+use hold_drafts::{Way, candidates_of};
+use mapped_answers::Made;
+use pulse::{Crew, PhaseGate};
+use sealed_drafts::drawn_map;
+use std::alloc::Global;
+use std::mem;
+use std::thread::Threads;
+
+/// The number of plans.
+const PLANS: u32 = 5;
+
+/// The most openings that leave fewer latches.
+const MOST_OPENINGS: u32 = 1024;
+
+/// Limits of a draft: over at most `frames` frames, and with no way of more than `levels` gates,
+/// unless the circuit has one.
+#[derive(Clone, Copy)]
+pub struct DraftOptions {
+    pub frames: u32,
+    pub levels: Option<u32>,
+}
+
+/// A circuit in which latches moved within classes, and the map of its states. That has an input
+/// for each latch of the circuit that was read, and an output for each of the draft's latches.
+#[derive(Drop)]
+pub struct Drafted {
+    pub after: Circuit,
+    pub map: Circuit,
+    /// For each free latch of `after` its place, from 0, among those of the circuit that was read.
+    pub kept_free: Sequence<u32>,
+    /// The number of frames that were taken.
+    pub frames: u32,
+}
+
+/// Returns a plan. Each opens in another way.
+fn plan_of(place: u32) -> Plan {
+    match place {
+        0 => Plan {
+            way: Way::Pairs,
+            masks: true,
+        },
+        1 => Plan {
+            way: Way::Pairs,
+            masks: false,
+        },
+        2 => Plan {
+            way: Way::Eighths,
+            masks: true,
+        },
+        3 => Plan {
+            way: Way::Eighths,
+            masks: false,
+        },
+        _ => Plan {
+            way: Way::Plain,
+            masks: true,
+        },
+    }
+}
+
+/// An attempt, and the number of its plan.
+struct Found {
+    attempt: Attempt,
+    plan: u32,
+}
+
+impl Drop for Found {
+    // written out: docs/PROOFS.md, Drops and exits
+    fn drop(self) {
+        let Found {
+            attempt: _attempt,
+            plan: _plan,
+        } = self;
+    }
+}
+
+impl Found {
+    /// Returns the attempt, and the number of its plan.
+    fn into_parts(self) -> (Attempt, u32) {
+        let Found { attempt, plan } = self;
+        (attempt, plan)
+    }
+}
+
+/// Returns the better of two attempts: the second, unless it leaves more latches.
+fn better(first: Attempt, second: Option<Attempt>) -> Attempt {
+    match second {
+        Some(second) if second.known_latches() <= first.known_latches() => second,
+        _ => first,
+    }
+}
+
+impl<'a> Scene<'a> {
+    /// Returns the circuit after its latches moved by a plan, if that leaves fewer. Of the latches
+    /// that were opened only those over which others moved are opened then, if that leaves as few.
+    fn try_plan<G: PhaseGate>(
+        &self,
+        rt: &(impl Threads + Sync),
+        memory: &mut Memory,
+        plan: Plan,
+        limits: Limits,
+        crew: &Crew<G>,
+    ) -> Option<Attempt> {
+        let Some(first) = self.attempt(rt, memory, plan, None, limits, crew) else {
+            return None;
+        };
+        if first.only.is_empty() {
+            return Some(first);
+        }
+        let only = Some(first.only.as_slice());
+        let second = self.attempt(rt, memory, plan, only, limits, crew);
+        Some(better(first, second))
+    }
+
+    /// Tries all plans, beginning with the one that has this number, until one leaves fewer
+    /// latches.
+    fn try_plans<G: PhaseGate>(
+        &self,
+        rt: &(impl Threads + Sync),
+        memory: &mut Memory,
+        begin: u32,
+        limits: Limits,
+        crew: &Crew<G>,
+    ) -> Option<Found> {
+        for turn in 0..PLANS {
+            let plan = begin.wrapping_add(turn) % PLANS;
+            let found = self.try_plan(rt, memory, plan_of(plan), limits, crew);
+            if memory.is_refused() {
+                return None;
+            }
+            if let Some(attempt) = found {
+                return Some(Found { attempt, plan });
+            }
+        }
+        None
+    }
+}
+
+/// A circuit that a draft has come to, with the latches of it that are held.
+struct Stand {
+    circuit: Circuit,
+    keep: Keep,
+    kept_free: Sequence<u32>,
+}
+
+impl Drop for Stand {
+    // written out: docs/PROOFS.md, Drops and exits
+    fn drop(self) {
+        let Stand {
+            circuit: _circuit,
+            keep: _keep,
+            kept_free: _kept_free,
+        } = self;
+    }
+}
+
+impl Stand {
+    /// Returns the circuit, and the places of its free latches.
+    fn into_parts(self) -> (Circuit, Sequence<u32>) {
+        let Stand {
+            circuit,
+            keep: _keep,
+            kept_free,
+        } = self;
+        (circuit, kept_free)
+    }
+}
+
+/// A draft under way.
+struct Drafting {
+    stand: Option<Stand>,
+    map: GrowingMap,
+    options: DraftOptions,
+    frames: u32,
+    plan: u32,
+}
+
+impl Drop for Drafting {
+    // written out: docs/PROOFS.md, Drops and exits
+    fn drop(self) {
+        let Drafting {
+            stand: _stand,
+            map: _map,
+            options: _options,
+            frames: _frames,
+            plan: _plan,
+        } = self;
+    }
+}
+
+/// Opens a circuit in all ways until one leaves fewer latches.
+fn next_attempt<G: PhaseGate>(
+    rt: &(impl Threads + Sync),
+    memory: &mut Memory,
+    circuit: &Circuit,
+    keep: &Keep,
+    begin: u32,
+    limits: Limits,
+    crew: &Crew<G>,
+) -> Option<Found> {
+    let Ok(properties) = property_literals(memory.alloc(), circuit.props()) else {
+        memory.refuse();
+        return None;
+    };
+    let scene = Scene {
+        circuit,
+        keep,
+        properties,
+        candidates: candidates_of(memory, circuit, keep),
+    };
+    if memory.is_refused() {
+        return None;
+    }
+    scene.try_plans(rt, memory, begin, limits, crew)
+}
+
+/// Returns the places that `second` picks of `first`.
+fn picked(memory: &mut Memory, first: &[u32], second: &[u32]) -> Sequence<u32> {
+    let mut places = memory.list(second.len());
+    for place in second {
+        memory.push(&mut places, entry(first, *place));
+    }
+    Sequence::from_vec(places)
+}
+
+/// Returns the numbers below `many`.
+fn all_below(memory: &mut Memory, many: u32) -> Vec<u32> {
+    let mut places = memory.list(many as usize);
+    for place in 0..many {
+        memory.push(&mut places, place);
+    }
+    places
+}
+
+/// Returns what a draft has come to, after an attempt. Before it the free latches were these.
+fn stand_of(memory: &mut Memory, attempt: Attempt, kept_free: &[u32]) -> (Stand, NumberMap, u32) {
+    let (made, map, frames) = attempt.into_parts();
+    let Made { retimed, keep, .. } = made;
+    let Retimed {
+        circuit,
+        kept_free: kept,
+        ..
+    } = retimed;
+    let kept_free = picked(memory, kept_free, kept.as_slice());
+    let stand = Stand {
+        circuit,
+        keep,
+        kept_free,
+    };
+    (stand, map, frames)
+}
+
+impl Drafting {
+    /// Returns the draft in which nothing moved yet.
+    fn new(memory: &mut Memory, circuit: &Circuit, options: &DraftOptions) -> Drafting {
+        let latches = number(circuit.aig().latches().len());
+        Drafting {
+            stand: None,
+            map: GrowingMap::identity(memory, latches),
+            options: *options,
+            frames: 0,
+            plan: 0,
+        }
+    }
+
+    /// Returns the limits of what is left to do.
+    fn limits(&self) -> Limits {
+        Limits {
+            frames: self.options.frames.saturating_sub(self.frames),
+            levels: self.options.levels,
+        }
+    }
+
+    /// Returns an attempt from the circuit that the draft has come to; it began with `circuit`.
+    fn find<G: PhaseGate>(
+        &self,
+        rt: &(impl Threads + Sync),
+        memory: &mut Memory,
+        circuit: &Circuit,
+        keep: &Keep,
+        crew: &Crew<G>,
+    ) -> Option<Found> {
+        let (circuit, keep) = match &self.stand {
+            Some(stand) => (&stand.circuit, &stand.keep),
+            None => (circuit, keep),
+        };
+        next_attempt(rt, memory, circuit, keep, self.plan, self.limits(), crew)
+    }
+
+    /// Returns the places of the free latches, of which there were `many`.
+    fn kept_free(&self, memory: &mut Memory, many: u32) -> Vec<u32> {
+        match &self.stand {
+            Some(stand) => {
+                let mut places = memory.list(stand.kept_free.len());
+                for place in stand.kept_free.as_slice() {
+                    memory.push(&mut places, *place);
+                }
+                places
+            }
+            None => all_below(memory, many),
+        }
+    }
+
+    /// Goes on from an attempt.
+    fn take(&mut self, memory: &mut Memory, found: Found, free: u32) {
+        let (attempt, plan) = found.into_parts();
+        let kept_free = self.kept_free(memory, free);
+        let (stand, map, frames) = stand_of(memory, attempt, kept_free.as_slice());
+        self.map.follow(memory, &map);
+        self.frames = self.frames.saturating_add(frames);
+        self.plan = plan;
+        drop(mem::replace(&mut self.stand, Some(stand)));
+    }
+
+    /// Opens the circuit until that doesn't leave fewer latches.
+    fn run<G: PhaseGate>(
+        &mut self,
+        rt: &(impl Threads + Sync),
+        memory: &mut Memory,
+        circuit: &Circuit,
+        keep: &Keep,
+        crew: &Crew<G>,
+    ) {
+        let free = circuit.aig().free_latches();
+        for _ in 0..MOST_OPENINGS {
+            if self.frames >= self.options.frames {
+                return;
+            }
+            match self.find(rt, memory, circuit, keep, crew) {
+                Some(found) => self.take(memory, found, free),
+                None => return,
+            }
+        }
+    }
+
+    /// Returns the draft, or nothing if no latch went.
+    fn finished(self, memory: &mut Memory, circuit: &Circuit) -> Option<Drafted> {
+        let Drafting {
+            stand,
+            map,
+            options: _options,
+            frames,
+            plan: _plan,
+        } = self;
+        let map = map.into_map();
+        match stand {
+            Some(stand) => with_map(memory, circuit, stand, &map, frames),
+            None => None,
+        }
+    }
+}
+
+/// Returns the draft of a circuit, with its map.
+fn with_map(
+    memory: &mut Memory,
+    circuit: &Circuit,
+    stand: Stand,
+    map: &NumberMap,
+    frames: u32,
+) -> Option<Drafted> {
+    let (after, kept_free) = stand.into_parts();
+    let gates = map.gates.as_slice();
+    let (outputs, constraints) = (map.outputs.as_slice(), map.constraints.as_slice());
+    let map = drawn_map(memory.alloc(), circuit, &after, gates, outputs, constraints);
+    match sealed(memory, map) {
+        Some(map) => Some(Drafted {
+            after,
+            map,
+            kept_free,
+            frames,
+        }),
+        None => {
+            drop(after);
+            drop(kept_free);
+            None
+        }
+    }
+}
+
+/// Drafts a circuit in which latches moved within classes of latches that hold their values, or get
+/// constants, together. Returns nothing if that doesn't leave fewer latches.
+///
+/// Each opening costs some runs of plain frames, and time linear in the circuit.
+///
+/// # Errors
+///
+/// `NoMemory` if memory is refused.
+pub fn draft_classes<G: PhaseGate>(
+    rt: &(impl Threads + Sync),
+    alloc: Global,
+    circuit: &Circuit,
+    keep: &Keep,
+    options: &DraftOptions,
+    crew: &Crew<G>,
+) -> Result<Option<Drafted>, NoMemory> {
+    let mut memory = Memory::of(alloc);
+    let mut drafting = Drafting::new(&mut memory, circuit, options);
+    drafting.run(rt, &mut memory, circuit, keep, crew);
+    let drafted = drafting.finished(&mut memory, circuit);
+    if memory.is_refused() {
+        drop(drafted);
+        Err(NoMemory)
+    } else {
+        Ok(drafted)
+    }
+}

@@ -1,0 +1,4 @@
+pub mod SharedLaws
+pub mod EqualLaws
+pub mod CopyLaws
+pub mod CircuitLaws

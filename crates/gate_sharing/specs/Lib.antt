@@ -1,0 +1,4 @@
+pub mod Shared
+pub mod Equal
+pub mod Copies
+pub mod Circuits

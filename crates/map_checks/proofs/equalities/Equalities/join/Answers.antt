@@ -1,4 +1,0 @@
-use Rattle.map_checks.proofs.equalities.Equalities.join.Goals as goal
-
-pub returns : goal.returns
-returns c = λ values negated same right. c.redirect.ensures values negated same (c.in_ok-cover.ensures values negated right)

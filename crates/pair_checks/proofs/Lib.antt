@@ -1,0 +1,5 @@
+pub mod OpeningLaws
+pub mod StepLaws
+pub mod StreamLaws
+pub mod JudgeLaws
+pub mod PairLaws

@@ -1,0 +1,4 @@
+pub mod Pairs
+pub mod Openings
+pub mod Sides
+pub mod Answers

@@ -1,0 +1,4 @@
+pub mod SealLaws
+pub mod NameLaws
+pub mod StandingLaws
+pub mod MapLaws
