@@ -12,9 +12,9 @@ import re
 
 TOP = pathlib.Path(__file__).resolve().parent.parent
 # What such a run never calls: other commands, binary files, objects of JSON, maps, merging, the smallest sets.
-OTHER_CRATES = set("""binary_file json_reports map_circuits retiming_maps map_checks map_commands backward_command latch_merging batch_pool lane_sim
+OTHER_CRATES = set("""binary_file json_reports map_circuits retiming_maps map_checks map_commands moving_commands latch_merging batch_pool lane_sim
     witnesses pictures certificate_audits simulation_commands map_miters backward_sets backward_rows
-    backward_moves backward_circuits backward_retiming witness_circuits""".split())
+    backward_moves backward_circuits backward_retiming class_circuits class_drafts class_retiming witness_circuits""".split())
 # The same of files of a crate that it calls: waves, lists of files, pages of faults.
 OTHER_FILES = {
     'reports': set('waves dump moment names probes room times values'.split()),

@@ -1,5 +1,6 @@
 """What makes sources long to read, counted: functions of many parameters, long heads and clauses, statements of lemmas that stand in two
-crates, words of definitions that two crates have, long lines, and comments that name no number or nothing of their own."""
+crates, words of definitions that two crates have, long lines and sentences, and comments that name no verb, no number or nothing of
+their own."""
 import collections
 import re
 
@@ -11,11 +12,20 @@ LONGEST = 200
 COLUMNS = 100
 # The most parameters of a function.
 MOST_PARAMETERS = 7
+# The most words of a sentence of a comment.
+MOST_WORDS = 25
 # Files of proofs/ that have answers and no lemmas.
 NO_LEMMAS = {'Answers', 'Invariants', 'Lib', 'Proof'}
 # How a line of a proof begins that states no lemma.
 NO_LEMMA = re.compile(r'(use|mod|record|data|abbrev|unfoldable|where|let|syntax|pub (use|mod|record|data|abbrev|unfoldable)) ')
 COMMENT = re.compile(r' *//[/!]? ?')
+COMMENT_OF_LAW = re.compile(r' *--(?: |$)')
+WORD = re.compile(r"[\w`'-]*\w[\w`'-]*")
+# The end of a sentence, and that of a part of a comment whose sentences go on in no other part.
+END = re.compile(r'(?<=[.?!])\s+|(?<=:)\s+(?=[A-Z`\[(])')
+END_OF_PART = re.compile(r'\n\s*\n|\n(?=[-*] |# )')
+# How a comment begins that names no verb.
+NO_VERB = re.compile(r'/// (?:What|Whether|How|Which|Where|Why)\b')
 FUNCTION = re.compile(r'(?m)^ *(?:pub(?:\([a-z]+\))? )?(?:const )?fn (\w+)')
 
 
@@ -25,15 +35,43 @@ def texts():
     return [path.read_text() for path in paths if not tree.is_of_tests(path)]
 
 
-def comments(text):
-    """Each comment of a source, in one line."""
+def lines_of_comments(text, mark):
+    """The lines of each comment of a source, in which comments begin with this mark."""
     lines = []
     for line in [*text.splitlines(), '']:
-        if COMMENT.match(line):
-            lines.append(line[COMMENT.match(line).end():])
+        if mark.match(line):
+            lines.append(line[mark.match(line).end():])
         elif lines:
-            yield ' '.join(lines)
+            yield lines
             lines = []
+
+
+def comments(text):
+    """Each comment of a source, in one line."""
+    return (' '.join(lines) for lines in lines_of_comments(text, COMMENT))
+
+
+def sentences(lines):
+    """The sentences of a comment; lines that are set off are a picture or code."""
+    text = '\n'.join('' if line.startswith('    ') else line for line in lines)
+    return (sentence for part in END_OF_PART.split(text) for sentence in END.split(' '.join(part.split())))
+
+
+def long_sentences(text, mark):
+    """How many sentences of a source's comments have too many words."""
+    return sum(len(WORD.findall(sentence)) > MOST_WORDS for lines in lines_of_comments(text, mark) for sentence in sentences(lines))
+
+
+def without_verb(text):
+    """How many functions of a source have a comment that begins with no verb."""
+    count, first = 0, ''
+    for line in text.splitlines():
+        if line.lstrip().startswith('///'):
+            first = first or line.lstrip()
+        elif not line.lstrip().startswith('#['):
+            count += bool(NO_VERB.match(first) and FUNCTION.match(line))
+            first = ''
+    return count
 
 
 def long_lines(texts):
@@ -110,9 +148,10 @@ def in_two_crates(each):
 
 
 def counts():
-    """Each count by its name; those of lines and of comments are of all sources, tests among them."""
+    """Each count by its name; those of lines and of comments are of all sources, tests among them, or of all definitions and laws."""
     all_texts = texts()
     every_text = [path.read_text() for crate in tree.crates() for path in tree.sources(crate)]
+    every_law = [path.read_text() for crate in tree.crates() for path in tree.sources(crate, '.antt', ('specs', 'proofs'))]
     all_comments = [comment.lower() for text in every_text for comment in comments(text)]
     long_comments, long_code = long_lines(every_text)
     all_heads = [head for text in all_texts for head in heads(text)]
@@ -126,6 +165,12 @@ def counts():
         'words of definitions that two crates have': in_two_crates(words),
         f'lines of comments over {COLUMNS} columns': long_comments,
         f'lines of code over {COLUMNS} columns': long_code,
+        f'lines of comments of laws over {COLUMNS} columns': sum(
+            len(line) > COLUMNS and bool(COMMENT_OF_LAW.match(line)) for text in every_law for line in text.splitlines()
+        ),
+        f'sentences of comments of over {MOST_WORDS} words': sum(long_sentences(text, COMMENT) for text in every_text),
+        f'sentences of comments of laws of over {MOST_WORDS} words': sum(long_sentences(text, COMMENT_OF_LAW) for text in every_law),
+        'comments of functions that begin with no verb': sum(without_verb(text) for text in every_text),
         "times 'so many' in comments": sum(len(re.findall(r'\bso many\b', comment)) for comment in all_comments),
         "comments that begin with 'the same'": sum(bool(re.match(r'the same\b', comment)) for comment in all_comments),
     }

@@ -66,6 +66,9 @@ SAYINGS = [
     Saying('docs/TUTORIAL.md', 'retime synchronous.aig less.aig', 0, 'latches 16 to 1'),
     Saying('docs/TUTORIAL.md', 'retime asynchronous.aig less.aig', 0, 'latches 16 to 16'),
     Saying('docs/TUTORIAL.md', 'retime enable.aig less.aig', 0, 'latches 16 to 16'),
+    Saying('docs/TUTORIAL.md', 'enables merged.aig stalled.aig --map stalled_map.aig', 0, 'latches 16 to 1'),
+    Saying('docs/TUTORIAL.md', 'check merged.aig stalled.aig stalled_map.aig', 0, 'retiming'),
+    Saying('docs/TUTORIAL.md', 'enables asynchronous.aig less.aig', 0, 'latches 16 to 1'),
     Saying('docs/TUTORIAL.md', 'retime --json match.aig less.aig', 0, 'free_kept'),
     Saying('docs/TUTORIAL.md', 'backward middle.aag before.aag --map before_map.aag', 0, 'frame 1: 4 to 2'),
     Saying('docs/TUTORIAL.md', 'backward middle.aag before.aag --map before_map.aag', 0, 'latches 4 to 2'),
@@ -148,11 +151,18 @@ def write_variants(folder):
         subprocess.run(['yosys', '-q', '-p', '; '.join(filter(None, commands))], cwd=folder, check=True)
 
 
+def left_by_readers():
+    """What leaves out of a copy what a reader's own run of the tutorial left in its folder: the names that the repository ignores there."""
+    lines = (TOP / '.gitignore').read_text().splitlines() if (TOP / '.gitignore').exists() else []
+    return shutil.ignore_patterns(*(line.strip('/').rpartition('/')[2] for line in lines if line.startswith('/examples/match/')))
+
+
 def folder_of(path):
     """A copy of the files that a document's commands work on."""
     folder = pathlib.Path(tempfile.mkdtemp())
     if path.name == 'TUTORIAL.md':
-        for name in ('match', 'proof', 'verilog'):
+        copy(TOP / 'examples' / 'match', folder / 'examples' / 'match', ignore=left_by_readers())
+        for name in ('proof', 'verilog'):
             copy(TOP / 'examples' / name, folder / 'examples' / name)
         shutil.copy(TOP / 'examples' / 'decoder.aag', folder / 'examples')
         (folder / 'tests').symlink_to(TOP / 'tests')

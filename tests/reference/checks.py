@@ -228,15 +228,20 @@ def is_map(m):
     return not (m.latches or m.bad or m.justice or m.fairness)
 
 
-def are_fitting(c, d, m):
-    """As many inputs and properties, whatever latches are free, and an input and an output of the map for each latch."""
+def are_alike(c, d):
+    """As many inputs and properties, whatever latches are free."""
     shapes = [(shape[0], *shape[2:]) for shape in (c.shape(), d.shape())]
-    return shapes[0] == shapes[1] and (m.inputs, len(m.outputs)) == (len(c.latches), len(d.latches))
+    return shapes[0] == shapes[1]
+
+
+def are_fitting(c, d, m):
+    """Such circuits, and an input and an output of the map for each latch."""
+    return are_alike(c, d) and (m.inputs, len(m.outputs)) == (len(c.latches), len(d.latches))
 
 
 def checked(c, d, m):
-    """What is printed, and the status, of a map that is one."""
-    if not are_fitting(c, d, m):
+    """What is printed, and the status, of a map that is one of circuits like these."""
+    if not are_alike(c, d):
         return 'shapes differ\n', 1
     obligation = reset_obligation(c, d, m) or step_obligation(c, d, m)
     return (f'not shown: {obligation}\n', 5) if obligation else ('retiming\n', 0)

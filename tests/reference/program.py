@@ -3,7 +3,7 @@ import os
 import sys
 
 from reference.certificates import audit, certificates, first_difference, read_blocks, written
-from reference.checks import are_fitting, checked, is_map
+from reference.checks import are_alike, are_fitting, checked, is_map
 from reference.circuit import text
 from reference.back_lifts import lifted_back
 from reference.clashes import clash, clash_of_list
@@ -14,6 +14,7 @@ from reference.miters import miter, product
 from reference.pictures import MOST_NODES, middle, neighbourhood, nodes, picture
 from reference.reading import Fault, read
 from reference.retiming import NoSuchLatch, NoSuchName, frames_of, held_latches, passable, retimed
+from reference.side_by_side import compared
 from reference.simulation import difference_text, is_too_long, random_stimulus, read_kept, read_stimulus, trace, trace_text
 from reference.waves import dump
 from reference.witnesses import carried_text
@@ -26,7 +27,7 @@ OPTIONS = {'retime': {'--ascii', '--binary', '--workers', '--frames', '--near', 
            'dot': {'--frame', '--merge', '--levels', '--no-longer', '--keep', '--keep-from', '--keep-latch', '--around', '--depth'},
            'batch': {'--ascii', '--binary', '--workers', '--frames', '--near', '--merge', '--levels', '--no-longer'}, 'convert': {'--ascii', '--binary'},
            'miter': {'--ascii', '--binary', '--certificate'}, 'product': {'--ascii', '--binary'}, 'lift': {'--ascii', '--binary', '--back'}, 'stat': {'--merge'}, 'witness': {'--merge'}, 'sim': {'--random', '--steps', '--seed', '--vcd'},
-           'same': {'--random', '--steps', '--seed', '--kept'}}
+           'same': {'--random', '--steps', '--seed', '--kept'}, 'check': {'--kept'}}
 # How many of the last paths of a command are written.
 WRITING = {'retime': 1, 'convert': 1, 'dot': 1, 'miter': 1, 'product': 2, 'lift': 1}
 GREATEST = {'--workers': 64, '--frames': 2**28, '--keep-latch': 2**28 - 1, '--depth': 100, '--random': 2**20, '--steps': 2**22, '--seed': 2**32 - 1, '--levels': 2**32 - 1}
@@ -89,7 +90,7 @@ def arguments(words):
         if name in GREATEST and not (value.isdigit() and LEAST.get(name, 1) <= int(value) <= GREATEST[name]):
             raise Ends(2, f'error: {name} {value}')
         options.setdefault(name, []).append(value)
-    wanted = PATHS[command] - ('--random' in options)
+    wanted = PATHS[command] - ('--random' in options or is_without_a_map(command, paths, options))
     if len(paths) != wanted or any(set(both) <= set(options) for both in EXCLUSIVE):
         raise Ends(2, 'error: wrong arguments')
     if {'--steps', '--seed'} & set(options) and '--random' not in options:
@@ -106,6 +107,11 @@ def arguments(words):
     if (outputs + printed + beside(options)).count('-') > 1:
         raise Ends(2, 'error: standard output is written once')
     return command, paths, options
+
+
+def is_without_a_map(command, paths, options):
+    """Whether two circuits are checked by themselves, as with a list of the free latches that were kept."""
+    return command == 'check' and (len(paths) == 2 or '--kept' in options)
 
 
 def beside(options):
@@ -332,9 +338,14 @@ def verify(paths, options):
     return status, ''.join(f'{line}\n' for line in lines), told
 
 
-def check(paths, _):
-    c, d, m = (circuit_of(path)[0] for path in paths)
-    if not is_map(m):
+def check(paths, options):
+    c, d = circuit_of(paths[0])[0], circuit_of(paths[1])[0]
+    kept = kept_of(options, c, d)
+    if len(paths) == 2:
+        said, status = compared(c, d, kept)
+        return status, said
+    m, _ = circuit_of(paths[2])
+    if not is_map(m) or are_alike(c, d) and not are_fitting(c, d, m):
         raise Ends(1, f'{source_name(paths[2])}: NotAMap')
     said, status = checked(c, d, m)
     return status, said
