@@ -1,7 +1,7 @@
 # Completions of fretime for bash.
 
 # made by docs/make: names
-_fretime_commands='retime backward batch convert stat sim same dot explain verify check miter product lift witness help'
+_fretime_commands='retime backward enables batch convert stat sim same dot explain verify check miter product lift witness help'
 _fretime_faults='BadHeader TooLarge MaxIndex BadLine BadLiteral DefinedTwice Undefined Cycle BadReset BadDelta Truncated BadSymbol Trailing Width TooMany NoSuchProperty TooManySteps NoSuchName NoSuchLatch TooManyNodes NotAMap NoSuchLiteral ShapesDiffer NotClosed BadRoute UsedTwice CountDiffers TooLong NoMemory Device'
 # end of names
 

@@ -29,6 +29,7 @@ end
 # made by docs/make: commands and options
 complete -c fretime -n __fish_use_subcommand -f -a retime -d 'Moves latches forward over gates, frame by frame, until none helps'
 complete -c fretime -n __fish_use_subcommand -f -a backward -d 'Moves latches backward over gates, frame by frame, until none helps'
+complete -c fretime -n __fish_use_subcommand -f -a enables -d 'Moves registers with an enable or a reset forward over gates, too'
 complete -c fretime -n __fish_use_subcommand -f -a batch -d 'Retimes the circuits of a list, many at once'
 complete -c fretime -n __fish_use_subcommand -f -a convert -d 'Writes a circuit as it was read; without a flag in the other format'
 complete -c fretime -n __fish_use_subcommand -f -a stat -d 'Counts what a circuit has, as it was read'
@@ -37,7 +38,7 @@ complete -c fretime -n __fish_use_subcommand -f -a same -d 'Finds the first diff
 complete -c fretime -n __fish_use_subcommand -f -a dot -d 'Writes a picture of a circuit, for Graphviz'
 complete -c fretime -n __fish_use_subcommand -f -a explain -d 'Says what a fault is, and what to do'
 complete -c fretime -n __fish_use_subcommand -f -a verify -d 'Checks the certificates that \'retime --cert\' wrote'
-complete -c fretime -n __fish_use_subcommand -f -a check -d 'Checks by a map of states that a circuit is a retiming of another'
+complete -c fretime -n __fish_use_subcommand -f -a check -d 'Checks that a circuit has the properties of another, with a map or without'
 complete -c fretime -n __fish_use_subcommand -f -a miter -d 'Writes what a map of states has to meet as a circuit'
 complete -c fretime -n __fish_use_subcommand -f -a product -d 'Writes two circuits side by side, with a proof that they agree'
 complete -c fretime -n __fish_use_subcommand -f -a lift -d 'Carries a proof of a retimed circuit back to what it was made of'
@@ -45,7 +46,7 @@ complete -c fretime -n __fish_use_subcommand -f -a witness -d 'Carries a witness
 complete -c fretime -n __fish_use_subcommand -f -a help -d 'Print this message or the help of the given subcommand(s)'
 complete -c fretime -n __fish_use_subcommand -s V -l version -d 'Print version'
 complete -c fretime -n 'not __fish_seen_subcommand_from help' -s h -l help -d 'Print help'
-complete -c fretime -n '__fish_seen_subcommand_from help' -f -a 'retime backward batch convert stat sim same dot explain verify check miter product lift witness help'
+complete -c fretime -n '__fish_seen_subcommand_from help' -f -a 'retime backward enables batch convert stat sim same dot explain verify check miter product lift witness help'
 
 complete -c fretime -n '__fish_seen_subcommand_from retime' -l ascii -d 'Write ASCII'
 complete -c fretime -n '__fish_seen_subcommand_from retime' -l binary -d 'Write binary'
@@ -76,6 +77,19 @@ complete -c fretime -n '__fish_seen_subcommand_from backward' -x -l keep -d 'Hol
 complete -c fretime -n '__fish_seen_subcommand_from backward' -r -l keep-from -d 'Hold the latches that the lines of FILE name'
 complete -c fretime -n '__fish_seen_subcommand_from backward' -x -l keep-latch -d 'Hold the latch at position n, from 0; may be repeated'
 complete -c fretime -n '__fish_seen_subcommand_from backward' -l json -d 'Print an object of JSON in place of the lines'
+
+complete -c fretime -n '__fish_seen_subcommand_from enables' -l ascii -d 'Write ASCII'
+complete -c fretime -n '__fish_seen_subcommand_from enables' -l binary -d 'Write binary'
+complete -c fretime -n '__fish_seen_subcommand_from enables' -x -l frames -d 'The most frames to take'
+complete -c fretime -n '__fish_seen_subcommand_from enables' -x -l levels -d 'Let no path get more gates than n or the longest of IN'
+complete -c fretime -n '__fish_seen_subcommand_from enables' -l no-longer -d 'Let no path get longer than the longest of IN'
+complete -c fretime -n '__fish_seen_subcommand_from enables' -r -l map -d 'Write how OUT\'s latches follow from IN\'s to MAP'
+complete -c fretime -n '__fish_seen_subcommand_from enables' -l progress -d 'Write a line to standard error as each frame begins'
+complete -c fretime -n '__fish_seen_subcommand_from enables' -l quiet -d 'Show no progress on a terminal either'
+complete -c fretime -n '__fish_seen_subcommand_from enables' -x -l keep -d 'Hold each latch with this name; may be repeated'
+complete -c fretime -n '__fish_seen_subcommand_from enables' -r -l keep-from -d 'Hold the latches that the lines of FILE name'
+complete -c fretime -n '__fish_seen_subcommand_from enables' -x -l keep-latch -d 'Hold the latch at position n, from 0; may be repeated'
+complete -c fretime -n '__fish_seen_subcommand_from enables' -l json -d 'Print an object of JSON in place of the lines'
 
 complete -c fretime -n '__fish_seen_subcommand_from batch' -l ascii -d 'Write ASCII'
 complete -c fretime -n '__fish_seen_subcommand_from batch' -l binary -d 'Write binary'
@@ -123,6 +137,8 @@ complete -c fretime -n '__fish_seen_subcommand_from verify' -x -l levels -d 'Let
 complete -c fretime -n '__fish_seen_subcommand_from verify' -l no-longer -d 'Let no path get longer than the longest of IN'
 complete -c fretime -n '__fish_seen_subcommand_from verify' -l json -d 'Print an object of JSON in place of the lines'
 
+complete -c fretime -n '__fish_seen_subcommand_from check' -r -l kept -d 'OUT has the free latches of IN in LIST alone'
+
 complete -c fretime -n '__fish_seen_subcommand_from miter' -l ascii -d 'Write ASCII'
 complete -c fretime -n '__fish_seen_subcommand_from miter' -l binary -d 'Write binary'
 
@@ -135,7 +151,7 @@ complete -c fretime -n '__fish_seen_subcommand_from lift' -l binary -d 'Write bi
 
 complete -c fretime -n '__fish_seen_subcommand_from witness' -l merge -d 'OUT was written with --merge'
 
-complete -c fretime -n '__fish_seen_subcommand_from retime backward dot verify' -x -l keep -a '(__fretime_names l)' \
+complete -c fretime -n '__fish_seen_subcommand_from retime backward enables dot verify' -x -l keep -a '(__fretime_names l)' \
     -d 'Hold each latch with this name; may be repeated'
 complete -c fretime -n '__fish_seen_subcommand_from dot' -x -l around -a '(__fretime_names ilobcjf)' \
     -d 'Draw the neighbourhood of what has this name alone'

@@ -65,7 +65,7 @@ def description(command, notes):
     """What the help says of a command, but for its arguments, its options and its statuses, and what is said beside that."""
     texts = [it for it in command.before + command.after if not it[0].startswith('Exit status:')]
     if len(command.before) == 1:
-        texts[0] = [*texts[0][:-1], texts[0][-1] + '.']
+        texts[0] = [*texts[0][:-1], texts[0][-1].rstrip('.') + '.']
     lines = [f'.SS {command.name}']
     for paragraph in [*texts, *([text] for text in notes.of_commands.get(command.name, []))]:
         lines += ['.PP', *prose(paragraph)]

@@ -74,7 +74,7 @@ def section(command, notes):
     for paragraph in command.before:
         text = prose(paragraph)
         if len(command.before) == 1:
-            text[-1] += '.'
+            text[-1] = text[-1].rstrip('.') + '.'
         lines += ['', *text]
     for text in notes.of_commands.get(command.name, []):
         lines += ['', *textwrap.wrap(text, 128)]
