@@ -25,6 +25,10 @@ COMMANDS = fretime fretime_verilog fretime_prove
 # the scripts, from Verilog to Verilog and to checked proofs, and their modules, which the examples lead to
 VERILOG = fretime_verilog $(notdir $(wildcard examples/verilog/*.py))
 PROOF = fretime_prove $(notdir $(wildcard examples/proof/*.py))
+# the examples by their names, since the commands of documents leave other files beside them
+CIRCUITS = $(addprefix examples/,$(addsuffix .aag,decoder four_latches free_latch inverted refused two_latches))
+MATCH = $(addprefix examples/match/,$(addsuffix .v,asynchronous enable lines match synchronous) to_aiger.ys from_aiger.ys match.stim)
+DESIGNS = $(addprefix examples/verilog/,$(addsuffix .v,crc datapath divider fir multiplier))
 # the documents that are installed: all but those of work on the sources
 DOCUMENTS = README.md CHANGELOG.md SECURITY.md examples/verilog/README.md $(wildcard crates/*/README.md) \
 	$(filter-out $(addprefix docs/,ARCHITECTURE.md COSTS.md PROOFS.md TRAPS.md),$(wildcard docs/*.md))
@@ -79,11 +83,11 @@ install: all
 	install -m 644 release/record release/versions $(DESTDIR)$(DOCDIR)/release
 	install -m 644 docs/reports.schema.json $(DESTDIR)$(DOCDIR)/docs
 	install -m 644 docs/pictures/*.svg $(DESTDIR)$(DOCDIR)/docs/pictures
-	install -m 644 examples/*.aag examples/*.py $(DESTDIR)$(DOCDIR)/examples
+	install -m 644 $(CIRCUITS) examples/retimed.py $(DESTDIR)$(DOCDIR)/examples
 	install -m 755 examples/cluster/* $(DESTDIR)$(DOCDIR)/examples/cluster
-	install -m 644 examples/match/*.v examples/match/*.ys examples/match/*.stim $(DESTDIR)$(DOCDIR)/examples/match
-	install -m 644 examples/proof/*.aag $(DESTDIR)$(DOCDIR)/examples/proof
-	install -m 644 examples/verilog/*.v $(DESTDIR)$(DOCDIR)/examples/verilog
+	install -m 644 $(MATCH) $(DESTDIR)$(DOCDIR)/examples/match
+	install -m 644 examples/proof/ring.aag $(DESTDIR)$(DOCDIR)/examples/proof
+	install -m 644 $(DESIGNS) $(DESTDIR)$(DOCDIR)/examples/verilog
 	install -m 644 examples/verilog/*.py examples/proof/*.py $(DESTDIR)$(DATADIR)
 	install -m 755 examples/verilog/fretime_verilog examples/proof/fretime_prove $(DESTDIR)$(DATADIR)
 	ln -sfr $(addprefix $(DESTDIR)$(DATADIR)/,$(VERILOG)) $(DESTDIR)$(DOCDIR)/examples/verilog

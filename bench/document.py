@@ -127,6 +127,21 @@ def least(stored):
     return [*table, '', *textwrap.wrap(said, 128)]
 
 
+def settled_by(runs):
+    """Of how many results the program says `equal`, and ABC yes, if there are any."""
+    made = [run for run in runs if 'ours' in run]
+    ours = sum(run['ours'].get('settled', False) for run in made)
+    return f'{ours} and {sum(run["abc"]["equal"] == "yes" for run in made)} of {len(made)}'
+
+
+def settled(stored):
+    """What bench/settled found, and how many results of each command each settles."""
+    table = counts(stored, 'settled', results.SETTLED_HEAD, lambda circuit: [results.row_of_settled(circuit)])
+    found = stored.get('settled', {'circuits': []})['circuits']
+    columns = zip(*(circuit['runs'].values() for circuit in found))
+    return [*table, row(['settled', '', *map(settled_by, columns)])] if found else table
+
+
 def span(values):
     """The least and the greatest value, as text."""
     values = sorted(set(values)) or ['no day']
@@ -232,7 +247,7 @@ def blocks(stored, drawn):
     """The texts between the marks of bench/RESULTS.md, by name."""
     return {'program': [measured(stored)], 'circuits': circuits(stored), 'charts': pictures(drawn), 'aims': aims(stored),
             'batch': stored_table(stored, 'batch'), 'certificates': stored_table(stored, 'certificates'), 'levels': levels(stored),
-            'backward': backward(stored), 'least': least(stored)}
+            'backward': backward(stored), 'least': least(stored), 'settled': settled(stored)}
 
 
 def results_text(text, stored, drawn):

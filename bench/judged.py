@@ -14,12 +14,17 @@ def counted(path):
     return {'latches': len(circuit.latches), 'free': len(circuit.latches) - len(circuit.known()), 'levels': circuit.levels()}
 
 
+def compared(read, written, seconds):
+    """A run of ABC's `dsec` over the circuit that was read and the one that was written, and what it says."""
+    run = measure.Run([measure.ABC, '-c', f'read_aiger {read}; dsec -n -T {seconds} {written}'], 2 * seconds)
+    if 'NOT EQUIVALENT' in run.printed:
+        return run, 'no'
+    return run, 'yes' if 'Networks are equivalent' in run.printed else 'undecided'
+
+
 def verdict(read, written, seconds):
     """What ABC says of the circuit that was read and the one that was written."""
-    said = measure.Run([measure.ABC, '-c', f'read_aiger {read}; dsec -n -T {seconds} {written}'], 2 * seconds).printed
-    if 'NOT EQUIVALENT' in said:
-        return 'no'
-    return 'yes' if 'Networks are equivalent' in said else 'undecided'
+    return compared(read, written, seconds)[1]
 
 
 def failed(done, seconds):

@@ -17,13 +17,13 @@ TIME = shutil.which('time')
 
 
 class Run:
-    """One run: its status, what it printed, its seconds, those of processors (user and system), its peak in megabytes, and
-    whether it was stopped. Processor time and peak are what GNU `time` says; without it there are none, since a process that
-    Python starts counts Python's own memory too."""
+    """One run: its status, what it printed, its seconds, those of processors (user and system), its peak in megabytes, its page
+    faults, and whether it was stopped. Processor time, peak and faults are what GNU `time` says; without it there are none, since a
+    process that Python starts counts Python's own memory too."""
 
     def __init__(self, words, most_seconds):
         with tempfile.NamedTemporaryFile() as peak:
-            timed = [TIME, '-q', '-o', peak.name, '-f', '%M %U %S', *words] if TIME else words
+            timed = [TIME, '-q', '-o', peak.name, '-f', '%M %U %S %R', *words] if TIME else words
             start = time.perf_counter()
             child = subprocess.Popen(timed, stdout=subprocess.PIPE, stderr=subprocess.STDOUT, stdin=subprocess.DEVNULL,
                                      start_new_session=True)
@@ -37,6 +37,7 @@ class Run:
             said = peak.read().split()
             self.megabytes = int(said[0]) / 1024 if said else None
             self.processor = round(float(said[1]) + float(said[2]), 2) if said else None
+            self.faults = int(said[3]) if said else None
 
 
 def best(words, runs, most_seconds):

@@ -1,6 +1,6 @@
 """The stored results of the scripts: a file of JSON with the machine, the sum of the one program that was measured, an entry a
 circuit, and the tables of bench/batch and bench/certificates; and, each with the sum of its own program, what bench/levels,
-bench/backward and bench/least counted, which is no time, and the run of which README.md tells."""
+bench/backward and bench/least counted, which is no time, what bench/settled found, and the run of which README.md tells."""
 import datetime
 import hashlib
 import json
@@ -10,7 +10,7 @@ import measure
 
 
 # What has a program of its own.
-APART = ['levels', 'backward', 'least', 'readme']
+APART = ['levels', 'backward', 'least', 'settled', 'readme']
 
 
 def read(path):
@@ -138,3 +138,18 @@ def row_of_least(circuit):
     cell = lambda run: f'{run["latches"]}/{run["levels"]}' if 'latches' in run else run['failed']
     runs = lambda name: [cell(circuit[name][way]) for way in ('forward', 'both', 'least')]
     return [circuit['circuit'], cell(circuit), *runs('without'), circuit['without'].get('apart', ''), *runs('bounded')]
+
+
+SETTLED_HEAD = ['Circuit', 'Latches', '`fretime -f`', '`dretime`', '`lcorr`', '`scleanup`', '`scorr`', '`dc2`']
+
+
+def row_of_settled(circuit):
+    """The row of a circuit: the latches as read, and of each result the latches, what the program says and what ABC says, with seconds."""
+    def cell(run):
+        if 'failed' in run:
+            return run['failed']
+        ours, abc = run['ours'], run['abc']
+        said = ours['failed'] if 'failed' in ours else f'{"equal" if ours["settled"] else "open"} {ours["seconds"]:.2f}'
+        return f'{run["latches"]}: {said}, {abc["equal"]} {abc["seconds"]:.2f}'
+
+    return [circuit['circuit'], circuit['latches'], *map(cell, circuit['runs'].values())]

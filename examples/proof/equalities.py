@@ -13,6 +13,9 @@ from pdr import names_of_all
 RUNS = 256
 STEPS, IDLE = 192, 24
 CHASE = 4
+# How many parts a question is asked in at most. What Python does for a question takes longer than
+# the solver, and one solution parts few of the classes of a large circuit.
+MOST_PARTS = 32
 ONES = (1 << RUNS) - 1
 
 
@@ -65,14 +68,30 @@ class Prover:
         """A random word for each input, whose share of ones differs from run to run."""
         return [self.word() & (self.word() | a) | self.word() & b for a, b in self.densities]
 
-    def near(self, bits):
-        """A word for each bit: the bit itself in the first run, and in others now and then not, in
-        some of them often."""
-        often, found = self.word() & self.word() & ~1, []
-        for bit in bits:
-            flips = self.word() & (self.word() & self.word() & self.word() & ~1 | often)
-            found.append(ONES * bit ^ flips)
+    def near(self, solutions):
+        """A word for each bit of solutions, each of which has as many runs: the bit itself in the
+        first of them, and in others now and then not, in some of them often."""
+        often, found = self.word() & self.word(), []
+        first = sum(1 << place * (RUNS // len(solutions)) for place in range(len(solutions)))
+        for word in self.spread(solutions):
+            flips = self.word() & (self.word() & self.word() & self.word() | often)
+            found.append(word ^ flips & ~first)
         return found
+
+    def beside(self, solutions):
+        """A word for each bit of solutions, as `near` has them, but in each run three bits at most
+        aren't those of the solution: where more change, classes seldom agree."""
+        found, width = self.spread(solutions), RUNS // len(solutions)
+        for run in range(RUNS if found else 0):
+            for _ in range(run % width % 4):
+                found[self.random.randrange(len(found))] ^= 1 << run
+        return found
+
+    def spread(self, solutions):
+        """A word for each bit of solutions, each of which has as many runs."""
+        width = RUNS // len(solutions)
+        own = [(1 << width) - 1 << width * place for place in range(len(solutions))]
+        return [sum(runs for runs, bit in zip(own, bits) if bit) for bits in zip(*solutions)]
 
     def step(self, inputs, state):
         self.clock.left()
@@ -141,8 +160,8 @@ class Prover:
                 return None
             bits = question.bits(state, model), question.bits(inputs, model)
             state = [word if reset is None else ONES * reset
-                     for word, (_, reset) in zip(self.near(bits[0]), circuit.latches)]
-            words = self.step(self.near(bits[1]), state)
+                     for word, (_, reset) in zip(self.near([bits[0]]), circuit.latches)]
+            words = self.step(self.near([bits[1]]), state)
             if self.bad(words) & 1:
                 return Counterexample(bits[0], [bits[1]])
             if not classes.part(words, self.held(words, ONES)):
@@ -158,8 +177,9 @@ class Prover:
         now = Frame(graph, circuit, inputs, state, reads)
         graph.assume(now.pairs)
         later = Frame(graph, circuit, later_inputs, now.following(), reads)
-        plain = Frame(graph, circuit, later_inputs, now.following())
-        given = now.pairs + now.held() + now.good() + plain.held()
+        given = now.pairs + now.held() + now.good()
+        if circuit.constraints:
+            given += Frame(graph, circuit, later_inputs, now.following()).held()
         return Question(graph, given, later.pairs + later.good()), (state, inputs, later_inputs)
 
     def consistent(self, reads, inputs, state):
@@ -181,10 +201,10 @@ class Prover:
                 differ |= word ^ words[2 * variable ^ signs[variable]]
         return alive & ~differ
 
-    def chase(self, classes, state, inputs, later_inputs):
-        """Parts classes by a step that a solution shows, by others like it, and by the steps that
-        follow while they are of use."""
-        now = self.consistent(classes.reads(), self.near(inputs), self.near(state))
+    def chase(self, classes, states, inputs, later_inputs):
+        """Parts classes by the steps that solutions show, by others like them, and by the steps
+        that follow while they are of use."""
+        now = self.consistent(classes.reads(), self.beside(inputs), self.beside(states))
         words = self.step(*now)
         alive, idle = self.agreeing(classes, words, ONES), 0
         inputs, parted = self.near(later_inputs), False
@@ -199,16 +219,29 @@ class Prover:
         if not parted:
             raise GivenUp('a solution parts no class')
 
+    def solutions(self, classes, count):
+        """The latches, inputs and next inputs of solutions of the question, which is asked in parts:
+        one of each part that has any."""
+        question, unknowns = self.question(classes)
+        found = []
+        for part in question.parts(count):
+            model = self.asked(part)
+            if model is not False:
+                found.append([question.bits(literals, model) for literals in unknowns])
+        return found
+
     def prove(self):
-        """A witness circuit, or a counterexample; GivenUp where neither is found."""
+        """A witness circuit, or a counterexample; GivenUp where neither is found. A question is
+        asked in more parts while most of them have a solution."""
         classes, found = self.guess()
         found = found or self.part_at_first(classes)
+        count = 1
         while not found:
-            question, unknowns = self.question(classes)
-            model = self.asked(question)
-            if model is False:
+            solutions = self.solutions(classes, count)
+            if not solutions:
                 return self.witness(classes)
-            self.chase(classes, *(question.bits(literals, model) for literals in unknowns))
+            self.chase(classes, *zip(*solutions))
+            count = min(MOST_PARTS, 2 * len(solutions))
         return found
 
     def witness(self, classes):

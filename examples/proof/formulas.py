@@ -1,5 +1,6 @@
 """Gates over unknowns, of which circuits at several steps are put together, and the formulas that
 are asked of a SAT solver about them. Gates with the same fan-ins are one."""
+import copy
 
 
 class Graph:
@@ -70,9 +71,21 @@ class Question:
         for a, b in differing:
             last, a, b = last + 1, signed(a), signed(b)
             lines.append(f'{-last} {a} {b} 0\n{-last} {-a} {-b} 0')
-        lines.append(' '.join(map(str, [*range(len(numbers) + 1, last + 1), 0])))
-        clauses = sum(line.count('\n') + 1 for line in lines)
-        self.text = f'p cnf {last} {clauses}\n' + '\n'.join(lines) + '\n'
+        clauses = sum(line.count('\n') + 1 for line in lines) + 1
+        self.rules = f'p cnf {last} {clauses}\n' + '\n'.join(lines)
+        self.differing = range(len(numbers) + 1, last + 1)
+
+    @property
+    def text(self):
+        return f'{self.rules}\n{" ".join(map(str, [*self.differing, 0]))}\n'
+
+    def parts(self, count):
+        """Questions that ask each for some of the pairs, and together for all."""
+        size = max(1, -(-len(self.differing) // count))
+        for begin in range(0, len(self.differing), size):
+            part = copy.copy(self)
+            part.differing = self.differing[begin:begin + size]
+            yield part
 
     def bits(self, literals, model):
         """The value of each of these literals in a solution; 0 where it says nothing of one."""
