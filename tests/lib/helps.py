@@ -8,7 +8,8 @@ import subprocess
 import sys
 import tempfile
 
-from skips import LeftOut, Skipped
+from skips import Skipped
+from sums import Sum
 
 TOP = pathlib.Path(__file__).resolve().parent.parent.parent
 INSTALL = TOP / 'install'
@@ -99,17 +100,10 @@ def run_all(tests, what):
     parser.add_argument('--only', default='', metavar='TEXT', help='only the tests whose names have this text')
     given = parser.parse_args()
     program = os.path.abspath(given.program)
-    passed = failed = 0
-    left_out = LeftOut()
+    total = Sum()
     for test in (test for test in tests if given.only in test.__name__):
         try:
-            well = passes(test, program)
+            total.count(test.__name__, '' if passes(test, program) else test.__doc__)
         except Skipped as wanted:
-            left_out.add(wanted)
-            continue
-        if not well:
-            print(f'FAILED {test.__name__}: {test.__doc__}')
-        passed, failed = passed + well, failed + (not well)
-    left_out.tell()
-    print(f'{passed} passed, {failed} failed')
-    return 0 if passed and not failed else 1
+            total.left_out.add(wanted)
+    return total.end()

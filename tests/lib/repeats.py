@@ -15,7 +15,7 @@ MOST_PARAMETERS = 7
 # The most words of a sentence of a comment.
 MOST_WORDS = 25
 # Files of proofs/ that have answers and no lemmas.
-NO_LEMMAS = {'Answers', 'Invariants', 'Lib', 'Proof'}
+NO_LEMMAS = re.compile(r'Answers|Invariants|Lib|Proof|\w*Examples')
 # How a line of a proof begins that states no lemma.
 NO_LEMMA = re.compile(r'(use|mod|record|data|abbrev|unfoldable|where|let|syntax|pub (use|mod|record|data|abbrev|unfoldable)) ')
 COMMENT = re.compile(r' *//[/!]? ?')
@@ -122,7 +122,7 @@ def clauses(text):
 
 def statements(crate):
     """What each lemma of a crate states, without its name, in one line."""
-    for path in (path for path in tree.sources(crate, '.antt', ('proofs',)) if path.stem not in NO_LEMMAS):
+    for path in (path for path in tree.sources(crate, '.antt', ('proofs',)) if not NO_LEMMAS.fullmatch(path.stem)):
         lines = [re.sub(r' *-- .*', '', line) for line in path.read_text().splitlines()]
         for number, line in enumerate(lines):
             head = re.match(r'(?:pub )?\S+ : (.*)', line)

@@ -11,7 +11,8 @@ import tempfile
 import time
 
 from copies import copy
-from skips import LeftOut, Skipped
+from skips import Skipped
+from sums import Sum
 
 TOP = pathlib.Path(__file__).resolve().parent.parent.parent
 NOBODY = 65534
@@ -193,13 +194,10 @@ def run_all(tests, words):
     tests = [test for test in tests if only in test.__name__]
     with concurrent.futures.ThreadPoolExecutor(len(os.sched_getaffinity(0))) as pool:
         found = list(pool.map(passes, tests))
-    left_out = LeftOut()
+    total = Sum()
     for test, well in zip(tests, found):
         if isinstance(well, Skipped):
-            left_out.add(well)
-        elif not well:
-            print(f'FAILED {test.__name__}: {test.__doc__}')
-    left_out.tell()
-    passed, failed = found.count(True), found.count(False)
-    print(f'{passed} passed, {failed} failed')
-    return 0 if passed and not failed else 1
+            total.left_out.add(well)
+        else:
+            total.count(test.__name__, '' if well else test.__doc__)
+    return total.end()

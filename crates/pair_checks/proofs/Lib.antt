@@ -3,3 +3,4 @@ pub mod StepLaws
 pub mod StreamLaws
 pub mod JudgeLaws
 pub mod PairLaws
+pub mod Examples
