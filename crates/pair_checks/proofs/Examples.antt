@@ -1,12 +1,11 @@
 -- Two small circuits side by side: how their latches begin, and what is held by what a latch reads
 -- as. All by computing.
-use Rattle.std.proofs.Common.{ℕ, ◌≡◌, Bool, true, false, not, List, [], ◌∷◌, refl}
+use Rattle.std.proofs.Common.{ℕ, ◌≡◌, Bool, true, false, List, [], ◌∷◌, refl}
 use Rattle.aig_graph.specs.declared.graph.Reset.TheVariants.{Zero, One, Free}
 use Rattle.aig_graph.specs.Graph.{Graph}
 use Rattle.aig_graph.specs.Tables.{table}
-use Rattle.state_maps.specs.States.{after_step}
 use Rattle.pair_checks.specs.Openings.{openings}
-use Rattle.pair_checks.specs.Sides.{held, read_value}
+use Rattle.pair_checks.specs.Pairs.{held, read_value}
 
 -- a latch that is 0 first, and two free ones; each takes the input
 first : Graph
@@ -53,9 +52,3 @@ read-by-first = refl
 read-negated : read_value first ones (λ j. false) 9 ≡ false
 unfolding first ones
 read-negated = refl
-
--- after a step in which the input is 1, the last latch of the list is the first one's negation
-after-input : held first (after_step first ones ones) (after_step second ones (λ j. false)) 4
-    ≡ not (held first (after_step first ones ones) (after_step second ones (λ j. false)) 0)
-unfolding first second ones
-after-input = refl
