@@ -10,7 +10,7 @@ import measure
 
 
 # What has a program of its own.
-APART = ['levels', 'backward', 'least', 'settled', 'readme']
+APART = ['levels', 'backward', 'least', 'settled', 'enables', 'areas', 'readme']
 
 
 def read(path):
@@ -153,3 +153,16 @@ def row_of_settled(circuit):
         return f'{run["latches"]}: {said}, {abc["equal"]} {abc["seconds"]:.2f}'
 
     return [circuit['circuit'], circuit['latches'], *map(cell, circuit['runs'].values())]
+
+
+AREAS_HEAD = ['Design', '`synth`', '`abc -dff`', '`--merge`', '`--merge --enables`', '`--merge --no-longer`', '`--merge --enables --no-longer`']
+
+
+def rows_of_areas(circuit):
+    """The row of a design: of each way flip-flops, those with an enable, levels and area."""
+    def cell(run):
+        if 'failed' in run:
+            return run['failed']
+        return f'{run["registers"]}, {run["enabled"]} enabled, {run["levels"]} levels, {run["area"]}'
+
+    return [[circuit['circuit'], *map(cell, circuit['ways'].values())]]
