@@ -166,3 +166,15 @@ def rows_of_areas(circuit):
         return f'{run["registers"]}, {run["enabled"]} enabled, {run["levels"]} levels, {run["area"]}'
 
     return [[circuit['circuit'], *map(cell, circuit['ways'].values())]]
+
+
+ENABLES_HEAD = ['Pipeline', 'Form', 'As read', '`retime --merge`', 's', '`enables` after it', 's', '`check`', '`dretime`', '`abc -dff`']
+
+
+def row_of_enables(circuit):
+    """The row of a pipeline in a form: latches/levels of each way, seconds, and what `check` says of both steps, with its seconds."""
+    cell = lambda run: f'{run["latches"]}/{run["levels"]}' if 'latches' in run else run['failed']
+    steps = [circuit[way] for way in ('merge', 'enables')]
+    said = ', '.join(f'{run["check"]} {run["checking"]:.2f}' for run in steps if 'check' in run)
+    ours = [text for run in steps for text in (cell(run), f'{run["seconds"]:.2f}' if 'seconds' in run else '')]
+    return [circuit['circuit'], circuit['form'], cell(circuit['read']), *ours, said, cell(circuit['dretime']), cell(circuit['yosys'])]
