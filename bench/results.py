@@ -1,6 +1,6 @@
 """The stored results of the scripts: a file of JSON with the machine, the sum of the one program that was measured, an entry a
 circuit, and the tables of bench/batch and bench/certificates; and, each with the sum of its own program, what bench/levels,
-bench/backward and bench/least counted, which is no time, what bench/settled found, and the run of which README.md tells."""
+bench/backward and bench/least counted, which is no time, what bench/settled, bench/enables and bench/areas found, and the run of which README.md tells."""
 import datetime
 import hashlib
 import json
