@@ -27,7 +27,7 @@ VERILOG = fretime_verilog $(notdir $(wildcard examples/verilog/*.py))
 PROOF = fretime_prove $(notdir $(wildcard examples/proof/*.py))
 # the examples by their names, since the commands of documents leave other files beside them
 CIRCUITS = $(addprefix examples/,$(addsuffix .aag,decoder four_latches free_latch inverted refused two_latches))
-MATCH = $(addprefix examples/match/,$(addsuffix .v,asynchronous enable lines match synchronous) to_aiger.ys from_aiger.ys match.stim)
+MATCH = $(addprefix examples/match/,$(addsuffix .v,asynchronous enable lines match stall synchronous) to_aiger.ys from_aiger.ys match.stim)
 DESIGNS = $(addprefix examples/verilog/,$(addsuffix .v,crc datapath divider fir multiplier))
 # the documents that are installed: all but those of work on the sources
 DOCUMENTS = README.md CHANGELOG.md SECURITY.md examples/verilog/README.md $(wildcard crates/*/README.md) \

@@ -142,6 +142,21 @@ def settled(stored):
     return [*table, row(['settled', '', *map(settled_by, columns)])] if found else table
 
 
+def enables(stored):
+    """What bench/enables counted."""
+    return counts(stored, 'enables', results.ENABLES_HEAD, lambda circuit: [results.row_of_enables(circuit)])
+
+
+def areas(stored):
+    """What bench/areas counted, and the sum of each way over the designs that all have."""
+    table = counts(stored, 'areas', results.AREAS_HEAD, results.rows_of_areas)
+    found = [it['ways'] for it in stored.get('areas', {'circuits': []})['circuits']]
+    whole = [ways for ways in found if not any('failed' in run for run in ways.values())]
+    sums = [{name: sum(run[name] for run in runs) for name in ('registers', 'enabled', 'area')} for runs in zip(*(it.values() for it in whole))]
+    said = [f'{it["registers"]}, {it["enabled"]} enabled, {it["area"]}' for it in sums]
+    return [*table, row([f'all {len(whole)}', *said])] if whole else table
+
+
 def span(values):
     """The least and the greatest value, as text."""
     values = sorted(set(values)) or ['no day']
@@ -247,7 +262,8 @@ def blocks(stored, drawn):
     """The texts between the marks of bench/RESULTS.md, by name."""
     return {'program': [measured(stored)], 'circuits': circuits(stored), 'charts': pictures(drawn), 'aims': aims(stored),
             'batch': stored_table(stored, 'batch'), 'certificates': stored_table(stored, 'certificates'), 'levels': levels(stored),
-            'backward': backward(stored), 'least': least(stored), 'settled': settled(stored)}
+            'backward': backward(stored), 'least': least(stored), 'settled': settled(stored),
+            'enables': enables(stored), 'areas': areas(stored)}
 
 
 def results_text(text, stored, drawn):

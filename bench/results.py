@@ -1,6 +1,6 @@
 """The stored results of the scripts: a file of JSON with the machine, the sum of the one program that was measured, an entry a
 circuit, and the tables of bench/batch and bench/certificates; and, each with the sum of its own program, what bench/levels,
-bench/backward and bench/least counted, which is no time, what bench/settled found, and the run of which README.md tells."""
+bench/backward and bench/least counted, which is no time, what bench/settled, bench/enables and bench/areas found, and the run of which README.md tells."""
 import datetime
 import hashlib
 import json
@@ -10,7 +10,7 @@ import measure
 
 
 # What has a program of its own.
-APART = ['levels', 'backward', 'least', 'settled', 'readme']
+APART = ['levels', 'backward', 'least', 'settled', 'enables', 'areas', 'readme']
 
 
 def read(path):
@@ -153,3 +153,28 @@ def row_of_settled(circuit):
         return f'{run["latches"]}: {said}, {abc["equal"]} {abc["seconds"]:.2f}'
 
     return [circuit['circuit'], circuit['latches'], *map(cell, circuit['runs'].values())]
+
+
+AREAS_HEAD = ['Design', '`synth`', '`abc -dff`', '`--merge`', '`--merge --enables`', '`--merge --no-longer`', '`--merge --enables --no-longer`']
+
+
+def rows_of_areas(circuit):
+    """The row of a design: of each way flip-flops, those with an enable, levels and area."""
+    def cell(run):
+        if 'failed' in run:
+            return run['failed']
+        return f'{run["registers"]}, {run["enabled"]} enabled, {run["levels"]} levels, {run["area"]}'
+
+    return [[circuit['circuit'], *map(cell, circuit['ways'].values())]]
+
+
+ENABLES_HEAD = ['Pipeline', 'Form', 'As read', '`retime --merge`', 's', '`enables` after it', 's', '`check`', '`dretime`', '`abc -dff`']
+
+
+def row_of_enables(circuit):
+    """The row of a pipeline in a form: latches/levels of each way, seconds, and what `check` says of both steps, with its seconds."""
+    cell = lambda run: f'{run["latches"]}/{run["levels"]}' if 'latches' in run else run['failed']
+    steps = [circuit[way] for way in ('merge', 'enables')]
+    said = ', '.join(f'{run["check"]} {run["checking"]:.2f}' for run in steps if 'check' in run)
+    ours = [text for run in steps for text in (cell(run), f'{run["seconds"]:.2f}' if 'seconds' in run else '')]
+    return [circuit['circuit'], circuit['form'], cell(circuit['read']), *ours, said, cell(circuit['dretime']), cell(circuit['yosys'])]

@@ -38,7 +38,7 @@ complete -c fretime -n __fish_use_subcommand -f -a same -d 'Finds the first diff
 complete -c fretime -n __fish_use_subcommand -f -a dot -d 'Writes a picture of a circuit, for Graphviz'
 complete -c fretime -n __fish_use_subcommand -f -a explain -d 'Says what a fault is, and what to do'
 complete -c fretime -n __fish_use_subcommand -f -a verify -d 'Checks the certificates that \'retime --cert\' wrote'
-complete -c fretime -n __fish_use_subcommand -f -a check -d 'Checks that a circuit has the properties of another, with a map or without'
+complete -c fretime -n __fish_use_subcommand -f -a check -d 'Checks a circuit against what was made of it, with a map or without'
 complete -c fretime -n __fish_use_subcommand -f -a miter -d 'Writes what a map of states has to meet as a circuit'
 complete -c fretime -n __fish_use_subcommand -f -a product -d 'Writes two circuits side by side, with a proof that they agree'
 complete -c fretime -n __fish_use_subcommand -f -a lift -d 'Carries a proof of a retimed circuit back to what it was made of'

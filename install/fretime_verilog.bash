@@ -13,7 +13,7 @@ _fretime_verilog() {
     esac
     case $word in
         -*)
-            mapfile -t COMPREPLY < <(compgen -W "-o -I -D -P --zero --clock --keep --near --merge --backward --frames --no-longer --levels --seconds --program --version --help" -- "$word")
+            mapfile -t COMPREPLY < <(compgen -W "-o -I -D -P --zero --clock --keep --near --merge --enables --backward --frames --no-longer --levels --seconds --program --version --help" -- "$word")
             ;;
         *)
             compopt -o filenames 2> /dev/null

@@ -9,6 +9,7 @@ complete -c fretime_verilog -x -l clock -d 'the clock, to be sure that it is thi
 complete -c fretime_verilog -x -l keep -d 'a register or a bit of one that stays, as with the attribute keep; may be given more than once'
 complete -c fretime_verilog -l near -d 'each frame takes the smallest of its least sets'
 complete -c fretime_verilog -l merge -d 'merges registers that always agree, before anything moves'
+complete -c fretime_verilog -l enables -d 'moves registers with an enable or a reset, too, and writes enables as such'
 complete -c fretime_verilog -l backward -d 'moves registers backward, too, after they moved forward'
 complete -c fretime_verilog -x -l frames -d 'the most frames that are taken'
 complete -c fretime_verilog -l no-longer -d 'no path between registers gets more gates than the longest one has'

@@ -90,14 +90,15 @@ def delta(number):
 
 def binary(circuit, order, outputs, sequential):
     """The bytes of a binary file of the circuit, with its inputs in this order, and these literals as outputs. Every latch has a
-    reset of 0. ABC compares with `dsec` only circuits that both have latches: where a sequential one is asked for, a circuit without
+    reset. ABC compares with `dsec` only circuits that both have latches: where a sequential one is asked for, a circuit without
     a latch gets one that nothing reads."""
     literal = renumbered(circuit, order)
     spare = int(sequential and not circuit.latches)
     shift = lambda old: (literal(old) + 2 * spare if literal(old) >> 1 > len(order) else literal(old))
     counts = len(order), len(circuit.latches) + spare, len(outputs), len(circuit.gates)
     lines = [f'aig {counts[0] + counts[1] + counts[3]} {" ".join(map(str, counts))}']
-    lines += ['0'] * spare + [str(shift(latch.following)) for latch in circuit.latches] + [str(shift(output)) for output in outputs]
+    lines += ['0'] * spare + [f'{shift(latch.following)}{" 1" * (latch.reset == 1)}' for latch in circuit.latches]
+    lines += [str(shift(output)) for output in outputs]
     written = bytearray(('\n'.join(lines) + '\n').encode())
     for variable, *fanins in circuit.gates:
         larger, smaller = sorted(map(shift, fanins), reverse=True)

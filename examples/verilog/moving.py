@@ -8,10 +8,12 @@ from programs import MEMORY, MISSING, Failed, started
 
 @dataclasses.dataclass
 class Moved:
-    """What a run left: the lines of its frames, whether a latch moved, and how many latches there are."""
+    """What a run left: the lines of its frames, whether a latch moved, how many latches there are, and each step: its command, what it
+    read and what it wrote."""
     lines: list
     moved: bool = False
     latches: int = 0
+    steps: list = dataclasses.field(default_factory=list)
 
 
 class Mover:
@@ -23,21 +25,28 @@ class Mover:
     def is_bounded(self):
         return self.asked.no_longer or self.asked.levels is not None
 
-    def move(self, out, merge, backward, bounded):
-        """Moves latches forward, and then backward if that is wanted, and writes the circuit."""
+    def move(self, out, merge, enables, backward, bounded):
+        """Moves latches forward, those that hold after them and then backward as far as either is wanted, and writes the circuit. If
+        those that hold moved, each run has a map, by which it can be checked."""
         asked, found = self.asked, Moved([])
         keeps = [word for symbol in self.held for word in ('--keep', symbol)]
         limits = [] if asked.frames is None else ['--frames', str(asked.frames)]
         if bounded:
             limits += [*['--no-longer'] * asked.no_longer, *([] if asked.levels is None else ['--levels', str(asked.levels)])]
-        self.run(found, '', 'retime', 'in.aag', out, *keeps, *['--near'] * asked.near, *['--merge'] * merge, *limits)
-        if backward:
-            self.run(found, 'backward ', 'backward', out, out, *keeps, *limits)
+        forward = [*keeps, *['--near'] * asked.near, *['--merge'] * merge, *limits]
+        runs = [('retime', forward), *[('enables', [*keeps, *limits])] * enables, *[('backward', [*keeps, *limits])] * backward]
+        read = 'in.aag'
+        for command, words in runs:
+            written = out if command == runs[-1][0] else f'{command}.aag'
+            maps = ['--map', f'{command}.map'] if enables else []
+            self.run(found, '' if command == 'retime' else f'{command} ', command, read, written, *words, *maps)
+            found.steps.append((command, read, written))
+            read = written
         return found
 
     def move_as_asked(self):
         """The moves that were asked for; the circuit is out.aag."""
-        return self.move('out.aag', self.asked.merge, self.asked.backward, self.is_bounded())
+        return self.move('out.aag', self.asked.merge, self.asked.enables, self.asked.backward, self.is_bounded())
 
     def run(self, found, before, command, *words):
         """Runs a command of fretime, and adds what it prints, with a word before it, and what it left."""
@@ -50,18 +59,25 @@ class Mover:
             raise Failed(MEMORY if done.returncode == MEMORY else MISSING, f'fretime: {why}')
         lines = [before + line for line in done.stdout.splitlines() if not line.startswith('latches ')]
         found.lines += lines
-        found.moved = found.moved or any(line.startswith(f'{before}frame ') for line in lines)
+        found.moved = found.moved or any(re.match(rf'{before}(frame \d|frames [1-9])', line) for line in lines)
         found.latches = int(latches[1])
+
+    def is_shown(self, steps, *others):
+        """Whether fretime's check shows each of these steps by its map, and two circuits more to be equal."""
+        # (a map of a move backward is of what it wrote)
+        pairs = [(*((written, read) if command == 'backward' else (read, written)), f'{command}.map') for command, read, written in steps]
+        said = [started([self.program, 'check', *words], self.folder).stdout for words in (*pairs, others)]
+        return said == ['retiming\n'] * len(pairs) + ['equal\n']
 
     def better(self, left):
         """What would leave fewer latches than these, and how many: moves past the bound, and the options that weren't given. Each is
         tried; one whose run fails isn't named."""
         asked = self.asked
         ways = [('without the bound', self.is_bounded(), {'bounded': False}), ('with --merge', not asked.merge, {'merge': True}),
-                ('with --backward', not asked.backward, {'backward': True})]
+                ('with --enables', not asked.enables, {'enables': True}), ('with --backward', not asked.backward, {'backward': True})]
         found = []
         for way, is_open, change in ways:
-            choice = {'merge': asked.merge, 'backward': asked.backward, 'bounded': self.is_bounded(), **change}
+            choice = {'merge': asked.merge, 'enables': asked.enables, 'backward': asked.backward, 'bounded': self.is_bounded(), **change}
             try:
                 latches = self.move('trial.aag', **choice).latches if is_open else left
             except Failed:

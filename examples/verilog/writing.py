@@ -14,10 +14,10 @@ class Register:
 
 
 class Registers:
-    """The registers of the retimed circuit, and which latch of the old circuit each of their bits was."""
+    """The registers of the retimed circuit, the step of each of its latches, and which latch of the old circuit each of their bits was."""
 
-    def __init__(self, netlist, names, circuit, outputs):
-        self.netlist, self.circuit = netlist, circuit
+    def __init__(self, netlist, names, circuit, outputs, steps):
+        self.netlist, self.circuit, self.steps = netlist, circuit, steps
         self.port_literals = output_literals(circuit, outputs)
         self.taken, self.found, self.old = set(netlist.ports), [], {}
         stay = {place: int(symbol.split(' ')[0]) for place, symbol in circuit.symbols.items()}
@@ -31,6 +31,9 @@ class Registers:
             self.old.update({(register.name, bit): stay[latch] for bit, latch in enumerate(register.latches)})
         new = [latch for latch in range(len(circuit.latches)) if latch not in stay]
         if new:
+            # (those with one enable stand side by side, in the order in which each of these comes first)
+            places = {kind: place for place, kind in reversed([(latch, steps[latch].kind()) for latch in new])}
+            new.sort(key=lambda latch: places[steps[latch].kind()])
             self.add(self.fresh('retimed'), {'bits': new}, new)
 
     def add(self, name, wire, latches):
@@ -64,6 +67,10 @@ class Registers:
             return
         for bit, latch in sorted(bits.items()):
             self.add(self.fresh(f'{shown}[{netlists.index_of(wire, bit)}]'), {'bits': [latch]}, [latch])
+
+
+# The cells of registers, with an enable or without, with a reset over it or without.
+KINDS = {(False, False): '$dff', (True, False): '$dffe', (True, True): '$sdffe'}
 
 
 def identifier(name):
@@ -125,11 +132,26 @@ class Module:
             self.wires.append(f'  wire $gate{variable}')
             self.cell('$_AND_', [], [('A', self.signal(left)), ('B', self.signal(right)), ('Y', f'$gate{variable}')])
 
-    def add_register(self, register, clock):
-        latches = [self.circuit.latches[latch] for latch in register.latches]
-        parameters = [('WIDTH', len(latches)), ('CLK_POLARITY', f"1'{int(clock.rising)}")]
-        self.cell('$dff', parameters, [('CLK', identifier(clock.port)), ('Q', identifier(register.name)),
-                                       ('D', joined([self.signal(latch.following) for latch in latches]))])
+    def add_register(self, register, clock, steps):
+        """Adds a cell for each row of neighbouring bits of which all but the load is the same."""
+        rows = itertools.groupby(range(len(register.latches)), lambda bit: steps[register.latches[bit]].kind())
+        for _, bits in rows:
+            self.add_row(register, list(bits), clock, steps)
+
+    def add_row(self, register, bits, clock, steps):
+        row = [steps[register.latches[bit]] for bit in bits]
+        whole = len(bits) == len(register.latches)
+        place = '' if whole else f' [{bits[-1]}:{bits[0]}]' if len(bits) > 1 else f' [{bits[0]}]'
+        parameters = [('WIDTH', len(bits)), ('CLK_POLARITY', f"1'{int(clock.rising)}")]
+        pins = [('CLK', identifier(clock.port)), ('Q', identifier(register.name) + place),
+                ('D', joined([self.signal(step.load) for step in row]))]
+        if row[0].hold is not None:
+            parameters.append(('EN_POLARITY', f"1'{row[0].hold & 1}"))
+            pins.append(('EN', self.signal(row[0].hold & ~1)))
+        if row[0].reset is not None:
+            parameters += [('SRST_POLARITY', f"1'{row[0].reset & 1 ^ 1}"), ('SRST_VALUE', f"{len(bits)}'{str(row[0].value) * len(bits)}")]
+            pins.append(('SRST', self.signal(row[0].reset & ~1)))
+        self.cell(KINDS[row[0].hold is not None, row[0].reset is not None], parameters, pins)
 
     def reset_of(self, register):
         """The attribute with a register's initial value, where it has one."""
@@ -176,7 +198,7 @@ def rtlil(top, netlist, registers, circuit, found, clock, assertions):
     for register in registers.found:
         if register.name not in netlist.ports:
             module.wires += [*module.reset_of(register), declared(register.name, register.wire)]
-        module.add_register(register, clock)
+        module.add_register(register, clock, registers.steps)
     for name, literals in registers.port_literals.items():
         if name not in own:
             signals = [module.signal(literal) for literal in literals]

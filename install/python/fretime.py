@@ -3,6 +3,7 @@
     import fretime
     answer = fretime.retime(circuit)       # bytes of an .aig or .aag file
     answer.circuit, answer.frames, answer.report
+    fretime.enables(answer.circuit).circuit             # registers with an enable or a reset moved, too
     fretime.backward(answer.circuit).circuit            # latches moved back over gates
     fretime.run(['stat', '-'], circuit).output          # any other command
 
@@ -23,7 +24,7 @@ import tempfile
 from collections.abc import Iterable
 from typing import Any
 
-__all__ = ['Frame', 'FrameBack', 'MovedBack', 'Ran', 'RetimeError', 'Retimed', 'backward', 'program', 'retime', 'run']
+__all__ = ['Frame', 'FrameBack', 'MovedBack', 'MovedTogether', 'Ran', 'RetimeError', 'Retimed', 'backward', 'enables', 'program', 'retime', 'run']
 __version__: str
 BESIDE = pathlib.Path(__file__).resolve().parent / 'fretime_program'
 
@@ -75,6 +76,18 @@ class MovedBack:
     map of its states to those of the circuit that was given, where it was asked for (`docs/STATE_MAPS.md`)."""
     circuit: bytes
     frames: tuple[FrameBack, ...]
+    report: dict[str, Any]
+    map: bytes | None = None
+
+
+@dataclasses.dataclass(frozen=True)
+class MovedTogether:
+    """The circuit that was written, how many frames were taken, whether the check showed the whole draft (else a part of it was taken, or
+    none), the report of `enables --json` as a dictionary (`docs/reports.schema.json`), and the map of the states of the circuit that was
+    given to those of what was written, where it was asked for (`docs/STATE_MAPS.md`)."""
+    circuit: bytes
+    frames: int
+    shown: bool
     report: dict[str, Any]
     map: bytes | None = None
 
@@ -144,7 +157,7 @@ def run(words: Iterable[str | os.PathLike[str]], input: bytes = b'', *, seconds:
 
 def choices(keep: str | Iterable[str], keep_latch: Iterable[int], frames: int | None, levels: int | None, no_longer: bool,
             ascii: bool | None) -> list[str]:
-    """The options that `retime` and `backward` share."""
+    """The options that `retime`, `enables` and `backward` share."""
     words = [f'--keep={name}' for name in ([keep] if isinstance(keep, str) else keep)]
     words += [f'--keep-latch={place}' for place in keep_latch] + ([] if frames is None else [f'--frames={frames}'])
     words += ['--no-longer'] * no_longer + ([] if levels is None else [f'--levels={levels}'])
@@ -181,15 +194,30 @@ def backward(circuit: bytes, *, keep: str | Iterable[str] = (), keep_latch: Iter
              seconds: float | None = None) -> MovedBack:
     """The circuit with its latches moved backward, frame by frame, until no move leaves fewer; best of a circuit that `retime` wrote.
     The options and errors are those of `retime`."""
-    words = ['backward', '-', '-', '--json', *choices(keep, keep_latch, frames, levels, no_longer, ascii)]
+    words = choices(keep, keep_latch, frames, levels, no_longer, ascii)
+    written, report, states = moved('backward', circuit, words, map, seconds)
+    return MovedBack(written, tuple(FrameBack(**frame) for frame in report['frames']), report, states)
+
+
+def enables(circuit: bytes, *, keep: str | Iterable[str] = (), keep_latch: Iterable[int] = (), frames: int | None = None,
+            levels: int | None = None, no_longer: bool = False, ascii: bool | None = None, map: bool = False,
+            seconds: float | None = None) -> MovedTogether:
+    """The circuit with its latches that hold under one condition, as those with an enable, moved forward together; best of a circuit that
+    `retime` wrote with `merge`. The options and errors are those of `retime`."""
+    words = choices(keep, keep_latch, frames, levels, no_longer, ascii)
+    written, report, states = moved('enables', circuit, words, map, seconds)
+    return MovedTogether(written, report['frames'], report['shown'], report, states)
+
+
+def moved(command: str, circuit: bytes, words: list[str], map: bool, seconds: float | None) -> tuple[bytes, dict[str, Any], bytes | None]:
+    """What a command that moves latches wrote, its report, and its map where that is wanted."""
     with tempfile.TemporaryDirectory(prefix='fretime-') as folder:
         states = pathlib.Path(folder, 'map')
-        ran = run(words + ['--map', str(states)] * map, circuit, seconds=seconds)
+        ran = run([command, '-', '-', '--json', *words, *['--map', str(states)] * map], circuit, seconds=seconds)
         report = report_of(ran.messages)
         if ran.status != 0 or report is None:
             raise refused(ran, report)
-        taken = tuple(FrameBack(**frame) for frame in report['frames'])
-        return MovedBack(ran.output, taken, report, states.read_bytes() if map else None)
+        return ran.output, report, states.read_bytes() if map else None
 
 
 def main() -> None:

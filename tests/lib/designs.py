@@ -87,6 +87,54 @@ module decoder(
 endmodule
 """
 
+# Two comparisons whose eight registers hold under one enable, with the reset that a form of it has; and one bit more that no other holds with.
+STALLED = """
+module stalled(
+    input clk,
+    input rst,
+    input en,
+    input alone,
+    input [3:0] a,
+    input [3:0] b,
+    output [1:0] hit,
+    output reg one
+);
+    reg [3:0] x = 0;
+    reg [3:0] y = 0;
+    initial one = 0;
+    always @(posedge clk{edge})
+        {reset}if (en) begin
+            x <= a;
+            y <= b;
+        end
+    always @(posedge clk) if (alone) one <= a[0];
+    assign hit = {{x[3:2] == y[3:2], x[1:0] == y[1:0]}};
+endmodule
+"""
+STALLS = {'enable': ('', ''), 'synchronous': ('', 'if (rst) begin x <= 0; y <= 0; end else '),
+          'both': (' or posedge rst', 'if (rst) begin x <= 0; y <= 0; end else ')}
+# Both run beside one another over random inputs; the reset changes with the clock, away from its edge.
+SIDE_BY_SIDE = """
+module bench;
+    reg clk = 0, rst = 0, en = 0, alone = 0;
+    reg [3:0] a = 0, b = 0;
+    wire [1:0] hit, again, one;
+    integer step, failed = 0, hits = 0;
+    stalled read(clk, rst, en, alone, a, b, hit, one[0]);
+    retimed_stalled written(clk, rst, en, alone, a, b, again, one[1]);
+    initial begin
+        for (step = 0; step < 4000; step = step + 1) begin
+            rst = $random % 8 == 0; en = $random; alone = $random; a = $random; b = $random & 1 ? a : $random;
+            #1 if (hit !== again || one[0] !== one[1]) failed = failed + 1;
+            hits = hits + &hit;
+            clk = 1; #1 clk = 0; #1;
+        end
+        $display("%0d steps differ, %0d hits", failed, hits);
+        $finish;
+    end
+endmodule
+"""
+
 # Two counters of the same steps, of which each rests on itself.
 TWINS = """
 module twins(

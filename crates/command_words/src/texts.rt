@@ -217,7 +217,7 @@ Exit status: 0 all are confirmed, 1 a file is refused or IN has no such latch,
 differs.";
 
 pub(crate) const CHECK_ABOUT: &str =
-    "Checks that a circuit has the properties of another, with a map or without";
+    "Checks a circuit against what was made of it, with a map or without";
 
 pub(crate) const CHECK_LONG_ABOUT: &str =
     "Reads a circuit and the circuit that was made of it, and checks that all
@@ -250,8 +250,8 @@ first that isn't shown, by its number from 0:
 
 At step 0 that is a constraint of MAP or a latch of OUT ('reset'). Else it is a
 constraint that may end to hold ('keep'), a latch of OUT ('next'), or an output,
-bad, constraint, justice or fairness of OUT ('read'). Without MAP it is the last.
-If MAP has other latches than IN and OUT, it is refused as no map.
+bad, constraint, justice or fairness of OUT ('read'). Without MAP it is one of
+these last. If MAP has other latches than IN and OUT, it is refused as no map.
 
 Exit status: 0 a retiming or equal, 1 a file is refused, MAP is no map or does
 not fit, or shapes differ, 2 command line, 3 device, 4 out of memory, 5 not
