@@ -20,7 +20,8 @@ fn put_circuit<R: OutputFiles, O: CountedWrite>(
     output: Target<'_>,
     out: &mut O,
 ) -> Result<(), WriteError>
-    ensures given { OnOk result (IsTargetGiven (IsFileGiven R.Output.contents R.is_made R.is_let_go) output.entry
+    ensures given { OnOk result
+        (IsTargetGiven (IsFileGiven R.Output.contents R.is_made R.is_let_go) output.entry
         (O.output out.old) (O.output out.new) (text_in spelling circuit.now)) }
     ensures stdout { is_stdout output.entry ≡ true → Writes (O.output out.old)
         (O.output out.new) result (text_in spelling circuit.now) }
@@ -46,7 +47,8 @@ pub fn write_circuit<'a, R: OutputFiles, O: CountedWrite>(
     output: Target<'a>,
     out: &mut O,
 ) -> Result<(), Failure<'a>>
-    ensures given { OnOk result (IsTargetGiven (IsFileGiven R.Output.contents R.is_made R.is_let_go) output.entry
+    ensures given { OnOk result
+        (IsTargetGiven (IsFileGiven R.Output.contents R.is_made R.is_let_go) output.entry
         (O.output out.old) (O.output out.new) (text_in spelling circuit.now)) }
     ensures stdout { is_stdout output.entry ≡ true → Writes (O.output out.old)
         (O.output out.new) result (text_in spelling circuit.now) }

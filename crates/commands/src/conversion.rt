@@ -40,7 +40,8 @@ pub fn convert<'a, R: Files + OutputFiles, I: CountedRead, O: CountedWrite>(
     stdin: &mut I,
     out: &mut O,
 ) -> Result<Outcome, Failure<'a>>
-    ensures converts { IfOk result (λ _. Converts (IsFileGiven R.Output.contents R.is_made R.is_let_go) spelling
+    ensures converts { IfOk result
+        (λ _. Converts (IsFileGiven R.Output.contents R.is_made R.is_let_go) spelling
         input.entry output.entry (I.input stdin.old) (O.output out.old) (O.output out.new)) }
     ensures prints { Prints (ending result) (O.output out.old) (O.output out.new) }
 {

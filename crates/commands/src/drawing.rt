@@ -144,9 +144,12 @@ pub fn write_picture<
     task: &Drawing<'a>,
     streams: &mut Streams<I, O, E>,
 ) -> Result<Outcome, Failure<'a>>
-    ensures picture { IfOk result (PrintsPicture (IsFileGiven R.Output.contents R.is_made R.is_let_go) task.now
-        (I.input streams.old.stdin) (I.input streams.new.stdin) (O.output streams.old.out) (O.output streams.new.out)) }
-    ensures file { is_stdout task.now.output ≡ false → O.output streams.new.out ≡ O.output streams.old.out }
+    ensures picture { IfOk result
+        (PrintsPicture (IsFileGiven R.Output.contents R.is_made R.is_let_go) task.now
+        (I.input streams.old.stdin) (I.input streams.new.stdin) (O.output streams.old.out)
+        (O.output streams.new.out)) }
+    ensures file { is_stdout task.now.output ≡ false
+        → O.output streams.new.out ≡ O.output streams.old.out }
     ensures prints { Prints (ending result) (O.output streams.old.out) (O.output streams.new.out) }
 {
     match scene_for(rt, alloc, task, &mut streams.stdin) {

@@ -1,10 +1,12 @@
-//! Tests of the public calls. On graphs and whole circuits: cleaning, latches that are held,
-//! passable gates, moving over a set of gates, the network of a frame, exact labels, pulses and
-//! runs by crews of several sizes, how crews share the work, cuts, routes, files of certificates,
-//! frames by crews, from bytes to bytes, simulation, and many files at once. On files: reading and
-//! writing circuits in both spellings, the order that gates take, buffered writing and devices that
-//! fail. Moves backward, latches that are opened, and the judge of registers that moved past an
-//! enable. They stand in a crate of their own, since a crate with tests is proved twice.
+//! Tests of the public calls. They stand in a crate of their own, since a crate with tests is
+//! proved twice.
+//!
+//! Of frames: cleaning, latches that are held, passable gates, moving over a set of gates. Of their
+//! flow: the network, exact labels, pulses and runs by crews of several sizes, cuts, routes. Of
+//! runs: files of certificates, frames by crews, from bytes to bytes, simulation, many files. Of
+//! files: reading and writing circuits in both spellings, the order that gates take, buffered
+//! writing, devices that fail. Of registers: moves backward, latches that are opened, the judge of
+//! moves past an enable.
 #![tactic(auto)]
 
 #[cfg(test)]

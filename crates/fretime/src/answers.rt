@@ -51,7 +51,8 @@ fn write_file<'a, R: OutputFiles>(rt: &R, path: &'a str, bytes: &[u8]) -> Result
 
 /// Writes the circuit of a file that was retimed.
 pub fn write_answer<'a, R: OutputFiles>(rt: &R, answer: &Answer<'a>) -> Result<(), Failure<'a>>
-    ensures written { OnOk result (IsWritten (IsFileGiven R.Output.contents R.is_made R.is_let_go) answer.now) }
+    ensures written { OnOk result
+        (IsWritten (IsFileGiven R.Output.contents R.is_made R.is_let_go) answer.now) }
     ensures err { IfErr result (FailsAt answer.now.output.now) }
 {
     match answer.outcome {
@@ -65,8 +66,8 @@ pub fn write_answer<'a, R: OutputFiles>(rt: &R, answer: &Answer<'a>) -> Result<(
 
 /// Writes the circuits of all files that were retimed, in their order.
 pub fn write_answers<'a, R: OutputFiles>(rt: &R, answers: &[Answer<'a>]) -> Result<(), Failure<'a>>
-    ensures written { OnOk result (All (IsWritten (IsFileGiven R.Output.contents R.is_made R.is_let_go))
-        answers.now) }
+    ensures written { OnOk result
+        (All (IsWritten (IsFileGiven R.Output.contents R.is_made R.is_let_go)) answers.now) }
     ensures err { IfErr result (IsOfOutput answers.now) }
 {
     for answer in answers {

@@ -158,7 +158,8 @@ fn finish_job<'a, R: OutputFiles, O: CountedWrite>(
 ) -> Result<JobReport, Failure<'a>>
     ensures ok { IfOk result (λ report. (report ≡ report_at answer.now)
         × WritesAll (O.output out.old) (O.output out.new) (job_line number report)) }
-    ensures written { OnOk result (IsWritten (IsFileGiven R.Output.contents R.is_made R.is_let_go) answer.now) }
+    ensures written { OnOk result
+        (IsWritten (IsFileGiven R.Output.contents R.is_made R.is_let_go) answer.now) }
     ensures named { IfErr result (λ failure. FailsAt answer.now.output.now failure
         ⊎ FailsAt (codes "stdout") failure) }
     ensures quiet { IfErr result (λ failure. (O.output out.new ≡ O.output out.old)
@@ -201,8 +202,8 @@ fn finish_jobs<'a, R: OutputFiles, O: CountedWrite>(
 ) -> Result<Outcome, Failure<'a>>
     ensures ok { IfOk result (λ ended. Printed false (map report_at answers.now) ended
         (O.output out.old) (O.output out.new)) }
-    ensures written { OnOk result (All (IsWritten (IsFileGiven R.Output.contents R.is_made R.is_let_go))
-        answers.now) }
+    ensures written { OnOk result
+        (All (IsWritten (IsFileGiven R.Output.contents R.is_made R.is_let_go)) answers.now) }
     ensures named { IfErr result (IsOfOutputs answers.now) }
 {
     let mut ended = Outcome::Done;
@@ -224,8 +225,8 @@ fn finish<'a, R: OutputFiles, O: CountedWrite>(
 ) -> Result<Outcome, Failure<'a>>
     ensures ok { IfOk result (λ ended. Printed json (map report_at answers.now) ended
         (O.output out.old) (O.output out.new)) }
-    ensures written { OnOk result (All (IsWritten (IsFileGiven R.Output.contents R.is_made R.is_let_go))
-        answers.now) }
+    ensures written { OnOk result
+        (All (IsWritten (IsFileGiven R.Output.contents R.is_made R.is_let_go)) answers.now) }
     ensures err { IfErr result (λ failure. (outcome_of failure ≡ Device)
         ⊎ ((outcome_of failure ≡ Memory) × (O.output out.new ≡ O.output out.old))) }
 {
@@ -247,9 +248,11 @@ fn finish_entries<'a, R: OutputFiles, O: CountedWrite>(
 ) -> Result<Outcome, Failure<'a>>
     requires each { length outcomes.now ≡ length entries.now }
     requires apart { IsListClash task.now.list entries.now None }
-    ensures ok { IfOk result (λ ended. Printed task.now.json (map wanted.report_of outcomes.now) ended
+    ensures ok { IfOk result
+        (λ ended. Printed task.now.json (map wanted.report_of outcomes.now) ended
         (O.output out.old) (O.output out.new)) }
-    ensures written { OnOk result (AreAllWritten (IsFileGiven R.Output.contents R.is_made R.is_let_go)
+    ensures written { OnOk result
+        (AreAllWritten (IsFileGiven R.Output.contents R.is_made R.is_let_go)
         entries.now outcomes.now) }
     ensures err { IfErr result (λ failure. (outcome_of failure ≡ Device)
         ⊎ ((outcome_of failure ≡ Memory) × (O.output out.new ≡ O.output out.old))) }
@@ -297,7 +300,8 @@ fn finish_or_refuse<R: Files + OutputFiles, I, O: CountedWrite, E: CountedWrite>
 ) -> Outcome
     requires each { length outcomes.now ≡ length entries.now }
     requires apart { IsListClash task.now.list entries.now None }
-    ensures { PrintsList task.now.json result (O.output streams.old.out) (O.output streams.new.out) }
+    ensures { PrintsList task.now.json result (O.output streams.old.out)
+        (O.output streams.new.out) }
 {
     match finish_entries(rt, alloc, entries, outcomes, task, &mut streams.out) {
         Ok(ended) => ended,
@@ -314,7 +318,8 @@ fn retime_entries<R: Files + OutputFiles + Threads + Sync, I, O: CountedWrite, E
     streams: &mut Streams<I, O, E>,
 ) -> Outcome
     requires { IsListClash task.now.list entries.now None }
-    ensures { PrintsList task.now.json result (O.output streams.old.out) (O.output streams.new.out) }
+    ensures { PrintsList task.now.json result (O.output streams.old.out)
+        (O.output streams.new.out) }
 {
     match outcomes(rt, alloc, entries, task) {
         Ok(outcomes) => {
@@ -335,7 +340,8 @@ fn refuse_clash<R: Files, I, O: CountedWrite, E: CountedWrite>(
     streams: &mut Streams<I, O, E>,
 ) -> Outcome
     requires { (kind_of error ≡ ArgumentConflict) ⊎ (kind_of error ≡ OutOfMemory) }
-    ensures { PrintsList task.now.json result (O.output streams.old.out) (O.output streams.new.out) }
+    ensures { PrintsList task.now.json result (O.output streams.old.out)
+        (O.output streams.new.out) }
 {
     if error.kind() == ErrorKind::OutOfMemory {
         drop(error);
@@ -377,7 +383,8 @@ fn retime_apart<R: Files + OutputFiles + Threads + Sync, I, O: CountedWrite, E: 
     task: &Batch<'_>,
     streams: &mut Streams<I, O, E>,
 ) -> Outcome
-    ensures { PrintsList task.now.json result (O.output streams.old.out) (O.output streams.new.out) }
+    ensures { PrintsList task.now.json result (O.output streams.old.out)
+        (O.output streams.new.out) }
 {
     match list_clash_error(rt, alloc, task.list, entries) {
         Some(error) => refuse_clash(rt, alloc, error, task, streams),
@@ -397,7 +404,8 @@ fn retime_lines<R: Files + OutputFiles + Threads + Sync, I, O: CountedWrite, E: 
     task: &Batch<'_>,
     streams: &mut Streams<I, O, E>,
 ) -> Outcome
-    ensures { PrintsList task.now.json result (O.output streams.old.out) (O.output streams.new.out) }
+    ensures { PrintsList task.now.json result (O.output streams.old.out)
+        (O.output streams.new.out) }
 {
     match read_list(alloc, bytes) {
         Ok(entries) => {
@@ -422,7 +430,8 @@ pub fn retime_list<
     O: CountedWrite,
     E: CountedWrite,
 >(rt: &R, alloc: Global, task: &Batch<'_>, streams: &mut Streams<I, O, E>) -> Outcome
-    ensures { PrintsList task.now.json result (O.output streams.old.out) (O.output streams.new.out) }
+    ensures { PrintsList task.now.json result (O.output streams.old.out)
+        (O.output streams.new.out) }
 {
     match bytes_at(rt, alloc, task.list, &mut streams.stdin) {
         Ok(bytes) => {

@@ -62,8 +62,8 @@ pub fn finish_as_object<'a, R: OutputFiles, O: CountedWrite>(
 ) -> Result<Outcome, Failure<'a>>
     ensures ok { IfOk result (λ ended. Printed true (map report_at answers.now) ended
         (O.output out.old) (O.output out.new)) }
-    ensures written { OnOk result (All (IsWritten (IsFileGiven R.Output.contents R.is_made R.is_let_go))
-        answers.now) }
+    ensures written { OnOk result
+        (All (IsWritten (IsFileGiven R.Output.contents R.is_made R.is_let_go)) answers.now) }
     ensures err { IfErr result (λ failure. (outcome_of failure ≡ Device)
         ⊎ ((outcome_of failure ≡ Memory) × (O.output out.new ≡ O.output out.old))) }
 {

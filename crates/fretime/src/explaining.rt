@@ -125,8 +125,10 @@ pub fn explain<'a, I, O: CountedWrite, E: CountedWrite>(
     name: &str,
     streams: &mut Streams<I, O, E>,
 ) -> Result<Outcome, Failure<'a>>
-    ensures page { IfOk result (Explains name.now (O.output streams.old.out) (O.output streams.new.out)) }
-    ensures device { IfErr result (FailsToExplain name.now (O.output streams.old.out) (O.output streams.new.out)) }
+    ensures page { IfOk result
+        (Explains name.now (O.output streams.old.out) (O.output streams.new.out)) }
+    ensures device { IfErr result
+        (FailsToExplain name.now (O.output streams.old.out) (O.output streams.new.out)) }
     ensures prints { Prints (ending result) (O.output streams.old.out) (O.output streams.new.out) }
 {
     match Fault::named(name) {

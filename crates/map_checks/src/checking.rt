@@ -1,7 +1,7 @@
 //! The check. Gates are shared among a step of the first circuit, the map before and after it, and
-//! a step of the second circuit from what the map gives. Where the literals that must have one
-//! value are one, or are shown to be equal, they have it in every state in which the constraints
-//! hold, so the map is one of states.
+//! a step of the second circuit. That step begins from what the map gives. Literals that must have
+//! one value have it wherever the constraints hold if they are one, or are shown to be equal. So
+//! the map is one of states.
 ghost use Rattle.std.specs.Prelude.{◌≡◌, ◌↔◌, [], length, IfOk, IfNone, IsErrOf, OnOk};
 ghost use Rattle.aig_graph.specs.Streams.{SameShape};
 ghost use Rattle.map_checks.specs.Answers.{AreFitting, IsAnswer, IsOpeningOf, IsMap, KeepsStates};
@@ -27,7 +27,8 @@ fn obligation_of_step(
 ) -> Result<Option<Obligation>, SharingError>
     requires fitting { AreFitting first.now second.now map.now }
     requires latches { map.now.aig.latches ≡ [] }
-    ensures { IfOk result (λ obligation. IfNone obligation (KeepsStates first.now second.now map.now)) }
+    ensures { IfOk result
+        (λ obligation. IfNone obligation (KeepsStates first.now second.now map.now)) }
 {
     let part = first_open_part(alloc, first, second, map)?;
     Ok(part.map(|part| Obligation::of_part(second.props(), map.props(), part)))
@@ -88,18 +89,20 @@ fn checked(
     }
 }
 
-/// Whether a map of states shows that the second circuit is a retiming of the first: in each first
-/// state its constraints hold and its outputs are a first state of the second circuit, a step keeps
-/// both, and the properties are the same. All is settled by sharing gates, in time that grows with
-/// the sizes of the circuits; where that doesn't settle something, the first such is the answer.
+/// Tells if a map of states shows that the second circuit is a retiming of the first.
+///
+/// It does if, in each first state, its constraints hold and its outputs are a first state of the
+/// second circuit. A step has to keep both, and the properties have to be the same. All is settled
+/// by sharing gates, in time that grows with the sizes of the circuits. The first part that this
+/// doesn't settle is the answer.
 ///
 /// # Errors
 ///
-/// `NotAMap` where the map has a latch, a bad state, a justice property or a fairness constraint;
-/// else `ShapesDiffer` where the circuits differ in their inputs or properties; else `DoesNotFit`
-/// where the map hasn't an input for each latch of the first and an output for each of the second;
-/// `NoMemory` where memory is refused, and `TooLarge` where there would be more gates than a graph
-/// may have.
+/// - `NotAMap` if the map has a latch, a bad state, a justice property or a fairness constraint.
+/// - Else `ShapesDiffer` if the circuits differ in their inputs or properties.
+/// - Else `DoesNotFit` unless the map has an input for each latch of the first circuit and an
+///   output for each of the second.
+/// - `NoMemory` if memory is refused, `TooLarge` if there would be too many gates for a graph.
 pub fn check_map(
     alloc: Global,
     first: &Circuit,

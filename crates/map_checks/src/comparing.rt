@@ -56,8 +56,8 @@ pub(crate) fn mark_equal(
     requires { length lits.now ≡ length others.now }
     ensures right { OnOk result (StaysRight equal.old equal.new) }
     ensures long { IfOk result (λ marks. length marks.items ≡ length lits.now) }
-    ensures equal { IfOk result (λ marks. (k : Gates) → AreMarkedEqual k equal.old lits.now others.now
-        marks.items) }
+    ensures equal { IfOk result (λ marks. (k : Gates)
+        → AreMarkedEqual k equal.old lits.now others.now marks.items) }
 {
     let mut marks = Vec::with_capacity(alloc, lits.len())?;
     for (place, lit) in lits.iter().enumerate() {

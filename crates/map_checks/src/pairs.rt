@@ -153,7 +153,8 @@ pub(crate) fn pairs_of(
     requires latches { map.now.aig.latches ≡ [] }
     requires after { shared.old.first ≡ first_gate first.now.aig }
     ensures grows { OnOk result (Grows shared.old shared.new) }
-    ensures pairs { IfOk result (λ pairs. ArePairs shared.new equal.old equal.new first.now second.now
+    ensures pairs { IfOk result
+        (λ pairs. ArePairs shared.new equal.old equal.new first.now second.now
         map.now pairs.lits.items pairs.others.items) }
 {
     first.known();

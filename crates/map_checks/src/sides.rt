@@ -47,7 +47,8 @@ pub(crate) fn later_side(
     ensures right { OnOk result (StaysRight equal.old equal.new) }
     ensures view { IfOk result (λ copied. (e : Equal) → StaysRight e equal.old
         → IsFaithfulCopy shared.old e first.now.aig first.now.aig (in_first first.now) before.now
-        → IsFaithfulCopy shared.new e first.now.aig map.now.aig (in_map_later first.now map.now) copied) }
+        → IsFaithfulCopy shared.new e first.now.aig map.now.aig
+        (in_map_later first.now map.now) copied) }
 {
     let nexts = nexts(alloc, first.aig())?;
     let leaves = picked(alloc, 1, before, nexts.as_slice())?;
@@ -74,7 +75,8 @@ pub(crate) fn second_side(
     ensures right { OnOk result (StaysRight equal.old equal.new) }
     ensures view { IfOk result (λ copied. (e : Equal) → StaysRight e equal.old
         → IsFaithfulCopy shared.old e first.now map.now.aig (in_map map.now) image.now
-        → IsFaithfulCopy shared.new e first.now second.now.aig (in_second_mapped second.now map.now) copied) }
+        → IsFaithfulCopy shared.new e first.now second.now.aig
+        (in_second_mapped second.now map.now) copied) }
 {
     let _first = first;
     map.known();

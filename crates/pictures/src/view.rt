@@ -33,9 +33,7 @@ fn looks_alone(alloc: Global, aig: &Aig, keep: &Keep, pass: &PassSet) -> Result<
 {
     let first = aig.first_latch();
     let entries = aig.latches_and_gates();
-    let Ok(mut looks) = Vec::with_capacity(alloc, entries) else {
-        return Err(NoMemory);
-    };
+    let mut looks = Vec::with_capacity(alloc, entries)?;
     for k in 0..entries {
         looks.push_reserved(look_alone(aig, keep, pass, first + k as u32));
     }
@@ -92,9 +90,7 @@ fn looks_with(
 {
     let first = aig.first_latch();
     let entries = aig.latches_and_gates();
-    let Ok(mut looks) = Vec::with_capacity(alloc, entries) else {
-        return Err(NoMemory);
-    };
+    let mut looks = Vec::with_capacity(alloc, entries)?;
     for k in 0..entries {
         looks.push_reserved(look_with(aig, keep, pass, set, read, first + k as u32));
     }
@@ -112,12 +108,8 @@ fn read_from_outside(
 {
     let aig = circuit.aig();
     let entries = aig.latches_and_gates();
-    let Ok(inside) = marks_of(alloc, aig.first_latch(), entries, set.vars()) else {
-        return Err(NoMemory);
-    };
-    let Ok(mut read) = vec![in alloc; false; entries] else {
-        return Err(NoMemory);
-    };
+    let inside = marks_of(alloc, aig.first_latch(), entries, set.vars())?;
+    let mut read = vec![in alloc; false; entries]?;
     mark_read(read.as_mut_slice(), aig, circuit.props(), inside.as_slice());
     Ok(read)
 }
@@ -127,9 +119,7 @@ fn looks_of_circuit(alloc: Global, circuit: &Circuit, keep: &Keep) -> Result<Vec
         (look_of circuit.now keep.now None)) }
 {
     let aig = circuit.aig();
-    let Ok(pass) = passable(alloc, aig, keep) else {
-        return Err(NoMemory);
-    };
+    let pass = passable(alloc, aig, keep)?;
     looks_alone(alloc, aig, keep, &pass)
 }
 
@@ -143,12 +133,8 @@ fn looks_of_set(
         (look_of circuit.now keep.now (Some set.now))) }
 {
     let aig = circuit.aig();
-    let Ok(read) = read_from_outside(alloc, circuit, set) else {
-        return Err(NoMemory);
-    };
-    let Ok(pass) = passable(alloc, aig, keep) else {
-        return Err(NoMemory);
-    };
+    let read = read_from_outside(alloc, circuit, set)?;
+    let pass = passable(alloc, aig, keep)?;
     looks_with(alloc, aig, keep, &pass, set, read.as_slice())
 }
 
@@ -186,9 +172,7 @@ impl View {
         ensures { IfOk result (IsViewOf circuit.now keep.now
             (option_map (λ s. s.now) set.entry) everything None) }
     {
-        let Ok(looks) = looks(alloc, circuit, keep, set) else {
-            return Err(NoMemory);
-        };
+        let looks = looks(alloc, circuit, keep, set)?;
         Ok(View::of_looks(circuit.aig().first_latch(), looks))
     }
 
@@ -211,15 +195,9 @@ impl View {
         ensures { IfOk result (IsViewOf circuit.now keep.now (option_map (λ s. s.now) set.entry)
             (is_near circuit.now name.now depth) (Some (is_centre circuit.now name.now))) }
     {
-        let Ok(centre) = centre(alloc, circuit, name) else {
-            return Err(NoMemory);
-        };
-        let Ok(marks) = near(alloc, circuit, name, depth) else {
-            return Err(NoMemory);
-        };
-        let Ok(looks) = looks(alloc, circuit, keep, set) else {
-            return Err(NoMemory);
-        };
+        let centre = centre(alloc, circuit, name)?;
+        let marks = near(alloc, circuit, name, depth)?;
+        let looks = looks(alloc, circuit, keep, set)?;
         let first = circuit.aig().first_latch();
         Ok(View::of_marked(first, looks, marks, centre))
     }

@@ -52,15 +52,9 @@ pub fn run_with_global_relabeling<G: PhaseGate>(
     // At the start the only active nodes are heads of the source's arcs from which the sink is
     // reached.
     let first = Share::among(1).next(net, net.start(1), false, crew.workers());
-    let Ok(mut flow) = Flow::start_for(alloc, net, first.parts) else {
-        return Err(PulseError::NoMemory);
-    };
-    let Ok(mut pushes) = Pushes::new_for(alloc, net, first.parts) else {
-        return Err(PulseError::NoMemory);
-    };
-    let Ok(pulses) = run(rt, alloc, net, &mut flow, &mut pushes, crew, first) else {
-        return Err(PulseError::NoMemory);
-    };
+    let mut flow = Flow::start_for(alloc, net, first.parts)?;
+    let mut pushes = Pushes::new_for(alloc, net, first.parts)?;
+    let pulses = run(rt, alloc, net, &mut flow, &mut pushes, crew, first)?;
     Ok(MaxPreflow { flow, pulses })
 }
 
@@ -156,25 +150,19 @@ fn run<R: Threads + Sync, G: PhaseGate>(
     ensures bounded { IfOk result (λ k. k ≤ 2 * (node_count net.now * node_count net.now)) }
 {
     net.known();
-    let Ok(mut room) = queue_for(alloc, net) else {
-        return Err(PulseError::NoMemory);
-    };
+    let mut room = queue_for(alloc, net)?;
     let queue = room.as_mut_slice();
     relabel(net, flow, queue);
     let mut share = first_share(net, flow, begun, crew.workers());
     let mut count = 0;
     let mut walked: usize = 0;
     'pulses: while is_active(net, flow) {
-        let Ok(()) = pulse_by(rt, alloc, net, flow, pushes, share, crew.gate()) else {
-            return Err(PulseError::NoMemory);
-        };
+        pulse_by(rt, alloc, net, flow, pushes, share, crew.gate())?;
         count += 1;
         walked = walked.saturating_add(pushes.arcs_walked(net));
         let active = pushes.walked() as usize;
         share = share.next(net, active, is_due(net, walked), crew.workers());
-        let Ok(()) = part_ahead(alloc, net, flow, share.parts) else {
-            return Err(PulseError::NoMemory);
-        };
+        part_ahead(alloc, net, flow, share.parts)?;
         relabel_after_walks(net, flow, queue, &mut walked);
     }
     Ok(count)

@@ -77,18 +77,10 @@ impl Flow {
         net.known();
         let nodes = net.nodes();
         net.known_capacities();
-        let Ok(labels) = start_labels(alloc, net) else {
-            return Err(NoMemory);
-        };
-        let Ok(caps) = net.capacities().share() else {
-            return Err(NoMemory);
-        };
-        let Ok(delivered) = no_marks(alloc, nodes) else {
-            return Err(NoMemory);
-        };
-        let Ok(parts) = start_parts(alloc, net, workers) else {
-            return Err(NoMemory);
-        };
+        let labels = start_labels(alloc, net)?;
+        let caps = net.capacities().share()?;
+        let delivered = no_marks(alloc, nodes)?;
+        let parts = start_parts(alloc, net, workers)?;
         Ok(Flow {
             labels,
             delivered,

@@ -32,19 +32,11 @@ pub fn run_to_end<G: PhaseGate>(
     ensures greatest { IfOk result (λ m. IsMaxPreflow net.now m) }
     ensures run { IfOk result (λ m. IsRunEnd net.now m) }
 {
-    let Ok(mut flow) = Flow::start_for(alloc, net, crew.workers()) else {
-        return Err(PulseError::NoMemory);
-    };
-    let Ok(mut pushes) = Pushes::new_for(alloc, net, crew.workers()) else {
-        return Err(PulseError::NoMemory);
-    };
-    let Ok(mut room) = queue_for(alloc, net) else {
-        return Err(PulseError::NoMemory);
-    };
+    let mut flow = Flow::start_for(alloc, net, crew.workers())?;
+    let mut pushes = Pushes::new_for(alloc, net, crew.workers())?;
+    let mut room = queue_for(alloc, net)?;
     let queue = room.as_mut_slice();
-    let Ok(pulses) = run(rt, alloc, net, &mut flow, &mut pushes, queue, crew) else {
-        return Err(PulseError::NoMemory);
-    };
+    let pulses = run(rt, alloc, net, &mut flow, &mut pushes, queue, crew)?;
     Ok(MaxPreflow { flow, pulses })
 }
 
@@ -69,12 +61,8 @@ fn run<R: Threads + Sync, G: PhaseGate>(
     net.known();
     let mut count = 0;
     'pulses: while is_active(net, flow) {
-        let Ok(()) = read_phase(rt, alloc, net, flow, pushes, crew) else {
-            return Err(PulseError::NoMemory);
-        };
-        let Ok(()) = deliver_phase(rt, alloc, net, flow, pushes, crew) else {
-            return Err(PulseError::NoMemory);
-        };
+        read_phase(rt, alloc, net, flow, pushes, crew)?;
+        deliver_phase(rt, alloc, net, flow, pushes, crew)?;
         count += 1;
         relabel_when_due(net, flow, queue, count);
     }

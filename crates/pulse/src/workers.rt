@@ -169,9 +169,7 @@ pub(crate) fn read_all<R: Threads + Sync, G: PhaseGate>(
         → PushesNumbered parts.new.items) }
 {
     net.known();
-    let Ok(()) = part_pushes(alloc, net, parts, phase.share.parts) else {
-        return Err(AllocError);
-    };
+    part_pushes(alloc, net, parts, phase.share.parts)?;
     if !phase.share.handed {
         phase.gate.pass(phase.number, 0);
         read_every(net, labels, flow, parts.as_mut_slice(), phase.listed);
@@ -179,9 +177,7 @@ pub(crate) fn read_all<R: Threads + Sync, G: PhaseGate>(
         return Ok(());
     }
     let taken = mem::replace(parts, Vec::new(alloc));
-    let Ok(done) = read_by_crew(rt, net, labels, flow, taken, phase) else {
-        return Err(AllocError);
-    };
+    let done = read_by_crew(rt, net, labels, flow, taken, phase)?;
     *parts = done;
     Ok(())
 }
@@ -215,9 +211,7 @@ fn deliver_parts<R: Threads + Sync, G: PhaseGate>(
         return Ok(());
     }
     let parts = mem::replace(flow, Vec::new(alloc));
-    let Ok(done) = deliver_by_crew(rt, net, labels, pushes, parts, phase) else {
-        return Err(AllocError);
-    };
+    let done = deliver_by_crew(rt, net, labels, pushes, parts, phase)?;
     *flow = done;
     Ok(())
 }
@@ -248,12 +242,8 @@ pub(crate) fn deliver_all<R: Threads + Sync, G: PhaseGate>(
     ensures err { OnErr result (labels.new ≡ labels.old) }
 {
     net.known();
-    let Ok(()) = part_flow(alloc, net, labels, flow, phase.share.parts) else {
-        return Err(AllocError);
-    };
-    let Ok(()) = deliver_parts(rt, alloc, net, labels, pushes, flow, phase) else {
-        return Err(AllocError);
-    };
+    part_flow(alloc, net, labels, flow, phase.share.parts)?;
+    deliver_parts(rt, alloc, net, labels, pushes, flow, phase)?;
     turn(labels, flow.as_slice(), true);
     Ok(())
 }

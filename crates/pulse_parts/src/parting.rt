@@ -46,21 +46,11 @@ fn part_anew(
 {
     net.known();
     let base = net.start(first);
-    let Ok(residuals) = copied_residuals(alloc, net, flow, first, end) else {
-        return Err(AllocError);
-    };
-    let Ok(excess) = copied_excess(alloc, net, flow, first, end) else {
-        return Err(AllocError);
-    };
-    let Ok(next) = copied_labels(alloc, labels, first, end) else {
-        return Err(AllocError);
-    };
-    let Ok(active) = list_of(alloc, flow, first, end) else {
-        return Err(AllocError);
-    };
-    let Ok(spare) = NodeList::with_room(alloc, excess.len()) else {
-        return Err(AllocError);
-    };
+    let residuals = copied_residuals(alloc, net, flow, first, end)?;
+    let excess = copied_excess(alloc, net, flow, first, end)?;
+    let next = copied_labels(alloc, labels, first, end)?;
+    let active = list_of(alloc, flow, first, end)?;
+    let spare = NodeList::with_room(alloc, excess.len())?;
     Ok(FlowPart {
         worker,
         first,
@@ -94,18 +84,12 @@ pub fn parted_anew(
         → ListActive (node_count net.now) labels.now v.items) }
 {
     let nodes = net.nodes();
-    let Ok(mut parts) = Vec::with_capacity(alloc, workers as usize) else {
-        return Err(AllocError);
-    };
+    let mut parts = Vec::with_capacity(alloc, workers as usize)?;
     let mut first = 0;
     for worker in 0..workers {
         let end = border(nodes, workers, worker + 1);
-        let Ok(part) = part_anew(alloc, net, labels, flow, worker, first, end) else {
-            return Err(AllocError);
-        };
-        let Ok(()) = parts.push(part) else {
-            return Err(AllocError);
-        };
+        let part = part_anew(alloc, net, labels, flow, worker, first, end)?;
+        parts.push(part)?;
         first = end;
     }
     Ok(parts)
@@ -137,12 +121,8 @@ fn push_part(
     net.known();
     let base = net.start(first);
     let size = net.start(end) - base;
-    let Ok(values) = zeros(alloc, size) else {
-        return Err(AllocError);
-    };
-    let Ok(mut pushing) = NodeList::with_room(alloc, (end - first) as usize) else {
-        return Err(AllocError);
-    };
+    let values = zeros(alloc, size)?;
+    let mut pushing = NodeList::with_room(alloc, (end - first) as usize)?;
     pushing.begin();
     Ok(PushPart {
         worker,
@@ -163,18 +143,12 @@ pub fn push_parts(alloc: Global, net: &Net, workers: u32) -> Result<Vec<PushPart
     ensures parts { IfOk result (λ v. ArePushParts net.now 0 v.items) }
 {
     let nodes = net.nodes();
-    let Ok(mut parts) = Vec::with_capacity(alloc, workers as usize) else {
-        return Err(AllocError);
-    };
+    let mut parts = Vec::with_capacity(alloc, workers as usize)?;
     let mut first = 0;
     for worker in 0..workers {
         let end = border(nodes, workers, worker + 1);
-        let Ok(part) = push_part(alloc, net, worker, first, end) else {
-            return Err(AllocError);
-        };
-        let Ok(()) = parts.push(part) else {
-            return Err(AllocError);
-        };
+        let part = push_part(alloc, net, worker, first, end)?;
+        parts.push(part)?;
         first = end;
     }
     Ok(parts)

@@ -115,21 +115,11 @@ fn start_part(
     net.known_capacities();
     let base = net.start(first);
     let size = net.start(end) - base;
-    let Ok(residuals) = start_residuals(alloc, net, base as u32, size as u32) else {
-        return Err(AllocError);
-    };
-    let Ok(excess) = start_excesses(alloc, net, first, end - first) else {
-        return Err(AllocError);
-    };
-    let Ok(next) = vec![in alloc; 0u32; excess.len()] else {
-        return Err(AllocError);
-    };
-    let Ok(active) = NodeList::with_room(alloc, excess.len()) else {
-        return Err(AllocError);
-    };
-    let Ok(spare) = NodeList::with_room(alloc, excess.len()) else {
-        return Err(AllocError);
-    };
+    let residuals = start_residuals(alloc, net, base as u32, size as u32)?;
+    let excess = start_excesses(alloc, net, first, end - first)?;
+    let next = vec![in alloc; 0u32; excess.len()]?;
+    let active = NodeList::with_room(alloc, excess.len())?;
+    let spare = NodeList::with_room(alloc, excess.len())?;
     Ok(FlowPart {
         worker,
         first,
@@ -152,18 +142,12 @@ pub fn start_parts(alloc: Global, net: &Net, workers: u32) -> Result<Vec<FlowPar
         (node_count net.now) v.items) }
 {
     let nodes = net.nodes();
-    let Ok(mut parts) = Vec::with_capacity(alloc, workers as usize) else {
-        return Err(AllocError);
-    };
+    let mut parts = Vec::with_capacity(alloc, workers as usize)?;
     let mut first = 0;
     for worker in 0..workers {
         let end = border(nodes, workers, worker + 1);
-        let Ok(part) = start_part(alloc, net, worker, first, end) else {
-            return Err(AllocError);
-        };
-        let Ok(()) = parts.push(part) else {
-            return Err(AllocError);
-        };
+        let part = start_part(alloc, net, worker, first, end)?;
+        parts.push(part)?;
         first = end;
     }
     Ok(parts)

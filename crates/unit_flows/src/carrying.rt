@@ -73,9 +73,7 @@ pub fn after_move(
     flows: &[GateFlow],
 ) -> Result<Vec<GateFlow>, NoMemory> {
     let first = aig.first_gate();
-    let Ok(mut moved) = Vec::with_capacity(alloc, flows.len()) else {
-        return Err(NoMemory);
-    };
+    let mut moved = Vec::with_capacity(alloc, flows.len())?;
     push_outside(&mut moved, first, set, flows);
     if push_members(&mut moved, first, set, flows) {
         Ok(moved)
@@ -115,9 +113,7 @@ pub fn after_cleaning(
     kept_gates: &[u32],
     flows: &[GateFlow],
 ) -> Result<Vec<GateFlow>, NoMemory> {
-    let Ok(mut kept) = Vec::with_capacity(alloc, kept_gates.len()) else {
-        return Err(NoMemory);
-    };
+    let mut kept = Vec::with_capacity(alloc, kept_gates.len())?;
     push_places(&mut kept, kept_gates, flows);
     Ok(kept)
 }

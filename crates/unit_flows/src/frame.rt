@@ -43,12 +43,8 @@ impl<'a> Frame<'a> {
         ensures circuit { IfOk result (λ frame. frame.circuit.now ≡ circuit.now) }
         ensures held { IfOk result (λ frame. frame.keep.now ≡ keep.now) }
     {
-        let Ok(pass) = passable(alloc, circuit.aig(), keep) else {
-            return Err(NoMemory);
-        };
-        let Ok(leaving) = leaving_marks(alloc, circuit.aig(), circuit.props(), &pass, keep) else {
-            return Err(NoMemory);
-        };
+        let pass = passable(alloc, circuit.aig(), keep)?;
+        let leaving = leaving_marks(alloc, circuit.aig(), circuit.props(), &pass, keep)?;
         Ok(Frame {
             circuit,
             keep,

@@ -61,9 +61,7 @@ fn is_shown(
         (mark_at (first_latch frame.now.circuit.now.aig) marks.now.after.items)) }
 {
     let entries = frame.circuit.aig().latches_and_gates();
-    let Ok(()) = spare.clear_tallies(entries) else {
-        return Err(NoMemory);
-    };
+    spare.clear_tallies(entries)?;
     let (went, came) = (spare.went.as_mut_slice(), spare.numbers.as_mut_slice());
     Ok(has_full_cut(frame, flows, marks, went, came))
 }
@@ -71,7 +69,8 @@ fn is_shown(
 /// Returns the passable gates that aren't marked before, rising.
 pub(crate) fn off_marks(alloc: Global, frame: &Frame, before: &[bool]) -> Result<Vec<u32>, NoMemory>
     requires { length before.now ≡ latches_and_gates frame.now.circuit.now.aig }
-    ensures { IfOk result (λ vars. vars.items ≡ places (is_off frame.now.circuit.now frame.now.keep.now
+    ensures { IfOk result (λ vars. vars.items
+        ≡ places (is_off frame.now.circuit.now frame.now.keep.now
         (mark_at (first_latch frame.now.circuit.now.aig) before.now))
         (variables_end frame.now.circuit.now.aig)) }
 {
@@ -79,9 +78,7 @@ pub(crate) fn off_marks(alloc: Global, frame: &Frame, before: &[bool]) -> Result
     let latches = aig.latches().len();
     let first_gate = aig.first_gate();
     let passes = frame.passing_gates();
-    let Ok(mut vars) = Vec::with_capacity(alloc, passes.len()) else {
-        return Err(NoMemory);
-    };
+    let mut vars = Vec::with_capacity(alloc, passes.len())?;
     for k in 0..passes.len() {
         let is_off = passes[k] & !before[latches + k];
         if is_off {
@@ -117,15 +114,11 @@ pub fn shown_by_marks(
 {
     // The graph's readers ensure that its gates come in order.
     frame.circuit.aig().known();
-    let Ok(is_shown) = is_shown(frame, flows, marks, spare) else {
-        return Err(NoMemory);
-    };
+    let is_shown = is_shown(frame, flows, marks, spare)?;
     if !is_shown {
         return Ok(None);
     }
-    let Ok(vars) = off_marks(alloc, frame, marks.before.as_slice()) else {
-        return Err(NoMemory);
-    };
+    let vars = off_marks(alloc, frame, marks.before.as_slice())?;
     Ok(ClosedSet::new(vars))
 }
 
@@ -147,9 +140,7 @@ pub(crate) fn shown_set(
     if flows.len() != frame.circuit.aig().gates().len() {
         return Ok(None);
     }
-    let Ok(marks) = mark(alloc, frame, flows, &mut *spare) else {
-        return Err(NoMemory);
-    };
+    let marks = mark(alloc, frame, flows, &mut *spare)?;
     let shown = shown_by_marks(alloc, frame, flows, &marks, &mut *spare);
     spare.keep_marks(marks);
     shown

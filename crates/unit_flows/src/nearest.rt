@@ -52,9 +52,7 @@ fn far_marks(
     ensures after { IfOk result (λ marks. length marks.after.items
         ≡ latches_and_gates frame.now.circuit.now.aig) }
 {
-    let Ok(mut marks) = mark_onward(alloc, frame, flows, went, came) else {
-        return Err(NoMemory);
-    };
+    let mut marks = mark_onward(alloc, frame, flows, went, came)?;
     flip(marks.before.as_mut_slice());
     flip(marks.after.as_mut_slice());
     Ok(marks)
@@ -99,16 +97,12 @@ fn shown_by_tallies(
         frame.now.circuit.now frame.now.keep.now set)) }
 {
     frame.circuit.aig().known();
-    let Ok(far) = far_marks(alloc, frame, flows, went, came) else {
-        return Err(NoMemory);
-    };
+    let far = far_marks(alloc, frame, flows, went, came)?;
     let (before, after) = (far.before.as_slice(), far.after.as_slice());
     if !is_full_cut(frame, flows, went, came, before, after) {
         return Ok(None);
     }
-    let Ok(vars) = off_marks(alloc, frame, before) else {
-        return Err(NoMemory);
-    };
+    let vars = off_marks(alloc, frame, before)?;
     Ok(ClosedSet::new(vars))
 }
 
@@ -154,9 +148,7 @@ pub(crate) fn shown_smallest_set(
     if flows.len() != aig.gates().len() {
         return Ok(None);
     }
-    let Ok(()) = spare.clear_tallies(aig.latches_and_gates()) else {
-        return Err(NoMemory);
-    };
+    spare.clear_tallies(aig.latches_and_gates())?;
     let (went, came) = (spare.went.as_mut_slice(), spare.numbers.as_mut_slice());
     shown_by_zeros(alloc, frame, flows, went, came)
 }

@@ -171,9 +171,7 @@ fn push_numbers(still_open: &mut Vec<u32>, passes: &[bool])
 /// Returns the numbers of the passable gates, rising.
 fn open_gates(alloc: Global, frame: &Frame) -> Result<Vec<u32>, NoMemory> {
     let passes = frame.passing_gates();
-    let Ok(mut still_open) = Vec::with_capacity(alloc, passes.len()) else {
-        return Err(NoMemory);
-    };
+    let mut still_open = Vec::with_capacity(alloc, passes.len())?;
     push_numbers(&mut still_open, passes);
     Ok(still_open)
 }
@@ -201,15 +199,9 @@ pub(crate) fn mark_onward(
         ≡ latches_and_gates frame.now.circuit.now.aig) }
 {
     let entries = frame.circuit.aig().latches_and_gates();
-    let Ok(mut before) = vec![in alloc; false; entries] else {
-        return Err(NoMemory);
-    };
-    let Ok(mut after) = vec![in alloc; false; entries] else {
-        return Err(NoMemory);
-    };
-    let Ok(mut still_open) = open_gates(alloc, frame) else {
-        return Err(NoMemory);
-    };
+    let mut before = vec![in alloc; false; entries]?;
+    let mut after = vec![in alloc; false; entries]?;
+    let mut still_open = open_gates(alloc, frame)?;
     mark_from_left(
         before.as_mut_slice(),
         after.as_mut_slice(),

@@ -74,7 +74,8 @@ struct Seen {
 fn seen_with(seen: Seen, comes: bool, went: u8, leaves: bool, reached: bool, crosses: bool) -> Seen
     requires arrived { seen.arrived < 4294967295 }
     requires crossed { seen.crossed < 4294967295 }
-    ensures holds { result.holds ≡ (seen.holds && (nat_le went (unit comes) && (not leaves || reached))) }
+    ensures holds { result.holds
+        ≡ (seen.holds && (nat_le went (unit comes) && (not leaves || reached))) }
     ensures arrived { result.arrived ≡ seen.arrived + unit (leaves && comes && (went == 0)) }
     ensures crossed { result.crossed ≡ seen.crossed + unit crosses }
 {

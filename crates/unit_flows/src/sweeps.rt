@@ -38,7 +38,8 @@ fn first_sweep(
     requires flows { length flows.now ≡ length frame.now.circuit.now.aig.gates }
     requires before { length before.old ≡ latches_and_gates frame.now.circuit.now.aig }
     requires after { length after.old ≡ latches_and_gates frame.now.circuit.now.aig }
-    ensures reach { (held : List ℕ) → ReachSink frame.now.circuit.now held flows.now before.old after.old
+    ensures reach { (held : List ℕ)
+        → ReachSink frame.now.circuit.now held flows.now before.old after.old
         → ReachSink frame.now.circuit.now held flows.now before.new after.new }
     ensures before { length before.new ≡ length before.old }
     ensures after { length after.new ≡ length after.old }
@@ -76,7 +77,8 @@ fn sweep(
     requires flows { length flows.now ≡ length frame.now.circuit.now.aig.gates }
     requires before { length before.old ≡ latches_and_gates frame.now.circuit.now.aig }
     requires after { length after.old ≡ latches_and_gates frame.now.circuit.now.aig }
-    ensures reach { (held : List ℕ) → ReachSink frame.now.circuit.now held flows.now before.old after.old
+    ensures reach { (held : List ℕ)
+        → ReachSink frame.now.circuit.now held flows.now before.old after.old
         → ReachSink frame.now.circuit.now held flows.now before.new after.new }
     ensures before { length before.new ≡ length before.old }
     ensures after { length after.new ≡ length after.old }
@@ -111,7 +113,8 @@ fn settle(
     requires flows { length flows.now ≡ length frame.now.circuit.now.aig.gates }
     requires before { length before.old ≡ latches_and_gates frame.now.circuit.now.aig }
     requires after { length after.old ≡ latches_and_gates frame.now.circuit.now.aig }
-    ensures reach { (held : List ℕ) → ReachSink frame.now.circuit.now held flows.now before.old after.old
+    ensures reach { (held : List ℕ)
+        → ReachSink frame.now.circuit.now held flows.now before.old after.old
         → ReachSink frame.now.circuit.now held flows.now before.new after.new }
     ensures before { length before.new ≡ length before.old }
     ensures after { length after.new ≡ length after.old }
@@ -141,7 +144,8 @@ fn sweep_all(
     requires flows { length flows.now ≡ length frame.now.circuit.now.aig.gates }
     requires before { length before.old ≡ latches_and_gates frame.now.circuit.now.aig }
     requires after { length after.old ≡ latches_and_gates frame.now.circuit.now.aig }
-    ensures reach { (held : List ℕ) → ReachSink frame.now.circuit.now held flows.now before.old after.old
+    ensures reach { (held : List ℕ)
+        → ReachSink frame.now.circuit.now held flows.now before.old after.old
         → ReachSink frame.now.circuit.now held flows.now before.new after.new }
     ensures before { length before.new ≡ length before.old }
     ensures after { length after.new ≡ length after.old }
@@ -157,9 +161,7 @@ fn leaving_in(memory: Vec<bool>, frame: &Frame) -> Result<Vec<bool>, NoMemory>
 {
     let mut marks = memory;
     marks.clear();
-    let Ok(()) = marks.extend_from_slice(frame.leaving.as_slice()) else {
-        return Err(NoMemory);
-    };
+    marks.extend_from_slice(frame.leaving.as_slice())?;
     Ok(marks)
 }
 
@@ -176,7 +178,8 @@ pub fn mark(
     spare: &mut SpareTables,
 ) -> Result<NodeMarks, NoMemory>
     requires { length flows.now ≡ length frame.now.circuit.now.aig.gates }
-    ensures reach { IfOk result (λ marks. ReachSink frame.now.circuit.now frame.now.keep.now flows.now
+    ensures reach { IfOk result
+        (λ marks. ReachSink frame.now.circuit.now frame.now.keep.now flows.now
         marks.before.items marks.after.items) }
     ensures before { IfOk result (λ marks. length marks.before.items
         ≡ latches_and_gates frame.now.circuit.now.aig) }
@@ -184,19 +187,13 @@ pub fn mark(
         ≡ latches_and_gates frame.now.circuit.now.aig) }
 {
     let aig = frame.circuit.aig();
-    let Ok(()) = spare.clear_numbers(aig.gates().len()) else {
-        return Err(NoMemory);
-    };
-    let Ok(mut before) = filled(
+    spare.clear_numbers(aig.gates().len())?;
+    let mut before = filled(
         taken(&mut spare.before, alloc),
         false,
         aig.latches_and_gates(),
-    ) else {
-        return Err(NoMemory);
-    };
-    let Ok(mut after) = leaving_in(taken(&mut spare.after, alloc), frame) else {
-        return Err(NoMemory);
-    };
+    )?;
+    let mut after = leaving_in(taken(&mut spare.after, alloc), frame)?;
     sweep_all(
         before.as_mut_slice(),
         after.as_mut_slice(),

@@ -54,9 +54,7 @@ impl SpareTables {
         ensures went { OnOk result (self.new.went.items ≡ replicate entries 0) }
         ensures came { OnOk result (self.new.numbers.items ≡ replicate entries 0) }
     {
-        let Ok(()) = fill(&mut self.went, 0u8, entries) else {
-            return Err(NoMemory);
-        };
+        fill(&mut self.went, 0u8, entries)?;
         fill(&mut self.numbers, 0u32, entries)
     }
 
@@ -115,8 +113,6 @@ pub fn filled<T: Copy + Drop>(memory: Vec<T>, entry: T, entries: usize) -> Resul
     ensures { IfOk result (λ t. t.items ≡ replicate entries entry) }
 {
     let mut table = memory;
-    let Ok(()) = fill(&mut table, entry, entries) else {
-        return Err(NoMemory);
-    };
+    fill(&mut table, entry, entries)?;
     Ok(table)
 }

@@ -107,20 +107,21 @@ impl Propagation {
         self.left
     }
 
-    /// The literals that the last question took or found to be 1, in the order in which they were
-    /// found. If it stayed open, a state that parts its sides may lie there.
+    /// Returns the literals that the last question took or found to be 1, in the order in which
+    /// they were found. If it stayed open, a state that parts its sides may lie there.
     pub fn trail(&self) -> &[Lit] {
         self.assigned.trail()
     }
 
-    /// Whether propagation shows that a literal is 0 wherever these are 1. The answer no says
+    /// Returns true if propagation shows that a literal is 0 wherever these are 1. False says
     /// nothing.
     ///
     /// # Errors
     ///
     /// `NoMemory` if memory is refused; another question may be asked all the same.
     pub fn refuted_with(&mut self, aig: &Aig, lits: &[Lit], lit: Lit) -> Result<bool, NoMemory>
-        ensures { IfOk result (λ refuted. refuted ≡ true → IsZeroWhere (gates_of aig.now) lits.now lit) }
+        ensures { IfOk result (λ refuted. refuted ≡ true
+            → IsZeroWhere (gates_of aig.now) lits.now lit) }
     {
         if !self.assigned.begin() {
             return Ok(false);

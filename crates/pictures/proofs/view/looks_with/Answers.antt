@@ -5,7 +5,7 @@ use Rattle.pictures.specs.Looks.{look_with}
 use Rattle.pictures.proofs.view.looks_with.Goals as goal
 
 pub loop-k-init : goal.loop-k-init
-loop-k-init c = record { room = omega (arith, c.in-Ok.ensures.exact, c.latches_and_gates-entries.ensures.value); filled = c.in-Ok.ensures.items ∙ sym (table-none _ _) }
+loop-k-init c = record { room = omega (arith, c.in_ok-looks.ensures.exact, c.latches_and_gates-entries.ensures.value); filled = c.in_ok-looks.ensures.items ∙ sym (table-none _ _) }
 
 pub push_reserved-requires : goal.push_reserved-requires
 push_reserved-requires c =

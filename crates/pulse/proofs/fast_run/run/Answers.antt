@@ -23,18 +23,18 @@ overflow_add-count g c = omega (arith, pulses_fit c.args.net.now c.pulses.count 
 pub pulses-smaller : goal.pulses-smaller
 pulses-smaller g c =
     pulse_left c.args.net.now c.pulses.flow c.part_ahead.new.flow c.relabel_after_walks.new.flow c.known.ensures.network c.pulses.invariant.between.sound (sym c.is_active.ensures ∙ c.pulses-test.true)
-    (pulse_parted c.args.net.now c.pulses.flow c.pulse_by.new.flow c.part_ahead.new.flow c.in-Ok-pulse_by.ensures.flow c.in-Ok-part_ahead.ensures.flow c.in-Ok-part_ahead.ensures.agree) c.relabel_after_walks.ensures.labels
+    (pulse_parted c.args.net.now c.pulses.flow c.pulse_by.new.flow c.part_ahead.new.flow c.in_ok-pulse_by.ensures.flow c.in_ok-part_ahead.ensures.flow c.in_ok-part_ahead.ensures.agree) c.relabel_after_walks.ensures.labels
 
 pub pulses-preserved : goal.pulses-preserved
 pulses-preserved g c = record {
   some = c.next-share.ensures.some;
   between = c.relabel_after_walks.ensures.flow;
-  pushes = c.in-Ok-pulse_by.ensures.pushes;
-  usable = c.in-Ok-pulse_by.ensures.unspent;
+  pushes = c.in_ok-pulse_by.ensures.pushes;
+  usable = c.in_ok-pulse_by.ensures.unspent;
   paid = paid_labels c.args.net.now (c.pulses.count + 1) c.part_ahead.new.flow c.relabel_after_walks.new.flow c.known.ensures.network
       (paid_pulse c.args.net.now c.pulses.count (state_of c.args.net.now c.pulses.flow) (state_of c.args.net.now c.part_ahead.new.flow) c.known.ensures.network c.pulses.invariant.paid
       (sym c.is_active.ensures ∙ c.pulses-test.true)
-      (pulse_parted c.args.net.now c.pulses.flow c.pulse_by.new.flow c.part_ahead.new.flow c.in-Ok-pulse_by.ensures.flow c.in-Ok-part_ahead.ensures.flow c.in-Ok-part_ahead.ensures.agree).agree)
+      (pulse_parted c.args.net.now c.pulses.flow c.pulse_by.new.flow c.part_ahead.new.flow c.in_ok-pulse_by.ensures.flow c.in_ok-part_ahead.ensures.flow c.in_ok-part_ahead.ensures.agree).agree)
       c.relabel_after_walks.ensures.labels;
 }
 

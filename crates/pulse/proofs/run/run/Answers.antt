@@ -20,15 +20,15 @@ overflow_add-count g c = omega (arith, running_fits c.args.net.now c.pulses.coun
 pub pulses-smaller : goal.pulses-smaller
 pulses-smaller g c =
     running_falls c.args.net.now (c.pulses.count + 1) (state_of c.args.net.now c.pulses.flow) (state_of c.args.net.now c.deliver_phase.new.flow) (state_of c.args.net.now c.relabel_when_due.new.flow) c.known.ensures.network
-    c.pulses.invariant.between.sound (sym c.is_active.ensures ∙ c.pulses-test.true) c.in-Ok-deliver_phase.ensures.ok.pulse.agree c.relabel_when_due.ensures.after
+    c.pulses.invariant.between.sound (sym c.is_active.ensures ∙ c.pulses-test.true) c.in_ok-deliver_phase.ensures.ok.pulse.agree c.relabel_when_due.ensures.after
 
 pub pulses-preserved : goal.pulses-preserved
 pulses-preserved g c = record {
   between = c.relabel_when_due.ensures.flow;
-  pushes = c.in-Ok.ensures.fits;
-  usable = c.in-Ok.ensures.ok.after;
+  pushes = c.in_ok-read_phase.ensures.fits;
+  usable = c.in_ok-read_phase.ensures.ok.after;
   run = running_more c.args.net.now c.pulses.count (state_of c.args.net.now c.args.flow.now) (state_of c.args.net.now c.pulses.flow) (state_of c.args.net.now c.deliver_phase.new.flow)
-      (state_of c.args.net.now c.relabel_when_due.new.flow) c.known.ensures.network c.pulses.invariant.run (sym c.is_active.ensures ∙ c.pulses-test.true) c.in-Ok-deliver_phase.ensures.ok.pulse.agree
+      (state_of c.args.net.now c.relabel_when_due.new.flow) c.known.ensures.network c.pulses.invariant.run (sym c.is_active.ensures ∙ c.pulses-test.true) c.in_ok-deliver_phase.ensures.ok.pulse.agree
       c.relabel_when_due.ensures.after;
 }
 

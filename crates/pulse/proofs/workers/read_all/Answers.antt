@@ -9,23 +9,23 @@ pub returns-then-not-phase-clause-read : goal.returns-then-not-phase-clause-read
 returns-then-not-phase-clause-read g c =
     all_read c.args.net.now c.args.labels.now c.args.flow.now c.part_pushes.new.parts.items c.as_mut_slice.result.now c.read_every.new.parts _
     c.known.ensures.network c.as_mut_slice.ensures.value (with_items_is c.part_pushes.new.parts c.read_every.new.parts (omega arith))
-    c.in-Ok.ensures.parts c.read_every.ensures.len c.read_every.ensures.each
+    c.in_ok-part_pushes.ensures.parts c.read_every.ensures.len c.read_every.ensures.each
 
 pub returns-then-not-phase-clause-walked : goal.returns-then-not-phase-clause-walked
 returns-then-not-phase-clause-walked g c =
     all_walked c.args.net.now c.args.labels.now c.args.flow.now c.part_pushes.new.parts.items c.as_mut_slice.result.now c.read_every.new.parts _
     c.as_mut_slice.ensures.value (with_items_is c.part_pushes.new.parts c.read_every.new.parts (omega arith))
-    c.in-Ok.ensures.parts c.read_every.ensures.len c.read_every.ensures.each
+    c.in_ok-part_pushes.ensures.parts c.read_every.ensures.len c.read_every.ensures.each
 
 pub returns-clause-read : goal.returns-clause-read
 returns-clause-read g c =
-    all_read c.args.net.now c.args.labels.now c.args.flow.now c.part_pushes.new.parts.items c.replace-taken.result.items c.in-Ok-read_by_crew.done.items c.in-Ok-read_by_crew.done.items
-    c.known.ensures.network (ap (λ v. v.items) c.replace-taken.ensures.value) refl c.in-Ok.ensures.parts c.in-Ok-read_by_crew.ensures.len c.in-Ok-read_by_crew.ensures.each
+    all_read c.args.net.now c.args.labels.now c.args.flow.now c.part_pushes.new.parts.items c.replace-taken.result.items c.in_ok-done.done.items c.in_ok-done.done.items
+    c.known.ensures.network (ap (λ v. v.items) c.replace-taken.ensures.value) refl c.in_ok-part_pushes.ensures.parts c.in_ok-done.ensures.len c.in_ok-done.ensures.each
 
 pub returns-clause-walked : goal.returns-clause-walked
 returns-clause-walked g c =
-    all_walked c.args.net.now c.args.labels.now c.args.flow.now c.part_pushes.new.parts.items c.replace-taken.result.items c.in-Ok-read_by_crew.done.items c.in-Ok-read_by_crew.done.items
-    (ap (λ v. v.items) c.replace-taken.ensures.value) refl c.in-Ok.ensures.parts c.in-Ok-read_by_crew.ensures.len c.in-Ok-read_by_crew.ensures.each
+    all_walked c.args.net.now c.args.labels.now c.args.flow.now c.part_pushes.new.parts.items c.replace-taken.result.items c.in_ok-done.done.items c.in_ok-done.done.items
+    (ap (λ v. v.items) c.replace-taken.ensures.value) refl c.in_ok-part_pushes.ensures.parts c.in_ok-done.ensures.len c.in_ok-done.ensures.each
 
 pub returns-then-not-phase-clause-numbered : goal.returns-then-not-phase-clause-numbered
 returns-then-not-phase-clause-numbered g c was =
@@ -35,6 +35,6 @@ returns-then-not-phase-clause-numbered g c was =
 
 pub returns-clause-numbered : goal.returns-clause-numbered
 returns-clause-numbered g c was =
-    all_numbered c.args.net.now c.args.labels.now c.args.flow.now c.part_pushes.new.parts.items c.replace-taken.result.items c.in-Ok-read_by_crew.done.items c.in-Ok-read_by_crew.done.items
-    (ap (λ v. v.items) c.replace-taken.ensures.value) refl c.in-Ok-read_by_crew.ensures.len c.in-Ok-read_by_crew.ensures.each
+    all_numbered c.args.net.now c.args.labels.now c.args.flow.now c.part_pushes.new.parts.items c.replace-taken.result.items c.in_ok-done.done.items c.in_ok-done.done.items
+    (ap (λ v. v.items) c.replace-taken.ensures.value) refl c.in_ok-done.ensures.len c.in_ok-done.ensures.each
     (pushes_parted (node_count c.args.net.now) c.args.phase.now.share.parts c.args.parts.now.items c.part_pushes.new.parts.items c.part_pushes.ensures.shares was)

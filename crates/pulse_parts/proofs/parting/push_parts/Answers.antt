@@ -8,12 +8,12 @@ use Rattle.pulse_parts.proofs.BorderLaws.{border_last, cut_pushed, shares_pushed
 pub loop-worker-preserved : goal.loop-worker-preserved
 loop-worker-preserved c = record {
   reached = c.border-end.ensures.value;
-  len = omega (arith, c.loop-worker.invariant.len, c.in-Ok-push.ensures.len);
-  shares = shares_pushed (λ q. q.worker) (λ q. q.first) (λ q. q.end) c.nodes-nodes.result c.args.workers c.loop-worker.worker c.loop-worker.parts.items c.push.new.self.items c.in-Ok-push_part.part
-      c.in-Ok-push.ensures.items c.loop-worker.invariant.shares c.loop-worker.invariant.len
-      (record { number = c.in-Ok-push_part.ensures.worker; from = c.in-Ok-push_part.ensures.first ∙ c.loop-worker.invariant.reached; to = c.in-Ok-push_part.ensures.end ∙ c.border-end.ensures.value });
-  starts = cut_pushed (PushPartFits c.args.net.now) (λ q. q.first) (λ q. q.end) c.loop-worker.first c.border-end.result c.loop-worker.parts.items c.push.new.self.items c.in-Ok-push_part.part
-      c.in-Ok-push.ensures.items c.loop-worker.invariant.starts c.in-Ok-push_part.ensures.first c.in-Ok-push_part.ensures.end c.in-Ok-push_part.ensures.fits;
+  len = omega (arith, c.loop-worker.invariant.len, c.in_ok-push.ensures.len);
+  shares = shares_pushed (λ q. q.worker) (λ q. q.first) (λ q. q.end) c.nodes-nodes.result c.args.workers c.loop-worker.worker c.loop-worker.parts.items c.push.new.self.items c.in_ok-part.part
+      c.in_ok-push.ensures.items c.loop-worker.invariant.shares c.loop-worker.invariant.len
+      (record { number = c.in_ok-part.ensures.worker; from = c.in_ok-part.ensures.first ∙ c.loop-worker.invariant.reached; to = c.in_ok-part.ensures.end ∙ c.border-end.ensures.value });
+  starts = cut_pushed (PushPartFits c.args.net.now) (λ q. q.first) (λ q. q.end) c.loop-worker.first c.border-end.result c.loop-worker.parts.items c.push.new.self.items c.in_ok-part.part
+      c.in_ok-push.ensures.items c.loop-worker.invariant.starts c.in_ok-part.ensures.first c.in_ok-part.ensures.end c.in_ok-part.ensures.fits;
 }
 
 pub returns-clause-parts : goal.returns-clause-parts

@@ -8,9 +8,9 @@ use Rattle.unit_flows.proofs.judging.off_marks.Goals.{then-is_off, else-is_off}
 
 pub loop-k-init : goal.loop-k-init
 loop-k-init c = record {
-  few = omega (arith, c.in-Ok.ensures.len);
-  room = c.in-Ok.ensures.capacity;
-  listed = c.in-Ok.ensures.items ∙ sym (off-start c.args.frame.now.circuit.now c.args.frame.now.keep.now (mark_at (first_latch c.args.frame.now.circuit.now.aig) c.args.before.now));
+  few = omega (arith, c.in_ok-vars.ensures.len);
+  room = c.in_ok-vars.ensures.capacity;
+  listed = c.in_ok-vars.ensures.items ∙ sym (off-start c.args.frame.now.circuit.now c.args.frame.now.keep.now (mark_at (first_latch c.args.frame.now.circuit.now.aig) c.args.before.now));
 }
 
 pub loop-k-preserved : goal.loop-k-preserved

@@ -10,8 +10,8 @@ use Rattle.unit_flows.proofs.judging.shown_by_marks.Goals as goal
 
 pub returns : goal.returns
 returns c = if_some c.new.result _ _ (λ set. IsGreatestLeast c.args.frame.now.circuit.now c.args.frame.now.keep.now set) c.new.ensures (λ rising.
-    shown-law c.args.frame.now.circuit.now c.args.frame.now.keep.now c.args.flows.now c.args.marks.now.before.items c.args.marks.now.after.items c.in-Ok-off_marks.vars.items
+    shown-law c.args.frame.now.circuit.now c.args.frame.now.keep.now c.args.flows.now c.args.marks.now.before.items c.args.marks.now.after.items c.in_ok-vars.vars.items
     c.aig.ensures.graph
-    (c.in-Ok.ensures c.if-not-is_shown.false) c.requires.reach rising
-    (λ v. off-members c.args.frame.now.circuit.now c.args.frame.now.keep.now (mark_at (first_latch c.args.frame.now.circuit.now.aig) c.args.marks.now.before.items) c.in-Ok-off_marks.vars.items v
-    (c.in-Ok-off_marks.ensures ∙ ap (λ (xs : List Bool). places (is_off c.args.frame.now.circuit.now c.args.frame.now.keep.now (mark_at (first_latch c.args.frame.now.circuit.now.aig) xs)) (variables_end c.args.frame.now.circuit.now.aig)) c.as_slice.ensures.value)))
+    (c.in_ok-is_shown.ensures c.if-not-is_shown.false) c.requires.reach rising
+    (λ v. off-members c.args.frame.now.circuit.now c.args.frame.now.keep.now (mark_at (first_latch c.args.frame.now.circuit.now.aig) c.args.marks.now.before.items) c.in_ok-vars.vars.items v
+    (c.in_ok-vars.ensures ∙ ap (λ (xs : List Bool). places (is_off c.args.frame.now.circuit.now c.args.frame.now.keep.now (mark_at (first_latch c.args.frame.now.circuit.now.aig) xs)) (variables_end c.args.frame.now.circuit.now.aig)) c.as_slice.ensures.value)))

@@ -8,17 +8,17 @@ use Rattle.pulse.proofs.TurnLaws.{started_flow}
 
 pub returns-clause-start : goal.returns-clause-start
 returns-clause-start c =
-    let same : c.in-Ok-share.caps ≡ c.args.net.now.caps = c.in-Ok-share.ensures ∙ c.capacities.ensures in
-    started_flow c.args.net.now c.in-Ok-start_parts.parts.items c.in-Ok.labels.items c.in-Ok-no_marks.delivered.items c.in-Ok-share.caps c.known.ensures.network c.known_capacities.ensures.startable c.in-Ok-start_parts.ensures.starts
-    c.in-Ok.ensures.len c.in-Ok.ensures.each (omega (arith, c.in-Ok-no_marks.ensures.len, c.nodes-nodes.ensures))
-    (λ v h. c.in-Ok-no_marks.ensures.none v (omega (arith, h, c.in-Ok-no_marks.ensures.len, c.nodes-nodes.ensures))) (ap length same ∙ c.known.ensures.network.same_caps)
+    let same : c.in_ok-caps.caps ≡ c.args.net.now.caps = c.in_ok-caps.ensures ∙ c.capacities.ensures in
+    started_flow c.args.net.now c.in_ok-parts.parts.items c.in_ok-labels.labels.items c.in_ok-delivered.delivered.items c.in_ok-caps.caps c.known.ensures.network c.known_capacities.ensures.startable c.in_ok-parts.ensures.starts
+    c.in_ok-labels.ensures.len c.in_ok-labels.ensures.each (omega (arith, c.in_ok-delivered.ensures.len, c.nodes-nodes.ensures))
+    (λ v h. c.in_ok-delivered.ensures.none v (omega (arith, h, c.in_ok-delivered.ensures.len, c.nodes-nodes.ensures))) (ap length same ∙ c.known.ensures.network.same_caps)
     (λ arc h. ap (λ (xs : List ℕ). slice_index xs arc) same)
 
 pub returns-clause-shares : goal.returns-clause-shares
-returns-clause-shares c = flow_ranges_of (node_count c.args.net.now) c.args.workers 0 c.in-Ok-start_parts.parts.items c.in-Ok-start_parts.ensures.shares (omega (arith, c.in-Ok-start_parts.ensures.len))
+returns-clause-shares c = flow_ranges_of (node_count c.args.net.now) c.args.workers 0 c.in_ok-parts.parts.items c.in_ok-parts.ensures.shares (omega (arith, c.in_ok-parts.ensures.len))
 
 pub invariant_of-result : goal.invariant_of-result
 invariant_of-result c = record {
   lists = λ on. absurd (false≢true on);
-  numbered = λ free. flow_numbered (node_count c.args.net.now) c.args.workers c.in-Ok-start_parts.parts.items c.in-Ok-start_parts.ensures.shares;
+  numbered = λ free. flow_numbered (node_count c.args.net.now) c.args.workers c.in_ok-parts.parts.items c.in_ok-parts.ensures.shares;
 }
