@@ -8,10 +8,11 @@ from programs import MEMORY, MISSING, Failed, started
 
 @dataclasses.dataclass
 class Moved:
-    """What a run left: the lines of its frames, whether a latch moved, how many latches there are, and each step: its command, what it
-    read and what it wrote."""
+    """What a run left: the lines of its frames, whether a latch moved, and one that holds with others, how many latches there are, and
+    each step: its command, what it read and what it wrote."""
     lines: list
     moved: bool = False
+    together: bool = False
     latches: int = 0
     steps: list = dataclasses.field(default_factory=list)
 
@@ -59,7 +60,8 @@ class Mover:
             raise Failed(MEMORY if done.returncode == MEMORY else MISSING, f'fretime: {why}')
         lines = [before + line for line in done.stdout.splitlines() if not line.startswith('latches ')]
         found.lines += lines
-        found.moved = found.moved or any(re.match(rf'{before}(frame \d|frames [1-9])', line) for line in lines)
+        moves = any(re.match(rf'{before}(frame \d|frames [1-9])', line) for line in lines)
+        found.moved, found.together = found.moved or moves, found.together or moves and command == 'enables'
         found.latches = int(latches[1])
 
     def is_shown(self, steps, *others):
