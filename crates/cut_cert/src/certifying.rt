@@ -40,12 +40,8 @@ pub fn certificate_of(
     ensures gates { IfOk result (λ cert. cert.gates ≡ set.now) }
     ensures passes { IfOk result (λ cert. IsVerdict circuit.now keep.now cert Yes) }
 {
-    let Ok(count) = count(alloc, circuit, set, keep) else {
-        return Err(NoMemory);
-    };
-    let Ok(gates) = members(alloc, set) else {
-        return Err(NoMemory);
-    };
+    let count = count(alloc, circuit, set, keep)?;
+    let gates = members(alloc, set)?;
     Ok(Certificate {
         count,
         gates,

@@ -27,31 +27,21 @@ pub fn routes(alloc: Global, net: &Net, preflow: &MaxPreflow) -> Result<Routes, 
 {
     net.known();
     let nodes = net.nodes();
-    let Ok(mut marks) = no_marks(alloc, nodes) else {
-        return Err(NoMemory);
-    };
-    let Ok(mut places) = first_places(alloc, nodes) else {
-        return Err(NoMemory);
-    };
-    let Ok(mut carried) = carried_by_arcs(alloc, net, preflow) else {
-        return Err(NoMemory);
-    };
+    let mut marks = no_marks(alloc, nodes)?;
+    let mut places = first_places(alloc, nodes)?;
+    let mut carried = carried_by_arcs(alloc, net, preflow)?;
     let mut routes = Routes::none(alloc);
     let mut place = 0;
     while let Some(end) = incoming(net, carried.as_slice(), 1, place) {
-        let Ok(route) = next_route(
+        let route = next_route(
             alloc,
             net,
             carried.as_mut_slice(),
             places.as_mut_slice(),
             marks.as_mut_slice(),
             end,
-        ) else {
-            return Err(NoMemory);
-        };
-        let Ok(()) = routes.push(route.as_slice()) else {
-            return Err(NoMemory);
-        };
+        )?;
+        routes.push(route.as_slice())?;
         place = end;
     }
     Ok(routes)

@@ -62,12 +62,8 @@ pub fn greatest_cut(alloc: Global, net: &Net, preflow: &MaxPreflow) -> Result<Cl
     requires { IsMaxPreflow net.now preflow.now }
     ensures { IfOk result (IsGreatestLeastOf net.now) }
 {
-    let Ok(marks) = marks_of(alloc, net, preflow) else {
-        return Err(NoMemory);
-    };
-    let Ok(gates) = gates_of(alloc, net, marks.as_slice()) else {
-        return Err(NoMemory);
-    };
+    let marks = marks_of(alloc, net, preflow)?;
+    let gates = gates_of(alloc, net, marks.as_slice())?;
     match ClosedSet::new(gates) {
         Some(set) => Ok(set),
         None => Ok(no_gates(alloc)),

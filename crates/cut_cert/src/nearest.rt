@@ -57,15 +57,9 @@ pub fn near_cut(alloc: Global, net: &Net, routes: &Routes) -> Result<ClosedSet, 
     ensures { IfOk result (IsSmallestLeastBy net.now routes.now) }
 {
     net.known();
-    let Ok(used) = used_arcs(alloc, net, routes) else {
-        return Err(NoMemory);
-    };
-    let Ok(side) = source_side(alloc, net, used.as_slice()) else {
-        return Err(NoMemory);
-    };
-    let Ok(gates) = gates_of(alloc, net, side.as_slice()) else {
-        return Err(NoMemory);
-    };
+    let used = used_arcs(alloc, net, routes)?;
+    let side = source_side(alloc, net, used.as_slice())?;
+    let gates = gates_of(alloc, net, side.as_slice())?;
     match ClosedSet::new(gates) {
         Some(set) => Ok(set),
         None => Ok(no_gates(alloc)),

@@ -17,12 +17,8 @@ use std::thread::Threads;
 pub fn network(alloc: Global, circuit: &Circuit, keep: &Keep) -> Result<Net, NoMemory>
     ensures { IfOk result (IsNetworkOf circuit.now keep.now) }
 {
-    let Ok(pass) = passable(alloc, circuit.aig(), keep) else {
-        return Err(NoMemory);
-    };
-    let Ok(net) = Net::build(alloc, circuit.aig(), circuit.props(), &pass, keep) else {
-        return Err(NoMemory);
-    };
+    let pass = passable(alloc, circuit.aig(), keep)?;
+    let net = Net::build(alloc, circuit.aig(), circuit.props(), &pass, keep)?;
     // Tells the prover that a network has a point for each side of a gate.
     net.known();
     net.known_points();

@@ -78,27 +78,17 @@ pub(crate) fn sink_side(alloc: Global, net: &Net, preflow: &MaxPreflow) -> Resul
 {
     net.known();
     let nodes = net.nodes();
-    let Ok(mut side) = Reached::none(alloc, nodes) else {
-        return Err(NoMemory);
-    };
-    let Ok(()) = side.reach(1) else {
-        return Err(NoMemory);
-    };
-    let Ok(()) = read(net, preflow, &mut side, 1, nodes) else {
-        return Err(NoMemory);
-    };
+    let mut side = Reached::none(alloc, nodes)?;
+    side.reach(1)?;
+    read(net, preflow, &mut side, 1, nodes)?;
     for v in (2..nodes).rev() {
         if side.has(v) {
-            let Ok(()) = read(net, preflow, &mut side, v, v) else {
-                return Err(NoMemory);
-            };
+            read(net, preflow, &mut side, v, v)?;
         }
     }
     let mut place = 1;
     while let Some(w) = side.queued(place) {
-        let Ok(()) = read(net, preflow, &mut side, w, 2) else {
-            return Err(NoMemory);
-        };
+        read(net, preflow, &mut side, w, 2)?;
         place += 1;
     }
     Ok(side)

@@ -68,17 +68,11 @@ pub(crate) fn source_side(alloc: Global, net: &Net, used: &[bool]) -> Result<Vec
     ensures { IfOk result (λ marks. AreOfSource net.now used.now marks.items) }
 {
     net.known();
-    let Ok(mut side) = Reached::none(alloc, net.nodes()) else {
-        return Err(NoMemory);
-    };
-    let Ok(()) = side.reach(0) else {
-        return Err(NoMemory);
-    };
+    let mut side = Reached::none(alloc, net.nodes())?;
+    side.reach(0)?;
     let mut place = 0;
     while let Some(node) = side.queued(place) {
-        let Ok(()) = read(net, used, &mut side, node) else {
-            return Err(NoMemory);
-        };
+        read(net, used, &mut side, node)?;
         place += 1;
     }
     Ok(side.into_marks())

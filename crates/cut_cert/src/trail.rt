@@ -12,9 +12,7 @@ use std::alloc::Global;
 pub(crate) fn no_marks(alloc: Global, nodes: u32) -> Result<Vec<bool>, NoMemory>
     ensures { IfOk result (λ marks. marks.items ≡ replicate nodes false) }
 {
-    let Ok(marks) = vec![in alloc; false; nodes as usize] else {
-        return Err(NoMemory);
-    };
+    let marks = vec![in alloc; false; nodes as usize]?;
     Ok(marks)
 }
 

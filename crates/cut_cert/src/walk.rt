@@ -52,9 +52,7 @@ fn walk(
     let mut at = lower(net, carried, 1, end);
     let mut nodes = Vec::new(alloc);
     while let Some(tail) = step_back(net, carried, places, at) {
-        let Ok(()) = push_marked(&mut nodes, marks, at) else {
-            return Err(NoMemory);
-        };
+        push_marked(&mut nodes, marks, at)?;
         come_to(&mut nodes, marks, tail);
         at = tail;
     }
@@ -80,8 +78,6 @@ pub(crate) fn next_route(
     ensures searched { OnOk result (AreSearched net.now carried.new places.new) }
     ensures clear { OnOk result (AreOn (length marks.old) marks.new []) }
 {
-    let Ok(mut nodes) = walk(alloc, net, carried, places, marks, end) else {
-        return Err(NoMemory);
-    };
+    let mut nodes = walk(alloc, net, carried, places, marks, end)?;
     take_points(alloc, net, &mut nodes, marks)
 }

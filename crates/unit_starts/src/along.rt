@@ -40,9 +40,7 @@ fn note_takers(takers: &mut [u32], region: &Region, known: &[GateFlow]) {
 /// Returns the number of the gate that took the unit after each place, from the first latch on, in
 /// the memory of a table.
 fn takers_in(memory: Vec<u32>, region: &Region, known: &[GateFlow]) -> Result<Vec<u32>, NoMemory> {
-    let Ok(mut takers) = filled(memory, NOBODY, region.places()) else {
-        return Err(NoMemory);
-    };
+    let mut takers = filled(memory, NOBODY, region.places())?;
     note_takers(takers.as_mut_slice(), region, known);
     Ok(takers)
 }
@@ -192,9 +190,7 @@ fn send_along(
 ) -> Result<LeftUnits, NoMemory> {
     let UnitFlow { gates, spare } = known;
     let known = gates.as_slice();
-    let Ok(takers) = takers_in(spare.take_numbers(alloc), region, known) else {
-        return Err(NoMemory);
-    };
+    let takers = takers_in(spare.take_numbers(alloc), region, known)?;
     let left = send_all(alloc, region, known, takers.as_slice(), flows);
     spare.keep_numbers(takers);
     left.complete()
@@ -211,9 +207,7 @@ pub(crate) fn put_along(
     region: &Region,
     known: &mut UnitFlow,
 ) -> Result<LeftUnits, NoMemory> {
-    let Ok(mut flows) = vec![in alloc; GateFlow::none(); region.gates.len()] else {
-        return Err(NoMemory);
-    };
+    let mut flows = vec![in alloc; GateFlow::none(); region.gates.len()]?;
     let left = send_along(alloc, region, known, flows.as_mut_slice());
     let put = if left.is_ok() {
         mem::replace(&mut known.gates, flows)

@@ -180,9 +180,7 @@ pub(crate) fn put_start_up(
     region: &Region,
     flows: &mut Vec<GateFlow>,
 ) -> Result<FirstStart, NoMemory> {
-    let Ok(mut start) = Start::new(alloc, region) else {
-        return Err(NoMemory);
-    };
+    let mut start = Start::new(alloc, region)?;
     take_all_waiting(region, &mut start, FanIn::Larger, FanIn::Smaller);
     let first = put_first(alloc, flows, &start);
     drop(start);
@@ -201,9 +199,7 @@ pub(crate) fn put_start_down(
     flows: &mut Vec<GateFlow>,
     arrived: usize,
 ) -> Result<bool, NoMemory> {
-    let Ok(mut start) = Start::new(alloc, region) else {
-        return Err(NoMemory);
-    };
+    let mut start = Start::new(alloc, region)?;
     ask_and_take(region, &mut start);
     take_all_waiting(region, &mut start, FanIn::Smaller, FanIn::Larger);
     let is_put = put_better(flows, &start, arrived);

@@ -41,9 +41,7 @@ fn judged_greatest(
             marks: None,
         });
     }
-    let Ok(marks) = mark(alloc, frame, flows, &mut *spare) else {
-        return Err(NoMemory);
-    };
+    let marks = mark(alloc, frame, flows, &mut *spare)?;
     let set = if left.are_marked(&marks) {
         Ok(None)
     } else {
@@ -97,9 +95,7 @@ fn start_first(
         frame.now.keep.now)) }
 {
     let region = Region::of(frame);
-    let Ok(first) = put_start_up(alloc, &region, &mut flow.gates) else {
-        return Err(NoMemory);
-    };
+    let first = put_start_up(alloc, &region, &mut flow.gates)?;
     let arrived = first.arrived;
     let judged = judged(alloc, frame, choice, &mut *flow, &first.left);
     drop(first);
@@ -161,9 +157,7 @@ pub fn start_along(
     if flow.gates.is_empty() {
         return start_first(alloc, frame, choice, flow);
     }
-    let Ok(left) = put_along(alloc, &Region::of(frame), &mut *flow) else {
-        return Err(NoMemory);
-    };
+    let left = put_along(alloc, &Region::of(frame), &mut *flow)?;
     let judged = judged(alloc, frame, choice, flow, &left);
     drop(left);
     judged
@@ -180,9 +174,7 @@ pub fn start_in(
     region: &Region,
     flows: &mut Vec<GateFlow>,
 ) -> Result<bool, NoMemory> {
-    let Ok(first) = put_start_up(alloc, region, flows) else {
-        return Err(NoMemory);
-    };
+    let first = put_start_up(alloc, region, flows)?;
     let (arrived, is_all) = (first.arrived, first.left.is_empty());
     drop(first);
     if is_all {

@@ -76,12 +76,8 @@ impl Start {
     /// Returns the start in which a unit has come after each known latch, and no gate has taken
     /// one.
     pub(crate) fn new(alloc: Global, region: &Region) -> Result<Start, NoMemory> {
-        let Ok(takes) = vec![in alloc; None; region.gates.len()] else {
-            return Err(NoMemory);
-        };
-        let Ok(spots) = vec![in alloc; Spot::NONE; region.leaving.len()] else {
-            return Err(NoMemory);
-        };
+        let takes = vec![in alloc; None; region.gates.len()]?;
+        let spots = vec![in alloc; Spot::NONE; region.leaving.len()]?;
         Ok(Start::begin(region, takes, spots))
     }
 

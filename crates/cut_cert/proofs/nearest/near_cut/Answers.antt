@@ -10,12 +10,12 @@ pub returns-in-Some : goal.returns-in-Some
 returns-in-Some c = λ n held is shown.
     let marks : List Bool = c.as_slice-2.result.now in
     let side : ℕ → Bool = λ u. slice_index_or marks u false in
-    let used = subst (λ (xs : List Bool). AreUsed c.args.net.now c.args.routes.now xs) (sym c.as_slice.ensures.value) c.in-Ok.ensures in
-    let spread = subst (λ (xs : List Bool). AreOfSource c.args.net.now c.as_slice.result.now xs) (sym c.as_slice-2.ensures.value) c.in-Ok-source_side.ensures in
-    subst (λ (s : List ℕ). IsSmallestLeast n held s) (sym (c.in-Some.ensures.1 ∙ c.in-Ok-gates_of.ensures))
+    let used = subst (λ (xs : List Bool). AreUsed c.args.net.now c.args.routes.now xs) (sym c.as_slice.ensures.value) c.in_ok-used.ensures in
+    let spread = subst (λ (xs : List Bool). AreOfSource c.args.net.now c.as_slice.result.now xs) (sym c.as_slice-2.ensures.value) c.in_ok-side.ensures in
+    subst (λ (s : List ℕ). IsSmallestLeast n held s) (sym (c.in-Some.ensures.1 ∙ c.in_ok-gates.ensures))
     (near-set n held c.args.net.now is c.known.ensures.network c.args.routes.now shown c.as_slice.result.now used side spread.side)
 
 pub returns : goal.returns
 returns c = λ n held is shown.
     let side : ℕ → Bool = λ u. slice_index_or c.as_slice-2.result.now u false in
-    absurd (c.in-None.ensures (subst IsStrictlyIncreasing (sym c.in-Ok-gates_of.ensures) (are-gates n held c.args.net.now is side).rising))
+    absurd (c.in-None.ensures (subst IsStrictlyIncreasing (sym c.in_ok-gates.ensures) (are-gates n held c.args.net.now is side).rising))

@@ -11,8 +11,8 @@ pub loop-node-init : goal.loop-node-init
 loop-node-init c =
     let net : FlowNet = c.args.net.now in
     let front : ℕ → SearchFront = λ n. record { marks = replicate n false; queue = [] } in
-    let none : c.in-Ok.side ≡ no_front (node_count net) = c.in-Ok.ensures ∙ ap front c.nodes.ensures in
-    sweeps-start net c.args.used.now c.reach.new.self (omega (arith, c.known.ensures.network.two)) (c.in-Ok-reach.ensures ∙ ap (λ (r : SearchFront). reach_node r 0) none)
+    let none : c.in_ok-side.side ≡ no_front (node_count net) = c.in_ok-side.ensures ∙ ap front c.nodes.ensures in
+    sweeps-start net c.args.used.now c.reach.new.self (omega (arith, c.known.ensures.network.two)) (c.in_ok-reach.ensures ∙ ap (λ (r : SearchFront). reach_node r 0) none)
 
 pub read-requires-clause-node : goal.read-requires-clause-node
 read-requires-clause-node c =
@@ -35,9 +35,9 @@ loop-node-smaller c =
 pub loop-node-preserved : goal.loop-node-preserved
 loop-node-preserved c =
     sweeps-more c.args.net.now c.args.used.now c.known.ensures.network c.loop-node.side c.read.new.side c.loop-node.place c.in-Some.node
-    c.loop-node.invariant (sym c.queued.ensures ∙ c.in-Some.is) c.in-Ok-read.ensures
+    c.loop-node.invariant (sym c.queued.ensures ∙ c.in-Some.is) c.in_ok-read.ensures
 
 pub returns : goal.returns
 returns c =
     subst (λ (marks : List Bool). AreOfSource c.args.net.now c.args.used.now marks) (sym c.into_marks.ensures)
-    (record { long = c.loop-node.invariant.sweeps.as_long; side = sweeps-end c.args.net.now c.args.used.now c.loop-node.side c.loop-node.place c.loop-node.invariant (sym c.queued.ensures ∙ c.in_default-queued.is) })
+    (record { long = c.loop-node.invariant.sweeps.as_long; side = sweeps-end c.args.net.now c.args.used.now c.loop-node.side c.loop-node.place c.loop-node.invariant (sym c.queued.ensures ∙ c.in_default.is) })

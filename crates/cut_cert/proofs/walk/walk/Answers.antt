@@ -19,8 +19,8 @@ loop-tail-smaller c =
 pub loop-tail-preserved : goal.loop-tail-preserved
 loop-tail-preserved c = record {
   far = goes-back c.args.net.now c.known.ensures.network c.args.carried.now c.loop-tail.carried c.step_back.new.carried (length c.args.marks.now) c.loop-tail.marks c.come_to.new.marks c.loop-tail.at c.in-Some.tail
-      (reverse c.loop-tail.nodes.items) (reverse c.push_marked.new.nodes.items) (reverse c.come_to.new.nodes.items) c.loop-tail.invariant.far c.in-Some.ensures.step c.in-Ok.ensures.nodes
-      (subst (λ (n : ℕ). AreOn n c.come_to.new.marks (reverse c.come_to.new.nodes.items)) (c.in-Ok.ensures.on.long ∙ c.loop-tail.invariant.far.on.long) c.come_to.ensures.on) c.come_to.ensures.to;
+      (reverse c.loop-tail.nodes.items) (reverse c.push_marked.new.nodes.items) (reverse c.come_to.new.nodes.items) c.loop-tail.invariant.far c.in-Some.ensures.step c.in_ok-push_marked.ensures.nodes
+      (subst (λ (n : ℕ). AreOn n c.come_to.new.marks (reverse c.come_to.new.nodes.items)) (c.in_ok-push_marked.ensures.on.long ∙ c.loop-tail.invariant.far.on.long) c.come_to.ensures.on) c.come_to.ensures.to;
   searched = c.step_back.ensures.searched;
 }
 
