@@ -70,6 +70,7 @@ complete -c fretime -n '__fish_seen_subcommand_from backward' -l binary -d 'Writ
 complete -c fretime -n '__fish_seen_subcommand_from backward' -x -l frames -d 'The most frames to take'
 complete -c fretime -n '__fish_seen_subcommand_from backward' -x -l levels -d 'Let no path get more gates than n or the longest of IN'
 complete -c fretime -n '__fish_seen_subcommand_from backward' -l no-longer -d 'Let no path get longer than the longest of IN'
+complete -c fretime -n '__fish_seen_subcommand_from backward' -l enables -d 'Then move registers with an enable or a reset, too'
 complete -c fretime -n '__fish_seen_subcommand_from backward' -r -l map -d 'Write how IN\'s latches follow from OUT\'s to MAP'
 complete -c fretime -n '__fish_seen_subcommand_from backward' -l progress -d 'Write a line to standard error as each frame begins'
 complete -c fretime -n '__fish_seen_subcommand_from backward' -l quiet -d 'Show no progress on a terminal either'

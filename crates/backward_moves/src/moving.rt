@@ -47,6 +47,11 @@ pub enum Moves {
 }
 
 impl Drafted {
+    /// Returns the number of latches with a known reset.
+    pub fn known_latches(&self) -> u32 {
+        known_latches(self.latches.as_slice())
+    }
+
     /// Returns the counts of the frames.
     pub fn into_frames(self) -> Vec<FrameCounts> {
         let Drafted {

@@ -7,5 +7,7 @@
 
 mod retiming;
 
-pub use backward_moves::{Drafted, FrameCounts, MoveOptions, MoveStage, MoveWatcher, Staying};
-pub use retiming::{MovedBack, move_as_drafted, move_back};
+pub use backward_moves::{
+    Drafted, FrameCounts, MoveOptions, MoveStage, MoveWatcher, Moves, Staying, draft_moves,
+};
+pub use retiming::{MovedBack, move_as_drafted, move_as_found, move_back};

@@ -154,6 +154,27 @@ pub fn move_as_drafted(
     }
 }
 
+/// Returns the circuit of what was found, if a draft was and the judge takes that, and else the
+/// circuit itself.
+///
+/// # Errors
+///
+/// `NoMemory` if memory is refused.
+pub fn move_as_found(
+    alloc: Global,
+    circuit: Circuit,
+    keep: &Keep,
+    bound: Option<u32>,
+    moves: Moves,
+) -> Result<MovedBack, NoMemory>
+    ensures { IfOk result (IsAnswerTo circuit keep.now bound) }
+{
+    match moves {
+        Moves::Drafted(drafted) => move_as_drafted(alloc, circuit, keep, bound, drafted),
+        Moves::Unmoved(staying) => unmoved(alloc, circuit, staying, true),
+    }
+}
+
 /// Moves the latches of a circuit backward that aren't held, as far as that saves some and is
 /// shown. The streams are those of the circuit, and the map is one of the new circuit's states to
 /// those of the circuit. There are no more latches, and held latches stay with their resets and
@@ -173,10 +194,7 @@ pub fn move_back<W: MoveWatcher>(
     ensures { IfOk result (IsAnswerTo circuit keep.now options.now.levels) }
 {
     match draft_moves(alloc, &circuit, keep, options, watcher) {
-        Ok(Moves::Drafted(drafted)) => {
-            move_as_drafted(alloc, circuit, keep, options.levels, drafted)
-        }
-        Ok(Moves::Unmoved(staying)) => unmoved(alloc, circuit, staying, true),
+        Ok(moves) => move_as_found(alloc, circuit, keep, options.levels, moves),
         Err(error) => {
             drop(circuit);
             Err(error)

@@ -10,3 +10,4 @@ mod judging;
 mod names;
 
 pub use judging::is_moved_on;
+pub use names::has_other_latches;

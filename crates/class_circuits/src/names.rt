@@ -27,7 +27,7 @@ fn are_same_names(first: &[Symbol], second: &[Symbol]) -> bool
 }
 
 /// Returns true if a circuit has the names of the one before, but for those of latches.
-pub(crate) fn has_other_latches(circuit: &Circuit, after: &Circuit) -> bool
+pub fn has_other_latches(circuit: &Circuit, after: &Circuit) -> bool
     ensures { IsTrue result → HasOtherLatches circuit.now after.now }
 {
     let (old, new) = (circuit.symbols(), after.symbols());

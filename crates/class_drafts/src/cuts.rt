@@ -3,11 +3,9 @@
 //! anything else reads is its outputs. So the latches of the class may move over the gates that
 //! read them alone, and paths to other latches don't count.
 
-use crate::nets::Net;
-use aig_graph::{Circuit, Memory, Reset};
-use backward_sets::{
-    DraftLatch, DraftReset, Literal, Pair, entry, has_mark, number, set_entry, set_mark,
-};
+use aig_graph::{Circuit, Memory};
+use backward_sets::{DraftLatch, Literal, Pair, entry, has_mark, number, set_entry, set_mark};
+use class_nets::{Net, draft_latch};
 use sealed_drafts::{SealError, drawn_outputs};
 use std::alloc::Global;
 
@@ -34,27 +32,6 @@ impl Drop for Cut {
             outlets: _outlets,
             outputs: _outputs,
         } = self;
-    }
-}
-
-/// Returns the reset of a draft's latch.
-pub(crate) fn draft_reset(reset: Reset) -> DraftReset {
-    match reset {
-        Reset::Zero => DraftReset::Zero,
-        Reset::One => DraftReset::One,
-        Reset::Free => DraftReset::Free,
-    }
-}
-
-/// Returns a latch of a draft. If it is one of the first circuit, `origin` is its position there.
-pub(crate) fn draft_latch(next: Literal, reset: Reset, origin: Option<u32>) -> DraftLatch {
-    DraftLatch {
-        next,
-        reset: draft_reset(reset),
-        origin,
-        held: false,
-        name: 0,
-        list: 0,
     }
 }
 

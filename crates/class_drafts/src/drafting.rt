@@ -1,21 +1,17 @@
 //! Openings one after another, until none leaves fewer latches.
 
-use crate::attempts::{Attempt, Plan, Scene};
-use crate::maps::{GrowingMap, NumberMap};
-use crate::running::{Limits, sealed};
-use aig_graph::{Circuit, Keep, Memory, NoMemory, Sequence, property_literals};
+use crate::attempts::{Attempt, attempted};
+use crate::running::Limits;
+use aig_graph::{Circuit, Keep, Memory, NoMemory, Sequence};
 use backward_sets::{entry, number};
+use class_nets::{GrowingMap, NumberMap, PLANS, Plan, Scene, plan_of, sealed};
 use frames::Retimed;
-use hold_drafts::{Way, candidates_of};
 use mapped_answers::Made;
 use pulse::{Crew, PhaseGate};
 use sealed_drafts::drawn_map;
 use std::alloc::Global;
 use std::mem;
 use std::thread::Threads;
-
-/// The number of plans.
-const PLANS: u32 = 5;
 
 /// The most openings that leave fewer latches.
 const MOST_OPENINGS: u32 = 1024;
@@ -38,32 +34,6 @@ pub struct Drafted {
     pub kept_free: Sequence<u32>,
     /// The number of frames that were taken.
     pub frames: u32,
-}
-
-/// Returns a plan. Each opens in another way.
-fn plan_of(place: u32) -> Plan {
-    match place {
-        0 => Plan {
-            way: Way::Pairs,
-            masks: true,
-        },
-        1 => Plan {
-            way: Way::Pairs,
-            masks: false,
-        },
-        2 => Plan {
-            way: Way::Eighths,
-            masks: true,
-        },
-        3 => Plan {
-            way: Way::Eighths,
-            masks: false,
-        },
-        _ => Plan {
-            way: Way::Plain,
-            masks: true,
-        },
-    }
 }
 
 /// An attempt, and the number of its plan.
@@ -98,50 +68,47 @@ fn better(first: Attempt, second: Option<Attempt>) -> Attempt {
     }
 }
 
-impl<'a> Scene<'a> {
-    /// Returns the circuit after its latches moved by a plan, if that leaves fewer. Of the latches
-    /// that were opened only those over which others moved are opened then, if that leaves as few.
-    fn try_plan<G: PhaseGate>(
-        &self,
-        rt: &(impl Threads + Sync),
-        memory: &mut Memory,
-        plan: Plan,
-        limits: Limits,
-        crew: &Crew<G>,
-    ) -> Option<Attempt> {
-        let Some(first) = self.attempt(rt, memory, plan, None, limits, crew) else {
-            return None;
-        };
-        if first.only.is_empty() {
-            return Some(first);
-        }
-        let only = Some(first.only.as_slice());
-        let second = self.attempt(rt, memory, plan, only, limits, crew);
-        Some(better(first, second))
+/// Returns the circuit after its latches moved by a plan, if that leaves fewer. Of the latches that
+/// were opened only those over which others moved are opened then, if that leaves as few.
+fn try_plan<G: PhaseGate>(
+    scene: &Scene<'_>,
+    rt: &(impl Threads + Sync),
+    memory: &mut Memory,
+    plan: Plan,
+    limits: Limits,
+    crew: &Crew<G>,
+) -> Option<Attempt> {
+    let Some(first) = attempted(scene, rt, memory, plan, None, limits, crew) else {
+        return None;
+    };
+    if first.only.is_empty() {
+        return Some(first);
     }
+    let only = Some(first.only.as_slice());
+    let second = attempted(scene, rt, memory, plan, only, limits, crew);
+    Some(better(first, second))
+}
 
-    /// Tries all plans, beginning with the one that has this number, until one leaves fewer
-    /// latches.
-    fn try_plans<G: PhaseGate>(
-        &self,
-        rt: &(impl Threads + Sync),
-        memory: &mut Memory,
-        begin: u32,
-        limits: Limits,
-        crew: &Crew<G>,
-    ) -> Option<Found> {
-        for turn in 0..PLANS {
-            let plan = begin.wrapping_add(turn) % PLANS;
-            let found = self.try_plan(rt, memory, plan_of(plan), limits, crew);
-            if memory.is_refused() {
-                return None;
-            }
-            if let Some(attempt) = found {
-                return Some(Found { attempt, plan });
-            }
+/// Tries all plans, beginning with the one that has this number, until one leaves fewer latches.
+fn try_plans<G: PhaseGate>(
+    scene: &Scene<'_>,
+    rt: &(impl Threads + Sync),
+    memory: &mut Memory,
+    begin: u32,
+    limits: Limits,
+    crew: &Crew<G>,
+) -> Option<Found> {
+    for turn in 0..PLANS {
+        let plan = begin.wrapping_add(turn) % PLANS;
+        let found = try_plan(scene, rt, memory, plan_of(plan), limits, crew);
+        if memory.is_refused() {
+            return None;
         }
-        None
+        if let Some(attempt) = found {
+            return Some(Found { attempt, plan });
+        }
     }
+    None
 }
 
 /// A circuit that a draft has come to, with the latches of it that are held.
@@ -206,20 +173,10 @@ fn next_attempt<G: PhaseGate>(
     limits: Limits,
     crew: &Crew<G>,
 ) -> Option<Found> {
-    let Ok(properties) = property_literals(memory.alloc(), circuit.props()) else {
-        memory.refuse();
+    let Some(scene) = Scene::of(memory, circuit, keep) else {
         return None;
     };
-    let scene = Scene {
-        circuit,
-        keep,
-        properties,
-        candidates: candidates_of(memory, circuit, keep),
-    };
-    if memory.is_refused() {
-        return None;
-    }
-    scene.try_plans(rt, memory, begin, limits, crew)
+    try_plans(&scene, rt, memory, begin, limits, crew)
 }
 
 /// Returns the places that `second` picks of `first`.

@@ -3,10 +3,9 @@
 //! stay as they are. The gates outside of the part come after those of it.
 
 use crate::cuts::Cut;
-use crate::maps::{GrowingMap, NumberMap, literal_of};
-use crate::nets::{ClassLatch, Net, literal_at, set_literal};
 use aig_graph::{Circuit, Memory};
 use backward_sets::{Literal, Pair, entry, number};
+use class_nets::{ClassLatch, GrowingMap, Net, NumberMap, literal_at, literal_of, set_literal};
 
 /// Returns what the latches of a part hold.
 fn values_of(memory: &mut Memory, net: &Net, cut: &Cut) -> Vec<Literal> {

@@ -8,14 +8,9 @@
 #![tactic(auto)]
 
 mod attempts;
-mod closing;
 mod cuts;
 mod drafting;
 mod joining;
-mod maps;
-mod masks;
-mod nets;
-mod opening;
 mod running;
 
 pub use drafting::{DraftOptions, Drafted, draft_classes};

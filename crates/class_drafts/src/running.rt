@@ -3,14 +3,12 @@
 use crate::attempts::Attempt;
 use crate::cuts::Cut;
 use crate::joining::joined;
-use crate::maps::{GrowingMap, NumberMap, number_map};
-use crate::nets::{Class, Net, TRUE};
 use aig_graph::{Circuit, Memory};
 use backward_sets::{has_mark, number, set_mark};
+use class_nets::{GrowingMap, Net, NumberMap, number_map, sealed};
 use frames::{BytesError, NoWatcher, Options, PathBound, RetimeError};
 use mapped_answers::{AnswerError, Made, made_over};
 use pulse::{Crew, PhaseGate};
-use sealed_drafts::SealError;
 use std::mem;
 use std::thread::Threads;
 
@@ -84,26 +82,6 @@ pub(crate) fn run<G: PhaseGate>(
     }
 }
 
-/// Returns the circuit of a draft, unless memory is refused or it is out of range.
-pub(crate) fn sealed(memory: &mut Memory, made: Result<Circuit, SealError>) -> Option<Circuit> {
-    match made {
-        Ok(circuit) => Some(circuit),
-        Err(SealError::NoMemory) => {
-            memory.refuse();
-            None
-        }
-        Err(SealError::OutOfRange) => None,
-    }
-}
-
-/// Returns how many gates of a path the hold and the masks of a class take.
-fn levels_of(class: Class) -> u32 {
-    let hold = if class.hold == 0 { 0 } else { 2 };
-    let load = if class.load_mask == TRUE.code { 0 } else { 1 };
-    let reader = if class.read_mask == TRUE.code { 0 } else { 1 };
-    hold + load + reader
-}
-
 impl Progress {
     /// Returns a run over classes in which nothing moved yet. The circuit has `latches` latches.
     pub fn new(memory: &mut Memory, latches: u32, limits: Limits) -> Progress {
@@ -173,7 +151,7 @@ impl Progress {
             return false;
         };
         let before = circuit.aig().latches().len();
-        let limits = self.left(levels_of(net.class(class)));
+        let limits = self.left(net.class(class).levels());
         let held = memory.nothing();
         let Some(made) = run(rt, memory, circuit, held, &limits, crew) else {
             return false;

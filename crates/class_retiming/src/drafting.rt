@@ -1,7 +1,8 @@
-//! The draft, behind one function: how it is found is asked nowhere else.
+//! The drafts, behind a function for each direction: how one is found is asked nowhere else.
 
 use aig_graph::{Circuit, Keep, NoMemory};
-use backward_moves::MoveOptions;
+use backward_classes::{ReturnedDraft, draft_returned};
+use backward_moves::{Drafted as PlainDraft, MoveOptions};
 use class_drafts::{DraftOptions, Drafted, draft_classes};
 use path_levels::levels;
 use pulse::{Crew, OpenGate};
@@ -39,4 +40,24 @@ pub(crate) fn draft<R: Threads + Sync>(
     };
     let crew = Crew::new(1, OpenGate);
     draft_classes(rt, alloc, circuit, keep, &options, &crew)
+}
+
+/// Returns a draft in which latches moved backward, from one of plain frames if there is one, if
+/// classes leave fewer latches.
+///
+/// # Errors
+///
+/// `NoMemory` if memory is refused.
+pub(crate) fn draft_back(
+    alloc: Global,
+    circuit: &Circuit,
+    keep: &Keep,
+    plain: Option<&PlainDraft>,
+    options: &MoveOptions,
+) -> Result<Option<ReturnedDraft>, NoMemory> {
+    let options = MoveOptions {
+        frames: options.frames,
+        levels: most_levels(alloc, circuit, options.levels)?,
+    };
+    draft_returned(alloc, circuit, keep, plain, &options)
 }

@@ -153,6 +153,7 @@ pub record IsMoving (matches : ArgMatches) (moving : Moving) : Type 0 where
   pub output : IsTarget matches (codes "OUT") moving.output
   pub options : AreOptions matches moving.options
   pub mapping : IsSomeTarget matches (codes "map") moving.map
+  pub enables : IsFlag matches (codes "enables") moving.enables
   pub shown : IsShown matches moving.shown
   pub json : IsFlag matches (codes "json") moving.json
 

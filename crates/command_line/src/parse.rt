@@ -55,6 +55,7 @@ fn moving<'a>(
         output,
         options: options(alloc, matches)?,
         map: target(matches, "map"),
+        enables: matches.get_flag("enables"),
         shown: shown(matches),
         json: json(matches),
     })))

@@ -74,6 +74,8 @@ pub struct Moving<'a> {
     pub options: RetimingOptions<'a>,
     /// What the map of states is written to; `None` asks for none.
     pub map: Option<Target<'a>>,
+    /// Whether `backward` moves registers with an enable or a reset too.
+    pub enables: bool,
     /// What is shown of the run.
     pub shown: Shown,
     /// Whether an object of JSON is printed in place of the lines.

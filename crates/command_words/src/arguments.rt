@@ -161,6 +161,12 @@ pub(crate) const BACKWARD: &[Argument] = &[
     LEVELS,
     NO_LONGER,
     Argument(
+        "enables",
+        Flag,
+        Free,
+        "Then move registers with an enable or a reset, too",
+    ),
+    Argument(
         "map",
         Text("MAP"),
         Free,

@@ -94,6 +94,11 @@ With --map, MAP gets a circuit whose inputs are the latches of OUT and whose
 outputs are those of IN: step for step each latch of IN holds what its output
 says. The direction is that of 'check OUT IN MAP' and 'miter OUT IN MAP MITER'.
 
+With --enables registers move then that hold under one condition or have one
+reset, those together, as 'enables' moves them forward. If the check doesn't
+show that, they stay, and a line says so. In the place of a line for each frame
+the number of frames is printed. IN is best what 'enables' wrote.
+
 With --no-longer no path of OUT has more gates than the longest one of IN; with
 --levels no path gets more than n gates, or than the longest one of IN.
 
@@ -115,6 +120,9 @@ latches:
 
 In a pipe:
   fretime retime in.aig - | fretime backward - out.aig
+
+Registers with an enable or a reset, forward and then backward:
+  fretime enables in.aig - | fretime backward --enables - out.aig
 
 Exit status: 0 done, 1 IN is no circuit or has no such latch, 2 command line,
 3 device, 4 out of memory.";

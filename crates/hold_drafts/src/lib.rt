@@ -31,4 +31,5 @@ pub use literals::{TRUE, opposite};
 pub use opening::{NOWHERE, OpenLatch, Opening, PLAIN, STAYS};
 pub use opens::opened;
 pub use sharing::Sharing;
+pub use sweeps::Swept;
 pub use ways::{Way, opens_otherwise};

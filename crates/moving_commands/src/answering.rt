@@ -43,7 +43,7 @@ fn moved<'a, R: Threads + Sync, W: MoveWatcher>(
     };
     match held_latches(alloc, &circuit, task.input, &task.options) {
         Ok(keep) => {
-            let moved = moved_by(task.kind, rt, alloc, circuit, &keep, &options, watcher);
+            let moved = moved_by(task, rt, alloc, circuit, &keep, &options, watcher);
             drop(keep);
             match moved {
                 Ok(moved) => Ok(moved),

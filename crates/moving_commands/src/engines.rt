@@ -7,8 +7,8 @@ ghost use Rattle.moving_commands.specs.Printing.{is_shown};
 
 use aig_graph::{Circuit, Keep, NoMemory};
 use backward_retiming::{FrameCounts, MoveOptions, MoveWatcher, MovedBack, Staying, move_back};
-use class_retiming::{MovedOn, move_on};
-use command_line::MoveKind;
+use class_retiming::{MovedOn, move_back_on, move_on};
+use command_line::{MoveKind, Moving};
 use std::alloc::Global;
 use std::thread::Threads;
 
@@ -18,7 +18,8 @@ pub(crate) enum Report {
     /// What each frame of `backward` did, why no more latches go, and true if nothing was found
     /// that the judge refused.
     OfBackward(Vec<FrameCounts>, Staying, bool),
-    /// The number of frames that `enables` took, and of those in a draft that the judge refused.
+    /// The number of frames that were taken past enables, and of those in a draft that the judge
+    /// refused.
     OfEnables(u32, u32),
 }
 
@@ -67,7 +68,39 @@ fn moved_back<W: MoveWatcher>(
     })
 }
 
-/// Moves registers past enables and resets.
+/// Returns what moves past enables gave.
+fn past_enables(moved: MovedOn) -> MovedCircuit
+    ensures circuit { result.circuit ≡ moved.circuit }
+    ensures map { result.map ≡ moved.map }
+{
+    let MovedOn {
+        circuit,
+        map,
+        frames,
+        refused,
+    } = moved;
+    MovedCircuit {
+        circuit,
+        map,
+        report: Report::OfEnables(frames, refused),
+    }
+}
+
+/// Moves latches backward, past enables and resets too.
+fn moved_back_on<W: MoveWatcher>(
+    alloc: Global,
+    circuit: Circuit,
+    keep: &Keep,
+    options: &MoveOptions,
+    watcher: &mut W,
+) -> Result<MovedCircuit, NoMemory>
+    ensures { IfOk result (IsMovedBy Backward circuit keep.now options.now.levels) }
+{
+    let moved = move_back_on(alloc, circuit, keep, options, watcher)?;
+    Ok(past_enables(moved))
+}
+
+/// Moves registers forward, past enables and resets.
 fn moved_on<R: Threads + Sync, W: MoveWatcher>(
     rt: &R,
     alloc: Global,
@@ -79,26 +112,16 @@ fn moved_on<R: Threads + Sync, W: MoveWatcher>(
     ensures { IfOk result (IsMovedBy Enables circuit keep.now options.now.levels) }
 {
     let moved = move_on(rt, alloc, circuit, keep, options, watcher)?;
-    let MovedOn {
-        circuit,
-        map,
-        frames,
-        refused,
-    } = moved;
-    Ok(MovedCircuit {
-        circuit,
-        map,
-        report: Report::OfEnables(frames, refused),
-    })
+    Ok(past_enables(moved))
 }
 
-/// Moves latches as a command does it.
+/// Moves latches as a task asks.
 ///
 /// # Errors
 ///
 /// `NoMemory` if memory is refused.
 pub(crate) fn moved_by<R: Threads + Sync, W: MoveWatcher>(
-    kind: MoveKind,
+    task: &Moving<'_>,
     rt: &R,
     alloc: Global,
     circuit: Circuit,
@@ -106,10 +129,16 @@ pub(crate) fn moved_by<R: Threads + Sync, W: MoveWatcher>(
     options: &MoveOptions,
     watcher: &mut W,
 ) -> Result<MovedCircuit, NoMemory>
-    ensures { IfOk result (IsMovedBy kind circuit keep.now options.now.levels) }
+    ensures { IfOk result (IsMovedBy task.now.kind circuit keep.now options.now.levels) }
 {
-    match kind {
-        MoveKind::Backward => moved_back(alloc, circuit, keep, options, watcher),
+    match task.kind {
+        MoveKind::Backward => {
+            if task.enables {
+                moved_back_on(alloc, circuit, keep, options, watcher)
+            } else {
+                moved_back(alloc, circuit, keep, options, watcher)
+            }
+        }
         MoveKind::Enables => moved_on(rt, alloc, circuit, keep, options, watcher),
     }
 }

@@ -1,20 +1,19 @@
 //! The circuit of classes, closed again: each latch gets back its hold and its masks. The latches
 //! of the first circuit come first, in their order.
 
-use crate::cuts::draft_latch;
-use crate::nets::{ClassLatch, Net, TRUE, literal_at, set_literal};
+use crate::nets::{ClassLatch, Net, literal_at, set_literal};
 use aig_graph::{Lit, Memory, Reset};
-use backward_sets::{DraftLatch, Literal, Pair, number};
-use hold_drafts::{Sharing, opposite};
+use backward_sets::{DraftLatch, DraftReset, Literal, Pair, entry, set_entry};
+use hold_drafts::{Sharing, TRUE};
 
 /// A circuit that is closed, as numbers.
-pub(crate) struct Closure {
+pub struct Closure {
     pub latches: Vec<DraftLatch>,
     pub gates: Vec<Pair>,
     /// The literals of the latches and gates of the first circuit that properties read.
     pub stands: Vec<Literal>,
-    /// What each latch holds.
-    pub values: Vec<Literal>,
+    /// The number that each latch had in the circuit of classes.
+    pub order: Vec<u32>,
 }
 
 impl Drop for Closure {
@@ -24,8 +23,29 @@ impl Drop for Closure {
             latches: _latches,
             gates: _gates,
             stands: _stands,
-            values: _values,
+            order: _order,
         } = self;
+    }
+}
+
+/// Returns the reset of a draft's latch.
+fn draft_reset(reset: Reset) -> DraftReset {
+    match reset {
+        Reset::Zero => DraftReset::Zero,
+        Reset::One => DraftReset::One,
+        Reset::Free => DraftReset::Free,
+    }
+}
+
+/// Returns a latch of a draft. If it is one of the first circuit, `origin` is its position there.
+pub fn draft_latch(next: Literal, reset: Reset, origin: Option<u32>) -> DraftLatch {
+    DraftLatch {
+        next,
+        reset: draft_reset(reset),
+        origin,
+        held: false,
+        name: 0,
+        list: 0,
     }
 }
 
@@ -45,7 +65,7 @@ fn order_of(memory: &mut Memory, net: &Net, latches: u32) -> Vec<u32> {
     let mut order = memory.list(net.latches.len());
     for place in 0..net.many_latches() {
         if let Some(origin) = origin_of(&net.latch(place), latches) {
-            backward_sets::set_entry(places.as_mut_slice(), origin, place.wrapping_add(1));
+            set_entry(places.as_mut_slice(), origin, place.wrapping_add(1));
         }
     }
     for place in &places {
@@ -56,9 +76,7 @@ fn order_of(memory: &mut Memory, net: &Net, latches: u32) -> Vec<u32> {
     for place in 0..net.many_latches() {
         let known = origin_of(&net.latch(place), latches);
         let is_put = match known {
-            Some(origin) => {
-                backward_sets::entry(places.as_slice(), origin) == place.wrapping_add(1)
-            }
+            Some(origin) => entry(places.as_slice(), origin) == place.wrapping_add(1),
             None => false,
         };
         if !is_put {
@@ -204,20 +222,15 @@ pub(crate) fn closed(
     size: usize,
 ) -> Closure {
     let order = order_of(memory, net, latches);
-    let order = order.as_slice();
     let mut closing = Closing::new(memory, net);
-    closing.put_latches(order);
+    closing.put_latches(order.as_slice());
     closing.put_read_masks(memory);
     closing.put_gates(memory);
-    let drafted = closing.latches(memory, order, latches);
-    let mut values = memory.list(order.len());
-    for place in order {
-        memory.push(&mut values, net.latch(*place).value);
-    }
+    let drafted = closing.latches(memory, order.as_slice(), latches);
     Closure {
         latches: drafted,
         stands: closing.property_stands(memory, properties, size),
         gates: closing.gates.into_gates(),
-        values,
+        order,
     }
 }

@@ -1,11 +1,9 @@
-//! The circuit on which a draft moves latches. Its variables are numbered as those of a circuit,
+//! The circuit on which a draft moves latches of classes. Its variables are numbered as those of a circuit,
 //! and a table by variable begins at the first latch.
 
 use aig_graph::{Memory, Reset};
 use backward_sets::{Literal, Pair, number, set_mark};
-
-/// The constant true.
-pub(crate) const TRUE: Literal = Literal { code: 1 };
+use hold_drafts::TRUE;
 
 /// The number of literals that say what a class is.
 const MARKS: usize = 3;
@@ -14,7 +12,7 @@ const MARKS: usize = 3;
 /// their values. Else they get those of their next literals if the mask of loads is 1, and else
 /// their resets. Readers see their values if the mask of readers is 1, and else their resets.
 #[derive(Clone, Copy, PartialEq, Eq, PartialOrd, Ord)]
-pub(crate) struct Class {
+pub struct Class {
     pub hold: u32,
     pub load_mask: u32,
     pub read_mask: u32,
@@ -27,11 +25,19 @@ impl Class {
         load_mask: 1,
         read_mask: 1,
     };
+
+    /// Returns how many gates of a path the hold and the masks take.
+    pub fn levels(self) -> u32 {
+        let hold = if self.hold == 0 { 0 } else { 2 };
+        let load = if self.load_mask == TRUE.code { 0 } else { 1 };
+        let reader = if self.read_mask == TRUE.code { 0 } else { 1 };
+        hold + load + reader
+    }
 }
 
 /// A latch of a class.
 #[derive(Clone, Copy)]
-pub(crate) struct ClassLatch {
+pub struct ClassLatch {
     pub next: Literal,
     pub reset: Reset,
     /// The number of its class, from 1, or 0 if it stays where it is.
@@ -42,7 +48,7 @@ pub(crate) struct ClassLatch {
 
 impl ClassLatch {
     /// Stands for no latch.
-    const NONE: ClassLatch = ClassLatch {
+    pub const NONE: ClassLatch = ClassLatch {
         next: Literal::FALSE,
         reset: Reset::Free,
         class: 0,
@@ -51,7 +57,7 @@ impl ClassLatch {
 }
 
 /// A circuit whose latches have classes.
-pub(crate) struct Net {
+pub struct Net {
     pub inputs: u32,
     pub latches: Vec<ClassLatch>,
     pub gates: Vec<Pair>,
@@ -78,7 +84,7 @@ impl Drop for Net {
 }
 
 /// Returns the literal at `place`, or the constant false past the end.
-pub(crate) fn literal_at(literals: &[Literal], place: usize) -> Literal {
+pub fn literal_at(literals: &[Literal], place: usize) -> Literal {
     if place < literals.len() {
         literals[place]
     } else {
@@ -87,7 +93,7 @@ pub(crate) fn literal_at(literals: &[Literal], place: usize) -> Literal {
 }
 
 /// Puts a literal at `place`, if the table has it.
-pub(crate) fn set_literal(literals: &mut [Literal], place: u32, lit: Literal) {
+pub fn set_literal(literals: &mut [Literal], place: u32, lit: Literal) {
     let place = place as usize;
     if place < literals.len() {
         literals[place] = lit;
@@ -95,7 +101,7 @@ pub(crate) fn set_literal(literals: &mut [Literal], place: u32, lit: Literal) {
 }
 
 /// Returns the gate at `place`, or one of constants past the end.
-pub(crate) fn pair_at(pairs: &[Pair], place: usize) -> Pair {
+pub fn pair_at(pairs: &[Pair], place: usize) -> Pair {
     if place < pairs.len() {
         pairs[place]
     } else {
@@ -172,16 +178,6 @@ impl Net {
             memory.push(&mut self.observed, Literal { code });
         }
         self.classes = self.classes.wrapping_add(1);
-    }
-
-    /// Returns the number of latches whose reset is known.
-    pub fn known_latches(&self) -> u32 {
-        let mut count = 0u32;
-        for place in 0..self.many_latches() {
-            let known = self.latch(place).reset != Reset::Free;
-            count = count.wrapping_add(u32::from(known));
-        }
-        count
     }
 
     /// Returns by class if it has a gate that reads two of its latches: latches of other classes

@@ -3,10 +3,10 @@
 //! it is a factor of each. Masks are taken off, and are part of the class, as the hold is. A
 //! constant that isn't the reset is no mask's, so what is constant or equal without masks stays so.
 
-use crate::nets::{TRUE, literal_at, set_literal};
+use crate::nets::{literal_at, set_literal};
 use aig_graph::{Memory, Reset};
 use backward_sets::{Literal, Pair, entry, has_mark, number};
-use hold_drafts::{OpenLatch, Opening, PLAIN, STAYS, classes_of};
+use hold_drafts::{OpenLatch, Opening, PLAIN, STAYS, TRUE, classes_of};
 
 /// Codes, rising, and how often each was put.
 #[derive(Drop)]

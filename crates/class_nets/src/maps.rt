@@ -1,10 +1,10 @@
 //! Maps of states as numbers: gates over the latches of one circuit, and a literal for each latch
 //! of another. Maps follow one another.
 
-use crate::nets::{Net, TRUE, literal_at, set_literal};
+use crate::nets::{literal_at, set_literal};
 use aig_graph::{Lit, Memory};
 use backward_sets::{Literal, Pair, number, set_mark};
-use hold_drafts::Sharing;
+use hold_drafts::{Sharing, TRUE};
 use retiming_maps::StateMap;
 
 /// Bits of a byte that are of the number; the one above them is set if another byte follows.
@@ -14,7 +14,7 @@ const LOW_BITS: u32 = 7;
 const MOST_BYTES: u32 = 5;
 
 /// A map from the states of a circuit, whose latches have the variables from 1 on.
-pub(crate) struct NumberMap {
+pub struct NumberMap {
     pub inputs: u32,
     pub gates: Vec<Pair>,
     pub outputs: Vec<Literal>,
@@ -34,12 +34,12 @@ impl Drop for NumberMap {
 }
 
 /// Returns a draft's literal for one of a circuit.
-pub(crate) fn literal_of(lit: Lit) -> Literal {
+pub fn literal_of(lit: Lit) -> Literal {
     Literal { code: lit.code() }
 }
 
 /// Returns literals as those of a draft.
-pub(crate) fn literals_of(memory: &mut Memory, lits: &[Lit]) -> Vec<Literal> {
+pub fn literals_of(memory: &mut Memory, lits: &[Lit]) -> Vec<Literal> {
     let mut literals = memory.list(lits.len());
     for lit in lits {
         memory.push(&mut literals, literal_of(*lit));
@@ -103,7 +103,7 @@ fn gates_of(memory: &mut Memory, map: &StateMap) -> Vec<Pair> {
 }
 
 /// Returns a map as numbers.
-pub(crate) fn number_map(memory: &mut Memory, map: &StateMap) -> NumberMap {
+pub fn number_map(memory: &mut Memory, map: &StateMap) -> NumberMap {
     NumberMap {
         inputs: map.gates().inputs(),
         gates: gates_of(memory, map),
@@ -140,7 +140,7 @@ impl NumberMap {
 }
 
 /// A map that grows.
-pub(crate) struct GrowingMap {
+pub struct GrowingMap {
     inputs: u32,
     gates: Sharing,
     pub outputs: Vec<Literal>,

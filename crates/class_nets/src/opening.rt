@@ -1,10 +1,10 @@
 //! The circuit in which latches have classes, from one that is opened and its masks.
 
 use crate::masks::Masks;
-use crate::nets::{Class, ClassLatch, Net, TRUE, literal_at};
+use crate::nets::{Class, ClassLatch, Net, literal_at};
 use aig_graph::Memory;
 use backward_sets::{Literal, Pair, number};
-use hold_drafts::{OpenLatch, Opening, STAYS};
+use hold_drafts::{OpenLatch, Opening, STAYS, TRUE};
 
 /// Returns the class of a latch by its hold and its masks.
 fn class_of(opening: &Opening, masks: &Masks, place: u32) -> Class {

@@ -1,0 +1,221 @@
+//! Openings one after another, until none leaves fewer latches.
+
+use crate::attempts::{Attempt, Stand, attempted, drawn};
+use aig_graph::{Circuit, Keep, Memory, NoMemory};
+use backward_moves::{Drafted, MoveOptions};
+use backward_sets::{Literal, Pair, number};
+use class_nets::{GrowingMap, NumberMap, PLANS, Plan, Scene, plan_of, sealed};
+use sealed_drafts::drawn_map;
+use std::alloc::Global;
+use std::mem;
+
+/// The most openings that leave fewer latches.
+const MOST_OPENINGS: u32 = 1024;
+
+/// A circuit in which latches moved backward, and the map of its states. That has an input for each
+/// of its latches, and an output for each latch of the circuit that was read.
+#[derive(Drop)]
+pub struct ReturnedDraft {
+    pub after: Circuit,
+    pub map: Circuit,
+    /// The number of frames that were taken.
+    pub frames: u32,
+}
+
+/// A draft under way.
+#[derive(Drop)]
+struct Drafting {
+    stand: Option<Stand>,
+    /// The maps of all steps, each of the states after it to those before.
+    steps: Vec<NumberMap>,
+    options: MoveOptions,
+    frames: u32,
+    plan: u32,
+}
+
+/// Returns the better of two attempts: the second, unless it leaves more latches.
+fn better(first: Attempt, second: Option<Attempt>) -> Attempt {
+    match second {
+        Some(second) if second.known_latches() <= first.known_latches() => second,
+        _ => first,
+    }
+}
+
+/// Returns the circuit after its latches moved by a plan, if that leaves fewer. Of the latches that
+/// were opened only those that took part are opened then, if that leaves as few.
+fn try_plan(
+    memory: &mut Memory,
+    scene: &Scene<'_>,
+    plan: Plan,
+    options: &MoveOptions,
+) -> Option<Attempt> {
+    let first = attempted(memory, scene, plan, None, options)?;
+    if first.only.is_empty() {
+        return Some(first);
+    }
+    let only = Some(first.only.as_slice());
+    let second = attempted(memory, scene, plan, only, options);
+    Some(better(first, second))
+}
+
+/// Returns copies of the entries of a list.
+fn copied<T: Copy + Drop>(memory: &mut Memory, list: &[T]) -> Vec<T> {
+    let mut copies = memory.list(list.len());
+    for entry in list {
+        memory.push(&mut copies, *entry);
+    }
+    copies
+}
+
+impl Drafting {
+    /// Returns the draft that goes on from plain frames, if some were taken.
+    fn new(
+        memory: &mut Memory,
+        circuit: &Circuit,
+        keep: &Keep,
+        plain: Option<&Drafted>,
+        options: &MoveOptions,
+    ) -> Drafting {
+        let mut drafting = Drafting {
+            stand: None,
+            steps: memory.nothing(),
+            options: *options,
+            frames: 0,
+            plan: 0,
+        };
+        if let Some(drafted) = plain {
+            drafting.stand = drawn(memory, circuit, keep, drafted);
+            drafting.frames = number(drafted.frames.len());
+            let map = NumberMap {
+                inputs: number(drafted.latches.len()),
+                gates: copied(memory, drafted.map_gates.as_slice()),
+                outputs: copied(memory, drafted.map_outputs.as_slice()),
+                constraints: memory.nothing(),
+            };
+            memory.push(&mut drafting.steps, map);
+        }
+        drafting
+    }
+
+    /// Returns the limits of what is left to do.
+    fn left(&self) -> MoveOptions {
+        MoveOptions {
+            frames: self.options.frames.saturating_sub(self.frames),
+            levels: self.options.levels,
+        }
+    }
+
+    /// Tries all plans, beginning with the last one, until one leaves fewer latches. The draft
+    /// began with `circuit`.
+    fn find(&mut self, memory: &mut Memory, circuit: &Circuit, keep: &Keep) -> Option<Attempt> {
+        let options = self.left();
+        let (circuit, keep) = match &self.stand {
+            Some(stand) => (&stand.circuit, &stand.keep),
+            None => (circuit, keep),
+        };
+        let scene = Scene::of(memory, circuit, keep)?;
+        for turn in 0..PLANS {
+            let plan = self.plan.wrapping_add(turn) % PLANS;
+            let found = try_plan(memory, &scene, plan_of(plan), &options);
+            if memory.is_refused() {
+                return None;
+            }
+            if found.is_some() {
+                self.plan = plan;
+                return found;
+            }
+        }
+        None
+    }
+
+    /// Goes on from an attempt.
+    fn take(&mut self, memory: &mut Memory, found: Attempt) {
+        let Attempt {
+            stand,
+            steps,
+            frames,
+            ..
+        } = found;
+        for step in steps {
+            memory.push(&mut self.steps, step);
+        }
+        self.frames = self.frames.saturating_add(frames);
+        drop(mem::replace(&mut self.stand, Some(stand)));
+    }
+
+    /// Opens the circuit until that doesn't leave fewer latches. Returns true if it did once.
+    fn run(&mut self, memory: &mut Memory, circuit: &Circuit, keep: &Keep) -> bool {
+        for turn in 0..MOST_OPENINGS {
+            if self.frames >= self.options.frames {
+                return turn > 0;
+            }
+            match self.find(memory, circuit, keep) {
+                Some(found) => self.take(memory, found),
+                None => return turn > 0,
+            }
+        }
+        true
+    }
+
+    /// Returns the map of all steps.
+    fn map(&self, memory: &mut Memory, latches: u32) -> NumberMap {
+        let mut growing = GrowingMap::identity(memory, latches);
+        for place in (0..self.steps.len()).rev() {
+            growing.follow(memory, &self.steps[place]);
+        }
+        growing.into_map()
+    }
+
+    /// Returns the draft from a circuit.
+    fn finished(self, memory: &mut Memory, circuit: &Circuit) -> Option<ReturnedDraft> {
+        let frames = self.frames;
+        let latches = match &self.stand {
+            Some(stand) => number(stand.circuit.aig().latches().len()),
+            None => 0,
+        };
+        let map = self.map(memory, latches);
+        let Drafting { stand, .. } = self;
+        let Stand { circuit: after, .. } = stand?;
+        let (gates, outputs) = (map.gates.as_slice(), map.outputs.as_slice());
+        let map = drawn_map(memory.alloc(), &after, circuit, gates, outputs, &[]);
+        match sealed(memory, map) {
+            Some(map) => Some(ReturnedDraft { after, map, frames }),
+            None => {
+                drop(after);
+                None
+            }
+        }
+    }
+}
+
+/// Drafts a circuit in which latches moved backward, within classes of latches that hold their
+/// values, or get constants, together. Goes on from a draft of plain frames, if there is one.
+/// Returns nothing if classes don't leave fewer latches.
+///
+/// Each opening costs some runs of plain frames, and time linear in the circuit.
+///
+/// # Errors
+///
+/// `NoMemory` if memory is refused.
+pub fn draft_returned(
+    alloc: Global,
+    circuit: &Circuit,
+    keep: &Keep,
+    plain: Option<&Drafted>,
+    options: &MoveOptions,
+) -> Result<Option<ReturnedDraft>, NoMemory> {
+    let mut memory = Memory::of(alloc);
+    let mut drafting = Drafting::new(&mut memory, circuit, keep, plain, options);
+    let drafted = if drafting.run(&mut memory, circuit, keep) {
+        drafting.finished(&mut memory, circuit)
+    } else {
+        drop(drafting);
+        None
+    };
+    if memory.is_refused() {
+        drop(drafted);
+        Err(NoMemory)
+    } else {
+        Ok(drafted)
+    }
+}
