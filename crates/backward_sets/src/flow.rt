@@ -42,8 +42,8 @@ pub struct Arc {
     adds: bool,
 }
 
-/// The units that flow. They are counted by variable, or by fan-in of a gate: the larger one of
-/// gate `var` stands at `2 * var`, the smaller one after it.
+/// The units that flow. They are counted by variable, or by fan-in of a gate, by its number in the
+/// lists of readers.
 #[derive(Drop)]
 pub struct Flow<'a> {
     draft: &'a Draft,
@@ -95,13 +95,6 @@ impl<'a> Flow<'a> {
         readers.saturating_add(own)
     }
 
-    /// Returns the place of a fan-in of a gate.
-    fn fan_in_place(&self, gate: u32, fan_in: u32) -> u32 {
-        let is_smaller = self.draft.gate(gate).larger.var() != fan_in;
-        let own = gate.wrapping_sub(self.draft.first_gate()).wrapping_mul(2);
-        own.wrapping_add(u32::from(is_smaller))
-    }
-
     /// Returns the arc from before a variable to after it, or to the sink.
     fn through(&self, var: u32) -> Arc {
         let room = if wish_of(self.starts, var).is_both() {
@@ -133,27 +126,47 @@ impl<'a> Flow<'a> {
         }
     }
 
-    /// Returns the arc from after a gate to before a fan-in, or the one that leads back.
-    fn down(&self, gate: u32, fan_in: u32, adds: bool) -> Arc {
-        let place = self.fan_in_place(gate, fan_in);
+    /// Returns the arc from after a gate to before its fan-in `number`, which reads `var`.
+    fn down(&self, number: u32, var: u32) -> Arc {
         Arc {
-            to: if adds { before(fan_in) } else { after(gate) },
-            open: adds | (entry(self.down.as_slice(), place) > 0),
+            to: before(var),
+            open: true,
             counted: Counted::Down,
-            place,
-            adds,
+            place: number,
+            adds: true,
         }
     }
 
-    /// Returns the arc from after a fan-in to after the gate, or the one that leads back.
-    fn up(&self, gate: u32, fan_in: u32, adds: bool) -> Arc {
-        let place = self.fan_in_place(gate, fan_in);
+    /// Returns the arc that takes a unit back that went down to fan-in `number`.
+    fn back_down(&self, number: u32) -> Arc {
         Arc {
-            to: if adds { after(gate) } else { after(fan_in) },
-            open: adds | (entry(self.up.as_slice(), place) > 0),
+            to: after(self.readers.gate_of(number)),
+            open: entry(self.down.as_slice(), number) > 0,
+            counted: Counted::Down,
+            place: number,
+            adds: false,
+        }
+    }
+
+    /// Returns the arc from after fan-in `number` to after its gate.
+    fn up(&self, number: u32) -> Arc {
+        Arc {
+            to: after(self.readers.gate_of(number)),
+            open: true,
             counted: Counted::Up,
-            place,
-            adds,
+            place: number,
+            adds: true,
+        }
+    }
+
+    /// Returns the arc that takes a unit back that went up from fan-in `number`, which reads `var`.
+    fn back_up(&self, number: u32, var: u32) -> Arc {
+        Arc {
+            to: after(var),
+            open: entry(self.up.as_slice(), number) > 0,
+            counted: Counted::Up,
+            place: number,
+            adds: false,
         }
     }
 
@@ -163,22 +176,24 @@ impl<'a> Flow<'a> {
             return self.through(var);
         }
         let first = self.readers.begin(var).wrapping_sub(1);
-        self.down(self.readers.at(first.wrapping_add(place)), var, false)
+        self.back_down(self.readers.fan_in_at(first.wrapping_add(place)))
     }
 
     /// Returns an arc from after a gate, by its place: first those to before its fan-ins.
     fn arc_after(&self, var: u32, place: u32) -> Arc {
+        if place >= OWN_ARCS {
+            let first = self.readers.begin(var).wrapping_sub(OWN_ARCS);
+            return self.up(self.readers.fan_in_at(first.wrapping_add(place)));
+        }
         let pair = self.draft.gate(var);
+        let larger = var.wrapping_sub(self.draft.first_gate()).wrapping_mul(2);
+        let smaller = larger.wrapping_add(1);
         match place {
-            0 => self.down(var, pair.smaller.var(), true),
-            1 => self.down(var, pair.larger.var(), true),
+            0 => self.down(smaller, pair.smaller.var()),
+            1 => self.down(larger, pair.larger.var()),
             2 => self.back(var),
-            3 => self.up(var, pair.smaller.var(), false),
-            4 => self.up(var, pair.larger.var(), false),
-            _ => {
-                let first = self.readers.begin(var).wrapping_sub(OWN_ARCS);
-                self.up(self.readers.at(first.wrapping_add(place)), var, true)
-            }
+            3 => self.back_up(smaller, pair.smaller.var()),
+            _ => self.back_up(larger, pair.larger.var()),
         }
     }
 
