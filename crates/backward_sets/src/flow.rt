@@ -1,111 +1,224 @@
-//! Arcs with room for units, each beside the arc that leads back. If the flow of units along its
-//! arcs can't grow any more, it shows the least cut of a network.
+//! The units that flow through a network, by what they pass. The arcs aren't stored: those of a
+//! node follow from the draft and from the gates that read the variable.
 
-use crate::tables::{entry, number, set_entry};
+use crate::drafts::Draft;
+use crate::readers::Readers;
+use crate::starts::{Wish, wish_of};
+use crate::tables::{entry, has_mark, set_entry};
 use aig_graph::Memory;
 
-/// More units than ever come to a node.
-pub const UNBOUNDED: u32 = 1 << 30;
+/// The node in which all units end.
+pub const SINK: u32 = u32::MAX;
 
-/// Stands for no arc.
-pub const NO_ARC: u32 = u32::MAX;
+/// The number of arcs from after a gate that don't lead to a reader.
+const OWN_ARCS: u32 = 5;
 
-/// An arc to the node `to`, with room for `room` more units. `next` is the next arc from its tail.
+/// Returns the node before a variable.
+pub fn before(var: u32) -> u32 {
+    var.wrapping_mul(2)
+}
+
+/// Returns the node after a variable.
+pub fn after(var: u32) -> u32 {
+    before(var).wrapping_add(1)
+}
+
+/// What units are counted of.
+#[derive(Clone, Copy)]
+enum Counted {
+    Through,
+    Down,
+    Up,
+}
+
+/// An arc to the node `to`. It has room for a unit if it is `open`. A unit along it adds one to the
+/// entry `place` of a table, or takes one away that went the other way.
 #[derive(Clone, Copy)]
 pub struct Arc {
     pub to: u32,
-    pub room: u32,
-    pub next: u32,
+    pub open: bool,
+    counted: Counted,
+    place: u32,
+    adds: bool,
 }
 
-impl Arc {
-    /// Stands for no arc.
-    const NONE: Arc = Arc {
-        to: 0,
-        room: 0,
-        next: NO_ARC,
-    };
-}
-
-/// Nodes and arcs. The numbers of an arc and of the one that leads back differ in the lowest bit.
+/// The units that flow. They are counted by variable, or by fan-in of a gate, by its number in the
+/// lists of readers.
 #[derive(Drop)]
-pub struct Flow {
-    heads: Vec<u32>,
-    arcs: Vec<Arc>,
-    /// True if memory was refused for an arc: then arcs are missing.
-    refused: bool,
+pub struct Flow<'a> {
+    draft: &'a Draft,
+    may: &'a [bool],
+    starts: &'a [Wish],
+    readers: Readers,
+    /// The units from before a variable to after it, or to the sink.
+    through: Vec<u32>,
+    /// The units from after a gate to before its fan-in.
+    down: Vec<u32>,
+    /// The units from after a fan-in to after the gate.
+    up: Vec<u32>,
 }
 
-impl Flow {
-    /// Returns `nodes` nodes without arcs.
-    pub fn new(memory: &mut Memory, nodes: usize) -> Flow {
-        let heads = memory.table(NO_ARC, nodes);
+impl<'a> Flow<'a> {
+    /// Returns the flow of no units.
+    pub fn new(
+        memory: &mut Memory,
+        draft: &'a Draft,
+        may: &'a [bool],
+        starts: &'a [Wish],
+    ) -> Flow<'a> {
+        let readers = Readers::of(memory, draft, may);
+        let fan_ins = draft.gates.len().saturating_mul(2);
+        let through = memory.table(0u32, draft.size());
+        let down = memory.table(0u32, fan_ins);
+        let up = memory.table(0u32, fan_ins);
         Flow {
-            heads,
-            arcs: memory.nothing(),
-            refused: false,
+            draft,
+            may,
+            starts,
+            readers,
+            through,
+            down,
+            up,
         }
-    }
-
-    /// Puts one arc, without the one that leads back.
-    fn put(&mut self, from: u32, to: u32, room: u32) {
-        let number = number(self.arcs.len());
-        let next = entry(self.heads.as_slice(), from);
-        match self.arcs.push(Arc { to, room, next }) {
-            Ok(()) => set_entry(self.heads.as_mut_slice(), from, number),
-            Err(_) => self.refused = true,
-        }
-    }
-
-    /// Puts an arc from one node to another, with the one that leads back.
-    pub fn join(&mut self, from: u32, to: u32, room: u32) {
-        self.put(from, to, room);
-        self.put(to, from, 0);
-    }
-
-    /// Returns true if memory was refused for an arc.
-    pub fn is_refused(&self) -> bool {
-        self.refused
     }
 
     /// Returns the number of nodes.
     pub fn nodes(&self) -> usize {
-        self.heads.len()
+        self.draft.size().saturating_mul(2)
     }
 
-    /// Returns the first arc from each node.
-    pub fn heads(&self) -> &[u32] {
-        self.heads.as_slice()
+    /// Returns the number of arcs from a node.
+    pub fn many_arcs(&self, node: u32) -> u32 {
+        let var = node / 2;
+        let readers = self.readers.end(var).wrapping_sub(self.readers.begin(var));
+        let own = if node % 2 == 0 { 1 } else { OWN_ARCS };
+        readers.saturating_add(own)
     }
 
-    /// Returns arc `number`.
-    pub fn arc(&self, number: u32) -> Arc {
-        let place = number as usize;
-        if place < self.arcs.len() {
-            self.arcs[place]
+    /// Returns the arc from before a variable to after it, or to the sink.
+    fn through(&self, var: u32) -> Arc {
+        let room = if wish_of(self.starts, var).is_both() {
+            2u32
         } else {
-            Arc::NONE
+            1
+        };
+        Arc {
+            to: if has_mark(self.may, var) {
+                after(var)
+            } else {
+                SINK
+            },
+            open: entry(self.through.as_slice(), var) < room,
+            counted: Counted::Through,
+            place: var,
+            adds: true,
         }
     }
 
-    /// Returns the node from which an arc leads.
-    pub fn tail(&self, number: u32) -> u32 {
-        self.arc(number ^ 1).to
+    /// Returns the arc that takes a unit back that came through a variable.
+    fn back(&self, var: u32) -> Arc {
+        Arc {
+            to: before(var),
+            open: entry(self.through.as_slice(), var) > 0,
+            counted: Counted::Through,
+            place: var,
+            adds: false,
+        }
     }
 
-    /// Sets the room of an arc.
-    fn set_room(&mut self, number: u32, room: u32) {
-        let place = number as usize;
-        if place < self.arcs.len() {
-            let Arc { to, next, .. } = self.arcs[place];
-            self.arcs[place] = Arc { to, room, next };
+    /// Returns the arc from after a gate to before its fan-in `number`, which reads `var`.
+    fn down(&self, number: u32, var: u32) -> Arc {
+        Arc {
+            to: before(var),
+            open: true,
+            counted: Counted::Down,
+            place: number,
+            adds: true,
+        }
+    }
+
+    /// Returns the arc that takes a unit back that went down to fan-in `number`.
+    fn back_down(&self, number: u32) -> Arc {
+        Arc {
+            to: after(self.readers.gate_of(number)),
+            open: entry(self.down.as_slice(), number) > 0,
+            counted: Counted::Down,
+            place: number,
+            adds: false,
+        }
+    }
+
+    /// Returns the arc from after fan-in `number` to after its gate.
+    fn up(&self, number: u32) -> Arc {
+        Arc {
+            to: after(self.readers.gate_of(number)),
+            open: true,
+            counted: Counted::Up,
+            place: number,
+            adds: true,
+        }
+    }
+
+    /// Returns the arc that takes a unit back that went up from fan-in `number`, which reads `var`.
+    fn back_up(&self, number: u32, var: u32) -> Arc {
+        Arc {
+            to: after(var),
+            open: entry(self.up.as_slice(), number) > 0,
+            counted: Counted::Up,
+            place: number,
+            adds: false,
+        }
+    }
+
+    /// Returns an arc from before a variable, by its place: first the one that goes through it.
+    fn arc_before(&self, var: u32, place: u32) -> Arc {
+        if place == 0 {
+            return self.through(var);
+        }
+        let first = self.readers.begin(var).wrapping_sub(1);
+        self.back_down(self.readers.fan_in_at(first.wrapping_add(place)))
+    }
+
+    /// Returns an arc from after a gate, by its place: first those to before its fan-ins.
+    fn arc_after(&self, var: u32, place: u32) -> Arc {
+        if place >= OWN_ARCS {
+            let first = self.readers.begin(var).wrapping_sub(OWN_ARCS);
+            return self.up(self.readers.fan_in_at(first.wrapping_add(place)));
+        }
+        let pair = self.draft.gate(var);
+        let larger = var.wrapping_sub(self.draft.first_gate()).wrapping_mul(2);
+        let smaller = larger.wrapping_add(1);
+        match place {
+            0 => self.down(smaller, pair.smaller.var()),
+            1 => self.down(larger, pair.larger.var()),
+            2 => self.back(var),
+            3 => self.back_up(smaller, pair.smaller.var()),
+            _ => self.back_up(larger, pair.larger.var()),
+        }
+    }
+
+    /// Returns an arc from a node, by its place.
+    pub fn arc(&self, node: u32, place: u32) -> Arc {
+        if node % 2 == 0 {
+            self.arc_before(node / 2, place)
+        } else {
+            self.arc_after(node / 2, place)
         }
     }
 
     /// Sends a unit along an arc.
-    pub fn send(&mut self, number: u32) {
-        let back = number ^ 1;
-        self.set_room(number, self.arc(number).room.saturating_sub(1));
-        self.set_room(back, self.arc(back).room.saturating_add(1));
+    pub fn send(&mut self, arc: Arc) {
+        let units = match arc.counted {
+            Counted::Through => self.through.as_mut_slice(),
+            Counted::Down => self.down.as_mut_slice(),
+            Counted::Up => self.up.as_mut_slice(),
+        };
+        let many = entry(units, arc.place);
+        let many = if arc.adds {
+            many.saturating_add(1)
+        } else {
+            many.saturating_sub(1)
+        };
+        set_entry(units, arc.place, many);
     }
 }

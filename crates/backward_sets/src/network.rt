@@ -7,86 +7,17 @@
 //! that.
 
 use crate::drafts::Draft;
-use crate::flow::{Flow, UNBOUNDED};
+use crate::flow::{Flow, after};
 use crate::search::Search;
-use crate::starts::{Wish, wish_of};
+use crate::starts::Wish;
 use crate::tables::{has_mark, number, set_mark};
 use aig_graph::Memory;
-
-/// Returns the node before a variable.
-fn before(var: u32) -> u32 {
-    var.wrapping_mul(2)
-}
-
-/// Returns the node after a variable.
-fn after(var: u32) -> u32 {
-    before(var).wrapping_add(1)
-}
-
-/// Joins the source to the variables that latches which take part read, and marks these as wanted.
-fn join_latches(flow: &mut Flow, draft: &Draft, wanted: &mut [bool]) {
-    for place in 0..draft.many_latches() {
-        let latch = draft.latch(place);
-        let var = latch.next.var();
-        if latch.takes_part() & !has_mark(wanted, var) {
-            set_mark(wanted, var, true);
-            flow.join(before(draft.end()), before(var), UNBOUNDED);
-        }
-    }
-}
-
-/// Joins a gate that may move to a fan-in.
-fn join_fan_in(flow: &mut Flow, may: &[bool], wanted: &mut [bool], var: u32, fan_in: u32) {
-    set_mark(wanted, fan_in, true);
-    flow.join(after(var), before(fan_in), UNBOUNDED);
-    if has_mark(may, fan_in) {
-        flow.join(after(fan_in), after(var), UNBOUNDED);
-    }
-}
-
-/// Joins all variables that the source reaches, from the last one down.
-fn join_all(flow: &mut Flow, draft: &Draft, may: &[bool], starts: &[Wish], wanted: &mut [bool]) {
-    for var in (0..draft.end()).rev() {
-        if has_mark(wanted, var) {
-            let moves = has_mark(may, var);
-            let to = if moves { var } else { draft.end() };
-            let room = if wish_of(starts, var).is_both() {
-                2u32
-            } else {
-                1
-            };
-            flow.join(before(var), after(to), room);
-            if moves {
-                let pair = draft.gate(var);
-                join_fan_in(flow, may, wanted, var, pair.larger.var());
-                join_fan_in(flow, may, wanted, var, pair.smaller.var());
-            }
-        }
-    }
-}
 
 /// Marks the gates that may move and whose nodes after them a search reaches.
 fn mark_near_side(may: &[bool], search: &Search, marks: &mut [bool]) {
     for var in 0..number(may.len()) {
         set_mark(marks, var, has_mark(may, var) & search.reaches(after(var)));
     }
-}
-
-/// Returns the network of a draft, and marks the variables that the source reaches.
-fn network_of(
-    memory: &mut Memory,
-    draft: &Draft,
-    may: &[bool],
-    starts: &[Wish],
-    wanted: &mut [bool],
-) -> Flow {
-    let mut flow = Flow::new(memory, draft.size().saturating_mul(2).saturating_add(2));
-    join_latches(&mut flow, draft, wanted);
-    join_all(&mut flow, draft, may, starts, wanted);
-    if flow.is_refused() {
-        memory.refuse();
-    }
-    flow
 }
 
 /// Returns by variable if it is in the smallest set of gates whose border takes the fewest latches,
@@ -100,12 +31,12 @@ pub fn least_set(
     starts: &[Wish],
 ) -> (Vec<bool>, u32) {
     let mut marks = memory.table(false, draft.size());
-    let mut flow = network_of(memory, draft, may, starts, marks.as_mut_slice());
+    let mut flow = Flow::new(memory, draft, may, starts);
     let mut search = Search::new(memory, flow.nodes());
     let units = if memory.is_refused() {
         u32::MAX
     } else {
-        search.run(&mut flow, before(draft.end()), after(draft.end()))
+        search.run(memory, &mut flow, draft)
     };
     mark_near_side(may, &search, marks.as_mut_slice());
     (marks, units)

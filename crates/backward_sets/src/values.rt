@@ -42,7 +42,7 @@ impl<'a> Values<'a> {
             known,
             trail,
             count: 0,
-            readers: Readers::of(memory, draft, set),
+            readers: Readers::of(memory, draft, set.inside.as_slice()),
         }
     }
 
