@@ -105,9 +105,7 @@ pub(crate) fn extend(
     region: &Region,
     flows: &mut [GateFlow],
 ) -> Result<Extension, NoMemory> {
-    let Ok(mut waits) = vec![in alloc; false; region.places()] else {
-        return Err(NoMemory);
-    };
+    let mut waits = vec![in alloc; false; region.places()]?;
     note_waiting(region, flows, waits.as_mut_slice());
     clear_gone(region, flows, waits.as_mut_slice());
     Ok(take_all(region, waits.as_mut_slice(), flows))

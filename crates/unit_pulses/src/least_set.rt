@@ -28,9 +28,7 @@ fn shown_by_more(
     ensures { IfOk result (λ shown. IfSome shown (IsChosen choice frame.now.circuit.now
         frame.now.keep.now)) }
 {
-    let Ok(brought) = left.extend(alloc, &Region::of(frame), &mut *spare) else {
-        return Err(NoMemory);
-    };
+    let brought = left.extend(alloc, &Region::of(frame), &mut *spare)?;
     if brought < MANY_BROUGHT {
         return Ok(None);
     }
@@ -53,9 +51,7 @@ fn shown_by_pulses<R: Threads + Sync, G: PhaseGate>(
 {
     let UnitFlow { gates, spare } = flow;
     drop(mem::replace(spare, SpareTables::none(alloc)));
-    let Ok(brought) = bring(rt, alloc, &Region::of(frame), sharing, left) else {
-        return Err(NoMemory);
-    };
+    let brought = bring(rt, alloc, &Region::of(frame), sharing, left)?;
     *gates = brought;
     shown_chosen(alloc, frame, choice, gates.as_slice(), spare)
 }
@@ -100,9 +96,7 @@ fn shown_from_sources<R: Threads + Sync, G: PhaseGate>(
         frame.now.keep.now)) }
 {
     let gates = frame.circuit.aig().gates().len();
-    let Ok(none) = vec![in alloc; GateFlow::none(); gates] else {
-        return Err(NoMemory);
-    };
+    let none = vec![in alloc; GateFlow::none(); gates]?;
     let left = MarkedFlow::new(none, None);
     shown_by_pulses(rt, alloc, frame, choice, sharing, left, flow)
 }
@@ -138,9 +132,7 @@ pub fn chosen_least_brought<R: Threads + Sync, G: PhaseGate>(
     if sharing.from_sources {
         return shown_from_sources(rt, alloc, frame, choice, sharing, flow);
     }
-    let Ok(Started { set, marks }) = start_along(alloc, frame, choice, &mut *flow) else {
-        return Err(NoMemory);
-    };
+    let Started { set, marks } = start_along(alloc, frame, choice, &mut *flow)?;
     if let Some(set) = set {
         if let Some(marks) = marks {
             flow.spare.keep_marks(marks);
@@ -168,9 +160,7 @@ pub fn first_flow<R: Threads + Sync, G: PhaseGate>(
     crew: &Crew<G>,
 ) -> Result<Vec<GateFlow>, NoMemory> {
     let mut flows = Vec::new(alloc);
-    let Ok(leaves) = start_in(alloc, region, &mut flows) else {
-        return Err(NoMemory);
-    };
+    let leaves = start_in(alloc, region, &mut flows)?;
     if !leaves {
         return Ok(flows);
     }

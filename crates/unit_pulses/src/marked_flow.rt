@@ -34,10 +34,7 @@ impl MarkedFlow {
         region: &Region,
         spare: &mut SpareTables,
     ) -> Result<usize, NoMemory> {
-        let Ok(Extension { taken, brought }) = extend(alloc, region, self.flows.as_mut_slice())
-        else {
-            return Err(NoMemory);
-        };
+        let Extension { taken, brought } = extend(alloc, region, self.flows.as_mut_slice())?;
         if taken > 0 {
             if let Some(marks) = mem::replace(&mut self.marks, None) {
                 spare.keep_marks(marks);
