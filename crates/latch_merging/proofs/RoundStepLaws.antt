@@ -1,33 +1,12 @@
 -- Steps of the loops over latches.
-use Rattle.std.proofs.Common.{zero-add, ℕ, ◌+◌, ◌<◌, ◌≤◌, ◌≡◌, List, [], ◌∷◌, ◌++◌, length, take, Bool, not, nat_eq, Some, slice_get, get_or, refl, arith, ap, sym, ◌∙◌, add-one}
-use Rattle.std.proofs.Math.Seq.{take-suc}
-use Rattle.std.proofs.lemmas.List.{get_or_default}
+use Rattle.std.proofs.Common.{zero-add, ℕ, ◌+◌, ◌≤◌, ◌≡◌, List, [], ◌∷◌, ◌++◌, length, Some, slice_get, ap, sym, ◌∙◌}
 use Rattle.aig_graph.specs.declared.graph.Latch.{Latch}
-use Rattle.aig_graph.specs.Graph.{Graph, first_latch, variables_end}
+use Rattle.aig_graph.specs.Graph.{Graph}
 use Rattle.aig_graph.specs.Tables.{table}
-use Rattle.cleaned_circuits.specs.Merged.{merging_from, substitutes_after}
-use Rattle.cleaned_circuits.proofs.SubstituteLaws.{length-merge_gates}
-use Rattle.merged_circuits.specs.Readings.{from_reset, leaves, own_literal, read, substitutes_by, signature}
-use Rattle.merged_circuits.proofs.ReadingLaws.{length-leaves}
+use Rattle.merged_circuits.specs.Readings.{from_reset, read, substitutes_by, signature}
 use Rattle.latch_merging.specs.declared.signature.Signature.{Signature}
-use Rattle.merged_circuits.specs.Counts.{is_merged}
 use Rattle.latch_merging.specs.Rounds.{first_read, first_round, next_read, round_by, signature_of}
-use Rattle.clean.specs.Substitutions.{from_first, own_literals}
 use Rattle.aig_graph.proofs.TableLaws.{entry, table-end}
-
--- for each variable there stands a literal
-pub substitutes_by-long : (g : Graph) (reads : List ℕ) → length reads ≡ length g.latches → length (substitutes_by g reads) ≡ variables_end g
-unfolding substitutes_after
-substitutes_by-long g reads long = omega (arith, length-merge_gates g.gates (merging_from (leaves g reads)), length-leaves g [] reads, long)
-
--- what is known before the gates, as the substitution has it
-pub leaves-is : (g : Graph) (reads : List ℕ) → from_first (first_latch g) reads ≡ leaves g reads
-unfolding from_first own_literals leaves
-leaves-is g reads = refl
-
--- one more element at the end
-pub take-more : (xs : List ℕ) (k x : ℕ) → k < length xs → x ≡ get_or xs k x → take (k + 1) xs ≡ take k xs ++ x ∷ []
-take-more xs k x h e = ap (λ (n : ℕ). take n xs) (add-one k) ∙ take-suc xs k x h ∙ ap (λ (z : ℕ). take k xs ++ z ∷ []) (sym e)
 
 -- one more entry of what the first round begins with
 pub first-more : (g : Graph) (held : List ℕ) (k : ℕ) (latch : Latch) (old new : List ℕ) (lit : ℕ) → slice_get g.latches k ≡ Some latch
@@ -63,12 +42,3 @@ signature-is g reads substitutes k latch lit key by at class literal =
     let one : ℕ → Signature = λ n. record { class = n; literal = key.literal } in
     let two : ℕ → Signature = λ n. record { class = from_reset latch.reset (read reads k); literal = n } in
     ap one (class ∙ ap (from_reset latch.reset) at) ∙ ap two (literal ∙ ap (λ (xs : List ℕ). signature xs latch) by)
-
--- what the loop reads
-pub item-read : (reads : List ℕ) (k lit : ℕ) → k < length reads → lit ≡ get_or reads k lit → lit ≡ read reads k
-item-read reads k lit h e = e ∙ get_or_default reads k lit 0 h
-
--- whether a latch reads as another
-pub merged-is : (g : Graph) (reads : List ℕ) (k lit own : ℕ) (ne : Bool) → k < length reads → lit ≡ get_or reads k lit → own ≡ own_literal g k → ne ≡ not (nat_eq lit own) → ne ≡ is_merged g reads k
-merged-is g reads k lit own ne h e is signature_ne =
-    signature_ne ∙ ap (λ (n : ℕ). not (nat_eq n own)) (item-read reads k lit h e) ∙ ap (λ (n : ℕ). not (nat_eq (read reads k) n)) is

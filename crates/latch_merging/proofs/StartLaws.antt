@@ -4,7 +4,7 @@ use Rattle.std.specs.Result.{IfOk}
 use Rattle.std.specs.List.{All}
 use Rattle.std.proofs.lemmas.List.{length-map}
 use Rattle.aig_graph.specs.Circuits.{Netlist}
-use Rattle.aig_graph.specs.Graph.{free_latches}
+use Rattle.aig_graph.specs.Graph.{IsGraph, free_latches}
 use Rattle.aig_graph.specs.Laws.{all_free}
 use Rattle.aig_graph.specs.Streams.{SameStreams}
 use Rattle.aig_graph.proofs.StreamLaws.{same_streams-transitive, composed-every}
@@ -15,6 +15,7 @@ use Rattle.merged_circuits.specs.Readings.{substitutes_by}
 use Rattle.retimed_circuits.specs.Frames.{CleansTo}
 use Rattle.retimed_circuits.specs.Merging.{MergesIn}
 use Rattle.retimed_circuits.specs.Names.{StayHeld}
+use Rattle.merged_circuits.proofs.MergingLaws.{merged-by}
 use Rattle.retimed_circuits.proofs.HeldLaws.{merging-keeps}
 use Rattle.retimed_circuits.proofs.StayLaws.{stays-then}
 use Rattle.clean.specs.declared.cleaning.Cleaned.{Cleaned}
@@ -53,12 +54,12 @@ module _ {E : Type 0} (held : List ℕ) (c : Netlist) (d : Cleaned) where
 
   -- in what merging the cleaned circuit returned, the held latches are those of the circuit before
   -- cleaning
-  pub stay-by : (r : Result MergedStart E) → StayHeld held c d.keep d.circuit → IfOk r (λ m. IsMerged d.keep d.circuit m.circuit) → IfOk r (λ m. m.keep ≡ d.keep)
+  pub stay-by : (r : Result MergedStart E) → IsGraph d.circuit.aig → StayHeld held c d.keep d.circuit → IfOk r (λ m. IsMerged d.keep d.circuit m.circuit) → IfOk r (λ m. m.keep ≡ d.keep)
       → IfOk r (λ m. StayHeld held c m.keep m.circuit)
-  stay-by (Ok m) first merged stay =
+  stay-by (Ok m) valid first merged stay =
       subst (λ (positions : List ℕ). StayHeld held c positions m.circuit) (sym stay)
-      (stays-then held d.keep d.keep c d.circuit m.circuit first (merging-keeps d.keep d.circuit m.circuit merged))
-  stay-by (Err e) first merged stay = tt
+      (stays-then held d.keep d.keep c d.circuit m.circuit first (merging-keeps d.keep merged.reads d.circuit m.circuit (merged-by d.keep d.circuit m.circuit valid merged)))
+  stay-by (Err e) valid first merged stay = tt
 
   -- and they are in range
   pub in_range-by : (r : Result MergedStart E) → All (λ j. j < length d.circuit.aig.latches) d.keep → IfOk r (λ m. IsMerged d.keep d.circuit m.circuit) → IfOk r (λ m. m.keep ≡ d.keep)

@@ -17,10 +17,11 @@ ghost use Rattle.latch_merging.specs.Names.{IsRough};
 ghost use Rattle.latch_merging.specs.Rounds.{next_round};
 
 use crate::reading::{latch_reading, merged_by};
-use crate::rounds::{first_round, merged_latches, next_round};
+use crate::rounds::{first_round, next_round};
 use crate::splitting::split_reading;
 use aig_graph::{Aig, Circuit, Keep, Lit, NoMemory};
 use clean::Held;
+use latch_readings::merged_latches;
 use merged_circuits::MergeCounts;
 use std::alloc::Global;
 

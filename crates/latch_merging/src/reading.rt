@@ -7,11 +7,12 @@ ghost use Rattle.aig_graph.specs.Laws.{all_free};
 ghost use Rattle.aig_graph.specs.Streams.{SameStreams};
 ghost use Rattle.merged_circuits.specs.Counts.{AreCounts};
 ghost use Rattle.merged_circuits.specs.Partitions.{IsCoarsest, IsMerged};
+ghost use Rattle.merged_circuits.specs.Preserved.{IsMergedBy, IsPreserved};
 
 use crate::merging::{MergedCircuit, coarsest_reading};
-use crate::rounds::{counts_of, substitutes_by};
 use aig_graph::{Circuit, Keep, Lit, NoMemory};
 use clean::{Held, replaced_circuit};
+use latch_readings::{counts_of, substitutes_by};
 use std::alloc::Global;
 
 /// Returns what each latch reads as if latches that always agree are merged.
@@ -23,7 +24,8 @@ use std::alloc::Global;
 ///
 /// `NoMemory` if memory is refused.
 pub fn latch_reading(alloc: Global, circuit: &Circuit, keep: &Keep) -> Result<Vec<Lit>, NoMemory>
-    ensures { IfOk result (λ reads. IsCoarsest circuit.now.aig keep.now reads.items) }
+    ensures coarsest { IfOk result (λ reads. IsCoarsest circuit.now.aig keep.now reads.items) }
+    ensures preserved { IfOk result (λ reads. IsPreserved circuit.now.aig keep.now reads.items) }
 {
     let aig = circuit.aig();
     let held = Held::new(alloc, keep.positions(), aig.latches().len())?;
@@ -47,6 +49,8 @@ pub fn merged_by(
 ) -> Result<MergedCircuit, NoMemory>
     requires { IsCoarsest circuit.now.aig keep.now reads.items }
     ensures merged { IfOk result (λ after. IsMerged keep.now circuit.now after.circuit) }
+    ensures by { IfOk result (λ after. IsMergedBy keep.now reads.items circuit.now
+        after.circuit) }
     ensures counted { IfOk result (λ after. AreCounts circuit.now.aig keep.now after.counts) }
     ensures streams { IfOk result (λ after. SameStreams circuit.now after.circuit
         (all_free circuit.now.aig)) }

@@ -7,41 +7,14 @@ ghost use Rattle.std.specs.Prelude.{◌≡◌, ◌<◌, ◌∷◌, [], slice_get
 ghost use Rattle.std.specs.Map.{lookup};
 ghost use Rattle.aig_graph.specs.Graph.{variable};
 ghost use Rattle.cleaned_circuits.specs.Merged.{substitute_or_own};
-ghost use Rattle.merged_circuits.specs.Readings.{from_reset, may_merge, substitutes_by, signature};
-ghost use Rattle.merged_circuits.specs.Counts.{constant_latches, counts_of, is_constant, merged_latches};
+ghost use Rattle.merged_circuits.specs.Readings.{from_reset, substitutes_by, signature};
 ghost use Rattle.latch_merging.specs.Rounds.{constant_signature, entries_by_signature, first_read, first_round, has_signature, next_round, read_by_signature, entries_after};
 
 use crate::signature::{FirstOfSignature, Signature};
 use aig_graph::{Aig, Latch, Lit, NoMemory, Reset};
-use clean::{Held, Substitution, constant_of, merge_gates, own_literal};
-use merged_circuits::MergeCounts;
+use clean::{Held, Substitution, constant_of, own_literal};
+use latch_readings::{may_merge, substitutes_by};
 use std::alloc::Global;
-
-/// Returns true if the latch at a place may be merged.
-pub(crate) fn may_merge(held: &Held<'_>, place: usize, latch: &Latch) -> bool
-    requires { place < length held.now.marks.items }
-    ensures { result ≡ may_merge held.now.positions.now place latch.now }
-{
-    let is_held = held.has(place);
-    latch.reset != Reset::Free && !is_held
-}
-
-/// Returns the literal that stands for each variable if latches read as `reads` says.
-pub(crate) fn substitutes_by(
-    alloc: Global,
-    aig: &Aig,
-    reads: &[Lit],
-) -> Result<Substitution, NoMemory>
-    requires { length reads.now ≡ length aig.now.latches }
-    ensures { IfOk result (λ substitutes. substitutes ≡ substitutes_by aig.now reads.now) }
-{
-    let mut substitutes = Substitution::new(alloc, aig.first_latch(), aig.latches_and_gates())?;
-    for lit in reads {
-        substitutes.push(*lit)?;
-    }
-    merge_gates(alloc, aig, &mut substitutes)?;
-    Ok(substitutes)
-}
 
 /// Returns what a latch reads as before the first round.
 pub(crate) fn first_read(aig: &Aig, held: &Held<'_>, place: usize, latch: &Latch) -> Lit
@@ -186,44 +159,4 @@ pub(crate) fn next_round(
     let next = next_by(alloc, aig, held, reads, &substitutes);
     drop(substitutes);
     next
-}
-
-/// Counts the latches that read as another.
-pub(crate) fn merged_latches(aig: &Aig, reads: &[Lit]) -> usize
-    requires { length reads.now ≡ length aig.now.latches }
-    ensures { result ≡ merged_latches aig.now reads.now }
-{
-    let mut merged = 0;
-    for (place, lit) in reads.iter().enumerate() {
-        if *lit != own_literal(aig, place) {
-            merged += 1;
-        }
-    }
-    merged
-}
-
-fn is_constant(lit: Lit) -> bool
-    ensures { result ≡ is_constant lit }
-{
-    lit.var() == 0
-}
-
-/// Counts the latches that read as a constant.
-fn constant_latches(reads: &[Lit]) -> usize
-    ensures { result ≡ constant_latches reads.now }
-{
-    reads.iter().filter(|lit| is_constant(**lit)).count()
-}
-
-/// Counts the latches that read as another, and those of them that read as a constant.
-pub(crate) fn counts_of(aig: &Aig, reads: &[Lit]) -> MergeCounts
-    requires { length reads.now ≡ length aig.now.latches }
-    ensures { result ≡ counts_of aig.now reads.now }
-{
-    // Tells the prover that 32 bits count the latches.
-    aig.known();
-    MergeCounts {
-        merged: merged_latches(aig, reads) as u32,
-        constant: constant_latches(reads) as u32,
-    }
 }

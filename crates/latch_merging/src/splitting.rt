@@ -19,10 +19,11 @@ use crate::groups::{Classes, Groups};
 use crate::marks::Marks;
 use crate::pairs::PairNames;
 use crate::readers::{Marked, Readers};
-use crate::rounds::{may_merge, next_read};
+use crate::rounds::next_read;
 use crate::signature::{FirstOfSignature, Signature};
 use aig_graph::{Aig, Gate, Latch, Lit, NoMemory};
 use clean::{Held, constant_of};
+use latch_readings::may_merge;
 use std::alloc::Global;
 
 /// Returns the name of a literal. `names` has those of the variables from the first latch on; each

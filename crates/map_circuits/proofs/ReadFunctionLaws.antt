@@ -64,8 +64,8 @@ same-states c d kept holds to on same p = record {
 
 -- A map to a circuit, with the constraints of a merging, is one to what the circuit is merged to.
 -- Each latch has the function of its reading.
-pub merged-step : (c d e : Netlist) (held kept : List ℕ) (g h : Graph) (functions old new : List ℕ) → MergedStep c d e held kept g h functions old new
-merged-step c d e held kept g h functions old new valid netlist merged graph all many free p adds =
-    same-states c e kept (AreOne h new) (state_of h functions) (state_of h (read_functions (first_latch d.aig) functions merged.reads))
-    (λ s ones. read-state d.aig held merged.reads functions merged.coarsest.kept.reading many g h old new graph all adds s ones)
-    (merging-step c d e held kept g h functions old new valid netlist merged graph all many free p adds)
+pub merged-step : (c d e : Netlist) (held reads kept : List ℕ) (g h : Graph) (functions old new : List ℕ) → MergedStep c d e held reads kept g h functions old new
+merged-step c d e held reads kept g h functions old new valid netlist merged graph all many free p adds =
+    same-states c e kept (AreOne h new) (state_of h functions) (state_of h (read_functions (first_latch d.aig) functions reads))
+    (λ s ones. read-state d.aig held reads functions merged.preserved.reading many g h old new graph all adds s ones)
+    (merging-step c d e held reads kept g h functions old new valid netlist merged graph all many free p adds)

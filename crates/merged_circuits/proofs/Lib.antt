@@ -1,4 +1,5 @@
 pub mod ReadingLaws
+pub mod ShownLaws
 pub mod ValueLaws
 pub mod MergingLaws
 pub mod FinerLaws

@@ -9,21 +9,20 @@ use Rattle.aig_graph.proofs.StreamLaws.{same_streams-reflexive}
 use Rattle.cleaned_circuits.specs.Merged.{replaced, replaced_graph, replaced_circuit}
 use Rattle.cleaned_circuits.proofs.SubstituteLaws.{after-within}
 use Rattle.cleaned_circuits.proofs.MergedLaws.{SubstitutesWithin, SubstitutesRight, IsGraph-replaced, IsNetlist-replaced, replaced-properties, replaced-inputs, length-replaced_latches, replaced-free_before}
-use Rattle.merged_circuits.specs.Readings.{leaves, substitutes_by}
-use Rattle.merged_circuits.specs.Partitions.{IsInductive, IsMerged}
+use Rattle.merged_circuits.specs.Readings.{IsReading, leaves, substitutes_by}
+use Rattle.merged_circuits.specs.Preserved.{IsPreserved, IsMergedBy}
+use Rattle.merged_circuits.specs.Partitions.{IsMerged}
 use Rattle.merged_circuits.proofs.ReadingLaws.{are-leaves}
+use Rattle.merged_circuits.proofs.ShownLaws.{inductive-preserved}
 use Rattle.merged_circuits.proofs.ValueLaws.{substitutes_by-value}
 
-module _ (held reads : List ℕ) (c : Netlist) (valid : IsGraph c.aig) (kept : IsInductive c.aig held reads) where
+module _ (held reads : List ℕ) (c : Netlist) (valid : IsGraph c.aig) (reading : IsReading c.aig held reads) where
   abbrev substitutes : List ℕ
   substitutes = substitutes_by c.aig reads
 
   -- no literal of a later variable stands for one
   pub kept-within : SubstitutesWithin c.aig (substitutes_by c.aig reads)
-  kept-within = after-within c.aig (leaves c.aig reads) (are-leaves c.aig held reads kept.reading) valid
-
-  kept-right : SubstitutesRight c.aig (substitutes_by c.aig reads)
-  kept-right x f t lit h = substitutes_by-value c.aig held reads valid kept x f t lit h
+  kept-within = after-within c.aig (leaves c.aig reads) (are-leaves c.aig held reads reading) valid
 
   -- what is made of a graph is one
   pub IsGraph-kept : IsGraph (replaced_circuit (substitutes_by c.aig reads) c).aig
@@ -33,33 +32,54 @@ module _ (held reads : List ℕ) (c : Netlist) (valid : IsGraph c.aig) (kept : I
   pub IsNetlist-kept : IsNetlist c → IsNetlist (replaced_circuit (substitutes_by c.aig reads) c)
   IsNetlist-kept netlist = IsNetlist-replaced substitutes c valid netlist kept-within
 
-  -- with its streams
+module _ (held reads : List ℕ) (c : Netlist) (valid : IsGraph c.aig) (kept : IsPreserved c.aig held reads) where
+  kept-right : SubstitutesRight c.aig (substitutes_by c.aig reads)
+  kept-right x f t lit h = substitutes_by-value c.aig held reads valid kept x f t lit h
+
+  -- what is made of a circuit by a reading that steps preserve has its streams
   pub kept-streams : IsNetlist c → SameStreams c (replaced_circuit (substitutes_by c.aig reads) c) (all_free c.aig)
   kept-streams netlist =
-      let d : Netlist = replaced_circuit substitutes c in
+      let d : Netlist = replaced_circuit (substitutes_by c.aig reads) c in
       let same : SameStreams c c (all_free c.aig) = same_streams-reflexive c in
       let free : free_latches d.aig ≡ free_latches c.aig =
-      replaced-free_before substitutes c.aig (length (replaced_graph substitutes c.aig).latches) ∙ ap (free_before c.aig) (length-replaced_latches substitutes c.aig) in
+      replaced-free_before (substitutes_by c.aig reads) c.aig (length (replaced_graph (substitutes_by c.aig reads) c.aig).latches)
+      ∙ ap (free_before c.aig) (length-replaced_latches (substitutes_by c.aig reads) c.aig) in
       record {
-        shape = mapped-shape (replaced substitutes) c d (replaced-inputs substitutes c.aig) refl;
+        shape = mapped-shape (replaced (substitutes_by c.aig reads)) c d (replaced-inputs (substitutes_by c.aig reads) c.aig) refl;
         places = record { rising = same.places.rising; below = same.places.below; each = same.places.each ∙ sym free };
-        values = λ x f t. replaced-properties substitutes c valid netlist kept-within kept-right x (chosen (all_free c.aig) f) t ∙ same.values x f t;
+        values = λ x f t. replaced-properties (substitutes_by c.aig reads) c valid netlist (kept-within held reads c valid kept.reading) kept-right x (chosen (all_free c.aig) f) t ∙ same.values x f t;
       }
 
 -- the streams of a merged circuit
-pub merged-streams : (held : List ℕ) (c d : Netlist) → IsGraph c.aig → IsNetlist c → IsMerged held c d → SameStreams c d (all_free c.aig)
-merged-streams held c d valid netlist merged =
+pub merged_by-streams : (held reads : List ℕ) (c d : Netlist) → IsGraph c.aig → IsNetlist c → IsMergedBy held reads c d → SameStreams c d (all_free c.aig)
+merged_by-streams held reads c d valid netlist merged =
     let P : Netlist → Type 0 = λ e. SameStreams c e (all_free c.aig) in
-    subst P (sym merged.circuit) (kept-streams held merged.reads c valid merged.coarsest.kept netlist)
+    subst P (sym merged.circuit) (kept-streams held reads c valid merged.preserved netlist)
 
 -- a merged circuit has a graph
-pub IsGraph-merged_latches : (held : List ℕ) (c d : Netlist) → IsGraph c.aig → IsMerged held c d → IsGraph d.aig
-IsGraph-merged_latches held c d valid merged =
+pub IsGraph-merged_by : (held reads : List ℕ) (c d : Netlist) → IsGraph c.aig → IsMergedBy held reads c d → IsGraph d.aig
+IsGraph-merged_by held reads c d valid merged =
     let P : Netlist → Type 0 = λ e. IsGraph e.aig in
-    subst P (sym merged.circuit) (IsGraph-kept held merged.reads c valid merged.coarsest.kept)
+    subst P (sym merged.circuit) (IsGraph-kept held reads c valid merged.preserved.reading)
+
+-- and is in order
+pub IsNetlist-merged_by : (held reads : List ℕ) (c d : Netlist) → IsGraph c.aig → IsNetlist c → IsMergedBy held reads c d → IsNetlist d
+IsNetlist-merged_by held reads c d valid netlist merged =
+    let P : Netlist → Type 0 = λ e. IsNetlist e in
+    subst P (sym merged.circuit) (IsNetlist-kept held reads c valid merged.preserved.reading netlist)
+
+-- steps preserve the coarsest inductive reading, by which a circuit is merged
+pub merged-by : (held : List ℕ) (c d : Netlist) → IsGraph c.aig → (merged : IsMerged held c d) → IsMergedBy held merged.reads c d
+merged-by held c d valid merged = record { preserved = inductive-preserved c.aig held merged.reads valid merged.coarsest.kept; circuit = merged.circuit }
+
+-- so it has the streams of the circuit
+pub merged-streams : (held : List ℕ) (c d : Netlist) → IsGraph c.aig → IsNetlist c → IsMerged held c d → SameStreams c d (all_free c.aig)
+merged-streams held c d valid netlist merged = merged_by-streams held merged.reads c d valid netlist (merged-by held c d valid merged)
+
+-- and a graph
+pub IsGraph-merged_latches : (held : List ℕ) (c d : Netlist) → IsGraph c.aig → IsMerged held c d → IsGraph d.aig
+IsGraph-merged_latches held c d valid merged = IsGraph-merged_by held merged.reads c d valid (merged-by held c d valid merged)
 
 -- and is in order
 pub IsNetlist-merged_latches : (held : List ℕ) (c d : Netlist) → IsGraph c.aig → IsNetlist c → IsMerged held c d → IsNetlist d
-IsNetlist-merged_latches held c d valid netlist merged =
-    let P : Netlist → Type 0 = λ e. IsNetlist e in
-    subst P (sym merged.circuit) (IsNetlist-kept held merged.reads c valid merged.coarsest.kept netlist)
+IsNetlist-merged_latches held c d valid netlist merged = IsNetlist-merged_by held merged.reads c d valid netlist (merged-by held c d valid merged)

@@ -1,24 +1,23 @@
 -- Each latch has at each step the value of what it reads as.
-use Rattle.std.proofs.Common.{ℕ, ◌+◌, ◌-◌, ◌*◌, ◌<◌, ◌≡◌, inl, inr, suc, zero, List, Bool, true, false, not, Some, slice_get, get_or, refl, arith, ap, sym, ◌∙◌, add-one}
+use Rattle.std.proofs.Common.{ℕ, ◌<◌, ◌≡◌, suc, zero, List, Bool, true, false, not, Some, slice_get, refl, arith, ap, sym, ◌∙◌, add-one}
 use Rattle.std.proofs.Math.Bool.{not-not}
-use Rattle.std.proofs.lemmas.Bool.{cases_lt, and_parts, not-true}
+use Rattle.std.proofs.lemmas.Bool.{and_parts, not-true}
 use Rattle.aig_graph.specs.declared.graph.Latch.{Latch}
 use Rattle.aig_graph.specs.declared.graph.Reset.{Reset}
 use Rattle.aig_graph.specs.declared.graph.Reset.TheVariants.{Zero, One, Free}
-use Rattle.aig_graph.specs.Graph.{Graph, IsGraph, variable, variables_end, first_latch, first_gate, is_free, free_before}
+use Rattle.aig_graph.specs.Gates.{Respects, gates_of}
+use Rattle.aig_graph.specs.Graph.{Graph, IsGraph, variable, variables_end, is_free, free_before}
 use Rattle.aig_graph.specs.Value.{Inputs, Choice, value, signed, opening}
 use Rattle.aig_graph.specs.Laws.{ValueLaws}
 use Rattle.aig_graph.proofs.ValueLaws.{value_laws}
 use Rattle.aig_graph.proofs.SignLaws.{value_signed_as}
-use Rattle.aig_graph.proofs.KindLaws.{element}
 use Rattle.aig_graph.specs.Marking.{has}
 use Rattle.cleaned_circuits.specs.Latches.{constant_of}
 use Rattle.cleaned_circuits.specs.Merged.{replaced}
 use Rattle.cleaned_circuits.proofs.LatchLaws.{constant-even}
-use Rattle.cleaned_circuits.proofs.SubstituteLaws.{replaced_after-value}
-use Rattle.merged_circuits.specs.Readings.{own_literal, read, may_merge, from_reset, ReadsAs, as_itself, as_constant, as_first, leaves, substitutes_by, signature}
-use Rattle.merged_circuits.specs.Partitions.{IsInductive}
-use Rattle.merged_circuits.proofs.ReadingLaws.{leaf-low, leaf-latch, are-leaves}
+use Rattle.merged_circuits.specs.Readings.{own_literal, read, may_merge, from_reset, ReadsAs, as_itself, as_constant, as_first, substitutes_by}
+use Rattle.merged_circuits.specs.Preserved.{Agrees, IsPreserved, told}
+use Rattle.merged_circuits.proofs.ShownLaws.{substitutes-value}
 
 -- a value negated if the reset is 1
 abbrev pub flipped : Reset → Bool → Bool
@@ -40,7 +39,7 @@ opening-known Free next b known = absurd (cc)
 pub may-known : (held : List ℕ) (j : ℕ) (latch : Latch) → may_merge held j latch ≡ true → is_free latch ≡ false
 may-known held j latch may = not-true (is_free latch) (and_parts (not (is_free latch)) (not (has held j)) may).0
 
-module _ (g : Graph) (held reads : List ℕ) (valid : IsGraph g) (kept : IsInductive g held reads) (x : Inputs) (f : Choice) where
+module _ (g : Graph) (held reads : List ℕ) (valid : IsGraph g) (kept : IsPreserved g held reads) (x : Inputs) (f : Choice) where
   laws : ValueLaws g x f
   laws = value_laws g valid x f
 
@@ -55,24 +54,8 @@ module _ (g : Graph) (held reads : List ℕ) (valid : IsGraph g) (kept : IsInduc
   constant-value t One = laws.negation t 0 ∙ ap not (laws.constant t)
   constant-value t Free = laws.constant t
 
-  -- each latch has its value at step t
-  abbrev Agree : ℕ → Type 0
-  Agree t = (j : ℕ) (latch : Latch) → slice_get g.latches j ≡ Some latch → vals t (read reads j) ≡ vals t (own_literal g j)
-
-  leaf-value : (t : ℕ) → Agree t → (v : ℕ) → v < first_gate g → vals t (get_or (leaves g reads) v 0) ≡ vals t (2 * v)
-  leaf-value t agree v h = elim (cases_lt v (first_latch g)) [
-    | inl low ↦ ap (vals t) (leaf-low g held reads v low)
-    | inr past ↦ (
-        let there = element g.latches (v - first_latch g) (omega arith) in
-        let place : first_latch g + (v - first_latch g) ≡ v = omega arith in
-        ap (λ (w : ℕ). vals t (get_or (leaves g reads) w 0)) (sym place) ∙ ap (vals t) (leaf-latch g held reads (v - first_latch g))
-        ∙ agree (v - first_latch g) there.0 there.1 ∙ ap (λ (w : ℕ). vals t (2 * w)) place)
-  ]
-
-  signature-value : (t : ℕ) → Agree t → (j : ℕ) (latch : Latch) → slice_get g.latches j ≡ Some latch → vals t (signature (substitutes_by g reads) latch) ≡ flipped latch.reset (vals t latch.next)
-  signature-value t agree j latch there =
-      from_reset-value t latch.reset (replaced (substitutes_by g reads) latch.next)
-      ∙ ap (flipped latch.reset) (replaced_after-value g (leaves g reads) (are-leaves g held reads kept.reading) valid x f t (leaf-value t agree) latch.next (valid.latches j latch there))
+  respects : (t : ℕ) → Respects (gates_of g) (vals t)
+  respects t = record { constant = laws.constant t; negation = laws.negation t; gates = laws.gate t }
 
   begins : (j : ℕ) (latch : Latch) → slice_get g.latches j ≡ Some latch → is_free latch ≡ false → vals 0 (own_literal g j) ≡ flipped latch.reset false
   begins j latch there known = laws.latch_at_start j latch there ∙ opening-known latch.reset latch.next (f (free_before g j)) known
@@ -95,26 +78,27 @@ module _ (g : Graph) (held reads : List ℕ) (valid : IsGraph g) (kept : IsInduc
       ∙ ap (flipped latch.reset) (flipped-twice first.reset false)
       ∙ sym (begins j latch there (may-known held j latch may))
 
-  at-later : (t : ℕ) → Agree t → (j : ℕ) (latch : Latch) (lit : ℕ) → slice_get g.latches j ≡ Some latch → read reads j ≡ lit → ReadsAs g held reads j latch lit → vals (suc t) lit ≡ vals (suc t) (own_literal g j)
+  at-later : (t : ℕ) → Agrees g reads (vals t) → (j : ℕ) (latch : Latch) (lit : ℕ) → slice_get g.latches j ≡ Some latch → read reads j ≡ lit → ReadsAs g held reads j latch lit
+      → vals (suc t) lit ≡ vals (suc t) (own_literal g j)
   at-later t agree j latch lit there is (as_itself e) = ap (vals (suc t)) e
   at-later t agree j latch lit there is (as_constant may e) =
-      let zero_signature : signature (substitutes_by g reads) latch ≡ 0 = kept.constants j latch there (omega (arith, is, e, constant-even latch.reset)) in
-      let stays : flipped latch.reset (vals t latch.next) ≡ false = sym (signature-value t agree j latch there) ∙ ap (vals t) zero_signature ∙ laws.constant t in
+      let zero_told : vals t (told latch) ≡ vals t 0 = kept.constants j latch there (omega (arith, is, e, constant-even latch.reset)) (vals t) (respects t) agree in
+      let stays : flipped latch.reset (vals t latch.next) ≡ false = sym (from_reset-value t latch.reset latch.next) ∙ zero_told ∙ laws.constant t in
       ap (vals (suc t)) e ∙ constant-value (suc t) latch.reset ∙ ap (flipped latch.reset) (sym stays)
       ∙ flipped-twice latch.reset (vals t latch.next) ∙ sym (later t j latch there)
   at-later t agree j latch lit there is (as_first i first less first_there may may_first own e) =
-      let same : signature (substitutes_by g reads) latch ≡ signature (substitutes_by g reads) first = kept.alike j i latch first there first_there (omega (arith, is, e)) in
+      let same : vals t (told latch) ≡ vals t (told first) = kept.alike j i latch first there first_there (omega (arith, is, e)) (vals t) (respects t) agree in
       let both : flipped first.reset (vals t first.next) ≡ flipped latch.reset (vals t latch.next) =
-      sym (signature-value t agree i first first_there) ∙ ap (vals t) (sym same) ∙ signature-value t agree j latch there in
+      sym (from_reset-value t first.reset first.next) ∙ sym same ∙ from_reset-value t latch.reset latch.next in
       first-value (suc t) j i latch first lit e
       ∙ ap (λ (b : Bool). flipped latch.reset (flipped first.reset b)) (later t i first first_there)
       ∙ ap (flipped latch.reset) both ∙ flipped-twice latch.reset (vals t latch.next) ∙ sym (later t j latch there)
 
   -- by induction on the steps
-  pub agree-always : (t : ℕ) → Agree t
+  pub agree-always : (t : ℕ) → Agrees g reads (vals t)
   agree-always zero = λ j latch there. at-start j latch (read reads j) there (kept.reading.each j latch there)
   agree-always (suc t) = λ j latch there. at-later t (agree-always t) j latch (read reads j) there refl (kept.reading.each j latch there)
 
   -- what stands for a literal has its value
   pub substitutes_by-value : (t lit : ℕ) → variable lit < variables_end g → value g x f t (replaced (substitutes_by g reads) lit) ≡ value g x f t lit
-  substitutes_by-value t lit h = replaced_after-value g (leaves g reads) (are-leaves g held reads kept.reading) valid x f t (leaf-value t (agree-always t)) lit h
+  substitutes_by-value t lit h = substitutes-value g held reads valid kept.reading (vals t) (respects t) (agree-always t) lit h

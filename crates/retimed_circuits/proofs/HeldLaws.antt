@@ -20,7 +20,7 @@ use Rattle.cleaned_circuits.specs.Cleaned.{IsPass}
 use Rattle.cleaned_circuits.proofs.HeldLaws.{still-in_range}
 use Rattle.cleaned_circuits.proofs.PassLaws.{IsCircuit, IsCircuit-pass}
 use Rattle.cleaned_circuits.proofs.TrimmedLaws.{latch_in as trimmed-latch, new-from, new-less, stays-reached}
-use Rattle.merged_circuits.specs.Partitions.{IsMerged}
+use Rattle.merged_circuits.specs.Preserved.{IsMergedBy}
 use Rattle.merged_circuits.specs.Readings.{substitutes_by}
 use Rattle.rebuild.specs.Moved.{is_latched, latch_from, latch_for, moved_graph, moved_position, moved_symbols}
 use Rattle.rebuild.proofs.HeldLaws.{all-stay}
@@ -108,8 +108,8 @@ replaced-stays held substitutes c =
     }
 
 -- merging keeps the held latches, if they are
-pub merging-keeps : (held : List ℕ) (c d : Netlist) → IsMerged held c d → StayHeld held c held d
-merging-keeps held c d merged = subst (λ (x : Netlist). StayHeld held c held x) (sym merged.circuit) (replaced-stays held (substitutes_by c.aig merged.reads) c)
+pub merging-keeps : (held reads : List ℕ) (c d : Netlist) → IsMergedBy held reads c d → StayHeld held c held d
+merging-keeps held reads c d merged = subst (λ (x : Netlist). StayHeld held c held x) (sym merged.circuit) (replaced-stays held (substitutes_by c.aig reads) c)
 
 -- ---- moving
 

@@ -3,7 +3,7 @@ use Rattle.std.specs.Prelude.{ℕ, ◌≤◌, List}
 use Rattle.aig_graph.specs.Graph.{IsGraph}
 use Rattle.aig_graph.specs.Circuits.{Netlist, IsNetlist}
 use Rattle.cleaned_circuits.specs.Cleaned.{Cleans}
-use Rattle.merged_circuits.specs.Partitions.{IsMerged}
+use Rattle.merged_circuits.specs.Preserved.{IsMergedBy}
 use Rattle.path_levels.specs.Levels.{levels}
 
 -- cleaning makes no path longer
@@ -12,4 +12,4 @@ CleaningKeepsLevels = (held : List ℕ) (c d : Netlist) (kept : List ℕ) → Is
 
 -- nor does merging latches
 abbrev pub MergingKeepsLevels : Type 0
-MergingKeepsLevels = (held : List ℕ) (c d : Netlist) → IsGraph c.aig → IsNetlist c → IsMerged held c d → levels d ≤ levels c
+MergingKeepsLevels = (held reads : List ℕ) (c d : Netlist) → IsGraph c.aig → IsNetlist c → IsMergedBy held reads c d → levels d ≤ levels c

@@ -4,7 +4,7 @@ use Rattle.aig_graph.specs.Graph.{IsGraph}
 use Rattle.aig_graph.specs.Circuits.{Netlist, IsNetlist}
 use Rattle.aig_graph.specs.Keep.{AreLatches, Holding}
 use Rattle.aig_graph.specs.declared.choice.Choice.{Choice}
-use Rattle.merged_circuits.specs.Partitions.{IsMerged}
+use Rattle.merged_circuits.specs.Preserved.{IsMergedBy}
 use Rattle.retimed_circuits.specs.declared.report.FrameReport.{FrameReport}
 use Rattle.retimed_circuits.specs.declared.report.Retimed.{Retimed}
 use Rattle.retimed_circuits.specs.Names.{StayHeld}
@@ -26,7 +26,7 @@ CleaningKeepsHeld held c = (d : Netlist) (kept now : List ℕ) → IsGraph c.aig
 
 -- so does merging, which leaves their positions
 abbrev pub MergingKeepsHeld : List ℕ → Netlist → Type 0
-MergingKeepsHeld held c = (d : Netlist) → IsMerged held c d → StayHeld held c held d
+MergingKeepsHeld held c = (reads : List ℕ) (d : Netlist) → IsMergedBy held reads c d → StayHeld held c held d
 
 -- and moving
 abbrev pub MovingKeepsHeld : List ℕ → Netlist → Type 0

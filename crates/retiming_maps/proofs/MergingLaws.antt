@@ -1,6 +1,6 @@
 -- A map that follows a merging is one to what is merged, and so is one that follows a cleaning
 -- before it.
-use Rattle.std.proofs.Common.{ℕ, ◌≡◌, ◌<◌, List, length, Ok, ap, sym, ◌∙◌, subst}
+use Rattle.std.proofs.Common.{ℕ, ◌<◌, List, length, Ok, ap, sym, ◌∙◌, subst}
 use Rattle.std.specs.List.{All}
 use Rattle.std.proofs.lemmas.List.{length-map}
 use Rattle.aig_graph.specs.Circuits.{Netlist}
@@ -9,20 +9,16 @@ use Rattle.aig_graph.specs.Laws.{all_free, composed}
 use Rattle.aig_graph.specs.Streams.{AreKept, SameStreams}
 use Rattle.aig_graph.proofs.StreamLaws.{composed-every}
 use Rattle.clean.specs.declared.cleaning.Cleaned.{Cleaned}
-use Rattle.cleaned_circuits.specs.Merged.{replaced_circuit}
 use Rattle.cleaned_circuits.proofs.MergedLaws.{length-replaced_latches}
 use Rattle.cleaned_circuits.proofs.PassLaws.{IsCircuit, IsCircuit-cleans, cleans-streams}
 use Rattle.latch_merging.specs.declared.start.MergedStart.{MergedStart}
 use Rattle.latch_merging.proofs.StartLaws.{in_range-by, merges-by, stay-by, streams-by}
-use Rattle.merged_circuits.specs.Partitions.{IsCoarsest, IsMerged}
+use Rattle.merged_circuits.specs.Preserved.{IsMergedBy}
 use Rattle.merged_circuits.specs.Readings.{substitutes_by}
-use Rattle.merged_circuits.proofs.FinerLaws.{coarsest-one}
-use Rattle.merged_circuits.proofs.MergingLaws.{merged-streams}
-use Rattle.map_circuits.specs.Constraining.{AddsSubstitutes, AreOne, substitute_function}
-use Rattle.map_circuits.specs.Following.{state_of}
+use Rattle.merged_circuits.proofs.MergingLaws.{merged-streams, merged_by-streams}
+use Rattle.map_circuits.specs.Constraining.{AddsSubstitutes, substitute_function}
 use Rattle.map_circuits.specs.Steps.{read_functions}
 use Rattle.map_circuits.proofs.ReadFunctionLaws.{merged-step, read-within}
-use Rattle.state_maps.specs.States.{IsStateMap}
 use Rattle.retimed_circuits.specs.Frames.{CleansTo}
 use Rattle.retimed_circuits.specs.Names.{StayHeld}
 use Rattle.retimed_circuits.proofs.HeldLaws.{cleaning-keeps}
@@ -34,31 +30,22 @@ use Rattle.retiming_maps.proofs.FreeLaws.{free-merged, kept-then}
 module _ (b d e : Netlist) (held kept reads : List ℕ) (g h : Graph) (functions old new : List ℕ) where
   -- A map to a circuit, with the constraints of its latches' readings, is one to what the circuit
   -- is merged to. Latches have the functions of their readings.
-  pub merged-map : IsCircuit d → IsCoarsest d.aig held reads → IsMerged held d e → IsMapBy b d kept g functions old
+  pub merged-map : IsCircuit d → IsMergedBy held reads d e → IsMapBy b d kept g functions old
       → AddsSubstitutes g (first_latch d.aig) functions reads (length reads) h old new → IsMapBy b e kept h (read_functions (first_latch d.aig) functions reads) new
-  merged-map valid coarsest merged p adds = record {
+  merged-map valid merged p adds = record {
     graph = adds.extends.graph;
     inputs = adds.extends.inputs ∙ p.inputs;
     latches = adds.extends.latches ∙ p.latches;
-    functions_within = read-within d.aig held reads functions coarsest.kept.reading p.many g h old new p.graph p.functions_within adds;
+    functions_within = read-within d.aig held reads functions merged.preserved.reading p.many g h old new p.graph p.functions_within adds;
     constraints_within = adds.within;
-    many = length-map reads (substitute_function (first_latch d.aig) functions) ∙ coarsest.kept.reading.long ∙ sym (ap (λ (n : Netlist). length n.aig.latches) merged.circuit ∙ length-replaced_latches (substitutes_by d.aig merged.reads) d.aig);
+    many = length-map reads (substitute_function (first_latch d.aig) functions) ∙ merged.preserved.reading.long ∙ sym (ap (λ (n : Netlist). length n.aig.latches) merged.circuit ∙ length-replaced_latches (substitutes_by d.aig reads) d.aig);
     places = subst (AreKept b e) (composed-every kept (free_latches d.aig) p.places.each) (kept-then b d e kept (all_free d.aig) p.places streams.places);
-    free = free-merged b d e held kept reads functions coarsest.kept.reading (subst (λ (xs : List ℕ). e ≡ replaced_circuit (substitutes_by d.aig xs) d) one merged.circuit) coarsest.kept.reading.long p.free;
-    maps = subst Q one (merged-step b d e held kept g h functions old new valid.graph valid.netlist merged p.graph p.functions_within p.many p.places.each p.maps (subst P (sym one) adds));
+    free = free-merged b d e held kept reads functions merged.preserved.reading merged.circuit merged.preserved.reading.long p.free;
+    maps = merged-step b d e held reads kept g h functions old new valid.graph valid.netlist merged p.graph p.functions_within p.many p.places.each p.maps adds;
   }
     where
       streams : SameStreams d e (all_free d.aig)
-      streams = merged-streams held d e valid.graph valid.netlist merged
-
-      one : merged.reads ≡ reads
-      one = coarsest-one d.aig held merged.reads reads merged.coarsest coarsest
-
-      P : List ℕ → Type 0
-      P = λ xs. AddsSubstitutes g (first_latch d.aig) functions xs (length xs) h old new
-
-      Q : List ℕ → Type 0
-      Q = λ xs. IsStateMap b e kept (AreOne h new) (state_of h (read_functions (first_latch d.aig) functions xs))
+      streams = merged_by-streams held reads d e valid.graph valid.netlist merged
 
 -- a map that follows a cleaning and then a merging is one to what frames start from
 pub started : (held : List ℕ) (c : Netlist) (d : Cleaned) (old mid new : MapParts) (m : MergedStart) → IsCircuit c → All (λ j. j < length c.aig.latches) held → IsCleanedAlong held c old mid d
@@ -74,7 +61,7 @@ started held c d old mid new m valid in_range along after =
     record {
       merges = merges-by {E = E} held c d (Ok m) cleans after.merged after.counted after.keep after.kept_free;
       streams = streams-by {E = E} held c d (Ok m) first then after.kept_free;
-      stay = stay-by {E = E} held c d (Ok m) stay after.merged after.keep;
+      stay = stay-by {E = E} held c d (Ok m) whole.graph stay after.merged after.keep;
       in_range = in_range-by {E = E} held c d (Ok m) along.in_range after.merged after.keep;
       leads = subst P (sym after.kept_free) (λ b kept p. after.leads b (composed kept d.kept_free) (along.leads b kept p));
     }

@@ -7,14 +7,15 @@ use Rattle.latch_merging.specs.declared.start.MergedStart.{MergedStart}
 use Rattle.latch_merging.specs.declared.merging.MergedCircuit.{MergedCircuit}
 use Rattle.merged_circuits.specs.Counts.{AreCounts}
 use Rattle.merged_circuits.specs.Partitions.{IsMerged}
+use Rattle.merged_circuits.specs.Preserved.{IsMergedBy}
 use Rattle.retimed_circuits.specs.Merging.{MergesIn}
 use Rattle.retimed_circuits.specs.Names.{StayHeld}
 use Rattle.retiming_maps.specs.declared.parts.MapParts.{MapParts}
 use Rattle.retiming_maps.specs.Mapping.{LeadsOn, LeadsWhole}
 
--- what was a map to c before is one to whatever c is merged to, with these latches held
-abbrev pub LeadsMerged : List ℕ → Netlist → MapParts → MapParts → Type 0
-LeadsMerged held c old new = (d : Netlist) → IsMerged held c d → LeadsWhole c old d new
+-- what was a map to c before is one to what c is merged to by the reading
+abbrev pub LeadsMerged : List ℕ → List ℕ → Netlist → MapParts → MapParts → Type 0
+LeadsMerged held reads c old new = (d : Netlist) → IsMergedBy held reads c d → LeadsWhole c old d new
 
 -- a merging that the map follows
 pub record IsMergedAlong (held : List ℕ) (c : Netlist) (old new : MapParts) (m : MergedCircuit) : Type 0 where

@@ -2,7 +2,7 @@
 //! constraint, and the latch then has the function of its reading. The cleaning before it comes
 //! first, so these constraints are of the functions that the cleaned circuit's latches have.
 ghost use Rattle.std.specs.Prelude.{◌<◌, All, OnOk, IfOk, length};
-ghost use Rattle.merged_circuits.specs.Partitions.{IsCoarsest};
+ghost use Rattle.merged_circuits.specs.Preserved.{IsPreserved};
 ghost use Rattle.retiming_maps.specs.Mapping.{IsSomeMapTo};
 ghost use Rattle.retiming_maps.specs.Merging.{IsMergedAfter, IsMergedAlong, IsStartAlong, LeadsMerged};
 
@@ -23,8 +23,8 @@ fn follow_merging(
     reads: &[Lit],
 ) -> Result<(), MapError>
     requires map { IsSomeMapTo circuit.now parts.old }
-    requires coarsest { IsCoarsest circuit.now.aig keep.now reads.now }
-    ensures { OnOk result (LeadsMerged keep.now circuit.now parts.old parts.new) }
+    requires preserved { IsPreserved circuit.now.aig keep.now reads.now }
+    ensures { OnOk result (LeadsMerged keep.now reads.now circuit.now parts.old parts.new) }
 {
     let _keep = keep;
     circuit.known();

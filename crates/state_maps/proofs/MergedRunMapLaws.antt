@@ -10,7 +10,8 @@ use Rattle.aig_graph.specs.Streams.{AreKept, SameStreams}
 use Rattle.aig_graph.specs.declared.choice.Choice.{Choice}
 use Rattle.aig_graph.proofs.StreamLaws.{composed-every}
 use Rattle.cleaned_circuits.proofs.PassLaws.{IsCircuit, IsCircuit-cleans, cleans-streams}
-use Rattle.merged_circuits.proofs.MergingLaws.{IsGraph-merged_latches, IsNetlist-merged_latches, merged-streams}
+use Rattle.merged_circuits.specs.Preserved.{IsMergedBy}
+use Rattle.merged_circuits.proofs.MergingLaws.{IsGraph-merged_by, IsNetlist-merged_by, merged-by, merged_by-streams}
 use Rattle.retimed_circuits.specs.declared.report.Retimed.{Retimed}
 use Rattle.retimed_circuits.specs.Frames.{CleansTo}
 use Rattle.retimed_circuits.proofs.CircuitLaws.{after-circuit}
@@ -37,16 +38,18 @@ merged-retiming_maps bound choice holding c max_frames certify r valid netlist r
     let held : List ℕ = run.start_held in
     let cleans : CleansTo (held_of holding c) c clean run.kept held = run.merges.cleaned in
     let clean_whole : IsCircuit clean = IsCircuit-cleans clean (held_of holding c) c run.kept cleans.cleans whole in
+    let reads : List ℕ = run.merges.merged.reads in
+    let merged : IsMergedBy held reads clean run.start = merged-by held clean run.start clean_whole.graph run.merges.merged in
     let start_whole : IsCircuit run.start = record {
-      graph = IsGraph-merged_latches held clean run.start clean_whole.graph run.merges.merged;
-      netlist = IsNetlist-merged_latches held clean run.start clean_whole.graph clean_whole.netlist run.merges.merged;
+      graph = IsGraph-merged_by held reads clean run.start clean_whole.graph merged;
+      netlist = IsNetlist-merged_by held reads clean run.start clean_whole.graph clean_whole.netlist merged;
     } in
     let cleans_streams : SameStreams c clean run.kept = cleans-streams clean (held_of holding c) c run.kept cleans.cleans whole in
-    let merges_streams : SameStreams clean run.start (all_free clean.aig) = merged-streams held clean run.start clean_whole.graph clean_whole.netlist run.merges.merged in
+    let merges_streams : SameStreams clean run.start (all_free clean.aig) = merged_by-streams held reads clean run.start clean_whole.graph clean_whole.netlist merged in
     let to_start : HasStateMap c run.start (composed run.kept (all_free clean.aig)) =
     compose-has c clean run.start run.kept (all_free clean.aig) start_whole.graph merges_streams.places
     (cleans-has clean (held_of holding c) c run.kept cleans.cleans whole)
-    (has-merging_map held clean run.start clean_whole.graph clean_whole.netlist run.merges.merged) in
+    (has-merging_map held reads clean run.start clean_whole.graph clean_whole.netlist merged) in
     let same : composed run.kept (all_free clean.aig) ≡ run.kept = composed-every run.kept (free_latches clean.aig) cleans_streams.places.each in
     let s : Retimed = run.from_start in
     let from_start : HasStateMap run.start s.circuit s.kept_free =

@@ -1,22 +1,20 @@
 -- Each latch holds what it reads as, at the start and from step to step.
-use Rattle.std.proofs.Common.{ℕ, ◌+◌, ◌-◌, ◌*◌, ◌<◌, ◌≡◌, inl, inr, suc, zero, length, List, [], ◌∷◌, Bool, true, false, not, ◌&&◌, Some, slice_get, get_or, refl, arith, ap, sym, ◌∙◌, subst}
-use Rattle.std.proofs.lemmas.Bool.{and_from, and_parts, cases_lt}
+use Rattle.std.proofs.Common.{ℕ, ◌+◌, ◌<◌, ◌≡◌, suc, zero, List, [], ◌∷◌, Bool, true, false, not, Some, slice_get, refl, arith, ap, sym, ◌∙◌, subst}
+use Rattle.std.proofs.lemmas.Bool.{and_from, and_parts}
 use Rattle.std.proofs.lemmas.Option.{none-some}
-use Rattle.aig_graph.proofs.KindLaws.{element}
 use Rattle.aig_graph.proofs.SignLaws.{value_signed_as}
-use Rattle.aig_graph.specs.Graph.{Graph, IsGraph, IsGateAt, variable, variables_end, first_latch, first_gate, is_free, free_before}
+use Rattle.aig_graph.specs.Gates.{Respects, gates_of}
+use Rattle.aig_graph.specs.Graph.{Graph, IsGraph, variable, variables_end, is_free, free_before}
 use Rattle.aig_graph.specs.Value.{Choice, next_value, opening_at, value_within}
-use Rattle.aig_graph.specs.declared.graph.Gate.{Gate}
 use Rattle.aig_graph.specs.declared.graph.Latch.{Latch}
 use Rattle.aig_graph.specs.declared.graph.Reset.{Reset}
 use Rattle.aig_graph.specs.declared.graph.Reset.TheVariants.{Zero, One, Free}
 use Rattle.cleaned_circuits.specs.Latches.{constant_of}
-use Rattle.cleaned_circuits.specs.Merged.{Merging, replaced, merge_gate, merge_gates, merging_from, substitutes_after}
+use Rattle.cleaned_circuits.specs.Merged.{replaced}
 use Rattle.cleaned_circuits.proofs.LatchLaws.{constant-even}
-use Rattle.cleaned_circuits.proofs.SubstituteLaws.{GateOf, IsRight, gates-of, length-substitutes_after, merge-all, replaced-value, right-merge_gate}
-use Rattle.merged_circuits.specs.Readings.{own_literal, read, from_reset, ReadsAs, as_itself, as_constant, as_first, leaves, substitutes_by, signature}
-use Rattle.merged_circuits.specs.Partitions.{IsInductive}
-use Rattle.merged_circuits.proofs.ReadingLaws.{are-leaves, leaf-low, leaf-latch}
+use Rattle.merged_circuits.specs.Readings.{own_literal, read, from_reset, ReadsAs, as_itself, as_constant, as_first, substitutes_by}
+use Rattle.merged_circuits.specs.Preserved.{Agrees, IsPreserved, told}
+use Rattle.merged_circuits.proofs.ShownLaws.{substitutes-value as values-by}
 use Rattle.merged_circuits.proofs.ValueLaws.{may-known, flipped, flipped-twice, opening-known}
 use Rattle.state_maps.specs.States.{Digits, State, after_step, opening_state}
 use Rattle.state_maps.specs.RetimedStates.{agrees}
@@ -46,47 +44,18 @@ module _ (g : Graph) (valid : IsGraph g) (x : Digits) (s : State) where
       ap vals e ∙ from_reset-value latch.reset (from_reset first.reset (own_literal g i))
       ∙ ap (flipped latch.reset) (from_reset-value first.reset (own_literal g i) ∙ ap (flipped first.reset) (laws.latch i first there))
 
-module _ (g : Graph) (held reads : List ℕ) (valid : IsGraph g) (kept : IsInductive g held reads) where
+module _ (g : Graph) (held reads : List ℕ) (valid : IsGraph g) (kept : IsPreserved g held reads) where
   -- if each latch holds what it reads as, what merging makes of a literal has its value
   module _ (x : Digits) (s : State) (holds : ReadsHold g reads s) where
-    leaf-value : (v : ℕ) → v < first_gate g → vals g valid x s (get_or (leaves g reads) v 0) ≡ vals g valid x s (2 * v)
-    leaf-value v h = elim (cases_lt v (first_latch g)) [
-      | inl low ↦ ap (vals g valid x s) (leaf-low g held reads v low)
-      | inr past ↦ (
-          let there = element g.latches (v - first_latch g) (omega arith) in
-          let place : first_latch g + (v - first_latch g) ≡ v = omega arith in
-          ap (λ (w : ℕ). vals g valid x s (get_or (leaves g reads) w 0)) (sym place) ∙ ap (vals g valid x s) (leaf-latch g held reads (v - first_latch g))
-          ∙ holds x (v - first_latch g) there.0 there.1 ∙ sym ((laws g valid x s).latch (v - first_latch g) there.0 there.1)
-          ∙ ap (λ (w : ℕ). vals g valid x s (2 * w)) place)
-    ]
+    respects : Respects (gates_of g) (vals g valid x s)
+    respects = record { constant = (laws g valid x s).constant; negation = (laws g valid x s).negation; gates = (laws g valid x s).gate }
 
-    right-after : IsRight (vals g valid x s) (laws g valid x s).negation (laws g valid x s).constant (merge_gates g.gates (merging_from (leaves g reads)))
-    right-after =
-        merge-all (λ m. IsRight (vals g valid x s) (laws g valid x s).negation (laws g valid x s).constant m) (λ v gate. GateOf g v gate) step g.gates (merging_from (leaves g reads))
-        (gates-of g (leaves g reads) (are-leaves g held reads kept.reading) valid) (record {
-          each = λ v h. leaf-value v (omega (arith, (are-leaves g held reads kept.reading).long));
-          kept = λ gate w e. absurd (none-some w e);
-        })
-      where
-        step : (m : Merging) (gate : Gate) → IsRight (vals g valid x s) (laws g valid x s).negation (laws g valid x s).constant m → GateOf g (length m.substitutes) gate
-            → IsRight (vals g valid x s) (laws g valid x s).negation (laws g valid x s).constant (merge_gate m gate)
-        step m gate so_far place =
-            let at : IsGateAt (length m.substitutes) gate = place.at in
-            let here : vals g valid x s (2 * length m.substitutes) ≡ (vals g valid x s gate.rhs0 && vals g valid x s gate.rhs1) =
-            ap (λ (n : ℕ). vals g valid x s (2 * n)) place.variable_is ∙ (laws g valid x s).gate place.place gate place.there in
-            right-merge_gate (vals g valid x s) (laws g valid x s).negation (laws g valid x s).constant m so_far gate (omega arith) (omega arith) here
+    agrees-here : Agrees g reads (vals g valid x s)
+    agrees-here j latch there = holds x j latch there ∙ sym ((laws g valid x s).latch j latch there)
 
     -- what stands for a literal has its value, in a state in which latches hold what they read as
     pub substitutes-value : (lit : ℕ) → variable lit < variables_end g → value_within g x s (replaced (substitutes_by g reads) lit) ≡ value_within g x s lit
-    unfolding substitutes_after
-    substitutes-value lit h =
-        replaced-value (vals g valid x s) (laws g valid x s).negation (laws g valid x s).constant (substitutes_by g reads) lit
-        (right-after.each (variable lit) (omega (arith, length-substitutes_after g (leaves g reads) (are-leaves g held reads kept.reading))))
-
-    signature-value : (j : ℕ) (latch : Latch) → slice_get g.latches j ≡ Some latch → vals g valid x s (signature (substitutes_by g reads) latch) ≡ flipped latch.reset (vals g valid x s latch.next)
-    signature-value j latch there =
-        from_reset-value g valid x s latch.reset (replaced (substitutes_by g reads) latch.next)
-        ∙ ap (flipped latch.reset) (substitutes-value latch.next (valid.latches j latch there))
+    substitutes-value lit h = values-by g held reads valid kept.reading (vals g valid x s) respects agrees-here lit h
 
     later : (j : ℕ) (latch : Latch) → slice_get g.latches j ≡ Some latch → after_step g x s j ≡ vals g valid x s latch.next
     later j latch there = ap (next_value (vals g valid x s)) there
@@ -98,15 +67,15 @@ module _ (g : Graph) (held reads : List ℕ) (valid : IsGraph g) (kept : IsInduc
         by : (lit : ℕ) → read reads j ≡ lit → ReadsAs g held reads j latch lit → value_within g y (after_step g x s) lit ≡ after_step g x s j
         by lit is (as_itself e) = ap (vals g valid y (after_step g x s)) e ∙ (laws g valid y (after_step g x s)).latch j latch there
         by lit is (as_constant may e) =
-            let zero_signature : signature (substitutes_by g reads) latch ≡ 0 = kept.constants j latch there (omega (arith, is, e, constant-even latch.reset)) in
+            let zero_told : vals g valid x s (told latch) ≡ vals g valid x s 0 = kept.constants j latch there (omega (arith, is, e, constant-even latch.reset)) (vals g valid x s) respects agrees-here in
             let stays : flipped latch.reset (vals g valid x s latch.next) ≡ false =
-            sym (signature-value j latch there) ∙ ap (vals g valid x s) zero_signature ∙ (laws g valid x s).constant in
+            sym (from_reset-value g valid x s latch.reset latch.next) ∙ zero_told ∙ (laws g valid x s).constant in
             ap (vals g valid y (after_step g x s)) e ∙ constant-value g valid y (after_step g x s) latch.reset ∙ ap (flipped latch.reset) (sym stays)
             ∙ flipped-twice latch.reset (vals g valid x s latch.next) ∙ sym (later j latch there)
         by lit is (as_first i first less first_there may may_first own e) =
-            let same : signature (substitutes_by g reads) latch ≡ signature (substitutes_by g reads) first = kept.alike j i latch first there first_there (omega (arith, is, e)) in
+            let same : vals g valid x s (told latch) ≡ vals g valid x s (told first) = kept.alike j i latch first there first_there (omega (arith, is, e)) (vals g valid x s) respects agrees-here in
             let both : flipped first.reset (vals g valid x s first.next) ≡ flipped latch.reset (vals g valid x s latch.next) =
-            sym (signature-value i first first_there) ∙ ap (vals g valid x s) (sym same) ∙ signature-value j latch there in
+            sym (from_reset-value g valid x s first.reset first.next) ∙ sym same ∙ from_reset-value g valid x s latch.reset latch.next in
             first-value g valid y (after_step g x s) i latch first lit first_there e
             ∙ ap (λ (b : Bool). flipped latch.reset (flipped first.reset b)) (later i first first_there)
             ∙ ap (flipped latch.reset) both ∙ flipped-twice latch.reset (vals g valid x s latch.next) ∙ sym (later j latch there)

@@ -9,8 +9,8 @@ ghost use Rattle.state_maps.specs.MergingLaws.{HasMergingMap, MergedRetimingMaps
 /// a merged circuit has a map of the circuit's states, under a condition that can be tested in each
 /// state. So has what a circuit is retimed to after its latches were merged.
 pub fn merging_map_laws()
-    ensures merging { (held : List ℕ) (c d : Netlist) → MergingMaps held c d }
-    ensures has_map { (held : List ℕ) (c d : Netlist) → HasMergingMap held c d }
+    ensures merging { (held reads : List ℕ) (c d : Netlist) → MergingMaps held reads c d }
+    ensures has_map { (held reads : List ℕ) (c d : Netlist) → HasMergingMap held reads c d }
     ensures retiming { (bound : Option ℕ) (choice : Choice) (holding : Holding) (c : Netlist)
         (max_frames : ℕ) (certify : Bool) (r : Retimed)
         → MergedRetimingMaps bound choice holding c max_frames certify r }

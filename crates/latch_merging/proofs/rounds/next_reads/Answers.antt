@@ -6,7 +6,9 @@ use Rattle.latch_merging.specs.declared.signature.Signature.{Signature}
 use Rattle.latch_merging.specs.Rounds.{entries_by_signature, read_by_signature, signature_of}
 use Rattle.clean.proofs.MappingLaws.{latch-there}
 use Rattle.latch_merging.proofs.RoundLaws.{firsts-start, firsts-more, read-more}
-use Rattle.latch_merging.proofs.RoundStepLaws.{substitutes_by-long, next-more, next-end, signature-is, item-read}
+use Rattle.latch_readings.proofs.ReadingLaws.{item-read}
+use Rattle.latch_readings.proofs.SubstituteLaws.{substitutes_by-long}
+use Rattle.latch_merging.proofs.RoundStepLaws.{next-more, next-end, signature-is}
 use Rattle.latch_merging.proofs.rounds.next_reads.Goals as goal
 
 pub loop-place-init : goal.loop-place-init

@@ -9,7 +9,8 @@ use Rattle.latch_merging.specs.Rounds.{entries_by_signature, read_by_signature}
 use Rattle.clean.proofs.MappingLaws.{latch-there}
 use Rattle.latch_merging.proofs.CoarsestLaws.{signature_is}
 use Rattle.latch_merging.proofs.RoundLaws.{firsts-start, firsts-more, read-more}
-use Rattle.latch_merging.proofs.RoundStepLaws.{next-more, next-end, item-read}
+use Rattle.latch_readings.proofs.ReadingLaws.{item-read}
+use Rattle.latch_merging.proofs.RoundStepLaws.{next-more, next-end}
 use Rattle.latch_merging.proofs.splitting.reads_by_names.Goals as goal
 
 pub loop-place-init : goal.loop-place-init

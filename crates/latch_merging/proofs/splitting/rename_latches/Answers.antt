@@ -5,7 +5,7 @@ use Rattle.clean.proofs.MappingLaws.{latch-there}
 use Rattle.merged_circuits.specs.Readings.{read}
 use Rattle.latch_merging.specs.declared.signature.Signature.{Signature}
 use Rattle.latch_merging.specs.Names.{group_name, renamed_latch}
-use Rattle.latch_merging.proofs.RoundStepLaws.{item-read}
+use Rattle.latch_readings.proofs.ReadingLaws.{item-read}
 use Rattle.latch_merging.proofs.SplitLaws.{renaming-more}
 use Rattle.latch_merging.proofs.splitting.rename_latches.Goals as goal
 

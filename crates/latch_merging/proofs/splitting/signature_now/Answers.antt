@@ -3,7 +3,7 @@ use Rattle.std.proofs.lemmas.Option.{slice_get_within}
 use Rattle.aig_graph.specs.Value.{signed_as}
 use Rattle.merged_circuits.specs.Readings.{from_reset, leaves, read, signature}
 use Rattle.latch_merging.proofs.CoarsestLaws.{signature_is}
-use Rattle.latch_merging.proofs.RoundStepLaws.{item-read}
+use Rattle.latch_readings.proofs.ReadingLaws.{item-read}
 use Rattle.latch_merging.proofs.splitting.signature_now.Goals as goal
 
 pub named-requires-clause-within : goal.named-requires-clause-within

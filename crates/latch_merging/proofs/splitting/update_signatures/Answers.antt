@@ -5,7 +5,7 @@ use Rattle.merged_circuits.specs.Readings.{may_merge}
 use Rattle.clean.proofs.MappingLaws.{latch-there}
 use Rattle.latch_merging.specs.declared.signature.Signature.{Signature}
 use Rattle.latch_merging.specs.Names.{is_marked}
-use Rattle.latch_merging.proofs.RoundStepLaws.{item-read}
+use Rattle.latch_readings.proofs.ReadingLaws.{item-read}
 use Rattle.latch_merging.proofs.SplitLaws.{updating-more, updating-end}
 use Rattle.latch_merging.proofs.splitting.update_signatures.Goals as goal
 

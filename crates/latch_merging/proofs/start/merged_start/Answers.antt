@@ -1,3 +1,4 @@
+use Rattle.cleaned_circuits.proofs.PassLaws.{IsCircuit, IsCircuit-cleans}
 use Rattle.retimed_circuits.proofs.HeldLaws.{cleaning-keeps}
 use Rattle.latch_merging.proofs.StartLaws.{in_range-by, merges-by, stay-by, streams-by}
 use Rattle.latch_merging.proofs.start.merged_start.Goals as goal
@@ -19,9 +20,10 @@ returns-clause-streams c =
 pub returns-clause-stay : goal.returns-clause-stay
 returns-clause-stay c =
     let cleaned = c.in_ok-cleaned.cleaned in
+    let whole : IsCircuit c.args.circuit.now = record { graph = c.known.ensures.graph; netlist = c.known.ensures.netlist } in
     stay-by c.args.keep.now c.args.circuit.now cleaned c.start_of.result
-    (cleaning-keeps c.args.keep.now c.args.circuit.now cleaned.circuit cleaned.kept_free cleaned.keep
-    (record { graph = c.known.ensures.graph; netlist = c.known.ensures.netlist }) c.requires.in_range
+    (IsCircuit-cleans cleaned.circuit c.args.keep.now c.args.circuit.now cleaned.kept_free c.in_ok-cleaned.ensures.cleaned whole).graph
+    (cleaning-keeps c.args.keep.now c.args.circuit.now cleaned.circuit cleaned.kept_free cleaned.keep whole c.requires.in_range
     (record { cleans = c.in_ok-cleaned.ensures.cleaned; held_after = c.in_ok-cleaned.ensures.held }))
     c.start_of.ensures.merged c.start_of.ensures.keep
 

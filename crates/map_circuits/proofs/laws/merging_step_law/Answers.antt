@@ -2,4 +2,4 @@ use Rattle.map_circuits.proofs.MergeStepLaws.{merging-step}
 use Rattle.map_circuits.proofs.laws.merging_step_law.Goals as goal
 
 pub returns : goal.returns
-returns c = λ a d e held kept g h functions old new. merging-step a d e held kept g h functions old new
+returns c = λ a d e held reads kept g h functions old new. merging-step a d e held reads kept g h functions old new

@@ -6,7 +6,7 @@ pub returns-clause-cleaning : goal.returns-clause-cleaning
 returns-clause-cleaning c = λ held before d kept now graph netlist in_range cleans. cleaning-keeps held before d kept now (record { graph = graph; netlist = netlist }) in_range cleans
 
 pub returns-clause-merging : goal.returns-clause-merging
-returns-clause-merging c = λ held before d merged. merging-keeps held before d merged
+returns-clause-merging c = λ held before reads d merged. merging-keeps held reads before d merged
 
 pub returns-clause-moving : goal.returns-clause-moving
 returns-clause-moving c = λ held before s netlist in_range. moving-keeps held before s netlist in_range

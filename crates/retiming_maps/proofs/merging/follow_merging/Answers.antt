@@ -23,7 +23,7 @@ add_readings-requires-clause-many c =
 
 pub add_readings-requires-clause-reading : goal.add_readings-requires-clause-reading
 add_readings-requires-clause-reading c =
-    subst (λ (g : Graph). IsSomeReading g c.args.reads.now) (sym c.aig-aig.ensures.value) (c.args.keep.now, c.requires.coarsest.kept.reading)
+    subst (λ (g : Graph). IsSomeReading g c.args.reads.now) (sym c.aig-aig.ensures.value) (c.args.keep.now, c.requires.preserved.reading)
 
 pub read_functions-requires-clause-many : goal.read_functions-requires-clause-many
 read_functions-requires-clause-many c =
@@ -31,7 +31,7 @@ read_functions-requires-clause-many c =
 
 pub read_functions-requires-clause-reading : goal.read_functions-requires-clause-reading
 read_functions-requires-clause-reading c =
-    subst (λ (g : Graph). IsSomeReading g c.args.reads.now) (sym c.aig-aig.ensures.value) (c.args.keep.now, c.requires.coarsest.kept.reading)
+    subst (λ (g : Graph). IsSomeReading g c.args.reads.now) (sym c.aig-aig.ensures.value) (c.args.keep.now, c.requires.preserved.reading)
 
 pub returns : goal.returns
 returns c =
@@ -50,4 +50,4 @@ returns c =
     c.of.ensures ∙ c.in_ok-new.ensures ∙ ap (λ (x : Graph). read_functions (first_latch x) c.as_slice-functions.result.now reads) graph ∙ ap (λ (lits : List ℕ). read_functions (first_latch d.aig) lits reads) slice in
     λ e merged b kept p.
     subst (λ (lits : List ℕ). IsMapBy b e kept h lits new) (sym same)
-    (merged-map b d e c.args.keep.now kept reads g h functions old new (record { graph = c.known.ensures.graph; netlist = c.known.ensures.netlist }) c.requires.coarsest merged p adds)
+    (merged-map b d e c.args.keep.now kept reads g h functions old new (record { graph = c.known.ensures.graph; netlist = c.known.ensures.netlist }) merged p adds)

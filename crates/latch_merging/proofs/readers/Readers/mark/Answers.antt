@@ -1,7 +1,7 @@
 use Rattle.std.proofs.Common.{ℕ, ◌<◌, ◌-◌, arith, List, length, subst}
 use Rattle.aig_graph.specs.declared.graph.Latch.{Latch}
 use Rattle.latch_merging.specs.Names.{IsReaderMarked}
-use Rattle.latch_merging.proofs.RoundStepLaws.{item-read}
+use Rattle.latch_readings.proofs.ReadingLaws.{item-read}
 use Rattle.latch_merging.proofs.ReaderLaws.{walk-start, walk-within, walk-back, walk-more, walk-end}
 use Rattle.latch_merging.proofs.readers.Readers.mark.Goals as goal
 

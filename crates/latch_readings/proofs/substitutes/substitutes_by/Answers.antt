@@ -4,8 +4,8 @@ use Rattle.aig_graph.specs.Graph.{Graph, first_latch}
 use Rattle.cleaned_circuits.specs.Merged.{merge_gates, merging_from, substitutes_after}
 use Rattle.clean.specs.Substitutions.{from_first, own_literals}
 use Rattle.clean.proofs.SubstitutionLaws.{length-from_first, from_first-nil, from_first-push}
-use Rattle.latch_merging.proofs.RoundStepLaws.{leaves-is, take-more}
-use Rattle.latch_merging.proofs.rounds.substitutes_by.Goals as goal
+use Rattle.latch_readings.proofs.SubstituteLaws.{leaves-is, take-more}
+use Rattle.latch_readings.proofs.substitutes.substitutes_by.Goals as goal
 
 pub loop-lit-init : goal.loop-lit-init
 loop-lit-init c = c.in_ok-substitutes.ensures ∙ ap own_literals c.first_latch.ensures.value ∙ sym (from_first-nil (first_latch c.args.aig.now))

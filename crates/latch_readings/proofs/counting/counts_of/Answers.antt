@@ -2,7 +2,7 @@ use Rattle.std.proofs.Common.{arith, length}
 use Rattle.std.proofs.lemmas.List.Sums.{count_by-le-length}
 use Rattle.aig_graph.proofs.PlacesLaws.{count-bound}
 use Rattle.merged_circuits.specs.Counts.{is_constant, is_merged}
-use Rattle.latch_merging.proofs.rounds.counts_of.Goals as goal
+use Rattle.latch_readings.proofs.counting.counts_of.Goals as goal
 
 pub overflow_cast-result : goal.overflow_cast-result
 overflow_cast-result c =

@@ -2,9 +2,9 @@ use Rattle.std.proofs.Common.{◌≡◌, ◌∙◌, ◌+◌, ap, sym, arith, ℕ
 use Rattle.aig_graph.specs.Counting.{count_below}
 use Rattle.aig_graph.proofs.PlacesLaws.{count-zero, count-pass, count-fail, count-bound}
 use Rattle.merged_circuits.specs.Counts.{is_merged}
-use Rattle.latch_merging.proofs.RoundStepLaws.{merged-is}
-use Rattle.latch_merging.proofs.rounds.merged_latches.Goals as goal
-use Rattle.latch_merging.proofs.rounds.merged_latches.Goals.{then-ne, else-ne}
+use Rattle.latch_readings.proofs.ReadingLaws.{merged-is}
+use Rattle.latch_readings.proofs.counting.merged_latches.Goals as goal
+use Rattle.latch_readings.proofs.counting.merged_latches.Goals.{then-ne, else-ne}
 
 pub loop-place-init : goal.loop-place-init
 loop-place-init c = sym (count-zero (is_merged c.args.aig.now c.args.reads.now))

@@ -1,0 +1,3 @@
+pub mod SubstituteLaws
+pub mod ReadingLaws
+mod JudgeLaws
