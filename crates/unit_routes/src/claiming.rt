@@ -36,9 +36,7 @@ fn claim(
 ) -> Result<Certificate, NoMemory>
     ensures { IfOk result (λ cert. cert.gates ≡ set.now) }
 {
-    let Ok(routes) = routes_of_units(alloc, circuit, leaving, flows) else {
-        return Err(NoMemory);
-    };
+    let routes = routes_of_units(alloc, circuit, leaving, flows)?;
     match members(alloc, set) {
         Ok(gates) => Ok(Certificate {
             count: routes.len().min(u32::MAX as usize) as u32,

@@ -82,13 +82,9 @@ impl<'a> Ways<'a> {
         leaving: &'a [bool],
         flows: &'a [GateFlow],
     ) -> Result<Ways<'a>, NoMemory> {
-        let Ok(mut takers) = vec![in alloc; NOBODY; aig.latches_and_gates()] else {
-            return Err(NoMemory);
-        };
+        let mut takers = vec![in alloc; NOBODY; aig.latches_and_gates()]?;
         note_takers(takers.as_mut_slice(), aig, flows);
-        let Ok(followed) = vec![in alloc; 0u32; aig.gates().len()] else {
-            return Err(NoMemory);
-        };
+        let followed = vec![in alloc; 0u32; aig.gates().len()]?;
         Ok(Ways {
             aig,
             flows,
@@ -192,9 +188,7 @@ impl<'a> Ways<'a> {
 
     /// Returns the routes of all units that leave.
     fn routes(&mut self, alloc: Global) -> Result<Routes, NoMemory> {
-        let Ok(mut routes) = Routes::with_room(alloc, self.aig.known_latches() as usize) else {
-            return Err(NoMemory);
-        };
+        let mut routes = Routes::with_room(alloc, self.aig.known_latches() as usize)?;
         self.push_routes(&mut routes);
         if self.refused {
             drop(routes);
@@ -232,9 +226,7 @@ pub(crate) fn routes_of_units(
     leaving: &[bool],
     flows: &[GateFlow],
 ) -> Result<Routes, NoMemory> {
-    let Ok(mut ways) = Ways::new(alloc, circuit.aig(), leaving, flows) else {
-        return Err(NoMemory);
-    };
+    let mut ways = Ways::new(alloc, circuit.aig(), leaving, flows)?;
     let routes = ways.routes(alloc);
     drop(ways);
     routes
