@@ -49,6 +49,7 @@ struct Settled {
 struct Frame<'a> {
     draft: &'a Draft,
     starts: Vec<Wish>,
+    /// The values that guide wishes, or nothing as long as no set was settled.
     guide: Vec<bool>,
     frozen: Vec<bool>,
     latches: u32,
@@ -91,7 +92,7 @@ impl<'a> Frame<'a> {
         Frame {
             draft,
             starts,
-            guide: guide_of(memory, draft),
+            guide: memory.nothing(),
             frozen,
             latches: draft.taking_part(),
             bound,
@@ -99,8 +100,16 @@ impl<'a> Frame<'a> {
         }
     }
 
+    /// Makes the guide, if it isn't there yet.
+    fn make_guide(&mut self, memory: &mut Memory) {
+        if self.guide.is_empty() {
+            self.guide = guide_of(memory, self.draft);
+        }
+    }
+
     /// Returns the wishes of a set.
-    fn wishes(&self, memory: &mut Memory, set: &Bordered) -> Wishes {
+    fn wishes(&mut self, memory: &mut Memory, set: &Bordered) -> Wishes {
+        self.make_guide(memory);
         let starts = self.starts.as_slice();
         let mut values = memory.table(false, self.draft.size());
         copy_marks(self.guide.as_slice(), values.as_mut_slice());
@@ -113,7 +122,7 @@ impl<'a> Frame<'a> {
     }
 
     /// Returns a set with its wishes.
-    fn settle(&self, memory: &mut Memory, set: Bordered) -> Settled {
+    fn settle(&mut self, memory: &mut Memory, set: Bordered) -> Settled {
         let wishes = self.wishes(memory, &set);
         let doubled = set.doubled(wishes.of.as_slice());
         Settled {
@@ -170,7 +179,7 @@ impl<'a> Frame<'a> {
     }
 
     /// Moves a set, if its border takes at most `most` latches.
-    fn moved_within(&self, memory: &mut Memory, set: Bordered, most: u32) -> Option<Moved> {
+    fn moved_within(&mut self, memory: &mut Memory, set: Bordered, most: u32) -> Option<Moved> {
         let settled = self.settle(memory, set);
         if settled.after > most {
             None
@@ -180,7 +189,7 @@ impl<'a> Frame<'a> {
     }
 
     /// Moves the last set again, if that saves at least the number of latches that it saved then.
-    fn move_last(&self, memory: &mut Memory, again: &Again) -> Option<Moved> {
+    fn move_last(&mut self, memory: &mut Memory, again: &Again) -> Option<Moved> {
         let most = self.latches.saturating_sub(again.saved);
         let mut inside = memory.table(false, self.draft.size());
         copy_marks(again.marks.as_slice(), inside.as_mut_slice());

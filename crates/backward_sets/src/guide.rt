@@ -5,7 +5,7 @@
 
 use crate::drafts::Draft;
 use crate::literals::Literal;
-use crate::tables::{entry, number, set_mark};
+use crate::tables::{number, set_mark};
 use aig_graph::Memory;
 
 /// The number of steps that are made.
@@ -17,7 +17,7 @@ const STEPS: u32 = 4;
 struct Lanes {
     values: Vec<u64>,
     state: Vec<u64>,
-    wrong: Vec<u32>,
+    wrong: Vec<u64>,
     seed: u64,
 }
 
@@ -71,18 +71,33 @@ fn put_rows(draft: &Draft, state: &[u64], values: &mut [u64]) {
     }
 }
 
-/// Counts the lanes in which a row is 1.
-fn count_lanes(counts: &mut [u32], row: u64) {
-    let mut left = row;
+/// Adds one to the count of each lane in which a row is 1. The counts stand in binary: each entry
+/// has one of the bits of all counts, the lowest first.
+fn count_lanes(counts: &mut [u64], row: u64) {
+    let mut carry = row;
     for place in 0..counts.len() {
-        counts[place] = counts[place].wrapping_add(u32::from(left % 2 == 1));
-        left = left / 2;
+        if carry == 0 {
+            return;
+        }
+        let bits = counts[place];
+        counts[place] = bits ^ carry;
+        carry = bits & carry;
     }
+}
+
+/// Returns the count of a lane.
+fn count_of(counts: &[u64], lane: u32) -> u32 {
+    let mut count = 0u32;
+    for place in (0..counts.len()).rev() {
+        let bit = counts[place].wrapping_shr(lane) % 2 == 1;
+        count = count.wrapping_mul(2).wrapping_add(u32::from(bit));
+    }
+    count
 }
 
 /// Puts the state a step later. Counts by lane the latches that aren't held, whose reset is
 /// settled, and that don't have that value then.
-fn put_state(draft: &Draft, values: &[u64], state: &mut [u64], wrong: &mut [u32]) {
+fn put_state(draft: &Draft, values: &[u64], state: &mut [u64], wrong: &mut [u64]) {
     for place in 0..draft.many_latches() {
         let latch = draft.latch(place);
         let row = literal_row(values, latch.next);
@@ -93,18 +108,17 @@ fn put_state(draft: &Draft, values: &[u64], state: &mut [u64], wrong: &mut [u32]
     }
 }
 
-/// Returns the lane with the least count.
-fn least_lane(counts: &[u32]) -> u32 {
+/// Returns the first lane with the least count, and the count.
+fn least_lane(counts: &[u64]) -> (u32, u32) {
     let (mut best, mut least) = (0u32, u32::MAX);
-    let mut lane = 0u32;
-    for count in counts {
-        if *count < least {
+    for lane in 0..u64::BITS {
+        let count = count_of(counts, lane);
+        if count < least {
             best = lane;
-            least = *count;
+            least = count;
         }
-        lane = lane.wrapping_add(1);
     }
-    best
+    (best, least)
 }
 
 /// Writes the values of one lane into `guide`.
@@ -119,7 +133,7 @@ impl Lanes {
     fn new(memory: &mut Memory, draft: &Draft) -> Lanes {
         let values = memory.table(0u64, draft.size());
         let state = memory.table(0u64, draft.latches.len());
-        let wrong = memory.table(0u32, 64);
+        let wrong = memory.table(0u64, u32::BITS as usize);
         Lanes {
             values,
             state,
@@ -158,8 +172,7 @@ impl Lanes {
         let mut fewest = u32::MAX;
         for _ in 0..STEPS {
             self.step(draft);
-            let lane = least_lane(self.wrong.as_slice());
-            let wrong = entry(self.wrong.as_slice(), lane);
+            let (lane, wrong) = least_lane(self.wrong.as_slice());
             if wrong < fewest {
                 fewest = wrong;
                 lane_values(self.values.as_slice(), lane, guide);
