@@ -46,10 +46,13 @@ impl Attempt {
     }
 }
 
-/// Notes that latches of a class read a variable, or if several do that none does alone.
+/// Notes that latches of a class read a variable, or if several do that none does alone. What is
+/// unread reads nothing.
 fn note(owners: &mut [u32], place: u32, class: u32) {
     let known = entry(owners, place);
-    let own = if known == UNREAD || known == class {
+    let own = if class == UNREAD || class == known {
+        known
+    } else if known == UNREAD {
         class
     } else {
         0

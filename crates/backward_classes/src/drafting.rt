@@ -31,6 +31,7 @@ struct Drafting {
     options: MoveOptions,
     frames: u32,
     plan: u32,
+    masks_first: bool,
 }
 
 /// Returns the better of two attempts: the second, unless it leaves more latches.
@@ -75,6 +76,7 @@ impl Drafting {
         keep: &Keep,
         plain: Option<&Drafted>,
         options: &MoveOptions,
+        masks_first: bool,
     ) -> Drafting {
         let mut drafting = Drafting {
             stand: None,
@@ -82,6 +84,7 @@ impl Drafting {
             options: *options,
             frames: 0,
             plan: 0,
+            masks_first,
         };
         if let Some(drafted) = plain {
             drafting.stand = drawn(memory, circuit, keep, drafted);
@@ -116,7 +119,7 @@ impl Drafting {
         let scene = Scene::of(memory, circuit, keep)?;
         for turn in 0..PLANS {
             let plan = self.plan.wrapping_add(turn) % PLANS;
-            let found = try_plan(memory, &scene, plan_of(plan), &options);
+            let found = try_plan(memory, &scene, plan_of(plan, self.masks_first), &options);
             if memory.is_refused() {
                 return None;
             }
@@ -190,7 +193,8 @@ impl Drafting {
 
 /// Drafts a circuit in which latches moved backward, within classes of latches that hold their
 /// values, or get constants, together. Goes on from a draft of plain frames, if there is one.
-/// Returns nothing if classes don't leave fewer latches.
+/// Masks are taken off by the first plans, or by the last ones. Returns nothing if classes don't
+/// leave fewer latches.
 ///
 /// Each opening costs some runs of plain frames, and time linear in the circuit.
 ///
@@ -203,9 +207,10 @@ pub fn draft_returned(
     keep: &Keep,
     plain: Option<&Drafted>,
     options: &MoveOptions,
+    masks_first: bool,
 ) -> Result<Option<ReturnedDraft>, NoMemory> {
     let mut memory = Memory::of(alloc);
-    let mut drafting = Drafting::new(&mut memory, circuit, keep, plain, options);
+    let mut drafting = Drafting::new(&mut memory, circuit, keep, plain, options, masks_first);
     let drafted = if drafting.run(&mut memory, circuit, keep) {
         drafting.finished(&mut memory, circuit)
     } else {

@@ -100,7 +100,7 @@ fn try_plans<G: PhaseGate>(
 ) -> Option<Found> {
     for turn in 0..PLANS {
         let plan = begin.wrapping_add(turn) % PLANS;
-        let found = try_plan(scene, rt, memory, plan_of(plan), limits, crew);
+        let found = try_plan(scene, rt, memory, plan_of(plan, true), limits, crew);
         if memory.is_refused() {
             return None;
         }

@@ -12,16 +12,18 @@ pub struct Plan {
     pub masks: bool,
 }
 
-/// Returns a plan. Each opens in another way.
-pub fn plan_of(place: u32) -> Plan {
+/// Returns a plan. Each opens in another way: with each way of holds, masks are taken off by the
+/// first plan or by the second one. If all latches are plain, they are all that is taken off.
+pub fn plan_of(place: u32, masks_first: bool) -> Plan {
     let way = match place / 2 {
         0 => Way::Pairs,
         1 => Way::Eighths,
         2 => Way::Outer,
         _ => Way::Plain,
     };
+    let is_first = place & 1 == 0;
     Plan {
         way,
-        masks: place & 1 == 0,
+        masks: way == Way::Plain || is_first == masks_first,
     }
 }

@@ -54,10 +54,11 @@ pub(crate) fn draft_back(
     keep: &Keep,
     plain: Option<&PlainDraft>,
     options: &MoveOptions,
+    masks_first: bool,
 ) -> Result<Option<ReturnedDraft>, NoMemory> {
     let options = MoveOptions {
         frames: options.frames,
         levels: most_levels(alloc, circuit, options.levels)?,
     };
-    draft_returned(alloc, circuit, keep, plain, &options)
+    draft_returned(alloc, circuit, keep, plain, &options, masks_first)
 }

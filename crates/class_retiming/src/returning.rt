@@ -15,12 +15,28 @@ use backward_sets::number;
 use class_circuits::has_other_latches;
 use std::alloc::Global;
 
+/// The most drafts of a run.
+const MOST_DRAFTS: u32 = 32;
+
 /// A draft that the judge takes, if there is one, and how many frames were taken in one that it
 /// refused.
 #[derive(Drop)]
 pub(crate) struct Returning {
     pub(crate) drafted: Option<ReturnedDraft>,
     pub(crate) refused: u32,
+}
+
+impl Returning {
+    /// Returns the same after drafts of so many frames that were refused.
+    fn after(self, refused: u32) -> Returning
+        ensures { result.drafted ≡ self.drafted }
+    {
+        let Returning {
+            drafted,
+            refused: _refused,
+        } = self;
+        Returning { drafted, refused }
+    }
 }
 
 /// Returns the draft of plain frames, if some were taken.
@@ -103,12 +119,13 @@ fn tried<W: MoveWatcher>(
     keep: &Keep,
     options: &MoveOptions,
     plain: Option<&Drafted>,
+    masks_first: bool,
     watcher: &mut W,
 ) -> Result<Returning, NoMemory>
     ensures { IfOk result (IsReturnIn circuit.now keep.now options.now.levels) }
 {
     watcher.begin(looking(circuit, plain));
-    match draft_back(alloc, circuit, keep, plain, options)? {
+    match draft_back(alloc, circuit, keep, plain, options, masks_first)? {
         Some(drafted) => {
             watcher.begin(MoveStage::Checking);
             judged(alloc, circuit, keep, options.levels, drafted)
@@ -120,8 +137,54 @@ fn tried<W: MoveWatcher>(
     }
 }
 
+/// Returns the number of frames of a draft of plain frames, if there is one.
+fn plain_frames(plain: Option<&Drafted>) -> u32 {
+    match plain {
+        Some(drafted) => number(drafted.frames.len()),
+        None => 0,
+    }
+}
+
+/// Makes drafts until the judge takes one: one in which masks are taken off first, and one in which
+/// holds are, since the check settles more of these. Each later one has at most half the frames of
+/// the one before, and more than the plain ones.
+fn shown_return<W: MoveWatcher>(
+    alloc: Global,
+    circuit: &Circuit,
+    keep: &Keep,
+    options: &MoveOptions,
+    plain: Option<&Drafted>,
+    watcher: &mut W,
+) -> Result<Returning, NoMemory>
+    ensures { IfOk result (IsReturnIn circuit.now keep.now options.now.levels) }
+{
+    let (mut frames, mut refused) = (options.frames, 0u32);
+    for turn in 0..MOST_DRAFTS {
+        if frames <= plain_frames(plain) {
+            break;
+        }
+        let fewer = MoveOptions {
+            frames,
+            levels: options.levels,
+        };
+        let found = tried(alloc, circuit, keep, &fewer, plain, turn == 0, watcher)?;
+        if found.refused == 0 {
+            return Ok(found.after(refused));
+        }
+        refused = refused.max(found.refused);
+        if turn > 0 {
+            frames = found.refused.min(frames) / 2;
+        }
+        drop(found);
+    }
+    Ok(Returning {
+        drafted: None,
+        refused,
+    })
+}
+
 /// Returns what a draft has.
-fn moved_by(drafted: ReturnedDraft) -> MovedOn
+fn moved_by(drafted: ReturnedDraft, refused: u32) -> MovedOn
     ensures circuit { result.circuit ≡ drafted.after }
     ensures map { result.map ≡ drafted.map }
 {
@@ -134,7 +197,7 @@ fn moved_by(drafted: ReturnedDraft) -> MovedOn
         circuit,
         map,
         frames,
-        refused: 0,
+        refused,
     }
 }
 
@@ -175,10 +238,7 @@ fn plain_answer(
 ) -> Result<MovedOn, NoMemory>
     ensures { IfOk result (IsReturn circuit keep.now bound) }
 {
-    let plain = match plain_draft(&moves) {
-        Some(drafted) => number(drafted.frames.len()),
-        None => 0,
-    };
+    let plain = plain_frames(plain_draft(&moves));
     let moved = move_as_found(alloc, circuit, keep, bound, moves)?;
     Ok(plainly_moved(moved, refused, plain))
 }
@@ -194,14 +254,14 @@ fn returned<W: MoveWatcher>(
 ) -> Result<MovedOn, NoMemory>
     ensures { IfOk result (IsReturn circuit keep.now options.now.levels) }
 {
-    match tried(alloc, &circuit, keep, options, plain_draft(&moves), watcher) {
+    match shown_return(alloc, &circuit, keep, options, plain_draft(&moves), watcher) {
         Ok(found) => {
             let Returning { drafted, refused } = found;
             match drafted {
                 Some(drafted) => {
                     drop(circuit);
                     drop(moves);
-                    Ok(moved_by(drafted))
+                    Ok(moved_by(drafted, refused))
                 }
                 None => plain_answer(alloc, circuit, keep, options.levels, moves, refused),
             }

@@ -96,7 +96,7 @@ says. The direction is that of 'check OUT IN MAP' and 'miter OUT IN MAP MITER'.
 
 With --enables registers move then that hold under one condition or have one
 reset, those together, as 'enables' moves them forward. If the check doesn't
-show that, they stay, and a line says so. In the place of a line for each frame
+show that, fewer move and a line says so. In the place of a line for each frame
 the number of frames is printed. IN is best what 'enables' wrote.
 
 With --no-longer no path of OUT has more gates than the longest one of IN; with
