@@ -6,8 +6,8 @@ use aig_graph::{Circuit, NoMemory};
 use path_levels::levels;
 use std::alloc::Global;
 
-/// Returns true if no way of a circuit is longer than a bound, or than the longest of the circuit
-/// before, or if there is no bound.
+/// Returns true if no path of a circuit is longer than a bound, or than the longest of the circuit
+/// before. So it does if there is no bound.
 ///
 /// # Errors
 ///

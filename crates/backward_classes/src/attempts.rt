@@ -4,7 +4,7 @@
 use crate::moving::{MovedClass, frames_of, held_at, map_of, move_class};
 use aig_graph::{Circuit, Keep, Memory};
 use backward_moves::{Drafted, MoveOptions};
-use backward_sets::{Literal, entry, has_mark, number, set_entry, set_mark};
+use backward_sets::{DraftLatch, Literal, entry, has_mark, number, set_entry, set_mark};
 use class_nets::{
     Closure, Net, NumberMap, Plan, Scene, held_positions, needed, sealed, set_literal,
 };
@@ -178,6 +178,14 @@ fn order_map(memory: &mut Memory, order: &[u32]) -> NumberMap {
     }
 }
 
+/// Gives latches their literals among the gates that were kept.
+fn renumber_latches(swept: &Swept, latches: &mut [DraftLatch]) {
+    for place in 0..latches.len() {
+        let next = swept.literal(latches[place].next);
+        latches[place].next = next;
+    }
+}
+
 /// Drops the gates of a closed circuit that nothing reads.
 fn sweep(memory: &mut Memory, net: &Net, closed: &mut Closure) {
     let mut literals = memory.list(closed.latches.len());
@@ -189,9 +197,7 @@ fn sweep(memory: &mut Memory, net: &Net, closed: &mut Closure) {
     }
     let gates = closed.gates.as_slice();
     let swept = Swept::of(memory, net.first_gate(), gates, literals.as_slice());
-    for place in 0..closed.latches.len() {
-        closed.latches[place].next = swept.literal(closed.latches[place].next);
-    }
+    renumber_latches(&swept, closed.latches.as_mut_slice());
     swept.renumber(closed.stands.as_mut_slice());
     drop(mem::replace(&mut closed.gates, swept.into_gates()));
 }

@@ -59,6 +59,39 @@ fn try_plan(
     Some(better(first, second))
 }
 
+/// An attempt, and the number of its plan.
+#[derive(Drop)]
+struct Found {
+    attempt: Attempt,
+    plan: u32,
+}
+
+/// Opens a circuit by all plans, beginning with the one that has this number, until one leaves
+/// fewer latches.
+fn next_attempt(
+    memory: &mut Memory,
+    circuit: &Circuit,
+    keep: &Keep,
+    begin: u32,
+    masks_first: bool,
+    options: &MoveOptions,
+) -> Option<Found> {
+    let Some(scene) = Scene::of(memory, circuit, keep) else {
+        return None;
+    };
+    for turn in 0..PLANS {
+        let plan = begin.wrapping_add(turn) % PLANS;
+        let found = try_plan(memory, &scene, plan_of(plan, masks_first), options);
+        if memory.is_refused() {
+            return None;
+        }
+        if let Some(attempt) = found {
+            return Some(Found { attempt, plan });
+        }
+    }
+    None
+}
+
 /// Returns copies of the entries of a list.
 fn copied<T: Copy + Drop>(memory: &mut Memory, list: &[T]) -> Vec<T> {
     let mut copies = memory.list(list.len());
@@ -108,37 +141,26 @@ impl Drafting {
         }
     }
 
-    /// Tries all plans, beginning with the last one, until one leaves fewer latches. The draft
-    /// began with `circuit`.
-    fn find(&mut self, memory: &mut Memory, circuit: &Circuit, keep: &Keep) -> Option<Attempt> {
+    /// Returns an attempt from the circuit that the draft has come to; it began with `circuit`.
+    fn find(&self, memory: &mut Memory, circuit: &Circuit, keep: &Keep) -> Option<Found> {
         let options = self.left();
         let (circuit, keep) = match &self.stand {
             Some(stand) => (&stand.circuit, &stand.keep),
             None => (circuit, keep),
         };
-        let scene = Scene::of(memory, circuit, keep)?;
-        for turn in 0..PLANS {
-            let plan = self.plan.wrapping_add(turn) % PLANS;
-            let found = try_plan(memory, &scene, plan_of(plan, self.masks_first), &options);
-            if memory.is_refused() {
-                return None;
-            }
-            if found.is_some() {
-                self.plan = plan;
-                return found;
-            }
-        }
-        None
+        next_attempt(memory, circuit, keep, self.plan, self.masks_first, &options)
     }
 
     /// Goes on from an attempt.
-    fn take(&mut self, memory: &mut Memory, found: Attempt) {
+    fn take(&mut self, memory: &mut Memory, found: Found) {
+        let Found { attempt, plan } = found;
+        self.plan = plan;
         let Attempt {
             stand,
             steps,
             frames,
-            ..
-        } = found;
+            only: _only,
+        } = attempt;
         for step in steps {
             memory.push(&mut self.steps, step);
         }

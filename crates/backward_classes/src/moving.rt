@@ -99,8 +99,8 @@ fn standing(net: &Net, stands: &[Literal], lit: Literal) -> Literal {
     }
 }
 
-/// Marks what the values of latches that went are made of: by variable, from 1 on, the latches that
-/// a map reads at other places than their own.
+/// Marks what the values of latches that went are made of. By variable, from 1 on, these are the
+/// latches that a map reads at other places than their own.
 fn mark_made(map: &NumberMap, stays: &[bool], made: &mut [bool]) {
     map.mark_read(made);
     for place in 0..number(map.outputs.len()) {
@@ -123,8 +123,8 @@ fn mark_staying(latches: &[DraftLatch], map: &NumberMap, stays: &mut [bool]) {
     }
 }
 
-/// Marks the first latches, by variable from 1 on, that take part in a move: those that went, and
-/// those by which their values are made.
+/// Marks the first latches, by variable from 1 on, that take part in a move. These went, or the
+/// values of those that went are made of them.
 fn mark_moved(
     memory: &mut Memory,
     net: &Net,

@@ -1,7 +1,8 @@
 //! A flow grows in rounds. In a round a way is looked for from before each variable that latches
 //! read, depth first. What a search has visited without finding a way leads to no way later, so it
-//! is never visited again, unless the search was stopped by what another one had visited. What the
-//! others visited is visited again at once, as long as that is cheap, or else in the next round.
+//! is never visited again. It may be if the search was stopped by what another one had visited.
+//! What the others visited is visited again at once, as long as that is cheap, or else in the next
+//! round.
 
 use crate::drafts::Draft;
 use crate::flow::{Flow, SINK, before};

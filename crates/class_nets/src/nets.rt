@@ -1,5 +1,5 @@
-//! The circuit on which a draft moves latches of classes. Its variables are numbered as those of a circuit,
-//! and a table by variable begins at the first latch.
+//! The circuit on which a draft moves latches of classes. Its variables are numbered as those of a
+//! circuit, and a table by variable begins at the first latch.
 
 use aig_graph::{Memory, Reset};
 use backward_sets::{Literal, Pair, number, set_mark};

@@ -154,8 +154,8 @@ impl<'a> Scene<'a> {
         sealed(memory, circuit)
     }
 
-    /// Returns true if a circuit has fewer latches, and no way that is longer than `most` gates, if
-    /// there is such a bound, and than those of the circuit that is opened.
+    /// Returns true if a circuit has fewer latches than the one that is opened, and no path that is
+    /// too long. Such a path is longer than that one's, and than `most` gates, if that is a bound.
     pub fn is_bettered_by(
         &self,
         memory: &mut Memory,

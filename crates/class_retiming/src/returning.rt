@@ -27,7 +27,7 @@ pub(crate) struct Returning {
 }
 
 impl Returning {
-    /// Returns the same after drafts of so many frames that were refused.
+    /// Returns what was found, after drafts of some frames that were refused.
     fn after(self, refused: u32) -> Returning
         ensures { result.drafted ≡ self.drafted }
     {
@@ -145,9 +145,9 @@ fn plain_frames(plain: Option<&Drafted>) -> u32 {
     }
 }
 
-/// Makes drafts until the judge takes one: one in which masks are taken off first, and one in which
-/// holds are, since the check settles more of these. Each later one has at most half the frames of
-/// the one before, and more than the plain ones.
+/// Makes drafts until the judge takes one. In the first one masks are taken off first, and in the
+/// second one holds are, since the check settles more of these. Each later one has at most half the
+/// frames of the one before, and more than the plain ones.
 fn shown_return<W: MoveWatcher>(
     alloc: Global,
     circuit: &Circuit,

@@ -14,8 +14,8 @@ pub fn may_merge(held: &Held<'_>, place: usize, latch: &Latch) -> bool
     latch.reset != Reset::Free && !is_held
 }
 
-/// Returns true if a latch that may be merged may read as a literal of an earlier latch: that may be
-/// merged, reads as itself, and is negated if the resets differ.
+/// Returns true if a latch that may be merged may read as a literal of an earlier latch. That one
+/// may be merged too, and reads as itself. Its literal is negated if the resets differ.
 fn reads_as_first(
     aig: &Aig,
     held: &Held<'_>,

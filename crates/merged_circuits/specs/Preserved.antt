@@ -21,8 +21,8 @@ AreEqualUnder g reads a b = (values : ℕ → Bool) → Respects (gates_of g) va
 abbrev pub told : Latch → ℕ
 told latch = from_reset latch.reset latch.next
 
--- a reading in which, in each state in which all latches hold what they read as, who reads as a
--- constant is told 0, and who reads as a latch is told what that is told
+-- Steps preserve a reading if this is so in each state in which all latches hold what they read as.
+-- Who reads as a constant is told 0. Who reads as a latch is told what that is told.
 pub record IsPreserved (g : Graph) (held reads : List ℕ) : Type 0 where
   pub reading : IsReading g held reads
   pub constants : (j : ℕ) (latch : Latch) → slice_get g.latches j ≡ Some latch → variable (read reads j) ≡ 0 → AreEqualUnder g reads (told latch) 0

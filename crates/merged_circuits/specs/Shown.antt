@@ -1,4 +1,4 @@
--- What shows that steps preserve a reading: equal signatures, in the graph in which latches read so.
+-- Equal signatures, in the graph in which latches read so, show that steps preserve a reading.
 use Rattle.std.specs.Prelude.{ℕ, ◌+◌, ◌≡◌, List, slice_get, Some}
 use Rattle.aig_graph.specs.declared.graph.Latch.{Latch}
 use Rattle.aig_graph.specs.Gates.{AreEqualIn, gates_of}
@@ -10,8 +10,8 @@ use Rattle.merged_circuits.specs.Readings.{IsReading, read, signature, substitut
 abbrev pub merged_graph : Graph → List ℕ → Graph
 merged_graph g reads = replaced_graph (substitutes_by g reads) g
 
--- a reading in which who reads as a constant has a signature that is always 0, and who reads as a
--- latch one that is always that latch's, whatever the inputs and latches of the merged graph hold
+-- A reading in which who reads as a constant has a signature that is always 0. Who reads as a latch
+-- has one that is always that latch's. Both are for all values of the merged graph.
 pub record IsShown (g : Graph) (held reads : List ℕ) : Type 0 where
   pub reading : IsReading g held reads
   pub constants : (j : ℕ) (latch : Latch) → slice_get g.latches j ≡ Some latch → variable (read reads j) ≡ 0
