@@ -1,6 +1,6 @@
 pub mod Obligations
-pub mod Checking
 pub mod Reading
+pub mod Checking
 pub mod Making
 pub mod Lifted
 pub mod Asking

@@ -23,7 +23,7 @@ use Rattle.map_commands.specs.declared.given.Given.{Given}
 use Rattle.map_commands.specs.declared.made.Made.{Made}
 use Rattle.map_commands.specs.declared.made.Made.TheVariants.{Circuit, ShapesDiffer}
 use Rattle.map_commands.specs.Making.{EndsMaking}
-use Rattle.map_commands.specs.Reading.{ArePair}
+use Rattle.map_commands.specs.Reading.{AreReadWithMap}
 
 -- r is the witness circuit for c that is made of w, which shares this with d. If m maps the states
 -- of c to those of d and w passes the five checks for d, r passes them for c.
@@ -62,25 +62,23 @@ IsLiftBy true c d m w r = IsBackLiftOf c d m w r
 
 -- what is made of the circuits, the map and the witness circuit that are read
 abbrev pub IsLiftedOf : Bool → Given → Made → Type 0
-IsLiftedOf back given (Circuit r) = IsMap given.map.circuit × AreLiftable back given.pair.first.circuit given.pair.second.circuit given.map.circuit
-    × IsLiftBy back given.pair.first.circuit given.pair.second.circuit given.map.circuit given.witness.circuit r
-IsLiftedOf back given ShapesDiffer = IsMap given.map.circuit × (AreLiftable back given.pair.first.circuit given.pair.second.circuit given.map.circuit → ⊥)
+IsLiftedOf back given (Circuit r) = IsMap given.mapped.map.circuit × AreLiftable back given.mapped.pair.first.circuit given.mapped.pair.second.circuit given.mapped.map.circuit
+    × IsLiftBy back given.mapped.pair.first.circuit given.mapped.pair.second.circuit given.mapped.map.circuit given.witness.circuit r
+IsLiftedOf back given ShapesDiffer = IsMap given.mapped.map.circuit × (AreLiftable back given.mapped.pair.first.circuit given.mapped.pair.second.circuit given.mapped.map.circuit → ⊥)
 
 -- Why nothing is made of them. The map isn't one, no inputs and latches of OUT are those that the
 -- names say, or what would be made has too many variables. Memory may run out.
 abbrev pub IsFailureToLift : Lifting → Given → Failure → Type 0
-IsFailureToLift task given (fails.NotAMap path) = (path.now ≡ source_name task.map) × (IsMap given.map.circuit → ⊥)
-IsFailureToLift task given (fails.NoSuchLiteral path) = (path.now ≡ source_name task.witness) × ((k : Sharing) → IsSharedBy given.pair.second.circuit given.witness.circuit k → ⊥)
+IsFailureToLift task given (fails.NotAMap path) = (path.now ≡ source_name task.map) × (IsMap given.mapped.map.circuit → ⊥)
+IsFailureToLift task given (fails.NoSuchLiteral path) = (path.now ≡ source_name task.witness) × ((k : Sharing) → IsSharedBy given.mapped.pair.second.circuit given.witness.circuit k → ⊥)
 IsFailureToLift task given (fails.Refused path fault) = (path.now ≡ target_name task.output) × (fault ≡ TooLarge 0)
 IsFailureToLift task given fails.Memory = Unit {0}
 IsFailureToLift task given failure = ⊥
 
--- both circuits are read, and then the map and the witness circuit
+-- both circuits and the map are read, and then the witness circuit
 pub record AreGiven (task : Lifting) (before after : Input) (given : Given) : Type 0 where
-  pub circuits : Input
   pub between : Input
-  pub pair : ArePair task.input task.retimed before circuits given.pair
-  pub mapping : IsCircuitAt task.map circuits between given.map
+  pub mapped : AreReadWithMap task.input task.retimed task.map before between given.mapped
   pub witness : IsCircuitAt task.witness between after given.witness
 
 -- what is made of the files that are read is written, in the spelling that is chosen, else in that

@@ -23,7 +23,8 @@ use Rattle.map_commands.specs.declared.given.Mapped.{Mapped}
 use Rattle.map_commands.specs.declared.products.Machines.{Machines}
 use Rattle.map_commands.specs.declared.products.Shown.{Shown}
 use Rattle.map_commands.specs.declared.products.Shown.TheVariants as shows
-use Rattle.map_commands.specs.Asking.{AreMapped, PrintsMiter}
+use Rattle.map_commands.specs.Asking.{PrintsMiter}
+use Rattle.map_commands.specs.Reading.{AreReadWithMap}
 
 -- both circuits side by side: as a model whose bad state says that a property differs, and as its
 -- witness circuit by the map
@@ -32,9 +33,9 @@ pub record AreMachinesOf (mapped : Mapped) (machines : Machines) : Type 0 where
   pub witness : IsProduct IsMapped mapped.pair.first.circuit mapped.pair.second.circuit mapped.map.circuit machines.witness
 
 -- what is made of the circuits and the map that are read
-abbrev pub IsShownOf : Mapped → Shown → Type 0
-IsShownOf mapped (shows.Machines machines) = IsMap mapped.map.circuit × AreFitting mapped.pair.first.circuit mapped.pair.second.circuit mapped.map.circuit × AreMachinesOf mapped machines
-IsShownOf mapped shows.ShapesDiffer = IsMap mapped.map.circuit × (AreFitting mapped.pair.first.circuit mapped.pair.second.circuit mapped.map.circuit → ⊥)
+abbrev pub AreMadeSideBySide : Mapped → Shown → Type 0
+AreMadeSideBySide mapped (shows.Machines machines) = IsMap mapped.map.circuit × AreFitting mapped.pair.first.circuit mapped.pair.second.circuit mapped.map.circuit × AreMachinesOf mapped machines
+AreMadeSideBySide mapped shows.ShapesDiffer = IsMap mapped.map.circuit × (AreFitting mapped.pair.first.circuit mapped.pair.second.circuit mapped.map.circuit → ⊥)
 
 -- what a machine is written to, by its goal
 abbrev pub target_for : Goal → Asking → Target → Target
@@ -43,11 +44,11 @@ target_for IsMapped task certificate = certificate
 
 -- why nothing is made: the map isn't one, or one of the machines would have too many variables;
 -- memory may run out
-abbrev pub IsFailureToShow : Asking → Target → Mapped → Failure → Type 0
-IsFailureToShow task certificate mapped (fails.NotAMap path) = (path.now ≡ source_name task.map) × (IsMap mapped.map.circuit → ⊥)
-IsFailureToShow task certificate mapped (fails.Refused path fault) = ((goal : Goal) × (path.now ≡ target_name (target_for goal task certificate))) × (fault ≡ TooLarge 0)
-IsFailureToShow task certificate mapped fails.Memory = Unit {0}
-IsFailureToShow task certificate mapped failure = ⊥
+abbrev pub IsFailureToMake : Asking → Target → Mapped → Failure → Type 0
+IsFailureToMake task certificate mapped (fails.NotAMap path) = (path.now ≡ source_name task.map) × (IsMap mapped.map.circuit → ⊥)
+IsFailureToMake task certificate mapped (fails.Refused path fault) = ((goal : Goal) × (path.now ≡ target_name (target_for goal task certificate))) × (fault ≡ TooLarge 0)
+IsFailureToMake task certificate mapped fails.Memory = Unit {0}
+IsFailureToMake task certificate mapped failure = ⊥
 
 -- the model is written, and then the witness circuit, by what it means that a file was given a text
 pub record EndsWritingBoth (FileGiven : List ℕ → List ℕ → Type 0) (machines : Machines) (spelling : Spelling) (output certificate : Target) (old new : Output) (ended : Outcome) : Type 0 where
@@ -65,9 +66,9 @@ EndsShowing FileGiven shows.ShapesDiffer spelling output certificate old new end
 -- of the map
 pub record PrintsProduct (FileGiven : List ℕ → List ℕ → Type 0) (certificate : Target) (task : Asking) (before after : Input) (old new : Output) (ended : Outcome) : Type 0 where
   pub mapped : Mapped
-  pub read : AreMapped task before after mapped
+  pub read : AreReadWithMap task.input task.retimed task.map before after mapped
   pub shown : Shown
-  pub is : IsShownOf mapped shown
+  pub is : AreMadeSideBySide mapped shown
   pub printed : EndsShowing FileGiven shown (unwrap_or task.spelling mapped.map.spelling) task.output certificate old new ended
 
 -- a miter of the map, and if a certificate is asked for, both circuits side by side with that

@@ -25,27 +25,28 @@ fn lifted_back_by<'a>(
     sharing: &Sharing,
     task: &Lifting<'a>,
 ) -> Result<Circuit, Failure<'a>>
-    requires map { IsMap given.now.map.circuit }
-    requires fitting { AreFitting given.now.pair.second.circuit given.now.pair.first.circuit
-        given.now.map.circuit }
-    requires known { free_latches given.now.pair.first.circuit.aig ≡ 0 }
-    requires shares { IsSharing given.now.pair.second.circuit given.now.witness.circuit
+    requires map { IsMap given.now.mapped.map.circuit }
+    requires fitting { AreFitting
+        given.now.mapped.pair.second.circuit given.now.mapped.pair.first.circuit
+        given.now.mapped.map.circuit }
+    requires known { free_latches given.now.mapped.pair.first.circuit.aig ≡ 0 }
+    requires shares { IsSharing given.now.mapped.pair.second.circuit given.now.witness.circuit
         sharing.now }
-    ensures lifted { IfOk result (IsLiftedBackBy given.now.pair.first.circuit
-        given.now.pair.second.circuit given.now.map.circuit given.now.witness.circuit
+    ensures lifted { IfOk result (IsLiftedBackBy given.now.mapped.pair.first.circuit
+        given.now.mapped.pair.second.circuit given.now.mapped.map.circuit given.now.witness.circuit
         sharing.now) }
     ensures failed { IfErr result (IsFailureToLift task.now given.now) }
 {
     back_lift_law();
-    let first = &given.pair.first.circuit;
-    let second = &given.pair.second.circuit;
+    let first = &given.mapped.pair.first.circuit;
+    let second = &given.mapped.pair.second.circuit;
     first.known();
     second.known();
     match witness_lifted_back(
         alloc,
         first,
         second,
-        &given.map.circuit,
+        &given.mapped.map.circuit,
         &given.witness.circuit,
         sharing,
     ) {
@@ -63,15 +64,21 @@ fn lifted_back_of<'a>(
     given: &Given,
     task: &Lifting<'a>,
 ) -> Result<Circuit, Failure<'a>>
-    requires map { IsMap given.now.map.circuit }
-    requires fitting { AreFitting given.now.pair.second.circuit given.now.pair.first.circuit
-        given.now.map.circuit }
-    requires known { free_latches given.now.pair.first.circuit.aig ≡ 0 }
-    ensures lifted { IfOk result (IsBackLiftOf given.now.pair.first.circuit
-        given.now.pair.second.circuit given.now.map.circuit given.now.witness.circuit) }
+    requires map { IsMap given.now.mapped.map.circuit }
+    requires fitting { AreFitting
+        given.now.mapped.pair.second.circuit given.now.mapped.pair.first.circuit
+        given.now.mapped.map.circuit }
+    requires known { free_latches given.now.mapped.pair.first.circuit.aig ≡ 0 }
+    ensures lifted { IfOk result (IsBackLiftOf given.now.mapped.pair.first.circuit
+        given.now.mapped.pair.second.circuit given.now.mapped.map.circuit
+        given.now.witness.circuit) }
     ensures failed { IfErr result (IsFailureToLift task.now given.now) }
 {
-    match sharing_of(alloc, &given.pair.second.circuit, &given.witness.circuit) {
+    match sharing_of(
+        alloc,
+        &given.mapped.pair.second.circuit,
+        &given.witness.circuit,
+    ) {
         Ok(sharing) => {
             let lifted = lifted_back_by(alloc, given, &sharing, task);
             drop(sharing);
@@ -89,12 +96,16 @@ pub(crate) fn lifted_back<'a>(
     given: &Given,
     task: &Lifting<'a>,
 ) -> Result<Made, Failure<'a>>
-    requires { IsMap given.now.map.circuit }
+    requires { IsMap given.now.mapped.map.circuit }
     ensures lifted { IfOk result (IsLiftedOf true given.now) }
     ensures failed { IfErr result (IsFailureToLift task.now given.now) }
 {
-    let first = &given.pair.first.circuit;
-    if !are_fitting(&given.pair.second.circuit, first, &given.map.circuit) {
+    let first = &given.mapped.pair.first.circuit;
+    if !are_fitting(
+        &given.mapped.pair.second.circuit,
+        first,
+        &given.mapped.map.circuit,
+    ) {
         return Ok(Made::ShapesDiffer);
     }
     if first.aig().free_latches() > 0 {

@@ -31,23 +31,24 @@ fn lifted_by<'a>(
     sharing: &Sharing,
     task: &Lifting<'a>,
 ) -> Result<Circuit, Failure<'a>>
-    requires map { IsMap given.now.map.circuit }
-    requires fitting { AreFitting given.now.pair.first.circuit given.now.pair.second.circuit
-        given.now.map.circuit }
-    requires shares { IsSharing given.now.pair.second.circuit given.now.witness.circuit
+    requires map { IsMap given.now.mapped.map.circuit }
+    requires fitting { AreFitting
+        given.now.mapped.pair.first.circuit given.now.mapped.pair.second.circuit
+        given.now.mapped.map.circuit }
+    requires shares { IsSharing given.now.mapped.pair.second.circuit given.now.witness.circuit
         sharing.now }
-    ensures lifted { IfOk result (IsLiftedBy given.now.pair.first.circuit
-        given.now.pair.second.circuit given.now.map.circuit given.now.witness.circuit
+    ensures lifted { IfOk result (IsLiftedBy given.now.mapped.pair.first.circuit
+        given.now.mapped.pair.second.circuit given.now.mapped.map.circuit given.now.witness.circuit
         sharing.now) }
     ensures failed { IfErr result (IsFailureToLift task.now given.now) }
 {
     lift_law();
-    let first = &given.pair.first.circuit;
+    let first = &given.mapped.pair.first.circuit;
     first.known();
     match lifted_witness(
         alloc,
         first,
-        &given.map.circuit,
+        &given.mapped.map.circuit,
         &given.witness.circuit,
         sharing,
     ) {
@@ -64,14 +65,20 @@ fn lifted_by<'a>(
 
 /// Returns the witness circuit for the first circuit, of circuits and a map that fit together.
 fn lifted_of<'a>(alloc: Global, given: &Given, task: &Lifting<'a>) -> Result<Circuit, Failure<'a>>
-    requires map { IsMap given.now.map.circuit }
-    requires fitting { AreFitting given.now.pair.first.circuit given.now.pair.second.circuit
-        given.now.map.circuit }
-    ensures lifted { IfOk result (IsLiftOf given.now.pair.first.circuit
-        given.now.pair.second.circuit given.now.map.circuit given.now.witness.circuit) }
+    requires map { IsMap given.now.mapped.map.circuit }
+    requires fitting { AreFitting
+        given.now.mapped.pair.first.circuit given.now.mapped.pair.second.circuit
+        given.now.mapped.map.circuit }
+    ensures lifted { IfOk result (IsLiftOf given.now.mapped.pair.first.circuit
+        given.now.mapped.pair.second.circuit given.now.mapped.map.circuit
+        given.now.witness.circuit) }
     ensures failed { IfErr result (IsFailureToLift task.now given.now) }
 {
-    match sharing_of(alloc, &given.pair.second.circuit, &given.witness.circuit) {
+    match sharing_of(
+        alloc,
+        &given.mapped.pair.second.circuit,
+        &given.witness.circuit,
+    ) {
         Ok(sharing) => {
             let lifted = lifted_by(alloc, given, &sharing, task);
             drop(sharing);
@@ -85,14 +92,14 @@ fn lifted_of<'a>(alloc: Global, given: &Given, task: &Lifting<'a>) -> Result<Cir
 /// Returns what is made of the witness circuit that is read, by a map from the first circuit to the
 /// second.
 fn lifted_forth<'a>(alloc: Global, given: &Given, task: &Lifting<'a>) -> Result<Made, Failure<'a>>
-    requires { IsMap given.now.map.circuit }
+    requires { IsMap given.now.mapped.map.circuit }
     ensures lifted { IfOk result (IsLiftedOf false given.now) }
     ensures failed { IfErr result (IsFailureToLift task.now given.now) }
 {
     if !are_fitting(
-        &given.pair.first.circuit,
-        &given.pair.second.circuit,
-        &given.map.circuit,
+        &given.mapped.pair.first.circuit,
+        &given.mapped.pair.second.circuit,
+        &given.mapped.map.circuit,
     ) {
         return Ok(Made::ShapesDiffer);
     }
@@ -107,10 +114,10 @@ fn lifted_forth<'a>(alloc: Global, given: &Given, task: &Lifting<'a>) -> Result<
 fn lifted_for<'a>(alloc: Global, given: &Given, task: &Lifting<'a>) -> Result<Made, Failure<'a>>
     ensures lifted { IfOk result (IsLiftedOf task.now.back given.now) }
     ensures failed { IfErr result (IsFailureToLift task.now given.now) }
-    ensures not_a_map { (IsMap given.now.map.circuit → ⊥) → OfSource task.now.map
+    ensures not_a_map { (IsMap given.now.mapped.map.circuit → ⊥) → OfSource task.now.map
         (λ path. result ≡ Err (NotAMap path)) }
 {
-    if !is_map(&given.map.circuit) {
+    if !is_map(&given.mapped.map.circuit) {
         return Err(Failure::NotAMap(task.map.name()));
     }
     if task.back {
@@ -130,7 +137,8 @@ pub fn write_lifted<'a, R: Files + OutputFiles, I: CountedRead, O: CountedWrite>
     stdin: &mut I,
     out: &mut O,
 ) -> Result<Outcome, Failure<'a>>
-    ensures lift { IfOk result (PrintsLift (IsFileGiven R.Output.contents R.is_made R.is_let_go) task.now
+    ensures lift { IfOk result
+        (PrintsLift (IsFileGiven R.Output.contents R.is_made R.is_let_go) task.now
         (I.input stdin.old) (I.input stdin.new) (O.output out.old) (O.output out.new)) }
     ensures prints { Prints (ending result) (O.output out.old) (O.output out.new) }
 {

@@ -28,7 +28,8 @@ pub(crate) fn write_made<'a, R: OutputFiles, O: CountedWrite>(
     output: Target<'a>,
     out: &mut O,
 ) -> Result<Outcome, Failure<'a>>
-    ensures written { IfOk result (EndsMaking (IsFileGiven R.Output.contents R.is_made R.is_let_go) made.now
+    ensures written { IfOk result
+        (EndsMaking (IsFileGiven R.Output.contents R.is_made R.is_let_go) made.now
         spelling output.entry (O.output out.old) (O.output out.new)) }
     ensures prints { Prints (ending result) (O.output out.old) (O.output out.new) }
 {

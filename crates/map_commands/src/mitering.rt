@@ -9,7 +9,7 @@ ghost use Rattle.command_endings.specs.Printing.{Prints, ending};
 ghost use Rattle.map_commands.specs.Asking.{IsFailureToAsk, IsMadeOf, PrintsMiter};
 ghost use Rattle.map_commands.specs.Products.{PrintsAsked};
 
-use crate::given::{Mapped, mapped_for};
+use crate::given::{Mapped, mapped_at};
 use crate::made::{Made, write_made};
 use crate::products::write_product;
 use aig_graph::Circuit;
@@ -77,11 +77,12 @@ fn write_questions<'a, R: Files + OutputFiles, I: CountedRead, O: CountedWrite>(
     stdin: &mut I,
     out: &mut O,
 ) -> Result<Outcome, Failure<'a>>
-    ensures miter { IfOk result (PrintsMiter (IsFileGiven R.Output.contents R.is_made R.is_let_go) task.now
+    ensures miter { IfOk result
+        (PrintsMiter (IsFileGiven R.Output.contents R.is_made R.is_let_go) task.now
         (I.input stdin.old) (I.input stdin.new) (O.output out.old) (O.output out.new)) }
     ensures prints { Prints (ending result) (O.output out.old) (O.output out.new) }
 {
-    let mapped = mapped_for(rt, alloc, task, stdin)?;
+    let mapped = mapped_at(rt, alloc, task.input, task.retimed, task.map, stdin)?;
     let spelling = task.spelling.unwrap_or(mapped.map.spelling);
     let found = miter_for(alloc, &mapped, task);
     drop(mapped);

@@ -292,8 +292,8 @@ fn print_verdict<'a, O: CountedWrite>(
     verdict: &Verdict,
     out: &mut O,
 ) -> Result<Outcome, Failure<'a>>
-    ensures { EndsPrinting (outcome_of_verdict verdict.now) (verdict_text verdict.now) (O.output out.old)
-        (O.output out.new) result }
+    ensures { EndsPrinting (outcome_of_verdict verdict.now) (verdict_text verdict.now)
+        (O.output out.old) (O.output out.new) result }
 {
     match verdict {
         Verdict::Confirmed(confirmed) => print_confirmed(confirmed, out),
