@@ -10,7 +10,7 @@ use thiserror::Error;
 
 /// Why bytes were not read as a stimulus. The number is the offset of the first byte of the line at
 /// fault.
-#[derive(Clone, Copy, Debug)]
+#[derive(Clone, Copy)]
 pub enum StimError {
     /// A line is not a mark and digits, or it is a step before the first sequence.
     BadLine(u64),

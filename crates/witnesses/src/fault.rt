@@ -9,7 +9,7 @@ use std::fmt::{Debug, Display, Formatter};
 
 /// Why bytes were not read as a witness. The number is the offset of the first byte of the line at
 /// fault. A missing line has the offset of the end.
-#[derive(Clone, Copy, Debug)]
+#[derive(Clone, Copy)]
 pub enum WitnessError {
     /// The first line isn't `1`: a checker that found no way to a bad state writes `0` or `2`.
     BadHeader(u64),
