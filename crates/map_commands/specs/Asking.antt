@@ -14,7 +14,7 @@ use Rattle.circuit_files.specs.declared.outcome.Failure.TheVariants as fails
 use Rattle.map_commands.specs.declared.given.Mapped.{Mapped}
 use Rattle.map_commands.specs.declared.made.Made.{Made}
 use Rattle.map_commands.specs.declared.made.Made.TheVariants.{Circuit, ShapesDiffer}
-use Rattle.map_commands.specs.Fitting.{IsNoMapOf}
+use Rattle.map_commands.specs.Fitting.{IsMisfit}
 use Rattle.map_commands.specs.Making.{EndsMaking}
 use Rattle.map_commands.specs.Reading.{AreReadWithMap}
 
@@ -27,7 +27,7 @@ IsMadeOf mapped ShapesDiffer = IsMap mapped.map.circuit × (SameShape mapped.pai
 -- why nothing is made of them: the map isn't one of theirs, or what would be made has too many
 -- variables; memory may run out
 abbrev pub IsFailureToAsk : Asking → Mapped → Failure → Type 0
-IsFailureToAsk task mapped (fails.NotAMap path) = (path.now ≡ source_name task.map) × IsNoMapOf mapped.pair.first.circuit mapped.pair.second.circuit mapped.map.circuit
+IsFailureToAsk task mapped (fails.NotAMap path) = (path.now ≡ source_name task.map) × (IsMap mapped.map.circuit → IsMisfit mapped.pair.first.circuit mapped.pair.second.circuit mapped.map.circuit)
 IsFailureToAsk task mapped (fails.Refused path fault) = (path.now ≡ target_name task.output) × (fault ≡ TooLarge 0)
 IsFailureToAsk task mapped fails.Memory = Unit {0}
 IsFailureToAsk task mapped failure = ⊥

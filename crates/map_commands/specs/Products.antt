@@ -25,7 +25,7 @@ use Rattle.map_commands.specs.declared.products.Machines.{Machines}
 use Rattle.map_commands.specs.declared.products.Shown.{Shown}
 use Rattle.map_commands.specs.declared.products.Shown.TheVariants as shows
 use Rattle.map_commands.specs.Asking.{PrintsMiter}
-use Rattle.map_commands.specs.Fitting.{IsNoMapOf}
+use Rattle.map_commands.specs.Fitting.{IsMisfit}
 use Rattle.map_commands.specs.Reading.{AreReadWithMap}
 
 -- both circuits side by side: as a model whose bad state says that a property differs, and as its
@@ -47,7 +47,7 @@ target_for IsMapped task certificate = certificate
 -- why nothing is made: the map isn't one of theirs, or one of the machines would have too many
 -- variables; memory may run out
 abbrev pub IsFailureToMake : Asking → Target → Mapped → Failure → Type 0
-IsFailureToMake task certificate mapped (fails.NotAMap path) = (path.now ≡ source_name task.map) × IsNoMapOf mapped.pair.first.circuit mapped.pair.second.circuit mapped.map.circuit
+IsFailureToMake task certificate mapped (fails.NotAMap path) = (path.now ≡ source_name task.map) × (IsMap mapped.map.circuit → IsMisfit mapped.pair.first.circuit mapped.pair.second.circuit mapped.map.circuit)
 IsFailureToMake task certificate mapped (fails.Refused path fault) = ((goal : Goal) × (path.now ≡ target_name (target_for goal task certificate))) × (fault ≡ TooLarge 0)
 IsFailureToMake task certificate mapped fails.Memory = Unit {0}
 IsFailureToMake task certificate mapped failure = ⊥

@@ -4,7 +4,7 @@ ghost use Rattle.aig_graph.specs.Graph.{free_latches};
 ghost use Rattle.map_checks.specs.Answers.{AreFitting, IsMap};
 ghost use Rattle.circuit_files.specs.declared.outcome.Failure.TheVariants.{NotAMap};
 ghost use Rattle.command_endings.specs.HeldNames.{OfSource};
-ghost use Rattle.map_commands.specs.Lifted.{IsBackLiftOf, IsFailureToLift, IsLiftedBackBy, IsLiftedOf, IsNoMapToLift};
+ghost use Rattle.map_commands.specs.Lifted.{IsBackLiftOf, IsFailureToLift, IsLiftedBackBy, IsLiftedOf, IsMisfitToLift};
 ghost use Rattle.witness_circuits.specs.Witnesses.{IsSharing};
 
 use crate::fitting::{Fit, fit_of};
@@ -99,9 +99,11 @@ pub(crate) fn lifted_back<'a>(
 ) -> Result<Made, Failure<'a>>
     ensures lifted { IfOk result (IsLiftedOf true given.now) }
     ensures failed { IfErr result (IsFailureToLift true task.now given.now) }
-    ensures not_a_map { IsNoMapToLift true given.now.mapped.pair.first.circuit
-        given.now.mapped.pair.second.circuit given.now.mapped.map.circuit
-        → OfSource task.now.map (λ path. result ≡ Err (NotAMap path)) }
+    ensures not_a_map { (IsMap given.now.mapped.map.circuit → ⊥) → OfSource task.now.map
+        (λ path. result ≡ Err (NotAMap path)) }
+    ensures misfit { IsMap given.now.mapped.map.circuit → IsMisfitToLift true
+        given.now.mapped.pair.first.circuit given.now.mapped.pair.second.circuit
+        given.now.mapped.map.circuit → OfSource task.now.map (λ path. result ≡ Err (NotAMap path)) }
 {
     let pair = &given.mapped.pair;
     let first = &pair.first.circuit;

@@ -6,7 +6,7 @@ ghost use Rattle.circuit_files.specs.WrittenFiles.{IsFileGiven};
 ghost use Rattle.circuit_files.specs.declared.outcome.Failure.TheVariants.{NotAMap};
 ghost use Rattle.command_endings.specs.HeldNames.{OfSource};
 ghost use Rattle.command_endings.specs.Printing.{Prints, ending};
-ghost use Rattle.map_commands.specs.Lifted.{IsFailureToLift, IsLiftOf, IsLiftedBy, IsLiftedOf, IsNoMapToLift, PrintsLift};
+ghost use Rattle.map_commands.specs.Lifted.{IsFailureToLift, IsLiftOf, IsLiftedBy, IsLiftedOf, IsMisfitToLift, PrintsLift};
 
 use crate::back_lift::lifted_back;
 use crate::fitting::{Fit, fit_of};
@@ -92,9 +92,11 @@ fn lifted_of<'a>(alloc: Global, given: &Given, task: &Lifting<'a>) -> Result<Cir
 fn lifted_forth<'a>(alloc: Global, given: &Given, task: &Lifting<'a>) -> Result<Made, Failure<'a>>
     ensures lifted { IfOk result (IsLiftedOf false given.now) }
     ensures failed { IfErr result (IsFailureToLift false task.now given.now) }
-    ensures not_a_map { IsNoMapToLift false given.now.mapped.pair.first.circuit
-        given.now.mapped.pair.second.circuit given.now.mapped.map.circuit
-        → OfSource task.now.map (λ path. result ≡ Err (NotAMap path)) }
+    ensures not_a_map { (IsMap given.now.mapped.map.circuit → ⊥) → OfSource task.now.map
+        (λ path. result ≡ Err (NotAMap path)) }
+    ensures misfit { IsMap given.now.mapped.map.circuit → IsMisfitToLift false
+        given.now.mapped.pair.first.circuit given.now.mapped.pair.second.circuit
+        given.now.mapped.map.circuit → OfSource task.now.map (λ path. result ≡ Err (NotAMap path)) }
 {
     let pair = &given.mapped.pair;
     match fit_of(
@@ -116,9 +118,11 @@ fn lifted_forth<'a>(alloc: Global, given: &Given, task: &Lifting<'a>) -> Result<
 fn lifted_for<'a>(alloc: Global, given: &Given, task: &Lifting<'a>) -> Result<Made, Failure<'a>>
     ensures lifted { IfOk result (IsLiftedOf task.now.back given.now) }
     ensures failed { IfErr result (IsFailureToLift task.now.back task.now given.now) }
-    ensures not_a_map { IsNoMapToLift task.now.back given.now.mapped.pair.first.circuit
-        given.now.mapped.pair.second.circuit given.now.mapped.map.circuit
-        → OfSource task.now.map (λ path. result ≡ Err (NotAMap path)) }
+    ensures not_a_map { (IsMap given.now.mapped.map.circuit → ⊥) → OfSource task.now.map
+        (λ path. result ≡ Err (NotAMap path)) }
+    ensures misfit { IsMap given.now.mapped.map.circuit → IsMisfitToLift task.now.back
+        given.now.mapped.pair.first.circuit given.now.mapped.pair.second.circuit
+        given.now.mapped.map.circuit → OfSource task.now.map (λ path. result ≡ Err (NotAMap path)) }
 {
     if task.back {
         lifted_back(alloc, given, task)

@@ -7,7 +7,7 @@ ghost use Rattle.circuit_files.specs.declared.outcome.Failure.TheVariants.{NotAM
 ghost use Rattle.command_endings.specs.HeldNames.{OfSource};
 ghost use Rattle.command_endings.specs.Printing.{Prints, ending};
 ghost use Rattle.map_commands.specs.Asking.{IsFailureToAsk, IsMadeOf, PrintsMiter};
-ghost use Rattle.map_commands.specs.Fitting.{IsNoMapOf};
+ghost use Rattle.map_commands.specs.Fitting.{IsMisfit};
 ghost use Rattle.map_commands.specs.Products.{PrintsAsked};
 
 use crate::fitting::{Fit, fit_of};
@@ -52,8 +52,11 @@ fn miter_by<'a>(alloc: Global, mapped: &Mapped, task: &Asking<'a>) -> Result<Cir
 fn miter_for<'a>(alloc: Global, mapped: &Mapped, task: &Asking<'a>) -> Result<Made, Failure<'a>>
     ensures made { IfOk result (IsMadeOf mapped.now) }
     ensures failed { IfErr result (IsFailureToAsk task.now mapped.now) }
-    ensures not_a_map { IsNoMapOf mapped.now.pair.first.circuit mapped.now.pair.second.circuit
-        mapped.now.map.circuit → OfSource task.now.map (λ path. result ≡ Err (NotAMap path)) }
+    ensures not_a_map { (IsMap mapped.now.map.circuit → ⊥) → OfSource task.now.map
+        (λ path. result ≡ Err (NotAMap path)) }
+    ensures misfit { IsMap mapped.now.map.circuit → IsMisfit mapped.now.pair.first.circuit
+        mapped.now.pair.second.circuit mapped.now.map.circuit → OfSource task.now.map
+        (λ path. result ≡ Err (NotAMap path)) }
 {
     let (first, second) = (&mapped.pair.first.circuit, &mapped.pair.second.circuit);
     match fit_of(first, second, &mapped.map.circuit) {

@@ -7,7 +7,7 @@ ghost use Rattle.circuit_files.specs.WrittenFiles.{IsFileGiven};
 ghost use Rattle.circuit_files.specs.declared.outcome.Failure.TheVariants.{NotAMap};
 ghost use Rattle.command_endings.specs.HeldNames.{OfSource};
 ghost use Rattle.command_endings.specs.Printing.{Prints, ending};
-ghost use Rattle.map_commands.specs.Fitting.{IsNoMapOf};
+ghost use Rattle.map_commands.specs.Fitting.{IsMisfit};
 ghost use Rattle.map_commands.specs.Products.{AreMachinesOf, EndsShowing, EndsWritingBoth, IsFailureToMake, AreMadeSideBySide, PrintsProduct, target_for};
 ghost use Rattle.counted_io.specs.Streams.{target_name};
 
@@ -111,8 +111,11 @@ fn shown_for<'a>(
 ) -> Result<Shown, Failure<'a>>
     ensures made { IfOk result (AreMadeSideBySide mapped.now) }
     ensures failed { IfErr result (IsFailureToMake task.now certificate.entry mapped.now) }
-    ensures not_a_map { IsNoMapOf mapped.now.pair.first.circuit mapped.now.pair.second.circuit
-        mapped.now.map.circuit → OfSource task.now.map (λ path. result ≡ Err (NotAMap path)) }
+    ensures not_a_map { (IsMap mapped.now.map.circuit → ⊥) → OfSource task.now.map
+        (λ path. result ≡ Err (NotAMap path)) }
+    ensures misfit { IsMap mapped.now.map.circuit → IsMisfit mapped.now.pair.first.circuit
+        mapped.now.pair.second.circuit mapped.now.map.circuit → OfSource task.now.map
+        (λ path. result ≡ Err (NotAMap path)) }
 {
     let (first, second) = (&mapped.pair.first.circuit, &mapped.pair.second.circuit);
     match fit_of(first, second, &mapped.map.circuit) {
