@@ -62,10 +62,10 @@ abbrev pub HaveLiftableShapes : Bool → Netlist → Netlist → Type 0
 HaveLiftableShapes false c d = SameShape c d
 HaveLiftableShapes true c d = SameShape d c × (free_latches c.aig ≡ 0)
 
--- c and d have one shape, and m hasn't their latches; back, it should lead from d to c
-abbrev pub IsMisfitToLift : Bool → Netlist → Netlist → Netlist → Type 0
-IsMisfitToLift false c d m = IsMisfit c d m
-IsMisfitToLift true c d m = IsMisfit d c m
+-- the map that is read hasn't the latches of both circuits, which have one shape
+abbrev pub IsMisfitToLift : Bool → Given → Type 0
+IsMisfitToLift false given = IsMisfit given.mapped.pair.first.circuit given.mapped.pair.second.circuit given.mapped.map.circuit
+IsMisfitToLift true given = IsMisfit given.mapped.pair.second.circuit given.mapped.pair.first.circuit given.mapped.map.circuit
 
 -- r is what is lifted forth, or with true back
 abbrev pub IsLiftBy : Bool → Netlist → Netlist → Netlist → Netlist → Netlist → Type 0
@@ -81,7 +81,7 @@ IsLiftedOf back given ShapesDiffer = IsMap given.mapped.map.circuit × (HaveLift
 -- Why nothing is made of them. The map isn't one of theirs, or no inputs and latches of OUT are
 -- those that the names say. Else what would be made has too many variables, or memory runs out.
 abbrev pub IsFailureToLift : Bool → Lifting → Given → Failure → Type 0
-IsFailureToLift back task given (fails.NotAMap path) = (path.now ≡ source_name task.map) × (IsMap given.mapped.map.circuit → IsMisfitToLift back given.mapped.pair.first.circuit given.mapped.pair.second.circuit given.mapped.map.circuit)
+IsFailureToLift back task given (fails.NotAMap path) = (path.now ≡ source_name task.map) × (IsMap given.mapped.map.circuit → IsMisfitToLift back given)
 IsFailureToLift back task given (fails.NoSuchLiteral path) = (path.now ≡ source_name task.witness) × ((k : Sharing) → IsSharedBy given.mapped.pair.second.circuit given.witness.circuit k → ⊥)
 IsFailureToLift back task given (fails.Refused path fault) = (path.now ≡ target_name task.output) × (fault ≡ TooLarge 0)
 IsFailureToLift back task given fails.Memory = Unit {0}

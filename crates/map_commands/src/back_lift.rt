@@ -101,9 +101,8 @@ pub(crate) fn lifted_back<'a>(
     ensures failed { IfErr result (IsFailureToLift true task.now given.now) }
     ensures not_a_map { (IsMap given.now.mapped.map.circuit → ⊥) → OfSource task.now.map
         (λ path. result ≡ Err (NotAMap path)) }
-    ensures misfit { IsMap given.now.mapped.map.circuit → IsMisfitToLift true
-        given.now.mapped.pair.first.circuit given.now.mapped.pair.second.circuit
-        given.now.mapped.map.circuit → OfSource task.now.map (λ path. result ≡ Err (NotAMap path)) }
+    ensures misfit { IsMap given.now.mapped.map.circuit → IsMisfitToLift true given.now
+        → OfSource task.now.map (λ path. result ≡ Err (NotAMap path)) }
 {
     let pair = &given.mapped.pair;
     let first = &pair.first.circuit;
