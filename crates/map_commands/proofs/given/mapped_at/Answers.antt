@@ -1,4 +1,4 @@
-use Rattle.map_commands.proofs.given.mapped_for.Goals as goal
+use Rattle.map_commands.proofs.given.mapped_at.Goals as goal
 
 pub returns-in-Ok : goal.returns-in-Ok
 returns-in-Ok g c = record {
