@@ -55,6 +55,13 @@ fn put_after(spots: &mut [Spot], place: usize, arrived: usize) -> usize {
     arrived.saturating_add(u32::from(leaves) as usize)
 }
 
+/// Lets no gate take a unit.
+fn clear_taken(takes: &mut [Option<FanIn>]) {
+    for gate in 0..takes.len() {
+        takes[gate] = None;
+    }
+}
+
 /// Lists the places at which units wait.
 fn list_waiting(spots: &[Spot], left: &mut LeftUnits) {
     for place in 0..spots.len() {
@@ -97,6 +104,14 @@ impl Start {
             spots,
             arrived,
         }
+    }
+
+    /// Begins anew over the region, in the tables of this start over it.
+    pub(crate) fn again(self, region: &Region) -> Start {
+        let Start { takes, spots, .. } = self;
+        let mut takes = takes;
+        clear_taken(takes.as_mut_slice());
+        Start::begin(region, takes, spots)
     }
 
     /// Returns the places at which units wait.
