@@ -564,7 +564,7 @@ def main(words):
             raise Refused(f'{given.certificates}: it lists no merged latches, and none are guessed here')
         lines, status = verify(c, merged, blocks, bound)
         if not blocks:
-            print(f'{given.certificates}: no certificate: nothing was checked', file=sys.stderr)
+            print(f'{given.certificates}: no certificate: {"nothing" if merged is None else "no frame"} was checked', file=sys.stderr)
     except Refused as fault:
         lines, status = [], 1
         print(fault, file=sys.stderr)
