@@ -1,10 +1,15 @@
--- What the judge of a reading answers.
+-- What the judge of a reading answers, and what lines say.
 use Rattle.std.specs.Prelude.{ℕ, List}
 use Rattle.aig_graph.specs.Circuits.{Netlist}
-use Rattle.merged_circuits.specs.Preserved.{IsMergedBy}
+use Rattle.aig_graph.specs.Graph.{Graph}
+use Rattle.certificates.specs.declared.merged.MergedLatch.{MergedLatch}
+use Rattle.merged_circuits.specs.Inductive.{IsMergedBy}
+use Rattle.merged_circuits.specs.Lines.{IsSaidBy}
 use Rattle.merged_circuits.specs.Readings.{IsReading}
 use Rattle.latch_readings.specs.declared.judging.Judgement.{Judgement}
 use Rattle.latch_readings.specs.declared.judging.Judgement.TheVariants.{Merged, Misread, Open}
+use Rattle.latch_readings.specs.declared.lines.LineReading.{LineReading}
+use Rattle.latch_readings.specs.declared.lines.LineReading.TheVariants.{Reads, Misread as Misplaced}
 
 -- The circuit is merged by the reading. Steps may preserve a reading that stays open or not. What
 -- isn't a reading claims nothing.
@@ -12,3 +17,8 @@ abbrev pub IsJudgement : Netlist → List ℕ → List ℕ → Judgement → Typ
 IsJudgement c held reads (Merged d) = IsMergedBy held reads c d
 IsJudgement c held reads (Misread place) = Unit {0}
 IsJudgement c held reads (Open place) = IsReading c.aig held reads
+
+-- the lines are those of the reading; a line that is refused claims nothing
+abbrev pub IsReadingOf : Graph → List MergedLatch → LineReading → Type 0
+IsReadingOf g lines (Reads reads) = IsSaidBy g lines reads.items
+IsReadingOf g lines (Misplaced latch) = Unit {0}

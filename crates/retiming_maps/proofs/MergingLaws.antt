@@ -13,7 +13,7 @@ use Rattle.cleaned_circuits.proofs.MergedLaws.{length-replaced_latches}
 use Rattle.cleaned_circuits.proofs.PassLaws.{IsCircuit, IsCircuit-cleans, cleans-streams}
 use Rattle.latch_merging.specs.declared.start.MergedStart.{MergedStart}
 use Rattle.latch_merging.proofs.StartLaws.{in_range-by, merges-by, stay-by, streams-by}
-use Rattle.merged_circuits.specs.Preserved.{IsMergedBy}
+use Rattle.merged_circuits.specs.Inductive.{IsMergedBy}
 use Rattle.merged_circuits.specs.Readings.{substitutes_by}
 use Rattle.merged_circuits.proofs.MergingLaws.{merged-streams, merged_by-streams}
 use Rattle.map_circuits.specs.Constraining.{AddsSubstitutes, substitute_function}
@@ -36,11 +36,11 @@ module _ (b d e : Netlist) (held kept reads : List ℕ) (g h : Graph) (functions
     graph = adds.extends.graph;
     inputs = adds.extends.inputs ∙ p.inputs;
     latches = adds.extends.latches ∙ p.latches;
-    functions_within = read-within d.aig held reads functions merged.preserved.reading p.many g h old new p.graph p.functions_within adds;
+    functions_within = read-within d.aig held reads functions merged.inductive.reading p.many g h old new p.graph p.functions_within adds;
     constraints_within = adds.within;
-    many = length-map reads (substitute_function (first_latch d.aig) functions) ∙ merged.preserved.reading.long ∙ sym (ap (λ (n : Netlist). length n.aig.latches) merged.circuit ∙ length-replaced_latches (substitutes_by d.aig reads) d.aig);
+    many = length-map reads (substitute_function (first_latch d.aig) functions) ∙ merged.inductive.reading.long ∙ sym (ap (λ (n : Netlist). length n.aig.latches) merged.circuit ∙ length-replaced_latches (substitutes_by d.aig reads) d.aig);
     places = subst (AreKept b e) (composed-every kept (free_latches d.aig) p.places.each) (kept-then b d e kept (all_free d.aig) p.places streams.places);
-    free = free-merged b d e held kept reads functions merged.preserved.reading merged.circuit merged.preserved.reading.long p.free;
+    free = free-merged b d e held kept reads functions merged.inductive.reading merged.circuit merged.inductive.reading.long p.free;
     maps = merged-step b d e held reads kept g h functions old new valid.graph valid.netlist merged p.graph p.functions_within p.many p.places.each p.maps adds;
   }
     where

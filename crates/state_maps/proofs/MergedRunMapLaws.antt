@@ -10,7 +10,7 @@ use Rattle.aig_graph.specs.Streams.{AreKept, SameStreams}
 use Rattle.aig_graph.specs.declared.choice.Choice.{Choice}
 use Rattle.aig_graph.proofs.StreamLaws.{composed-every}
 use Rattle.cleaned_circuits.proofs.PassLaws.{IsCircuit, IsCircuit-cleans, cleans-streams}
-use Rattle.merged_circuits.specs.Preserved.{IsMergedBy}
+use Rattle.merged_circuits.specs.Inductive.{IsMergedBy}
 use Rattle.merged_circuits.proofs.MergingLaws.{IsGraph-merged_by, IsNetlist-merged_by, merged-by, merged_by-streams}
 use Rattle.retimed_circuits.specs.declared.report.Retimed.{Retimed}
 use Rattle.retimed_circuits.specs.Frames.{CleansTo}

@@ -1,11 +1,11 @@
 use Rattle.std.proofs.Common.{ℕ, List, subst, sym}
-use Rattle.merged_circuits.specs.Preserved.{IsPreserved}
+use Rattle.merged_circuits.specs.Inductive.{IsInductive}
 use Rattle.retiming_maps.specs.Merging.{LeadsMerged}
 use Rattle.retiming_maps.proofs.merging.merged_along.Goals as goal
 
 pub follow_merging-requires-clause-preserved : goal.follow_merging-requires-clause-preserved
 follow_merging-requires-clause-preserved c =
-    subst (λ (reads : List ℕ). IsPreserved c.args.circuit.now.aig c.args.keep.now reads) (sym c.as_slice.ensures.value) c.in_ok-reads.ensures.preserved
+    subst (λ (reads : List ℕ). IsInductive c.args.circuit.now.aig c.args.keep.now reads) (sym c.as_slice.ensures.value) c.in_ok-reads.ensures.inductive
 
 pub returns : goal.returns
 returns c =

@@ -23,7 +23,7 @@ told latch = from_reset latch.reset latch.next
 
 -- Steps preserve a reading if this is so in each state in which all latches hold what they read as.
 -- Who reads as a constant is told 0. Who reads as a latch is told what that is told.
-pub record IsPreserved (g : Graph) (held reads : List ℕ) : Type 0 where
+pub record IsInductive (g : Graph) (held reads : List ℕ) : Type 0 where
   pub reading : IsReading g held reads
   pub constants : (j : ℕ) (latch : Latch) → slice_get g.latches j ≡ Some latch → variable (read reads j) ≡ 0 → AreEqualUnder g reads (told latch) 0
   pub alike : (j i : ℕ) (latch first : Latch) → slice_get g.latches j ≡ Some latch → slice_get g.latches i ≡ Some first
@@ -32,5 +32,5 @@ pub record IsPreserved (g : Graph) (held reads : List ℕ) : Type 0 where
 -- d is c, each literal of it reading the substitute of what it read, by this reading, which steps
 -- preserve
 pub record IsMergedBy (held reads : List ℕ) (c d : Netlist) : Type 0 where
-  pub preserved : IsPreserved c.aig held reads
+  pub inductive : IsInductive c.aig held reads
   pub circuit : d ≡ replaced_circuit (substitutes_by c.aig reads) c
