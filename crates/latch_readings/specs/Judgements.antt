@@ -1,10 +1,10 @@
 -- What the judge of a reading answers, and what lines say.
-use Rattle.std.specs.Prelude.{ℕ, List}
+use Rattle.std.specs.Prelude.{ℕ, ◌+◌, ◌≡◌, true, List, Option, Some, None, slice_get}
 use Rattle.aig_graph.specs.Circuits.{Netlist}
-use Rattle.aig_graph.specs.Graph.{Graph}
+use Rattle.aig_graph.specs.Graph.{Graph, first_latch}
 use Rattle.certificates.specs.declared.merged.MergedLatch.{MergedLatch}
 use Rattle.merged_circuits.specs.Inductive.{IsMergedBy}
-use Rattle.merged_circuits.specs.Lines.{IsSaidBy}
+use Rattle.merged_circuits.specs.Lines.{IsSaidBy, is_merged}
 use Rattle.merged_circuits.specs.Readings.{IsReading}
 use Rattle.latch_readings.specs.declared.judging.Judgement.{Judgement}
 use Rattle.latch_readings.specs.declared.judging.Judgement.TheVariants.{Merged, Misread, Open}
@@ -22,3 +22,9 @@ IsJudgement c held reads (Open place) = IsReading c.aig held reads
 abbrev pub IsReadingOf : Graph → List MergedLatch → LineReading → Type 0
 IsReadingOf g lines (Reads reads) = IsSaidBy g lines reads.items
 IsReadingOf g lines (Misplaced latch) = Unit {0}
+
+-- the line at a place is that of latch j, which reads as another literal by it; nothing is claimed
+-- if there is none
+abbrev pub IsLineFor : Graph → List MergedLatch → ℕ → ℕ → Option ℕ → Type 0
+IsLineFor g lines at j (Some lit) = (slice_get lines at ≡ Some (record { latch = first_latch g + j; reads = lit })) × (is_merged (record { latch = first_latch g + j; reads = lit }) ≡ true)
+IsLineFor g lines at j None = Unit {0}

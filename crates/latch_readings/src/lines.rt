@@ -1,8 +1,8 @@
 //! The lines that say a reading, and the reading that lines say.
-ghost use Rattle.std.specs.Prelude.{◌≡◌, IfOk, length};
+ghost use Rattle.std.specs.Prelude.{◌≡◌, ◌<◌, IfOk, length};
 ghost use Rattle.merged_circuits.specs.Lines.{merged_lines};
 ghost use Rattle.merged_circuits.specs.Readings.{own_reading};
-ghost use Rattle.latch_readings.specs.Judgements.{IsReadingOf};
+ghost use Rattle.latch_readings.specs.Judgements.{IsLineFor, IsReadingOf};
 
 use aig_graph::{Aig, Lit, NoMemory, Sequence};
 use certificates::MergedLatch;
@@ -45,9 +45,13 @@ pub enum LineReading {
     Misread(u32),
 }
 
-/// Returns what a latch reads as by the line at a place, if that is its line and says another
-/// literal than its own.
-fn line_for(lines: &[MergedLatch], at: usize, own: Lit) -> Option<Lit> {
+/// Returns what the latch at a place reads as by the line at another. There is nothing if that
+/// isn't the latch's line, or says its own literal.
+fn line_for(aig: &Aig, lines: &[MergedLatch], at: usize, place: usize) -> Option<Lit>
+    requires { place < length aig.now.latches }
+    ensures { IsLineFor aig.now lines.now at place result }
+{
+    let own = own_literal(aig, place);
     let line = lines.get(at)?;
     if line.latch == own.var() && line.reads != own {
         Some(line.reads)
@@ -67,13 +71,12 @@ pub fn reading_of(alloc: Global, aig: &Aig, lines: &[MergedLatch]) -> Result<Lin
     let mut reads = Vec::with_capacity(alloc, aig.latches().len())?;
     let mut at = 0;
     for place in 0..aig.latches().len() {
-        let own = own_literal(aig, place);
-        match line_for(lines, at, own) {
+        match line_for(aig, lines, at, place) {
             Some(lit) => {
                 reads.push(lit)?;
                 at += 1;
             }
-            None => reads.push(own)?,
+            None => reads.push(own_literal(aig, place))?,
         }
     }
     match lines.get(at) {
