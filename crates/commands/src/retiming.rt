@@ -148,9 +148,9 @@ fn write_certificates<R: OutputFiles, O: CountedWrite>(
     match target {
         Target::Stdout => write_cert(file, out),
         Target::File(path) => {
-            let mut writer = file_at(rt, path);
-            let written = write_cert(file, &mut writer);
-            close(writer);
+            let mut target_file = file_at(rt, path);
+            let written = write_cert(file, &mut target_file);
+            close(target_file);
             written
         }
     }

@@ -9,4 +9,4 @@ returns-in-Stdout-clause-given g c = on_ok_weaker c.write_cert.result (λ writes
 pub returns-in-File-clause-given : goal.returns-in-File-clause-given
 returns-in-File-clause-given g c =
     on_ok_weaker c.write_cert-written.result
-    (λ writes. to_file _ _ c.in-File.path _ _ c.in-File.is (whole_text _ _ _ _ _ _ _ _ _ c.file_at-writer.ensures.path c.file_at-writer.ensures.given c.close.ensures writes.bytes)) c.write_cert-written.ensures.ok
+    (λ writes. to_file _ _ c.in-File.path _ _ c.in-File.is (whole_text _ _ _ _ _ _ _ _ _ c.file_at-target_file.ensures.path c.file_at-target_file.ensures.given c.close.ensures writes.bytes)) c.write_cert-written.ensures.ok
