@@ -1,5 +1,5 @@
 -- What the lines up to a place say of the latches up to another.
-use Rattle.std.proofs.Common.{ℕ, zero-add, add-one, ◌+◌, ◌*◌, ◌<◌, ◌≤◌, ◌≡◌, List, [], ◌∷◌, ◌++◌, length, take, get_or, Bool, true, false, not, Some, slice_get, refl, arith, ap, sym, ◌∙◌, subst}
+use Rattle.std.proofs.Common.{ℕ, zero-add, add-one, ◌+◌, ◌*◌, ◌<◌, ◌≤◌, ◌≡◌, List, [], ◌∷◌, ◌++◌, length, take, get_or, Bool, true, false, not, eq-eqb, Some, slice_get, refl, arith, ap, sym, ◌∙◌, subst}
 use Rattle.std.proofs.Math.Seq.{take-suc}
 use Rattle.std.specs.List.{filter}
 use Rattle.std.proofs.lemmas.List.{get_or_append_left, get_or_push, length_push, take_all}
