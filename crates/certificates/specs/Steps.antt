@@ -1,5 +1,5 @@
 -- A text, line after line.
-use Rattle.std.specs.Prelude.{ℕ, ◌-◌, List, [], ◌∷◌, ◌++◌, length, Bool, None, Result}
+use Rattle.std.specs.Prelude.{ℕ, ◌-◌, List, [], ◌∷◌, ◌++◌, length, Bool, Option, None, Result}
 use Rattle.file_words.specs.Lines.{lines}
 use Rattle.frame_net.specs.declared.net.Point.{Point}
 use Rattle.certificates.specs.declared.certificate.Certificate.{Certificate}
@@ -7,7 +7,7 @@ use Rattle.certificates.specs.declared.fault.CertError.{CertError}
 use Rattle.aig_graph.specs.declared.choice.Choice.{Choice}
 use Rattle.certificates.specs.declared.merged.MergedLatch.{MergedLatch}
 use Rattle.certificates.specs.declared.file.CertFile.{CertFile}
-use Rattle.certificates.specs.Files.{Progress, read_after_choice, read_blocks, read_counted, read_merged}
+use Rattle.certificates.specs.Files.{Progress, nothing_read, read_after_choice, read_blocks, read_choice, read_counted, read_file, read_merged, with_head}
 
 -- what is read of the end of a text of this length
 abbrev pub read_rest : ℕ → List ℕ → Progress → Result (List Certificate) CertError
@@ -15,7 +15,19 @@ read_rest end rest p = read_blocks (end - length rest) end p (lines rest)
 
 -- ---- what stands before the blocks
 
--- what is read of the end of a text, which begins after the line of the choice
+-- what is read of the end of a text if blocks come next, after this choice and these merged latches
+abbrev pub rest_after_head : Choice → Option (List MergedLatch) → ℕ → List ℕ → Result CertFile CertError
+rest_after_head choice merged end rest = with_head choice merged (read_rest end rest nothing_read)
+
+-- that, if the first line of the file comes next
+abbrev pub rest_of_file : ℕ → List ℕ → Result CertFile CertError
+rest_of_file end rest = read_file end (lines rest)
+
+-- that, if the line of the choice comes next
+abbrev pub rest_chosen : Bool → ℕ → List ℕ → Result CertFile CertError
+rest_chosen lists end rest = read_choice lists (end - length rest) end (lines rest)
+
+-- that, after the line of the choice
 abbrev pub rest_after_choice : Bool → Choice → ℕ → List ℕ → Result CertFile CertError
 rest_after_choice lists choice end rest = read_after_choice lists choice (end - length rest) end (lines rest)
 

@@ -5,8 +5,8 @@ ghost use Rattle.aig_graph.specs.declared.choice.Choice.{Choice};
 ghost use Rattle.file_words.specs.Answering.{Leads};
 ghost use Rattle.certificates.specs.declared.fault.CertError.TheVariants.{NoMemory};
 ghost use Rattle.certificates.specs.declared.merged.MergedLatch.{MergedLatch};
-ghost use Rattle.certificates.specs.Files.{count_in_line, is_small_literal, merged_count, merged_in_line, merged_latch, nothing_read, with_head};
-ghost use Rattle.certificates.specs.Steps.{read_rest, rest_counted, rest_merged};
+ghost use Rattle.certificates.specs.Files.{count_in_line, is_small_literal, merged_count, merged_in_line, merged_latch};
+ghost use Rattle.certificates.specs.Steps.{rest_after_head, rest_counted, rest_merged};
 
 use crate::fault::CertError;
 use crate::forms::{after_letters, is_small};
@@ -122,8 +122,8 @@ pub(crate) fn read_merged(
     lines: &mut Lines<'_>,
 ) -> Result<Sequence<MergedLatch>, CertError>
     ensures end { lines.new.end ≡ lines.old.end }
-    ensures reads { (choice : Choice) → Leads NoMemory (λ merged. with_head choice (Some merged)
-        (read_rest lines.new.end lines.new.rest.now nothing_read)) result
+    ensures reads { (choice : Choice) → Leads NoMemory (λ merged. rest_after_head choice
+        (Some merged) lines.new.end lines.new.rest.now) result
         (rest_counted choice lines.old.end lines.old.rest.now) }
 {
     let count = next_count(lines)?;

@@ -1,12 +1,11 @@
 //! The versions of a file of certificates differ before the first block alone, so the blocks of all
 //! are read by one function. The first version has no line of the choice, and its sets are the
 //! greatest. The third lists the latches that were merged.
-ghost use Rattle.std.specs.Prelude.{ℕ, Bool, true, false, [], ◌≡◌, ◌⊎◌, ◌-◌, length, IfOk, IfErr, Ok, Err};
-ghost use Rattle.file_words.specs.Lines as format;
+ghost use Rattle.std.specs.Prelude.{Bool, true, false, ◌≡◌, ◌⊎◌, length, IfOk, IfErr, Ok, Err};
 ghost use Rattle.certificates.specs.declared.fault.CertError.TheVariants.{NoMemory};
 ghost use Rattle.file_words.specs.Answering.{Gives, Leads};
-ghost use Rattle.certificates.specs.Files.{choice_in_line, nothing_read, read_choice, read_file, read_text, with_head};
-ghost use Rattle.certificates.specs.Steps.{read_rest, rest_after_choice};
+ghost use Rattle.certificates.specs.Files.{choice_in_line, read_text};
+ghost use Rattle.certificates.specs.Steps.{rest_after_choice, rest_after_head, rest_chosen, rest_of_file};
 
 use crate::blocks::read_blocks;
 use crate::fault::CertError;
@@ -40,11 +39,9 @@ fn choice(text: &[u8]) -> Option<Choice>
 /// Takes the line of the choice.
 fn choice_line(lines: &mut Lines<'_>) -> Result<Choice, CertError>
     ensures end { lines.new.end ≡ lines.old.end }
-    ensures reads { (lists : Bool) (at : ℕ) → (lines.old.rest.now ≡ []) ⊎
-        (at ≡ lines.old.end - length lines.old.rest.now)
-        → Leads NoMemory (λ choice. rest_after_choice lists choice lines.new.end
-        lines.new.rest.now) result
-        (read_choice lists at lines.old.end (format.lines lines.old.rest.now)) }
+    ensures reads { (lists : Bool) → Leads NoMemory (λ choice. rest_after_choice lists choice
+        lines.new.end lines.new.rest.now) result
+        (rest_chosen lists lines.old.end lines.old.rest.now) }
 {
     let line = next_line(lines)?;
     match choice(line.text) {
@@ -55,11 +52,8 @@ fn choice_line(lines: &mut Lines<'_>) -> Result<Choice, CertError>
 
 /// Takes the lines of the second version before the blocks.
 fn second_version(lines: &mut Lines<'_>) -> Result<Head, CertError>
-    ensures { (at : ℕ) → (lines.old.rest.now ≡ []) ⊎
-        (at ≡ lines.old.end - length lines.old.rest.now)
-        → Leads NoMemory (λ head. with_head head.choice head.merged
-        (read_rest lines.new.end lines.new.rest.now nothing_read)) result
-        (read_choice false at lines.old.end (format.lines lines.old.rest.now)) }
+    ensures { Leads NoMemory (λ head. rest_after_head head.choice head.merged lines.new.end
+        lines.new.rest.now) result (rest_chosen false lines.old.end lines.old.rest.now) }
 {
     let choice = choice_line(lines)?;
     Ok(Head {
@@ -70,11 +64,8 @@ fn second_version(lines: &mut Lines<'_>) -> Result<Head, CertError>
 
 /// Takes the lines of the third version before the blocks.
 fn third_version(alloc: Global, lines: &mut Lines<'_>) -> Result<Head, CertError>
-    ensures { (at : ℕ) → (lines.old.rest.now ≡ []) ⊎
-        (at ≡ lines.old.end - length lines.old.rest.now)
-        → Leads NoMemory (λ head. with_head head.choice head.merged
-        (read_rest lines.new.end lines.new.rest.now nothing_read)) result
-        (read_choice true at lines.old.end (format.lines lines.old.rest.now)) }
+    ensures { Leads NoMemory (λ head. rest_after_head head.choice head.merged lines.new.end
+        lines.new.rest.now) result (rest_chosen true lines.old.end lines.old.rest.now) }
 {
     let choice = choice_line(lines)?;
     let merged = read_merged(alloc, lines)?;
@@ -87,9 +78,9 @@ fn third_version(alloc: Global, lines: &mut Lines<'_>) -> Result<Head, CertError
 /// Takes the lines before the blocks.
 fn first_lines(alloc: Global, lines: &mut Lines<'_>) -> Result<Head, CertError>
     ensures { length lines.old.rest.now ≡ lines.old.end
-        → Leads NoMemory (λ head. with_head head.choice head.merged
-        (read_rest lines.new.end lines.new.rest.now nothing_read)) result
-        (read_file lines.old.end (format.lines lines.old.rest.now)) }
+        → Leads NoMemory (λ head. rest_after_head head.choice head.merged lines.new.end
+        lines.new.rest.now) result
+        (rest_of_file lines.old.end lines.old.rest.now) }
 {
     let Ok(first) = next_line(lines) else {
         return Err(CertError::BadHeader(0));
