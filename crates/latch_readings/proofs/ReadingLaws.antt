@@ -5,7 +5,6 @@ use Rattle.aig_graph.specs.declared.graph.Latch.{Latch}
 use Rattle.aig_graph.specs.Graph.{Graph, first_latch, variable}
 use Rattle.aig_graph.specs.Value.{signed_as}
 use Rattle.cleaned_circuits.specs.Latches.{constant_of}
-use Rattle.certificates.specs.declared.merged.MergedLatch.{MergedLatch}
 use Rattle.merged_circuits.specs.Lines.{is_merged, latch_line}
 use Rattle.merged_circuits.specs.Readings.{ReadsAs, as_first, may_merge, own_literal, read}
 

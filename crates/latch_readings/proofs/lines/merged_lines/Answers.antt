@@ -1,10 +1,9 @@
-use Rattle.std.proofs.Common.{ℕ, ◌≡◌, ◌++◌, ◌∷◌, [], ◌∙◌, List, ap, sym}
+use Rattle.std.proofs.Common.{ℕ, ◌≡◌, ◌++◌, ◌∷◌, [], ◌∙◌, List, length, arith, ap, sym}
 use Rattle.aig_graph.specs.Graph.{Graph}
 use Rattle.certificates.specs.declared.merged.MergedLatch.{MergedLatch}
 use Rattle.merged_circuits.specs.Lines.{is_merged, latch_line}
-use Rattle.merged_circuits.specs.Readings.{read}
-use Rattle.merged_circuits.proofs.LineLaws.{lines-all, lines-more, lines-none, lines-stay}
-use Rattle.latch_readings.proofs.ReadingLaws.{item-read, line-is, merged-is}
+use Rattle.merged_circuits.proofs.LineLaws.{lines_below, lines-all, lines-more, lines-none, lines-stay}
+use Rattle.latch_readings.proofs.ReadingLaws.{line-is, merged-is}
 use Rattle.latch_readings.proofs.lines.merged_lines.Goals as goal
 use Rattle.latch_readings.proofs.lines.merged_lines.Goals.{then-ne+in_ok-push, else-ne}
 
@@ -21,12 +20,16 @@ loop-place-preserved c =
     elim c.if-ne.branch [
       | then-ne+in_ok-push w ↦
           ap (λ v. v.items) w.lines-is ∙ w.in_ok-push.ensures.items
-          ∙ ap (λ (xs : List MergedLatch). xs ++ _ ∷ []) c.loop-place.invariant
-          ∙ ap (λ (x : MergedLatch). _ ++ x ∷ [])
-          (line-is g reads k c.index-reads-place.result c.own_literal-own.result w.var.result c.loop-place-test.true c.index-reads-place.is c.own_literal-own.ensures w.var.ensures)
+          ∙ ap (λ (xs : List MergedLatch). xs ++ record { latch = w.var.result; reads = c.index-reads-place.result } ∷ []) c.loop-place.invariant
+          ∙ ap (λ (x : MergedLatch). lines_below g reads k ++ x ∷ [])
+          (line-is g reads k c.index-reads-place.result c.own_literal-own.result w.var.result c.loop-place-test.true c.index-reads-place.is c.own_literal-own.ensures w.var.ensures.variable)
           ∙ sym (lines-more g reads k (sym is ∙ w.if-ne.true))
       | else-ne w ↦ ap (λ v. v.items) w.lines-is ∙ c.loop-place.invariant ∙ sym (lines-stay g reads k (sym is ∙ w.if-ne.false))
     ]
 
 pub returns : goal.returns
-returns c = ?
+returns c =
+    let g : Graph = c.args.aig.now in
+    let reads : List ℕ = c.args.reads.now in
+    let all : c.loop-place.place ≡ length g.latches = omega (arith, c.loop-place-test.false, c.loop-place.auto.place-end, c.requires) in
+    c.from_vec.ensures ∙ c.loop-place.invariant ∙ ap (lines_below g reads) all ∙ lines-all g reads

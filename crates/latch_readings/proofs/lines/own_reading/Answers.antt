@@ -1,4 +1,4 @@
-use Rattle.std.proofs.Common.{ℕ, ◌≡◌, ◌∙◌, List, length, zero-add, arith, ap, sym}
+use Rattle.std.proofs.Common.{ℕ, ◌∙◌, List, length, zero-add, arith, ap, sym}
 use Rattle.aig_graph.specs.declared.graph.Latch.{Latch}
 use Rattle.aig_graph.specs.Graph.{Graph}
 use Rattle.aig_graph.proofs.TableLaws.{entry, table-end, table-none}
@@ -16,4 +16,8 @@ loop-place-preserved c =
 
 pub returns : goal.returns
 unfolding own_reading
-returns c = ?
+returns c =
+    let g : Graph = c.args.aig.now in
+    let many = ap (λ (xs : List Latch). length xs) c.latches-place-end.ensures.value in
+    table-end 0 c.loop-place.place (length g.latches) (own_literal g) c.loop-place.reads.items
+    (omega (arith, c.loop-place.auto.place-end, many)) (omega (arith, c.loop-place-test.false, many)) c.loop-place.invariant
