@@ -1,0 +1,44 @@
+//! The work that a guess may do, counted where it is done. So a guess is a function of the circuit
+//! alone, and no clock is asked.
+
+/// The units of a simulated gate, in all lanes.
+pub(crate) const OF_GATE: u64 = 3;
+
+/// Those of an input or a latch, which gets random words.
+pub(crate) const OF_LEAF: u64 = 8;
+
+/// Those of a gate that is put into a graph with shared gates.
+pub(crate) const OF_SHARING: u64 = 32;
+
+/// Those of a gate that a question visits.
+pub(crate) const OF_VISIT: u64 = 8;
+
+/// How many units of work are left. A unit takes some two nanoseconds, and up to ten if tables are
+/// larger than what a processor keeps near.
+#[derive(Drop)]
+pub struct Budget {
+    left: u64,
+}
+
+impl Budget {
+    /// Returns a budget of so many units.
+    pub fn of(units: u64) -> Budget {
+        Budget { left: units }
+    }
+
+    /// Returns the number of units that are left.
+    pub(crate) fn left(&self) -> u64 {
+        self.left
+    }
+
+    /// Returns true if none is left.
+    pub(crate) fn is_spent(&self) -> bool {
+        self.left == 0
+    }
+
+    /// Takes so many units for each of `count`, or all that are left.
+    pub(crate) fn spend(&mut self, count: usize, units: u64) {
+        let spent = (count as u64).saturating_mul(units);
+        self.left = self.left.saturating_sub(spent);
+    }
+}
