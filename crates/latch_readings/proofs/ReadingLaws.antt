@@ -5,17 +5,11 @@ use Rattle.aig_graph.specs.declared.graph.Latch.{Latch}
 use Rattle.aig_graph.specs.Graph.{Graph}
 use Rattle.aig_graph.specs.Value.{signed_as}
 use Rattle.cleaned_circuits.specs.Latches.{constant_of}
-use Rattle.merged_circuits.specs.Counts.{is_merged}
 use Rattle.merged_circuits.specs.Readings.{ReadsAs, as_first, may_merge, own_literal, read}
 
 -- what the loop reads
 pub item-read : (reads : List ℕ) (k lit : ℕ) → k < length reads → lit ≡ get_or reads k lit → lit ≡ read reads k
 item-read reads k lit h e = e ∙ get_or_default reads k lit 0 h
-
--- whether a latch reads as another
-pub merged-is : (g : Graph) (reads : List ℕ) (k lit own : ℕ) (ne : Bool) → k < length reads → lit ≡ get_or reads k lit → own ≡ own_literal g k → ne ≡ not (nat_eq lit own) → ne ≡ is_merged g reads k
-merged-is g reads k lit own ne h e is signature_ne =
-    signature_ne ∙ ap (λ (n : ℕ). not (nat_eq n own)) (item-read reads k lit h e) ∙ ap (λ (n : ℕ). not (nat_eq (read reads k) n)) is
 
 -- a test has one answer
 pub not-both : (b : Bool) → b ≡ false → b ≡ true → ⊥
