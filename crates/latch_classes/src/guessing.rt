@@ -103,7 +103,7 @@ pub fn guess(
     budget: Budget,
 ) -> Result<Guess, SharingError> {
     let mut reads = reads;
-    if budget.left() / FEWEST_STEPS < cost(aig) {
+    if budget.total() / FEWEST_STEPS < cost(aig) {
         return Ok(Guess {
             reads,
             is_settled: false,

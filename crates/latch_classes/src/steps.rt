@@ -219,7 +219,7 @@ impl Steps {
 
     /// Parts classes by what the latches are told in the last step. Whether one was.
     pub(crate) fn part(
-        &self,
+        &mut self,
         alloc: Global,
         aig: &Aig,
         reads: &mut Vec<Lit>,
@@ -236,6 +236,7 @@ impl Steps {
         }
         leaving.sort()?;
         part(aig, reads, leaving.as_slice());
+        self.budget.gain(leaving.len());
         Ok(!leaving.is_empty())
     }
 }

@@ -44,8 +44,8 @@ impl Naming {
         let latches = aig.latches().len();
         aig.known();
         let marked = Marked {
-            latches: Marks::all(alloc, true, latches)?,
-            gates: Marks::all(alloc, true, aig.gates().len())?,
+            latches: Marks::all(alloc, latches)?,
+            gates: Marks::all(alloc, aig.gates().len())?,
         };
         let after = aig.first_gate().saturating_add(latches as u32);
         Ok(Naming {

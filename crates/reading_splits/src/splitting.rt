@@ -43,7 +43,7 @@ impl Splitting {
         Ok(Splitting {
             naming: Naming::by(alloc, aig, reads)?,
             told: vec![in alloc; Lit::FALSE; latches]?,
-            leaving: Marks::all(alloc, false, latches)?,
+            leaving: Marks::none(alloc, latches)?,
         })
     }
 
