@@ -11,7 +11,7 @@ use reading_splits::hashed;
 use std::alloc::Global;
 
 /// The units of work that any guess may take.
-const LEAST: u64 = 1 << 21;
+const LEAST: u64 = 3 << 20;
 
 /// How many more there are for each gate, and for each latch.
 const FOR_GATE: u64 = 128;
@@ -19,7 +19,7 @@ const FOR_GATE: u64 = 128;
 const FOR_LATCH: u64 = 64;
 
 /// How many there are for each gate if latches leave their classes.
-const IN_RESERVE: u64 = 448;
+const IN_RESERVE: u64 = 512;
 
 /// The units that the guess of a large circuit may take.
 const MOST: u64 = 1 << 27;
