@@ -184,10 +184,10 @@ impl Cone {
 
     /// Returns how many of the latches still read as another.
     pub(crate) fn still(&self, aig: &Aig, reads: &[Lit]) -> usize {
-        let mut still = 0;
+        let mut still = 0usize;
         for place in self.others.as_slice() {
             if *place < reads.len() && reads_another(aig, *place, reads[*place]) {
-                still += 1;
+                still = still.wrapping_add(1);
             }
         }
         still

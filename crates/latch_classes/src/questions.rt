@@ -52,8 +52,7 @@ impl Questions {
 
     /// Returns the latch at a place as one that leaves its class.
     pub(crate) fn leaving(&self, place: usize, lit: Lit) -> Leaving {
-        let (told, first) = sides(&self.graph, place, lit);
-        let _first = first;
+        let (told, _first) = sides(&self.graph, place, lit);
         (lit.var(), u64::from(told.code()), place)
     }
 

@@ -31,7 +31,7 @@ const OF_OTHERS: [Density; 4] = [
 ];
 
 /// Those of inputs there.
-const HALF: [Density; 4] = [Density::Half; 4];
+const HALF: [Density; 4] = [Density::Half, Density::Half, Density::Half, Density::Half];
 
 /// By variable its words in a step: inputs, latches, and after them the gates of the cone.
 pub(crate) struct Steps {
