@@ -118,6 +118,7 @@ impl Steps {
     ) -> Result<(), NoMemory> {
         let still = self.cone.still(aig, reads);
         if still.saturating_mul(4) < self.cone.others.len().saturating_mul(3) {
+            self.budget.spend(aig.gates().len(), OF_GATE);
             let cone = Cone::of(alloc, aig, reads)?;
             drop(mem::replace(&mut self.cone, cone));
         }
