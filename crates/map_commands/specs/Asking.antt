@@ -1,5 +1,6 @@
 -- What `miter` makes of a map, and what is written.
 use Rattle.std.specs.Prelude.{ℕ, ◌≡◌, List, unwrap_or}
+use Rattle.aig_graph.specs.Streams.{SameShape}
 use Rattle.map_checks.specs.Answers.{AreFitting, IsMap}
 use Rattle.map_miters.specs.Miters.{IsMiter}
 use Rattle.file_words.specs.declared.fault.ReadError.TheVariants.{TooLarge}
@@ -13,6 +14,7 @@ use Rattle.circuit_files.specs.declared.outcome.Failure.TheVariants as fails
 use Rattle.map_commands.specs.declared.given.Mapped.{Mapped}
 use Rattle.map_commands.specs.declared.made.Made.{Made}
 use Rattle.map_commands.specs.declared.made.Made.TheVariants.{Circuit, ShapesDiffer}
+use Rattle.map_commands.specs.Fitting.{IsMisfit}
 use Rattle.map_commands.specs.Making.{EndsMaking}
 use Rattle.map_commands.specs.Reading.{AreReadWithMap}
 
@@ -20,12 +22,12 @@ use Rattle.map_commands.specs.Reading.{AreReadWithMap}
 abbrev pub IsMadeOf : Mapped → Made → Type 0
 IsMadeOf mapped (Circuit r) = IsMap mapped.map.circuit × AreFitting mapped.pair.first.circuit mapped.pair.second.circuit mapped.map.circuit
     × IsMiter mapped.pair.first.circuit mapped.pair.second.circuit mapped.map.circuit r
-IsMadeOf mapped ShapesDiffer = IsMap mapped.map.circuit × (AreFitting mapped.pair.first.circuit mapped.pair.second.circuit mapped.map.circuit → ⊥)
+IsMadeOf mapped ShapesDiffer = IsMap mapped.map.circuit × (SameShape mapped.pair.first.circuit mapped.pair.second.circuit → ⊥)
 
--- why nothing is made of them: the map isn't one, or what would be made has too many variables;
--- memory may run out
+-- why nothing is made of them: the map isn't one of theirs, or what would be made has too many
+-- variables; memory may run out
 abbrev pub IsFailureToAsk : Asking → Mapped → Failure → Type 0
-IsFailureToAsk task mapped (fails.NotAMap path) = (path.now ≡ source_name task.map) × (IsMap mapped.map.circuit → ⊥)
+IsFailureToAsk task mapped (fails.NotAMap path) = (path.now ≡ source_name task.map) × (IsMap mapped.map.circuit → IsMisfit mapped.pair.first.circuit mapped.pair.second.circuit mapped.map.circuit)
 IsFailureToAsk task mapped (fails.Refused path fault) = (path.now ≡ target_name task.output) × (fault ≡ TooLarge 0)
 IsFailureToAsk task mapped fails.Memory = Unit {0}
 IsFailureToAsk task mapped failure = ⊥

@@ -1,5 +1,6 @@
 -- What `miter` makes of a map with a certificate, and what is written.
 use Rattle.std.specs.Prelude.{ℕ, ◌≡◌, List, unwrap_or, Option, Some, None}
+use Rattle.aig_graph.specs.Streams.{SameShape}
 use Rattle.map_checks.specs.Answers.{AreFitting, IsMap}
 use Rattle.map_miters.specs.declared.goals.Goal.{Goal}
 use Rattle.map_miters.specs.declared.goals.Goal.TheVariants.{Agree, Mapped as IsMapped}
@@ -24,6 +25,7 @@ use Rattle.map_commands.specs.declared.products.Machines.{Machines}
 use Rattle.map_commands.specs.declared.products.Shown.{Shown}
 use Rattle.map_commands.specs.declared.products.Shown.TheVariants as shows
 use Rattle.map_commands.specs.Asking.{PrintsMiter}
+use Rattle.map_commands.specs.Fitting.{IsMisfit}
 use Rattle.map_commands.specs.Reading.{AreReadWithMap}
 
 -- both circuits side by side: as a model whose bad state says that a property differs, and as its
@@ -35,17 +37,17 @@ pub record AreMachinesOf (mapped : Mapped) (machines : Machines) : Type 0 where
 -- what is made of the circuits and the map that are read
 abbrev pub AreMadeSideBySide : Mapped → Shown → Type 0
 AreMadeSideBySide mapped (shows.Machines machines) = IsMap mapped.map.circuit × AreFitting mapped.pair.first.circuit mapped.pair.second.circuit mapped.map.circuit × AreMachinesOf mapped machines
-AreMadeSideBySide mapped shows.ShapesDiffer = IsMap mapped.map.circuit × (AreFitting mapped.pair.first.circuit mapped.pair.second.circuit mapped.map.circuit → ⊥)
+AreMadeSideBySide mapped shows.ShapesDiffer = IsMap mapped.map.circuit × (SameShape mapped.pair.first.circuit mapped.pair.second.circuit → ⊥)
 
 -- what a machine is written to, by its goal
 abbrev pub target_for : Goal → Asking → Target → Target
 target_for Agree task certificate = task.output
 target_for IsMapped task certificate = certificate
 
--- why nothing is made: the map isn't one, or one of the machines would have too many variables;
--- memory may run out
+-- why nothing is made: the map isn't one of theirs, or one of the machines would have too many
+-- variables; memory may run out
 abbrev pub IsFailureToMake : Asking → Target → Mapped → Failure → Type 0
-IsFailureToMake task certificate mapped (fails.NotAMap path) = (path.now ≡ source_name task.map) × (IsMap mapped.map.circuit → ⊥)
+IsFailureToMake task certificate mapped (fails.NotAMap path) = (path.now ≡ source_name task.map) × (IsMap mapped.map.circuit → IsMisfit mapped.pair.first.circuit mapped.pair.second.circuit mapped.map.circuit)
 IsFailureToMake task certificate mapped (fails.Refused path fault) = ((goal : Goal) × (path.now ≡ target_name (target_for goal task certificate))) × (fault ≡ TooLarge 0)
 IsFailureToMake task certificate mapped fails.Memory = Unit {0}
 IsFailureToMake task certificate mapped failure = ⊥

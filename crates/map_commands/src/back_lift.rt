@@ -1,18 +1,19 @@
 //! The command `lift --back`.
-ghost use Rattle.std.specs.Prelude.{◌≡◌, IfErr, IfOk, true};
+ghost use Rattle.std.specs.Prelude.{◌≡◌, Err, IfErr, IfOk, true};
 ghost use Rattle.aig_graph.specs.Graph.{free_latches};
 ghost use Rattle.map_checks.specs.Answers.{AreFitting, IsMap};
-ghost use Rattle.map_commands.specs.Lifted.{IsBackLiftOf, IsFailureToLift, IsLiftedBackBy, IsLiftedOf};
-ghost use Rattle.witness_circuits.specs.Naming.{IsSharedBy};
+ghost use Rattle.circuit_files.specs.declared.outcome.Failure.TheVariants.{NotAMap};
+ghost use Rattle.command_endings.specs.HeldNames.{OfSource};
+ghost use Rattle.map_commands.specs.Lifted.{IsBackLiftOf, IsFailureToLift, IsLiftedBackBy, IsLiftedOf, IsMisfitToLift};
 ghost use Rattle.witness_circuits.specs.Witnesses.{IsSharing};
 
+use crate::fitting::{Fit, fit_of};
 use crate::given::Given;
 use crate::made::Made;
 use aig_graph::Circuit;
 use circuit_files::Failure;
 use command_line::Lifting;
 use file_words::ReadError;
-use map_checks::are_fitting;
 use map_miters::{back_lift_law, witness_lifted_back};
 use std::alloc::Global;
 use witness_circuits::{LiftError, Sharing, SharingError, sharing_of};
@@ -35,7 +36,7 @@ fn lifted_back_by<'a>(
     ensures lifted { IfOk result (IsLiftedBackBy given.now.mapped.pair.first.circuit
         given.now.mapped.pair.second.circuit given.now.mapped.map.circuit given.now.witness.circuit
         sharing.now) }
-    ensures failed { IfErr result (IsFailureToLift task.now given.now) }
+    ensures failed { IfErr result (IsFailureToLift true task.now given.now) }
 {
     back_lift_law();
     let first = &given.mapped.pair.first.circuit;
@@ -72,7 +73,7 @@ fn lifted_back_of<'a>(
     ensures lifted { IfOk result (IsBackLiftOf given.now.mapped.pair.first.circuit
         given.now.mapped.pair.second.circuit given.now.mapped.map.circuit
         given.now.witness.circuit) }
-    ensures failed { IfErr result (IsFailureToLift task.now given.now) }
+    ensures failed { IfErr result (IsFailureToLift true task.now given.now) }
 {
     match sharing_of(
         alloc,
@@ -96,23 +97,26 @@ pub(crate) fn lifted_back<'a>(
     given: &Given,
     task: &Lifting<'a>,
 ) -> Result<Made, Failure<'a>>
-    requires { IsMap given.now.mapped.map.circuit }
     ensures lifted { IfOk result (IsLiftedOf true given.now) }
-    ensures failed { IfErr result (IsFailureToLift task.now given.now) }
+    ensures failed { IfErr result (IsFailureToLift true task.now given.now) }
+    ensures not_a_map { (IsMap given.now.mapped.map.circuit → ⊥) → OfSource task.now.map
+        (λ path. result ≡ Err (NotAMap path)) }
+    ensures misfit { IsMap given.now.mapped.map.circuit → IsMisfitToLift true given.now
+        → OfSource task.now.map (λ path. result ≡ Err (NotAMap path)) }
 {
-    let first = &given.mapped.pair.first.circuit;
-    if !are_fitting(
-        &given.mapped.pair.second.circuit,
-        first,
-        &given.mapped.map.circuit,
-    ) {
-        return Ok(Made::ShapesDiffer);
-    }
-    if first.aig().free_latches() > 0 {
-        return Ok(Made::ShapesDiffer);
-    }
-    match lifted_back_of(alloc, given, task) {
-        Ok(circuit) => Ok(Made::Circuit(circuit)),
-        Err(failure) => Err(failure),
+    let pair = &given.mapped.pair;
+    let first = &pair.first.circuit;
+    match fit_of(&pair.second.circuit, first, &given.mapped.map.circuit) {
+        Fit::Fits => {
+            if first.aig().free_latches() > 0 {
+                return Ok(Made::ShapesDiffer);
+            }
+            match lifted_back_of(alloc, given, task) {
+                Ok(circuit) => Ok(Made::Circuit(circuit)),
+                Err(failure) => Err(failure),
+            }
+        }
+        Fit::ShapesDiffer => Ok(Made::ShapesDiffer),
+        Fit::NotAMap => Err(Failure::NotAMap(task.map.name())),
     }
 }

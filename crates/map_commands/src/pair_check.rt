@@ -1,5 +1,5 @@
 //! The command `check` without a map.
-ghost use Rattle.std.specs.Prelude.{◌≡◌, IfOk};
+ghost use Rattle.std.specs.Prelude.{IfOk};
 ghost use Rattle.aig_graph.specs.Streams.{AreKept};
 ghost use Rattle.simulation_commands.specs.declared.kept.Shared.TheVariants.{Each};
 ghost use Rattle.map_commands.specs.Checking.{IsPairVerdict, IsPairVerdictOf, IsPairVerdictUnder, MayShare, IsVerdictKept};

@@ -7,9 +7,11 @@ ghost use Rattle.circuit_files.specs.WrittenFiles.{IsFileGiven};
 ghost use Rattle.circuit_files.specs.declared.outcome.Failure.TheVariants.{NotAMap};
 ghost use Rattle.command_endings.specs.HeldNames.{OfSource};
 ghost use Rattle.command_endings.specs.Printing.{Prints, ending};
+ghost use Rattle.map_commands.specs.Fitting.{IsMisfit};
 ghost use Rattle.map_commands.specs.Products.{AreMachinesOf, EndsShowing, EndsWritingBoth, IsFailureToMake, AreMadeSideBySide, PrintsProduct, target_for};
 ghost use Rattle.counted_io.specs.Streams.{target_name};
 
+use crate::fitting::{Fit, fit_of};
 use crate::given::{Mapped, mapped_at};
 use aig_binary::Spelling;
 use aig_graph::Circuit;
@@ -18,7 +20,6 @@ use command_endings::{ended, write_circuit};
 use command_line::Asking;
 use counted_io::{CountedRead, CountedWrite, Target};
 use file_words::ReadError;
-use map_checks::{are_fitting, is_map};
 use map_miters::{Goal, MiterError, product_machine};
 use reports::print_shapes_differ;
 use std::alloc::Global;
@@ -36,7 +37,7 @@ struct Machines {
 enum Shown {
     /// These.
     Machines(Machines),
-    /// Nothing: the circuits and the map don't fit together.
+    /// Nothing: the circuits differ in their inputs or properties.
     ShapesDiffer,
 }
 
@@ -100,8 +101,8 @@ fn machines_by<'a>(
     }
 }
 
-/// Returns what is made of the circuits and the map that are read. That the map isn't one is found
-/// first, then that it doesn't fit the circuits.
+/// Returns what is made of the circuits and the map that are read. A map that isn't one of theirs
+/// is refused.
 fn shown_for<'a>(
     alloc: Global,
     mapped: &Mapped,
@@ -112,17 +113,18 @@ fn shown_for<'a>(
     ensures failed { IfErr result (IsFailureToMake task.now certificate.entry mapped.now) }
     ensures not_a_map { (IsMap mapped.now.map.circuit → ⊥) → OfSource task.now.map
         (λ path. result ≡ Err (NotAMap path)) }
+    ensures misfit { IsMap mapped.now.map.circuit → IsMisfit mapped.now.pair.first.circuit
+        mapped.now.pair.second.circuit mapped.now.map.circuit → OfSource task.now.map
+        (λ path. result ≡ Err (NotAMap path)) }
 {
-    let map = &mapped.map.circuit;
-    if !is_map(map) {
-        return Err(Failure::NotAMap(task.map.name()));
-    }
-    if !are_fitting(&mapped.pair.first.circuit, &mapped.pair.second.circuit, map) {
-        return Ok(Shown::ShapesDiffer);
-    }
-    match machines_by(alloc, mapped, task, certificate) {
-        Ok(machines) => Ok(Shown::Machines(machines)),
-        Err(failure) => Err(failure),
+    let (first, second) = (&mapped.pair.first.circuit, &mapped.pair.second.circuit);
+    match fit_of(first, second, &mapped.map.circuit) {
+        Fit::Fits => match machines_by(alloc, mapped, task, certificate) {
+            Ok(machines) => Ok(Shown::Machines(machines)),
+            Err(failure) => Err(failure),
+        },
+        Fit::ShapesDiffer => Ok(Shown::ShapesDiffer),
+        Fit::NotAMap => Err(Failure::NotAMap(task.map.name())),
     }
 }
 
@@ -150,7 +152,7 @@ fn write_both<'a, R: OutputFiles, O: CountedWrite>(
     }
 }
 
-/// Writes what is made, or prints that the circuits and the map don't fit together.
+/// Writes what is made, or prints that the shapes of the circuits differ.
 fn write_shown<'a, R: OutputFiles, O: CountedWrite>(
     rt: &R,
     shown: &Shown,

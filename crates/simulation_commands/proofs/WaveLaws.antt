@@ -1,6 +1,5 @@
 -- What is printed of a trace and of waves, by how the run ends.
 use Rattle.std.proofs.Common.{ℕ, ◌≡◌, true, false, List, Some, IfOk, OnOk, Result, Ok, Err, refl, sym, subst}
-use Rattle.std.proofs.lemmas.Result.{IfOk-weaker}
 use Rattle.aig_graph.specs.Circuits.{Netlist}
 use Rattle.aig_binary.specs.declared.reading.SpeltCircuit.{SpeltCircuit}
 use Rattle.counted_io.specs.Input.{Input}

@@ -1,5 +1,5 @@
 //! The command `same`.
-ghost use Rattle.std.specs.Prelude.{◌≡◌, IfOk};
+ghost use Rattle.std.specs.Prelude.{IfOk};
 ghost use Rattle.command_endings.specs.Objects.{EndsPrintingObject};
 ghost use Rattle.simulation_commands.specs.Comparing.{IsFinding, IsFindingBy, IsFindingOf, IsFindingUnder, PrintsFinding, finding_object, finding_text, outcome_of_finding, printed_finding};
 ghost use Rattle.simulation_commands.specs.declared.kept.Shared.TheVariants.{Each, Kept};

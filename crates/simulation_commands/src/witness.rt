@@ -13,7 +13,7 @@ use circuit_files::{Failure, Outcome, witness_at};
 use clean::{Cleaned, all_places, clean};
 use command_endings::ended;
 use command_line::Carrying;
-use counted_io::{CountedRead, CountedWrite, Source};
+use counted_io::{CountedRead, CountedWrite};
 use frames::{Options, Retimed, retime};
 use pulse::{Crew, OpenGate};
 use reports::print_shapes_differ;
