@@ -13,7 +13,7 @@ use std::fmt::{Display, Formatter};
 use witnesses::WitnessError;
 
 /// How a run ended.
-#[derive(Clone, Copy, PartialEq, Eq)]
+#[derive(Clone, Copy, Debug, PartialEq, Eq)]
 pub enum Outcome {
     /// All was done.
     Done,
@@ -53,7 +53,7 @@ impl Outcome {
 
 /// Why a command failed, with the path of the file, or `stdin` or `stdout`. Its `Display` is the
 /// message on standard error, without a newline.
-#[derive(Clone, Copy)]
+#[derive(Clone, Copy, Debug)]
 pub enum Failure<'a> {
     /// The circuit has a fault.
     Refused(&'a str, ReadError),
