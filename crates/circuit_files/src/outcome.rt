@@ -1,7 +1,7 @@
 //! The ends of runs, and the failures of commands. All errors of the libraries come down to the few
 //! that a user tells apart by the exit status. Each has the path of its file.
 ghost use Rattle.std.specs.Prelude.{◌≡◌};
-ghost use Rattle.circuit_files.specs.Outcomes.{outcome_of, failure_of_bytes, failure_of_certificates, failure_of_list, failure_of_reading, failure_of_stimulus, failure_of_witness};
+ghost use Rattle.circuit_files.specs.Outcomes.{outcome_of, path_of, failure_of_bytes, failure_of_certificates, failure_of_list, failure_of_reading, failure_of_stimulus, failure_of_witness};
 
 use crate::ListError;
 use certificates::CertError;
@@ -168,7 +168,9 @@ impl<'a> Failure<'a> {
     }
 
     /// Returns the path of the file; none if memory was refused.
-    fn path(self) -> Option<&'a str> {
+    pub fn path(self) -> Option<&'a str>
+        ensures { result ≡ path_of self.entry }
+    {
         match self {
             Failure::Refused(path, _)
             | Failure::RefusedStimulus(path, _)
