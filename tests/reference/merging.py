@@ -21,12 +21,12 @@ def readings(c, classes):
     return replacements
 
 
-def told(c, reads):
+def told(c, reads, most_leaves=MOST_LEAVES):
     """By latch what it is told where latches read so, its next literal negated where its reset is 1: the values in all cases, or the literal."""
     replacements, kept = with_gates(c, dict(reads))
     leaves = [v for v in range(1, c.first_gate()) if replacements.get(v, 2 * v) == 2 * v]
     lits = [replaced(next_lit, replacements) ^ (reset or 0) for next_lit, reset in c.latches]
-    if len(leaves) > MOST_LEAVES:
+    if len(leaves) > most_leaves:
         return lits
     table = all_rows(len(leaves))
     columns = {0: 0, **dict(zip(leaves, table.columns))}
@@ -39,19 +39,19 @@ def told(c, reads):
     return list(map(value, lits))
 
 
-def parted(c, classes):
+def parted(c, classes, most_leaves=MOST_LEAVES):
     """The classes, each parted by what its latches are told."""
-    of_latch, numbers, found = told(c, readings(c, classes)), {(CONSTANT, 0): CONSTANT}, {}
+    of_latch, numbers, found = told(c, readings(c, classes), most_leaves), {(CONSTANT, 0): CONSTANT}, {}
     for k, number in classes.items():
         found[k] = numbers.setdefault((number, of_latch[k]), len(numbers))
     return found
 
 
-def coarsest(c, held=frozenset()):
+def coarsest(c, held=frozenset(), most_leaves=MOST_LEAVES):
     """The classes of the coarsest inductive partition: each latch that may be merged has the number of its class."""
     classes = {k: CONSTANT for k, (_, reset) in enumerate(c.latches) if reset is not FREE and k not in held}
     while True:
-        next_classes = parted(c, classes)
+        next_classes = parted(c, classes, most_leaves)
         if len({CONSTANT, *next_classes.values()}) == len({CONSTANT, *classes.values()}):
             return classes
         classes = next_classes
@@ -61,6 +61,15 @@ def merged_lines(c, held, merge):
     """The latches that read as another literal, each with that; the circuit is cleaned."""
     reads = readings(c, coarsest(c, held)) if merge is True else dict(merge)
     return [(v, lit) for v, lit in sorted(reads.items()) if lit != 2 * v]
+
+
+def loses(c, held, lines):
+    """Whether latches that agree by literals alone don't by the lines."""
+    reads, together = dict(lines), {}
+    for k, number in coarsest(c, held, most_leaves=0).items():
+        v = c.first_latch() + k
+        together.setdefault(number, set()).add(reads.get(v, 2 * v) // 2)
+    return any(len(firsts) > 1 or number == CONSTANT and firsts != {0} for number, firsts in together.items())
 
 
 def misread(c, held, lines):
