@@ -36,9 +36,9 @@ values, or, if the reset sequence makes that right, set them to zero
 (`setundef -init -zero` in Yosys, before `write_aiger`).
 
 With --merge, latches that always agree, or that never change, are merged once
-before the first frame: it finds logic that is there twice, and features that
-are tied off. It is found without search; copies that were built differently are
-not. A merged latch has more readers, so here and there fewer can move.
+before the first frame: it finds logic that is there twice, also if it was built
+differently, and features that are tied off. What a bounded search doesn't show
+stays. A merged latch has more readers, so here and there fewer can move.
 
 A move makes paths longer: gates from behind a row of latches then stand in
 front of it. With --no-longer no path of OUT has more gates than the longest one
@@ -202,9 +202,12 @@ circuit of its frame, without any flow.
 
 'yes' says that no set of gates leaves fewer latches than the certificate's. The
 circuit of the next frame is made from IN by the certificate's set. Say which
-latches were held, and give --merge, --levels and --no-longer, as for 'retime'.
-Under a bound on levels 'yes' says that no set of all gates leaves fewer, or of
-those within it, and that no path gets longer than the bound by the move.
+latches were held, and give --levels and --no-longer, as for 'retime'. Under a
+bound on levels 'yes' says that no set of all gates leaves fewer, or of those
+within it, and that no path gets longer than the bound by the move.
+
+If CERT lists merged latches, it is checked first that each always has the value
+of what it reads as. For a file that lists none, give --merge as for 'retime'.
 
 With --out it compares OUT with what 'retime' writes of the circuit that all of
 them make of IN, byte for byte.";
