@@ -6,7 +6,7 @@ use Rattle.aig_graph.specs.Closed.{IsClosedSet}
 use Rattle.cleaned_circuits.proofs.PassLaws.{IsCircuit, IsCircuit-cleans}
 use Rattle.retimed_circuits.proofs.CircuitLaws.{moved-circuit}
 use Rattle.retimed_circuits.proofs.CleaningLevelLaws.{cleans-levels}
-use Rattle.merged_circuits.proofs.MergingLaws.{IsGraph-merged_latches, IsNetlist-merged_latches, merged-by}
+use Rattle.merged_circuits.proofs.MergingLaws.{IsGraph-merged_by, IsNetlist-merged_by}
 use Rattle.retimed_circuits.proofs.ReplacedLevelLaws.{merged_latches-levels}
 use Rattle.retimed_circuits.specs.Frames.{CleansTo, held_over, moved_over}
 use Rattle.path_levels.specs.Levels.{levels}
@@ -74,11 +74,11 @@ merged-replay-levels (Some most) held c lines blocks replay graph netlist is =
     let clean : Netlist = is.merges.clean in
     let whole : Bounded most c c = record { circuit = record { graph = graph; netlist = netlist }; kept = omega arith } in
     let first : Bounded most c clean = cleans-bounded most held c c clean is.kept is.start_held whole is.merges.cleaned in
-    let low : levels is.start ≤ levels clean = merged_latches-levels is.start_held is.merges.merged.reads clean is.start first.circuit.graph first.circuit.netlist (merged-by is.start_held clean is.start first.circuit.graph is.merges.merged) in
+    let low : levels is.start ≤ levels clean = merged_latches-levels is.start_held is.merges.reads clean is.start first.circuit.graph first.circuit.netlist is.merges.merged in
     let start : Bounded most c is.start = record {
       circuit = record {
-        graph = IsGraph-merged_latches is.start_held clean is.start first.circuit.graph is.merges.merged;
-        netlist = IsNetlist-merged_latches is.start_held clean is.start first.circuit.graph first.circuit.netlist is.merges.merged;
+        graph = IsGraph-merged_by is.start_held is.merges.reads clean is.start first.circuit.graph is.merges.merged;
+        netlist = IsNetlist-merged_by is.start_held is.merges.reads clean is.start first.circuit.graph first.circuit.netlist is.merges.merged;
       };
       kept = omega (arith, low, first.kept);
     } in

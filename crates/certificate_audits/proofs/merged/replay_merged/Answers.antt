@@ -37,4 +37,4 @@ pub returns-in-Ok-Misread : goal.returns-in-Ok-Misread
 returns-in-Ok-Misread c = misread c.in-Ok-Misread.latch c.refused_by.ensures
 
 pub returns-in-Ok-NotShown : goal.returns-in-Ok-NotShown
-returns-in-Ok-NotShown c = not_shown c.in-Ok-NotShown.latch c.refused_by-2.ensures
+returns-in-Ok-NotShown c = not_shown c.in-Ok-NotShown.latch c.refused_by-in-Ok-NotShown.ensures
