@@ -1,14 +1,31 @@
 -- A text, line after line.
-use Rattle.std.specs.Prelude.{ℕ, ◌-◌, List, [], ◌∷◌, ◌++◌, length, None, Result}
+use Rattle.std.specs.Prelude.{ℕ, ◌-◌, List, [], ◌∷◌, ◌++◌, length, Bool, None, Result}
 use Rattle.file_words.specs.Lines.{lines}
 use Rattle.frame_net.specs.declared.net.Point.{Point}
 use Rattle.certificates.specs.declared.certificate.Certificate.{Certificate}
 use Rattle.certificates.specs.declared.fault.CertError.{CertError}
-use Rattle.certificates.specs.Files.{Progress, read_blocks}
+use Rattle.aig_graph.specs.declared.choice.Choice.{Choice}
+use Rattle.certificates.specs.declared.merged.MergedLatch.{MergedLatch}
+use Rattle.certificates.specs.declared.file.CertFile.{CertFile}
+use Rattle.certificates.specs.Files.{Progress, read_after_choice, read_blocks, read_counted, read_merged}
 
 -- what is read of the end of a text of this length
 abbrev pub read_rest : ℕ → List ℕ → Progress → Result (List Certificate) CertError
 read_rest end rest p = read_blocks (end - length rest) end p (lines rest)
+
+-- ---- what stands before the blocks
+
+-- what is read of the end of a text, which begins after the line of the choice
+abbrev pub rest_after_choice : Bool → Choice → ℕ → List ℕ → Result CertFile CertError
+rest_after_choice lists choice end rest = read_after_choice lists choice (end - length rest) end (lines rest)
+
+-- that, if the number of merged latches comes next
+abbrev pub rest_counted : Choice → ℕ → List ℕ → Result CertFile CertError
+rest_counted choice end rest = read_counted choice (end - length rest) end (lines rest)
+
+-- that, if these merged latches have been read and others are to come
+abbrev pub rest_merged : Choice → ℕ → List ℕ → List MergedLatch → ℕ → Result CertFile CertError
+rest_merged choice end rest merged left = read_merged choice (end - length rest) end merged left (lines rest)
 
 -- ---- blocks
 

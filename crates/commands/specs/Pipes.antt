@@ -80,7 +80,7 @@ WritesMap FileGiven None made old new = new ≡ old
 
 -- the text of a retiming's certificates
 abbrev pub blocks_text : Retiming → Retimed → List ℕ
-blocks_text task r = certificates_text (record { choice = task.options.choice; blocks = r.certificates })
+blocks_text task r = certificates_text (record { choice = task.options.choice; merged = None; blocks = r.certificates })
 
 -- so were the certificates
 abbrev pub WritesCertificates : (List ℕ → List ℕ → Type 0) → Option Target → List ℕ → Output → Output → Type 0

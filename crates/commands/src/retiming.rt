@@ -1,5 +1,5 @@
 //! The command `retime`.
-ghost use Rattle.std.specs.Prelude.{◌≡◌, ◌⊎◌, true, false, IfErr, IfOk, Ok, OnOk, option_map};
+ghost use Rattle.std.specs.Prelude.{◌≡◌, ◌⊎◌, None, true, false, IfErr, IfOk, Ok, OnOk, option_map};
 ghost use Rattle.counted_io.specs.Output.{Writes};
 ghost use Rattle.certificates.specs.Texts.{file_text};
 ghost use Rattle.counted_io.specs.Streams.{is_stdout};
@@ -120,9 +120,13 @@ fn put_certificates<W: CountedWrite>(
     writer: &mut W,
 ) -> Result<(), WriteError>
     ensures { Writes (W.output writer.old) (W.output writer.new) result
-        (file_text (record { choice = choice; blocks = blocks })) }
+        (file_text (record { choice = choice; merged = None; blocks = blocks })) }
 {
-    let file = CertFile { choice, blocks };
+    let file = CertFile {
+        choice,
+        merged: None,
+        blocks,
+    };
     write_cert(&file, writer)
 }
 
@@ -136,7 +140,7 @@ fn write_certificates<R: OutputFiles, O: CountedWrite>(
 ) -> Result<(), WriteError>
     ensures given { OnOk result (IsTargetGiven (IsFileGiven R.Output.contents R.is_made R.is_let_go) target.entry
         (O.output out.old) (O.output out.new)
-        (file_text (record { choice = choice; blocks = blocks }))) }
+        (file_text (record { choice = choice; merged = None; blocks = blocks }))) }
     ensures file { is_stdout target.entry ≡ false → O.output out.new ≡ O.output out.old }
 {
     match target {

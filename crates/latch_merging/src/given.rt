@@ -7,9 +7,9 @@ ghost use Rattle.latch_merging.specs.Starts.{IsGivenStart, IsGivenStartOf};
 
 use crate::merging::{MergedCircuit, merged_with};
 use crate::start::MergedStart;
-use aig_graph::{Circuit, Keep, Lit, NoMemory};
+use aig_graph::{Aig, Circuit, Keep, Lit, NoMemory};
 use certificates::MergedLatch;
-use clean::{Cleaned, clean};
+use clean::{Cleaned, clean, own_literal};
 use latch_readings::{Judgement, LineReading, judge, reading_of};
 use std::alloc::Global;
 
@@ -33,6 +33,15 @@ pub enum GivenStart {
     NotShown(u32),
 }
 
+/// Returns the variable of the latch at a place. It is that of the first gate if there is no latch.
+fn variable_at(aig: &Aig, place: usize) -> u32 {
+    if place < aig.latches().len() {
+        own_literal(aig, place).var()
+    } else {
+        aig.first_gate()
+    }
+}
+
 /// Judges a reading.
 fn judged(
     alloc: Global,
@@ -43,14 +52,14 @@ fn judged(
     ensures { IfOk result (IsGivenMerging keep.now circuit.now
         (merged_lines circuit.now.aig reads.items)) }
 {
-    let first = circuit.aig().first_latch();
+    let aig = circuit.aig();
     match judge(alloc, circuit, keep, reads.as_slice())? {
         Judgement::Merged(merged) => {
             let merged = merged_with(alloc, circuit, keep, merged, reads)?;
             Ok(GivenMerging::Merged(merged))
         }
-        Judgement::Misread(place) => Ok(GivenMerging::Misread(first.saturating_add(place as u32))),
-        Judgement::Open(place) => Ok(GivenMerging::NotShown(first.saturating_add(place as u32))),
+        Judgement::Misread(place) => Ok(GivenMerging::Misread(variable_at(aig, place))),
+        Judgement::Open(place) => Ok(GivenMerging::NotShown(variable_at(aig, place))),
     }
 }
 

@@ -4,6 +4,7 @@
 //! judged again. At last each latch reads as itself, which needs no question.
 ghost use Rattle.std.specs.Prelude.{◌≡◌, IfOk};
 ghost use Rattle.merged_circuits.specs.Inductive.{IsMergedBy};
+ghost use Rattle.merged_circuits.specs.Lines.{merged_lines};
 ghost use Rattle.latch_merging.specs.Merging.{IsMergedCircuit, IsRound};
 
 use aig_graph::{Aig, Circuit, Keep, Lit, NoMemory, Sequence};
@@ -45,7 +46,8 @@ pub(crate) fn merged_with(
     reads: Vec<Lit>,
 ) -> Result<MergedCircuit, NoMemory>
     requires { IsMergedBy keep.now reads.items before.now circuit }
-    ensures { IfOk result (IsMergedCircuit keep.now before.now) }
+    ensures is { IfOk result (IsMergedCircuit keep.now before.now) }
+    ensures merged { IfOk result (λ m. m.merged ≡ merged_lines before.now.aig reads.items) }
 {
     let _keep = keep;
     let merged = merged_lines(alloc, before.aig(), reads.as_slice())?;
@@ -74,7 +76,12 @@ fn without_class(aig: &Aig, reads: Vec<Lit>, place: usize) -> Vec<Lit> {
 }
 
 /// Judges a reading. If it isn't shown, the class of the latch at which the judge stopped goes.
-fn round(alloc: Global, circuit: &Circuit, keep: &Keep, reads: Vec<Lit>) -> Result<Round, NoMemory>
+fn judged_round(
+    alloc: Global,
+    circuit: &Circuit,
+    keep: &Keep,
+    reads: Vec<Lit>,
+) -> Result<Round, NoMemory>
     ensures { IfOk result (IsRound keep.now circuit.now) }
 {
     match judge(alloc, circuit, keep, reads.as_slice())? {
@@ -121,7 +128,7 @@ pub fn merge_latches(
 {
     let mut reads = first_guess(alloc, circuit, keep)?;
     for _ in 0..MOST_ROUNDS {
-        match round(alloc, circuit, keep, reads)? {
+        match judged_round(alloc, circuit, keep, reads)? {
             Round::Merged(merged) => return Ok(merged),
             Round::Parted(finer) => reads = finer,
         }

@@ -1,14 +1,13 @@
 -- What the lines up to a place say of the latches up to another.
-use Rattle.std.proofs.Common.{ℕ, zero-add, add-one, ◌+◌, ◌*◌, ◌<◌, ◌≤◌, ◌≡◌, List, [], ◌∷◌, ◌++◌, length, take, get_or, Bool, true, false, not, Some, slice_get, refl, arith, ap, sym, ◌∙◌, subst}
+use Rattle.std.proofs.Common.{ℕ, add-one, ◌+◌, ◌<◌, ◌≤◌, ◌≡◌, List, [], ◌∷◌, ◌++◌, length, take, true, false, not, eq-eqb, Some, slice_get, refl, arith, ap, sym, ◌∙◌}
 use Rattle.std.proofs.Math.Seq.{take-suc}
 use Rattle.std.specs.List.{filter}
 use Rattle.std.proofs.lemmas.List.{get_or_append_left, get_or_push, length_push, take_all}
 use Rattle.std.proofs.lemmas.Option.{get_or_from_slice_get, slice_get_within}
 use Rattle.aig_graph.specs.Graph.{Graph, first_latch}
-use Rattle.aig_graph.specs.Tables.{table}
 use Rattle.aig_graph.proofs.TableLaws.{table-same}
 use Rattle.certificates.specs.declared.merged.MergedLatch.{MergedLatch}
-use Rattle.merged_circuits.specs.Lines.{IsSaidBy, is_merged, latch_line, merged_lines}
+use Rattle.merged_circuits.specs.Lines.{IsSaidBy, is_merged, latch_line}
 use Rattle.merged_circuits.specs.Readings.{own_literal, read}
 use Rattle.merged_circuits.proofs.LineLaws.{lines_below, lines-all, lines-more, lines-none, lines-stay}
 

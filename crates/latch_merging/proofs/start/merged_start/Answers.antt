@@ -1,6 +1,6 @@
-use Rattle.std.specs.Result.{IfOk}
 use Rattle.std.proofs.lemmas.Result.{IfOk-weaker}
-use Rattle.latch_merging.specs.Starts.{IsStart}
+use Rattle.cleaned_circuits.proofs.PassLaws.{IsCircuit}
+use Rattle.retimed_circuits.specs.Frames.{CleansTo}
 use Rattle.latch_merging.proofs.StartLaws.{start-of}
 use Rattle.latch_merging.proofs.start.merged_start.Goals as goal
 
@@ -9,24 +9,32 @@ clean-requires c = c.requires
 
 pub returns-clause-merges : goal.returns-clause-merges
 returns-clause-merges c =
-    let valid = record { graph = c.known.ensures.graph; netlist = c.known.ensures.netlist } in
+    let before = c.args.circuit.now in
     let cleaned = c.in_ok-cleaned.cleaned in
-    IfOk-weaker c.start_of.result _ _ (λ m start. (start-of c.args.keep.now c.args.circuit.now cleaned m valid c.requires.in_range (record { cleans = c.in_ok-cleaned.ensures.cleaned; held_after = c.in_ok-cleaned.ensures.held }) c.in_ok-cleaned.ensures.in_range start).merges) c.start_of.ensures
+    let valid : IsCircuit before = record { graph = c.known.ensures.graph; netlist = c.known.ensures.netlist } in
+    let cleans : CleansTo c.args.keep.now before cleaned.circuit cleaned.kept_free cleaned.keep = record { cleans = c.in_ok-cleaned.ensures.cleaned; held_after = c.in_ok-cleaned.ensures.held } in
+    IfOk-weaker c.start_of.result _ _ (λ m start. (start-of c.args.keep.now before cleaned m valid c.requires.in_range cleans c.in_ok-cleaned.ensures.in_range start).merges) c.start_of.ensures
 
 pub returns-clause-streams : goal.returns-clause-streams
 returns-clause-streams c =
-    let valid = record { graph = c.known.ensures.graph; netlist = c.known.ensures.netlist } in
+    let before = c.args.circuit.now in
     let cleaned = c.in_ok-cleaned.cleaned in
-    IfOk-weaker c.start_of.result _ _ (λ m start. (start-of c.args.keep.now c.args.circuit.now cleaned m valid c.requires.in_range (record { cleans = c.in_ok-cleaned.ensures.cleaned; held_after = c.in_ok-cleaned.ensures.held }) c.in_ok-cleaned.ensures.in_range start).streams) c.start_of.ensures
+    let valid : IsCircuit before = record { graph = c.known.ensures.graph; netlist = c.known.ensures.netlist } in
+    let cleans : CleansTo c.args.keep.now before cleaned.circuit cleaned.kept_free cleaned.keep = record { cleans = c.in_ok-cleaned.ensures.cleaned; held_after = c.in_ok-cleaned.ensures.held } in
+    IfOk-weaker c.start_of.result _ _ (λ m start. (start-of c.args.keep.now before cleaned m valid c.requires.in_range cleans c.in_ok-cleaned.ensures.in_range start).streams) c.start_of.ensures
 
 pub returns-clause-stay : goal.returns-clause-stay
 returns-clause-stay c =
-    let valid = record { graph = c.known.ensures.graph; netlist = c.known.ensures.netlist } in
+    let before = c.args.circuit.now in
     let cleaned = c.in_ok-cleaned.cleaned in
-    IfOk-weaker c.start_of.result _ _ (λ m start. (start-of c.args.keep.now c.args.circuit.now cleaned m valid c.requires.in_range (record { cleans = c.in_ok-cleaned.ensures.cleaned; held_after = c.in_ok-cleaned.ensures.held }) c.in_ok-cleaned.ensures.in_range start).stay) c.start_of.ensures
+    let valid : IsCircuit before = record { graph = c.known.ensures.graph; netlist = c.known.ensures.netlist } in
+    let cleans : CleansTo c.args.keep.now before cleaned.circuit cleaned.kept_free cleaned.keep = record { cleans = c.in_ok-cleaned.ensures.cleaned; held_after = c.in_ok-cleaned.ensures.held } in
+    IfOk-weaker c.start_of.result _ _ (λ m start. (start-of c.args.keep.now before cleaned m valid c.requires.in_range cleans c.in_ok-cleaned.ensures.in_range start).stay) c.start_of.ensures
 
 pub returns-clause-in_range : goal.returns-clause-in_range
 returns-clause-in_range c =
-    let valid = record { graph = c.known.ensures.graph; netlist = c.known.ensures.netlist } in
+    let before = c.args.circuit.now in
     let cleaned = c.in_ok-cleaned.cleaned in
-    IfOk-weaker c.start_of.result _ _ (λ m start. (start-of c.args.keep.now c.args.circuit.now cleaned m valid c.requires.in_range (record { cleans = c.in_ok-cleaned.ensures.cleaned; held_after = c.in_ok-cleaned.ensures.held }) c.in_ok-cleaned.ensures.in_range start).in_range) c.start_of.ensures
+    let valid : IsCircuit before = record { graph = c.known.ensures.graph; netlist = c.known.ensures.netlist } in
+    let cleans : CleansTo c.args.keep.now before cleaned.circuit cleaned.kept_free cleaned.keep = record { cleans = c.in_ok-cleaned.ensures.cleaned; held_after = c.in_ok-cleaned.ensures.held } in
+    IfOk-weaker c.start_of.result _ _ (λ m start. (start-of c.args.keep.now before cleaned m valid c.requires.in_range cleans c.in_ok-cleaned.ensures.in_range start).in_range) c.start_of.ensures
