@@ -21,6 +21,7 @@ use command_endings::{Progress, ended, run_options};
 use command_line::{Retiming, Shown};
 use counted_io::{CountedRead, CountedWrite, Streams, Target, WriteError};
 use frames::{FrameWatcher, Options, Retimed};
+use hold_counts::{Holding, print_holding};
 use json_reports::{MapCounts, ReadLevels, Times};
 use reports::{Remaining, print_remaining, print_retiming};
 use std::alloc::Global;
@@ -363,6 +364,13 @@ fn print_as<'a, W: CountedWrite>(
     }
 }
 
+/// Tells how many registers hold of those that are left, if one does.
+fn tell_holding<E: CountedWrite>(alloc: Global, timed: &Timed, err: &mut E) {
+    if let Ok(holding) = Holding::of(alloc, timed.retimed.circuit.aig(), &timed.keep) {
+        let _ = print_holding(&holding, err);
+    }
+}
+
 /// Tells on a terminal why no more latches go, unless the task asks for an object of JSON or for
 /// quiet. A write that fails changes nothing.
 fn tell_remaining<E: CountedWrite>(
@@ -378,6 +386,7 @@ fn tell_remaining<E: CountedWrite>(
     if is_terminal && !task.json && task.shown != Shown::Nothing {
         if let Ok(left) = remaining(alloc, task, timed) {
             let _ = print_remaining(&left, err);
+            tell_holding(alloc, timed, err);
         }
     }
 }
