@@ -12,6 +12,7 @@ use Rattle.retimed_circuits.specs.Frames.{CleansTo, held_over, moved_over}
 use Rattle.path_levels.specs.Levels.{levels}
 use Rattle.retimed_circuits.specs.RetimingLevels.{KeepsLevels}
 use Rattle.certificates.specs.declared.certificate.Certificate.{Certificate}
+use Rattle.certificates.specs.declared.merged.MergedLatch.{MergedLatch}
 use Rattle.certificate_audits.specs.declared.outcome.End.{End}
 use Rattle.certificate_audits.specs.declared.outcome.Replay.{Replay}
 use Rattle.certificate_audits.specs.Audits.{IsNext, IsMoveTaken}
@@ -67,9 +68,9 @@ replay-levels (Some most) held c blocks replay graph netlist is =
     replay-bounded most held c c blocks replay (record { circuit = record { graph = graph; netlist = netlist }; kept = omega arith }) is
 
 -- and so if latches were merged first
-pub merged-replay-levels : (bound : Option ℕ) (held : List ℕ) (c : Netlist) (blocks : List Certificate) → MergedReplayLevelLaw bound held c blocks
-merged-replay-levels None held c blocks replay graph netlist is = unbounded c replay.last
-merged-replay-levels (Some most) held c blocks replay graph netlist is =
+pub merged-replay-levels : (bound : Option ℕ) (held : List ℕ) (c : Netlist) (lines : List MergedLatch) (blocks : List Certificate) → MergedReplayLevelLaw bound held c lines blocks
+merged-replay-levels None held c lines blocks replay graph netlist is = unbounded c replay.last
+merged-replay-levels (Some most) held c lines blocks replay graph netlist is =
     let clean : Netlist = is.merges.clean in
     let whole : Bounded most c c = record { circuit = record { graph = graph; netlist = netlist }; kept = omega arith } in
     let first : Bounded most c clean = cleans-bounded most held c c clean is.kept is.start_held whole is.merges.cleaned in

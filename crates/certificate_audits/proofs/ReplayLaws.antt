@@ -13,6 +13,7 @@ use Rattle.rebuild.proofs.StreamLaws.{same_streams}
 use Rattle.retimed_circuits.specs.Frames.{CleansTo, held_over}
 use Rattle.retimed_circuits.proofs.CircuitLaws.{moved-circuit}
 use Rattle.certificates.specs.declared.certificate.Certificate.{Certificate}
+use Rattle.certificates.specs.declared.merged.MergedLatch.{MergedLatch}
 use Rattle.certificate_audits.specs.declared.outcome.End.{End}
 use Rattle.certificate_audits.specs.declared.outcome.Replay.{Replay}
 use Rattle.certificate_audits.specs.Audits.{IsNext, Saves}
@@ -66,8 +67,8 @@ replay-streams bound held c blocks replay graph netlist is =
     replay-from bound held c c blocks replay (record { circuit = record { graph = graph; netlist = netlist }; streams = (all_free c.aig, same_streams-reflexive c) }) is
 
 -- and so if latches were merged first
-pub merged-replay-streams : (bound : Option ℕ) (held : List ℕ) (c : Netlist) (blocks : List Certificate) → MergedReplayLaw bound held c blocks
-merged-replay-streams bound held c blocks replay graph netlist is =
+pub merged-replay-streams : (bound : Option ℕ) (held : List ℕ) (c : Netlist) (lines : List MergedLatch) (blocks : List Certificate) → MergedReplayLaw bound held c lines blocks
+merged-replay-streams bound held c lines blocks replay graph netlist is =
     let clean : Netlist = is.merges.clean in
     let now : List ℕ = is.start_held in
     let cleaned : Follows c clean = cleans-follows held c clean is.kept now (record { graph = graph; netlist = netlist }) is.merges.cleaned in

@@ -4,7 +4,7 @@
 //! smaller border, whoever found set and routes.
 //!
 //! A file of certificates has the set of each frame, the size of its border, and the routes that
-//! show it to be least.
+//! show it to be least. It may list latches that were merged before the first frame.
 #![tactic(auto)]
 
 ghost use Rattle.certificates.specs.Verdicts.{LeastLaw, YesLaw};
@@ -20,6 +20,7 @@ mod judging;
 mod laws;
 mod lines;
 mod merged;
+mod merged_lines;
 mod reading;
 mod routes;
 mod verdict;
