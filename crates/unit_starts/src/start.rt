@@ -2,6 +2,7 @@
 
 use crate::left_units::LeftUnits;
 use crate::region::Region;
+use crate::tables::{entry_or, put_if_there};
 use aig_graph::NoMemory;
 use std::alloc::Global;
 
@@ -130,20 +131,12 @@ impl Start {
 
     /// Notes the fan-in from which a gate takes its unit.
     pub(crate) fn note(&mut self, gate: usize, taken: Option<FanIn>) {
-        let takes = self.takes.as_mut_slice();
-        if gate < takes.len() {
-            takes[gate] = taken;
-        }
+        put_if_there(self.takes.as_mut_slice(), gate, taken);
     }
 
     /// Returns the fan-in from which a gate takes its unit.
     pub(crate) fn taken(&self, gate: usize) -> Option<FanIn> {
-        let takes = self.takes.as_slice();
-        if gate < takes.len() {
-            takes[gate]
-        } else {
-            None
-        }
+        entry_or(self.takes.as_slice(), gate, None)
     }
 
     /// Asks for the unit after `place`. Returns true if nobody has asked for it before.
