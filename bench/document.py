@@ -147,6 +147,11 @@ def enables(stored):
     return counts(stored, 'enables', results.ENABLES_HEAD, lambda circuit: [results.row_of_enables(circuit)])
 
 
+def steps(stored):
+    """What bench/steps counted."""
+    return counts(stored, 'steps', results.STEPS_HEAD, lambda circuit: [results.row_of_steps(circuit)])
+
+
 def areas(stored):
     """What bench/areas counted, and the sum of each way over the designs that all have."""
     table = counts(stored, 'areas', results.AREAS_HEAD, results.rows_of_areas)
@@ -263,7 +268,7 @@ def blocks(stored, drawn):
     return {'program': [measured(stored)], 'circuits': circuits(stored), 'charts': pictures(drawn), 'aims': aims(stored),
             'batch': stored_table(stored, 'batch'), 'certificates': stored_table(stored, 'certificates'), 'levels': levels(stored),
             'backward': backward(stored), 'least': least(stored), 'settled': settled(stored),
-            'enables': enables(stored), 'areas': areas(stored)}
+            'enables': enables(stored), 'steps': steps(stored), 'areas': areas(stored)}
 
 
 def results_text(text, stored, drawn):

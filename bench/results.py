@@ -1,6 +1,7 @@
 """The stored results of the scripts: a file of JSON with the machine, the sum of the one program that was measured, an entry a
 circuit, and the tables of bench/batch and bench/certificates; and, each with the sum of its own program, what bench/levels,
-bench/backward and bench/least counted, which is no time, what bench/settled, bench/enables and bench/areas found, and the run of which README.md tells."""
+bench/backward, bench/least and bench/steps counted, which is no time, what bench/settled, bench/enables and bench/areas found, and the run of
+which README.md tells."""
 import datetime
 import hashlib
 import json
@@ -10,7 +11,7 @@ import measure
 
 
 # What has a program of its own.
-APART = ['levels', 'backward', 'least', 'settled', 'enables', 'areas', 'readme']
+APART = ['levels', 'backward', 'least', 'settled', 'enables', 'steps', 'areas', 'readme']
 
 
 def read(path):
@@ -155,7 +156,8 @@ def row_of_settled(circuit):
     return [circuit['circuit'], circuit['latches'], *map(cell, circuit['runs'].values())]
 
 
-AREAS_HEAD = ['Design', '`synth`', '`abc -dff`', '`--merge`', '`--merge --enables`', '`--merge --no-longer`', '`--merge --enables --no-longer`']
+AREAS_HEAD = ['Design', '`synth`', '`abc -dff`', '`--merge`', '`--merge --enables`', '`--merge --enables --backward`', '`--merge --no-longer`',
+              '`--merge --enables --no-longer`', '`--merge --enables --backward --no-longer`']
 
 
 def rows_of_areas(circuit):
@@ -168,13 +170,25 @@ def rows_of_areas(circuit):
     return [[circuit['circuit'], *map(cell, circuit['ways'].values())]]
 
 
-ENABLES_HEAD = ['Pipeline', 'Form', 'As read', '`retime --merge`', 's', '`enables` after it', 's', '`check`', '`dretime`', '`abc -dff`']
+STEPS_OF_ENABLES = ('merge', 'enables', 'backward')
+ENABLES_HEAD = ['Pipeline', 'Form', 'As read', '`retime --merge`', 's', '`enables` after it', 's', '`backward --enables` after that', 's',
+                '`check`', '`dretime`', '`abc -dff`']
 
 
 def row_of_enables(circuit):
-    """The row of a pipeline in a form: latches/levels of each way, seconds, and what `check` says of both steps, with its seconds."""
+    """The row of a pipeline in a form: latches/levels of each way, seconds, and what `check` says of each step, with its seconds."""
     cell = lambda run: f'{run["latches"]}/{run["levels"]}' if 'latches' in run else run['failed']
-    steps = [circuit[way] for way in ('merge', 'enables')]
+    steps = [circuit[way] for way in STEPS_OF_ENABLES]
     said = ', '.join(f'{run["check"]} {run["checking"]:.2f}' for run in steps if 'check' in run)
     ours = [text for run in steps for text in (cell(run), f'{run["seconds"]:.2f}' if 'seconds' in run else '')]
     return [circuit['circuit'], circuit['form'], cell(circuit['read']), *ours, said, cell(circuit['dretime']), cell(circuit['yosys'])]
+
+
+STEPS_HEAD = ['Pipeline', 'Form', '`synth`', '`scorr`', '`dc2`', '`dretime`', '`scorr`, `dretime`', '`abc -dff`', '`retime --merge`', '`enables`',
+              '`backward --enables`']
+
+
+def row_of_steps(circuit):
+    """The row of a pipeline in a form: latches/levels of each way."""
+    cell = lambda run: f'{run["latches"]}/{run["levels"]}' if 'latches' in run else run['failed']
+    return [circuit['circuit'], circuit['form'], *map(cell, circuit['abc'].values()), *map(cell, circuit['ours'].values())]

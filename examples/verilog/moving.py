@@ -27,15 +27,16 @@ class Mover:
         return self.asked.no_longer or self.asked.levels is not None
 
     def move(self, out, merge, enables, backward, bounded):
-        """Moves latches forward, those that hold after them and then backward as far as either is wanted, and writes the circuit. If
-        those that hold moved, each run has a map, by which it can be checked."""
+        """Moves latches forward, those that hold after them, and then backward as far as either is wanted, and writes the circuit. Those
+        that hold move backward, too, if both are wanted. If they moved at all, each run has a map, by which it can be checked."""
         asked, found = self.asked, Moved([])
         keeps = [word for symbol in self.held for word in ('--keep', symbol)]
         limits = [] if asked.frames is None else ['--frames', str(asked.frames)]
         if bounded:
             limits += [*['--no-longer'] * asked.no_longer, *([] if asked.levels is None else ['--levels', str(asked.levels)])]
         forward = [*keeps, *['--near'] * asked.near, *['--merge'] * merge, *limits]
-        runs = [('retime', forward), *[('enables', [*keeps, *limits])] * enables, *[('backward', [*keeps, *limits])] * backward]
+        behind = [*keeps, *['--enables'] * enables, *limits]
+        runs = [('retime', forward), *[('enables', [*keeps, *limits])] * enables, *[('backward', behind)] * backward]
         read = 'in.aag'
         for command, words in runs:
             written = out if command == runs[-1][0] else f'{command}.aag'
@@ -61,7 +62,8 @@ class Mover:
         lines = [before + line for line in done.stdout.splitlines() if not line.startswith('latches ')]
         found.lines += lines
         moves = any(re.match(rf'{before}(frame \d|frames [1-9])', line) for line in lines)
-        found.moved, found.together = found.moved or moves, found.together or moves and command == 'enables'
+        opened = command == 'enables' or '--enables' in words
+        found.moved, found.together = found.moved or moves, found.together or moves and opened
         found.latches = int(latches[1])
 
     def is_shown(self, steps, *others):

@@ -111,6 +111,18 @@ module stalled(
     assign hit = {{x[3:2] == y[3:2], x[1:0] == y[1:0]}};
 endmodule
 """
+# A decoder whose four registers hold together: before it two would do.
+STALLED_DECODER = """
+module decoder(
+    input clk,
+    input en,
+    input [1:0] select,
+    output reg [3:0] line
+);
+    initial line = 4'b0001;
+    always @(posedge clk) if (en) line <= 4'b0001 << select;
+endmodule
+"""
 STALLS = {'enable': ('', ''), 'synchronous': ('', 'if (rst) begin x <= 0; y <= 0; end else '),
           'both': (' or posedge rst', 'if (rst) begin x <= 0; y <= 0; end else ')}
 # Both run beside one another over random inputs; the reset changes with the clock, away from its edge.
