@@ -19,7 +19,7 @@ const FEWEST_STEPS: u64 = 16;
 
 /// What latches are taken for.
 #[derive(Drop)]
-pub struct Guess {
+pub struct GuessedReads {
     /// By latch what it reads as.
     pub reads: Vec<Lit>,
     /// Whether propagation shows that latches go on to hold what they read as. If not, the budget
@@ -101,14 +101,14 @@ pub fn guess(
     aig: &Aig,
     reads: Vec<Lit>,
     budget: Budget,
-) -> Result<Guess, SharingError> {
+) -> Result<GuessedReads, SharingError> {
     let mut reads = reads;
     if budget.total() / FEWEST_STEPS < cost(aig) {
-        return Ok(Guess {
+        return Ok(GuessedReads {
             reads,
             is_settled: false,
         });
     }
     let is_settled = settle(alloc, aig, budget, &mut reads)?;
-    Ok(Guess { reads, is_settled })
+    Ok(GuessedReads { reads, is_settled })
 }

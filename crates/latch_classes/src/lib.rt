@@ -14,4 +14,4 @@ mod steps;
 mod words;
 
 pub use budget::Budget;
-pub use guessing::{Guess, guess};
+pub use guessing::{GuessedReads, guess};

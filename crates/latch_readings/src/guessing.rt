@@ -6,7 +6,7 @@ use crate::reading::may_merge;
 use aig_graph::{Aig, Circuit, Keep, Lit, NoMemory};
 use clean::{Held, constant_of, own_literal};
 use gate_sharing::SharingError;
-use latch_classes::{Budget, Guess, guess};
+use latch_classes::{Budget, GuessedReads, guess};
 use reading_splits::hashed;
 use std::alloc::Global;
 
@@ -67,7 +67,7 @@ pub fn guessed_reading(
     let held = Held::new(alloc, keep.positions(), aig.latches().len())?;
     let widest = widest_reading(alloc, aig, &held);
     drop(held);
-    let Guess { reads, is_settled } = guess(alloc, aig, widest?, budget_of(aig))?;
+    let GuessedReads { reads, is_settled } = guess(alloc, aig, widest?, budget_of(aig))?;
     if is_settled {
         Ok(reads)
     } else {

@@ -17,5 +17,5 @@ mod rounds;
 mod splitting;
 
 pub use merging::{merged, sides};
-pub use parting::{Leaving, own_literal, part, reads_another};
+pub use parting::{Leaving, part, reads_another};
 pub use rounds::hashed;

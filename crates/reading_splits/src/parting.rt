@@ -6,7 +6,7 @@ use aig_graph::{Aig, Lit};
 pub type Leaving = (u32, u64, usize);
 
 /// Returns the literal of the latch at a place, and what the constant is if there is none.
-pub fn own_literal(aig: &Aig, place: usize) -> Lit {
+pub(crate) fn own_literal(aig: &Aig, place: usize) -> Lit {
     aig.known();
     if place < aig.latches().len() {
         Lit::new(aig.first_latch() + place as u32, false)
