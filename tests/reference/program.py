@@ -338,6 +338,11 @@ def verify(paths, options):
     return status, ''.join(f'{line}\n' for line in lines), told
 
 
+def is_map_for(c, d, m):
+    """False for what isn't a map, and for one without the latches of circuits that have one shape."""
+    return is_map(m) and (not are_alike(c, d) or are_fitting(c, d, m))
+
+
 def check(paths, options):
     c, d = circuit_of(paths[0])[0], circuit_of(paths[1])[0]
     kept = kept_of(options, c, d)
@@ -345,7 +350,7 @@ def check(paths, options):
         said, status = compared(c, d, kept)
         return status, said
     m, _ = circuit_of(paths[2])
-    if not is_map(m) or are_alike(c, d) and not are_fitting(c, d, m):
+    if not is_map_for(c, d, m):
         raise Ends(1, f'{source_name(paths[2])}: NotAMap')
     said, status = checked(c, d, m)
     return status, said
@@ -353,9 +358,9 @@ def check(paths, options):
 
 def asked(paths, options):
     c, d, m = (circuit_of(path) for path in paths[:3])
-    if not is_map(m[0]):
+    if not is_map_for(c[0], d[0], m[0]):
         raise Ends(1, f'{source_name(paths[2])}: NotAMap')
-    if not are_fitting(c[0], d[0], m[0]):
+    if not are_alike(c[0], d[0]):
         return 1, 'shapes differ\n'
     spelling = letters_of(options, m[1])
     certificates_to = options.get('--certificate', []) + paths[4:]
@@ -370,10 +375,11 @@ def asked(paths, options):
 
 def lift(paths, options):
     c, d, m, w = (circuit_of(path) for path in paths[:4])
-    if not is_map(m[0]):
-        raise Ends(1, f'{source_name(paths[2])}: NotAMap')
     is_back = '--back' in options
-    if not (are_fitting(d[0], c[0], m[0]) and not c[0].free_latches() if is_back else are_fitting(c[0], d[0], m[0])):
+    ends = (d[0], c[0]) if is_back else (c[0], d[0])
+    if not is_map_for(*ends, m[0]):
+        raise Ends(1, f'{source_name(paths[2])}: NotAMap')
+    if not are_alike(*ends) or is_back and c[0].free_latches():
         return 1, 'shapes differ\n'
     try:
         found = (lifted_back if is_back else lifted)(c[0], d[0], m[0], w[0])

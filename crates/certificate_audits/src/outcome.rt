@@ -8,7 +8,7 @@ use aig_graph::Circuit;
 use certificates::Objection;
 
 /// Why a block isn't confirmed.
-#[derive(Clone, Copy, PartialEq, Eq)]
+#[derive(Clone, Copy, Debug, PartialEq, Eq)]
 pub enum BlockObjection {
     /// The certificate fails a test.
     Fails(Objection),

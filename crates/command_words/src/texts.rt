@@ -285,7 +285,8 @@ pub(crate) const MITER_EXAMPLE: &str = "Example:
   fretime miter counter.aag smaller.aag counter.map counter.aig --binary
 
 MITER is made at its first byte: if something is refused, it stays as it was.
-'shapes differ' is printed if IN, OUT and MAP don't fit together.
+If MAP has other latches than IN and OUT, it is refused as no map. 'shapes
+differ' is printed if IN and OUT differ in their inputs or properties.
 
 Exit status: 0 done, 1 a file is refused, MAP is no map, or shapes differ,
 2 command line, 3 device, 4 out of memory.";
@@ -308,8 +309,9 @@ pub(crate) const PRODUCT_EXAMPLE: &str = "Example:
   fretime product counter.aag smaller.aag counter.map model.aig cert.aig
 
 MODEL is made at its first byte, and then CERT: if something is refused, they
-stay as they were. 'shapes differ' is printed if IN, OUT and MAP don't fit
-together.
+stay as they were. If MAP has other latches than IN and OUT, it is refused as no
+map. 'shapes differ' is printed if IN and OUT differ in their inputs or
+properties.
 
 Exit status: 0 done, 1 a file is refused, MAP is no map, or shapes differ,
 2 command line, 3 device, 4 out of memory.";
@@ -346,8 +348,9 @@ Back over latches that moved backward:
   fretime backward less.aag least.aag --map least.map
   fretime lift --back less.aag least.aag least.map least.cert less.cert
 
-RESULT is made at its first byte: if something is refused, it stays as it
-was. 'shapes differ' is printed if IN, OUT and MAP don't fit together, or with
+RESULT is made at its first byte: if something is refused, it stays as it was.
+If MAP has other latches than IN and OUT, it is refused as no map. 'shapes
+differ' is printed if IN and OUT differ in their inputs or properties, or with
 --back if IN has a free latch.
 
 Exit status: 0 done, 1 a file is refused, MAP is no map, CERT names what OUT

@@ -51,8 +51,8 @@ fn flow_of(number: u32) -> GateFlow {
         first_up: number % 2 == 1,
         second_up: number / 2 % 2 == 1,
         through: number / 4 % 2 == 1,
-        first_down: number / 8 % 4,
-        second_down: number / 32,
+        first_down: (number / 8 % 4) as u8,
+        second_down: (number / 32).min(GateFlow::MOST_DOWN) as u8,
     }
 }
 

@@ -5,7 +5,6 @@ use Rattle.aig_graph.specs.Gates.{AreEqualIn, gates_of}
 use Rattle.aig_graph.specs.Graph.{Graph}
 use Rattle.aig_graph.specs.Tables.{table}
 use Rattle.cleaned_circuits.specs.Merged.{merge_gates, substitutes_after, replaced_graph}
-use Rattle.certificates.specs.declared.merged.MergedLatch.{MergedLatch}
 use Rattle.merged_circuits.specs.Counts.{counts_of}
 use Rattle.merged_circuits.specs.Lines.{merged_lines}
 use Rattle.merged_circuits.specs.Readings.{leaves, own_reading, substitutes_by, signature}

@@ -1,7 +1,7 @@
 -- The lines of a reading, latch by latch. They say one reading.
-use Rattle.std.proofs.Common.{ℕ, zero, suc, zero-add, add-one, ◌+◌, ◌*◌, ◌<◌, ◌≡◌, inl, inr, List, [], ◌∷◌, ◌++◌, length, get_or, Bool, true, false, not, nat_eq, refl, arith, ap, sym, ◌∙◌, subst}
+use Rattle.std.proofs.Common.{ℕ, zero, suc, zero-add, add-one, ◌+◌, ◌<◌, ◌≡◌, inl, inr, List, [], ◌∷◌, ◌++◌, length, get_or, Bool, true, false, not, nat_eq, refl, arith, ap, sym, ◌∙◌, subst}
 use Rattle.std.specs.List.{All, filter}
-use Rattle.std.proofs.lemmas.Bool.{cases_Bool, cases_lt, cond-true, cond-false, eqb-true, not-true}
+use Rattle.std.proofs.lemmas.Bool.{cases_Bool, cases_lt, cond-true, cond-false, eqb-true}
 use Rattle.std.proofs.lemmas.List.{append-nil, ext_get_or, same_from_push}
 use Rattle.std.proofs.lemmas.List.Elements.{All-contains, All-filter, Contains-push, filter-append}
 use Rattle.aig_graph.specs.Graph.{Graph, first_latch}

@@ -1,8 +1,8 @@
 -- The reading in which each latch reads as itself is one that steps preserve.
-use Rattle.std.proofs.Common.{ℕ, zero-add, ◌+◌, ◌<◌, ◌≡◌, List, length, Some, slice_get, arith, ap, sym, ◌∙◌}
+use Rattle.std.proofs.Common.{ℕ, zero-add, ◌<◌, ◌≡◌, List, length, slice_get, arith, ap, sym, ◌∙◌}
 use Rattle.std.proofs.lemmas.Option.{same_Some, slice_get_within}
 use Rattle.aig_graph.specs.declared.graph.Latch.{Latch}
-use Rattle.aig_graph.specs.Graph.{Graph, first_latch}
+use Rattle.aig_graph.specs.Graph.{Graph}
 use Rattle.aig_graph.proofs.TableLaws.{length-table, table-at}
 use Rattle.merged_circuits.specs.Inductive.{IsInductive, told}
 use Rattle.merged_circuits.specs.Readings.{IsReading, as_itself, own_literal, own_reading, read}

@@ -15,7 +15,7 @@ use Rattle.cleaned_circuits.proofs.MergedLaws.{from_gate, replaced-first_gate}
 use Rattle.merged_circuits.specs.Readings.{IsReading, leaves, signature, substitutes_by}
 use Rattle.aig_graph.specs.Gates.{Respects, gates_of}
 use Rattle.merged_circuits.specs.Inductive.{Agrees, told}
-use Rattle.merged_circuits.specs.Shown.{IsShown, merged_graph}
+use Rattle.merged_circuits.specs.Shown.{merged_graph}
 use Rattle.merged_circuits.specs.Laws.{ShownInductive}
 use Rattle.merged_circuits.proofs.ReadingLaws.{are-leaves, leaf-low, leaf-latch}
 

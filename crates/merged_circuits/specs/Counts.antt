@@ -1,5 +1,5 @@
 -- How many latches read as another.
-use Rattle.std.specs.Prelude.{ℕ, ◌==◌, Bool, List, length}
+use Rattle.std.specs.Prelude.{◌==◌, Bool, List, length}
 use Rattle.std.specs.List.{count_by}
 use Rattle.aig_graph.specs.Graph.{variable}
 use Rattle.certificates.specs.declared.merged.MergedLatch.{MergedLatch}

@@ -1,6 +1,5 @@
 //! How many latches of a circuit are merged, by the lines that say so.
 ghost use Rattle.std.specs.Prelude.{◌≡◌};
-ghost use Rattle.std.specs.List.{count_by};
 ghost use Rattle.merged_circuits.specs.Counts.{counts_of, is_constant};
 
 use certificates::MergedLatch;
