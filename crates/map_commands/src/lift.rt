@@ -119,8 +119,6 @@ fn lifted_for<'a>(alloc: Global, given: &Given, task: &Lifting<'a>) -> Result<Ma
     ensures failed { IfErr result (IsFailureToLift task.now.back task.now given.now) }
     ensures not_a_map { (IsMap given.now.mapped.map.circuit → ⊥) → OfSource task.now.map
         (λ path. result ≡ Err (NotAMap path)) }
-    ensures misfit { IsMap given.now.mapped.map.circuit → IsMisfitToLift task.now.back given.now
-        → OfSource task.now.map (λ path. result ≡ Err (NotAMap path)) }
 {
     if task.back {
         lifted_back(alloc, given, task)
