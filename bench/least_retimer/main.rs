@@ -24,7 +24,7 @@ use circuit::Circuit;
 use flow::{Network, Optimum};
 use graph::Graph;
 
-/// The least retiming without a path of more than `bound` gates. The circuit as it was read has to be within it.
+/// Finds the least retiming without a path of more than `bound` gates. The circuit as it was read has to be within it.
 fn least(graph: &Graph, bound: usize) -> Optimum {
     let network = Network::of(graph.supplies(), graph.labels_as_read(), graph.constraints());
     network.optimum(&|labels| levels::broken(graph, labels, bound))
