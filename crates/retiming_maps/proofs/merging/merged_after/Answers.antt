@@ -5,6 +5,6 @@ pub returns-in-Ok : goal.returns-in-Ok
 returns-in-Ok c =
     let along = c.in-Ok.ensures in
     record {
-      start = record { reads = c.in-Ok.reads; said = along.merged.said; merged = along.merged.merged; keep = refl; kept_free = refl };
+      start = record { reads = c.in-Ok.field-0.reads.items; said = along.merged.said; merged = along.merged.merged; keep = refl; kept_free = refl };
       leads = along.leads;
     }
