@@ -10,5 +10,5 @@ put-in None blocks j status = refl
 put-in (Some latches) blocks j status = refl
 
 -- those of a judgement are the ones without merged latches, with these put in
-pub merged-in : (blocks : List Certificate) (j : Judgement) (status : ℕ) (members : Members) → members ≡ audit_members blocks (without_merged j) status → with_merged j.merged j.audit.end members ≡ audit_members blocks j status
-merged-in blocks j status members is = ap (with_merged j.merged j.audit.end) is ∙ put-in j.merged blocks j status
+pub merged-in : (blocks : List Certificate) (j : Judgement) (status : ℕ) (before : Members) → before ≡ audit_members blocks (without_merged j) status → with_merged j.merged j.audit.end before ≡ audit_members blocks j status
+merged-in blocks j status before is = ap (with_merged j.merged j.audit.end) is ∙ put-in j.merged blocks j status

@@ -132,7 +132,7 @@ retiming r levels left times mapped =
     (plain-member (plain-or_null map_data plain-map mapped) (plain-member (plain-or_null merge_data plain-merge (merged_counts r.merged)) (plain-member (plain-or_null times_data plain-times times)
     (plain-member (plain-or_null count plain-count (networks_of times)) (plain-member (plain-count 0) plain-none)))))))))))))
 
-plain-agreement : (agreement : Agreement) → Plain 1 (agreement_data agreement)
+plain-agreement : {n : ℕ} (agreement : Agreement) → Plain (suc n) (agreement_data agreement)
 plain-agreement Same = record { whole = refl; nests = omega arith }
 plain-agreement (DiffersAt offset) = record { whole = refl; nests = omega arith }
 

@@ -87,7 +87,7 @@ fn agreement_value(alloc: Global, agreement: Option<Agreement>) -> Result<Value,
 
 /// Returns why a merged latch is refused, or null if none is.
 fn latch_objection(end: End) -> Scalar<'static>
-    ensures { scalar_data result.entry ≡ or_null string (latch_objection end) }
+    ensures { scalar_data result ≡ or_null string (latch_objection end) }
 {
     match end {
         End::Misread(_) => Scalar::Text("Misread"),
