@@ -1,5 +1,5 @@
-//! Audits of circuits whose latches that always agree were merged before the first frame. A file may
-//! say which these are. Then that is judged, and nothing is guessed.
+//! Audits of circuits whose latches that always agree were merged before the first frame. A file
+//! may say which these are. Then that is judged, and nothing is guessed.
 ghost use Rattle.std.specs.Prelude.{◌<◌, All, IfOk, length};
 ghost use Rattle.certificate_audits.specs.Replays.{IsGivenReplay, IsGuessedReplay, IsReplay};
 

@@ -53,7 +53,8 @@ pub enum End {
 impl End {
     ghost use Rattle.certificate_audits.specs.Ends.{is_accepted, refused_latch};
 
-    /// Returns true if each merged latch is shown, each block is confirmed and none follows the end.
+    /// Returns true if each merged latch is shown, each block is confirmed, and none follows the
+    /// end.
     pub fn is_accepted(self) -> bool
         ensures { result ≡ is_accepted self }
     {

@@ -246,8 +246,8 @@ fn print_file<'a, R: Files, I: CountedRead, O: CountedWrite, M: Write>(
 /// given.
 ///
 /// Prints whether merged latches are shown and each certificate is confirmed, as an object of JSON
-/// or in lines. If nothing speaks against one, it prints whether they end in that circuit, byte for byte. A name that no
-/// latch has is found once all is read.
+/// or in lines. If nothing speaks against one, it prints whether they end in that circuit, byte for
+/// byte. A name that no latch has is found once all is read.
 ///
 /// If there is no certificate, `message` gets a line that says so; a failed write there changes
 /// nothing.

@@ -53,7 +53,7 @@ fn has_guessed(alloc: Global, circuit: &Circuit, wanted: usize) -> bool {
     }
 }
 
-/// Returns true if so many latches of a circuit read as another.
+/// Returns true if `wanted` latches of a circuit read as another.
 fn merges(alloc: Global, text: &[u8], way: Way, wanted: usize) -> bool {
     match read_aag(alloc, text) {
         Ok(circuit) => match way {

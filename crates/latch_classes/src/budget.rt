@@ -13,8 +13,8 @@ pub(crate) const OF_SHARING: u64 = 32;
 /// Those of a gate that a question visits.
 pub(crate) const OF_VISIT: u64 = 8;
 
-/// How many units of work are left. A unit takes some three nanoseconds, and up to ten if tables are
-/// larger than what a processor keeps near. A reserve is added bit by bit, as latches leave their
+/// The units of work that are left. A unit takes some three nanoseconds, and up to ten if tables
+/// are larger than what a processor keeps near. A reserve is added bit by bit, as latches leave their
 /// classes. So where each step parts few, as in a counter, a guess gives up early.
 #[derive(Drop)]
 pub struct Budget {
@@ -25,7 +25,7 @@ pub struct Budget {
 }
 
 impl Budget {
-    /// Returns a budget of so many units, and a reserve for so many latches.
+    /// Returns a budget of `units` units, and a reserve that `latches` latches share.
     pub fn of(units: u64, reserve: u64, latches: usize) -> Budget {
         Budget {
             left: units,
@@ -44,13 +44,13 @@ impl Budget {
         self.left == 0
     }
 
-    /// Takes so many units for each of `count`, or all that are left.
+    /// Takes `units` units for each of `count`, or all that are left.
     pub(crate) fn spend(&mut self, count: usize, units: u64) {
         let spent = (count as u64).saturating_mul(units);
         self.left = self.left.saturating_sub(spent);
     }
 
-    /// Adds what so many latches give that left their classes, unless all is spent.
+    /// Adds what `latches` latches give that left their classes, unless all is spent.
     pub(crate) fn gain(&mut self, latches: usize) {
         let gained = (latches as u64).saturating_mul(self.gain).min(self.reserve);
         if self.left > 0 {

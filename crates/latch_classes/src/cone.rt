@@ -117,7 +117,8 @@ fn renumbered(numbers: &[Lit], first: u32, lit: Lit) -> Lit {
     }
 }
 
-/// The literal of the gate after so many, beyond the first variable of gates.
+/// Returns the literal of the gate that follows `gates` gates, the first of which is the variable
+/// `first`.
 fn number_after(first: u32, gates: usize) -> Lit {
     let var = (first as usize).saturating_add(gates);
     if var < MAX_VARIABLES {

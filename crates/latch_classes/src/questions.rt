@@ -27,7 +27,7 @@ impl Drop for Questions {
     }
 }
 
-/// Takes the visits of questions that were allowed so many.
+/// Takes the visits of questions that were allowed `allowed` visits.
 fn pay(budget: &mut Budget, propagation: &Propagation, allowed: u32) {
     let visits = allowed.saturating_sub(propagation.left());
     budget.spend(visits as usize, OF_VISIT);

@@ -13,8 +13,11 @@ use Rattle.merged_circuits.proofs.LineLaws.{lines_below, lines-all, lines-more, 
 
 -- the first lines are those of the latches that have a literal
 pub record AreSaid (g : Graph) (lines : List MergedLatch) (reads : List ℕ) (place at : ℕ) : Type 0 where
+  -- each latch before the place has a literal
   pub long : length reads ≡ place
+  -- `at` lines are taken
   pub within : at ≤ length lines
+  -- those are the lines of these latches
   pub said : lines_below g reads place ≡ take at lines
 
 -- a literal more at the end leaves the lines before

@@ -21,6 +21,7 @@ module _ (g : Graph) (reads : List ℕ) where
   unfolding lines_below merged_lines
   lines-all = refl
 
+  -- no latch has no line
   pub lines-none : lines_below 0 ≡ []
   unfolding lines_below table
   lines-none = refl

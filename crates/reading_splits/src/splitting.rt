@@ -56,7 +56,8 @@ impl Splitting {
         }
     }
 
-    /// Tells a marked latch its name. If that is another one, it goes to the group of its signature.
+    /// Tells a marked latch its name. If that is another one, it goes to the group of its
+    /// signature.
     fn tell(&mut self, aig: &Aig, groups: &mut Groups, place: usize) -> Result<(), NoMemory> {
         let Some(latch) = aig.latches().get(place) else {
             return Ok(());

@@ -1,6 +1,6 @@
-//! The lines of an audit: the merged latches, the confirmed blocks, then how it ended, then whether
-//! a file has the circuit that they end in. Nothing is printed of blocks after a rejected one, or
-//! if a merged latch is refused: the circuits that they speak of aren't known.
+//! The lines of an audit: the merged latches, the confirmed blocks, then how it ended. Then comes
+//! whether a file has the circuit that they end in. Nothing is printed of blocks after a rejected
+//! one, or if a merged latch is refused: the circuits that they speak of aren't known.
 ghost use Rattle.std.specs.Prelude.{◌≡◌, None, Some, take};
 ghost use Rattle.counted_io.specs.Buffered.{Puts};
 ghost use Rattle.counted_io.specs.Line.{numbered_lines};

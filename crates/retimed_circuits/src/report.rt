@@ -21,8 +21,8 @@ pub struct Retimed {
     pub kept_free: Sequence<u32>,
     /// How many latches the circuit that was read has.
     pub read_latches: u32,
-    /// If latches that always agree were to be merged before the first frame, the latches of the
-    /// cleaned circuit that were, in order, and what each reads as.
+    /// The latches of the cleaned circuit that were merged before the first frame, in order, and
+    /// what each reads as. `None` if merging wasn't asked for.
     pub merged: Option<Sequence<MergedLatch>>,
     /// The frames taken, in order.
     pub frames: Sequence<FrameReport>,

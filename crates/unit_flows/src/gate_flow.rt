@@ -80,7 +80,8 @@ impl GateFlow {
     }
 
     /// Notes that `units` units went on to before the second fan-in, if `second`, else to before
-    /// the first. More than [`GateFlow::MOST_DOWN`] are noted as so many.
+    /// the first. More than [`GateFlow::MOST_DOWN`] are noted as
+    /// that number.
     pub fn note_down(&mut self, second: bool, units: u32) {
         let units = units.min(GateFlow::MOST_DOWN) as u8;
         if second {

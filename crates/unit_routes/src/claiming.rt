@@ -45,8 +45,8 @@ fn claim(
     }
 }
 
-/// Returns the certificate of a closed set of a frame by the routes of the units of `flows`, if it
-/// passes all tests of `certificates::check`.
+/// Returns the certificate of a closed set of a frame. Its routes are those of the units of
+/// `flows`. There is none if it doesn't pass all tests of `certificates::check`.
 ///
 /// `flows` are hints: any may be given.
 ///

@@ -183,8 +183,8 @@ pub(crate) fn put_start_up(
     put_first(alloc, flows, start)
 }
 
-/// Replaces a flow by that of the start from the sink down, if it brings more units to the sink than
-/// the first start. Returns true if it does.
+/// Replaces a flow by that of the start from the sink down, if it brings more units to the sink
+/// than the first start. Returns true if it does.
 ///
 /// # Errors
 ///
