@@ -222,7 +222,7 @@ def rows_before_gate_moved(length):
 MAKERS = {it.__name__: it for it in (
     justice_of_one, binary_outputs, symbols, commented, uncommented, long_name, long_line, no_newline, wide_step, nothing, chain,
     chain_in_binary, many_inputs, read_latches, route_each, listed_gates, long_route, blocks, announced_gates, announced_routes,
-    free_latches, symbols_of_each_kind, steps, sequences, bad_input, witness_of_steps, witness_carried, long_property,
+    merged_lines, announced_latches, free_latches, symbols_of_each_kind, steps, sequences, bad_input, witness_of_steps, witness_carried, long_property,
     list_of_missing, list_with_itself, list_of_one, decoder_rows, decoder_rows_moved, rows_before_gate, rows_before_gate_moved,
 )}
 
