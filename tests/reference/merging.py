@@ -7,7 +7,7 @@ from reference.side_by_side import all_rows
 
 CONSTANT = 0
 # of how many inputs and latches all cases are made
-MOST_LEAVES = 14
+MOST_LEAVES = 20
 
 
 def readings(c, classes):
