@@ -1,13 +1,17 @@
 """Merging latches: those that always agree, always say the opposite, or never change, by the coarsest inductive partition, or by lines that are
 given. What latches are told is compared in all cases of inputs and latches, if these are few, else by literals. `held` has the positions of
 the latches that are held, which take no part. `merge` is False, True, or a list of lines: a latch's variable, and the literal that it reads as."""
+import random
+
 from reference.circuit import FREE, ordered
 from reference.cleaning import cleaned, replaced, with_gates
 from reference.side_by_side import all_rows
 
 CONSTANT = 0
 # of how many inputs and latches all cases are made
-MOST_LEAVES = 20
+MOST_LEAVES = 14
+# how many random cases show that lines don't hold, if there are more
+SAMPLES = 1 << 14
 
 
 def readings(c, classes):
@@ -21,18 +25,24 @@ def readings(c, classes):
     return replacements
 
 
-def told(c, reads, most_leaves=MOST_LEAVES):
-    """By latch what it is told where latches read so, its next literal negated where its reset is 1: the values in all cases, or the literal."""
+def told(c, reads, most_leaves=MOST_LEAVES, samples=0):
+    """By latch what it is told where latches read so, its next literal negated where its reset is 1: the values in all cases. If inputs and
+    latches are too many for these, its values in so many random cases, or without samples the literal."""
     replacements, kept = with_gates(c, dict(reads))
     leaves = [v for v in range(1, c.first_gate()) if replacements.get(v, 2 * v) == 2 * v]
     lits = [replaced(next_lit, replacements) ^ (reset or 0) for next_lit, reset in c.latches]
-    if len(leaves) > most_leaves:
+    if len(leaves) <= most_leaves:
+        table = all_rows(len(leaves))
+        of_leaves, ones = table.columns, table.ones
+    elif samples:
+        chance = random.Random(len(leaves))
+        of_leaves, ones = [chance.getrandbits(samples) for _ in leaves], (1 << samples) - 1
+    else:
         return lits
-    table = all_rows(len(leaves))
-    columns = {0: 0, **dict(zip(leaves, table.columns))}
+    columns = {0: 0, **dict(zip(leaves, of_leaves))}
 
     def value(lit):
-        return columns[lit // 2] ^ table.ones * (lit & 1)
+        return columns[lit // 2] ^ ones * (lit & 1)
 
     for v, (a, b) in kept.items():
         columns[v] = value(a) & value(b)
@@ -90,7 +100,7 @@ def misread(c, held, lines):
 
 def not_shown(c, lines):
     """The first latch that isn't told what that is told which it reads as, where latches read so; None where all are."""
-    of_latch, first = told(c, dict(lines)), c.first_latch()
+    of_latch, first = told(c, dict(lines), samples=SAMPLES), c.first_latch()
     return next((v for v, lit in lines if of_latch[v - first] != (of_latch[lit // 2 - first] if lit > 1 else 0)), None)
 
 
