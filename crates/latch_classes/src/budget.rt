@@ -14,8 +14,8 @@ pub(crate) const OF_SHARING: u64 = 32;
 pub(crate) const OF_VISIT: u64 = 8;
 
 /// The units of work that are left. A unit takes some three nanoseconds, and up to ten if tables
-/// are larger than what a processor keeps near. A reserve is added bit by bit, as latches leave their
-/// classes. So where each step parts few, as in a counter, a guess gives up early.
+/// are larger than what a processor keeps near. A reserve is added bit by bit, as latches leave
+/// their classes. So where each step parts few, as in a counter, a guess gives up early.
 #[derive(Drop)]
 pub struct Budget {
     left: u64,
