@@ -4,19 +4,29 @@ reference model.
 
 usage: tests/checker.py IN CERT [--keep NAME]... [--keep-latch PLACE]... [--merge] [--levels N | --no-longer]
 
-Prints a line for each block, then how the blocks end. The status is 0 where each block shows that its set is least, 5 where one
-doesn't or blocks follow the end, 1 where a file is refused, 3 where one can't be read. Under a bound on levels a set may be least among
-those whose gates arrive within it, and no move makes a path longer than that, or than the longest one of IN. The word `verify` may stand
-before IN, as in the cases.
+Prints a line of the merged latches, if CERT lists them, a line for each block, then how the blocks end. The status is 0 where all merged
+latches always have the value of what they read as, and each block shows that its set is least; 5 where one doesn't or blocks follow the
+end, 1 where a file is refused, 3 where one can't be read. Under a bound on levels a set may be least among those whose gates arrive
+within it, and no move makes a path longer than that, or than the longest one of IN. The word `verify` may stand before IN, as in the cases.
+
+Which latches were merged is never guessed here, so --merge is refused where CERT lists none. That they always agree is shown by cases; a
+question of many cases goes to CaDiCaL, MiniSat or PicoSAT, where one is installed.
 """
 import argparse
 import heapq
 import os
 import re
+import shutil
+import subprocess
 import sys
+import tempfile
 from dataclasses import dataclass, replace
 
-GREATEST = 2**28 - 1
+GREATEST, GREATEST_LITERAL = 2**28 - 1, 2**29 - 1
+# SAT solvers that may be installed; each reads a DIMACS file, and ends with status 10 where it has a solution and 20 where it has none.
+SOLVERS = ['cadical -q', 'minisat -verb=0', 'picosat -n']
+# how many cases of a question are made before a solver is asked
+MOST_CASES = 1000
 
 
 class Refused(Exception):
@@ -141,23 +151,6 @@ def replaced(c, stand_in):
     return Circuit(c.inputs, latches, gates, [now(lit) for lit in c.properties])
 
 
-def merged(c):
-    """Latches that always agree read as one: first all known latches that aren't held are one group, with the constant; a group is split
-    by the next literals of its latches, each negated where the reset is 1, as long as they differ there."""
-    group = dict.fromkeys(sorted(c.known() - c.held()), 0)
-    while True:
-        first, stand_in = {}, {}
-        for v, g in group.items():
-            first.setdefault(g, v)
-            stand_in[v] = c.latches[v].reset if g == 0 else 2 * first[g] ^ c.latches[first[g]].reset ^ c.latches[v].reset
-        now = replaced(c, stand_in)
-        split = {v: (g, now.latches[v].next_lit ^ c.latches[v].reset) for v, g in group.items()}
-        if len({(0, 0), *split.values()}) == len({0, *group.values()}):
-            return now
-        numbers = {(0, 0): 0}
-        group = {v: numbers.setdefault(key, len(numbers)) for v, key in split.items()}
-
-
 def reached(c):
     """What properties and held latches rest on."""
     waiting, found = [*(lit // 2 for lit in c.properties), *c.held()], set()
@@ -187,6 +180,128 @@ def moved(c, members):
         if v in border:
             latches[v] = Latch(2 * copies[v], int(values[v]))
     return Circuit(c.inputs, latches, gates, c.properties).renumbered([*latches, *gates])
+
+
+# What the merged latches show.
+
+class Gates:
+    """The gates of a circuit, asked in which cases literals are 1: inputs and latches are any."""
+
+    def __init__(self, c):
+        self.gates, self.readers, self.ones, self.trail = c.gates, {}, {1}, []
+        self.solver = next((words for words in SOLVERS if shutil.which(words.split()[0])), None)
+        for v, fan_ins in c.gates.items():
+            for lit in fan_ins:
+                self.readers.setdefault(lit // 2, []).append(v)
+
+    def are_equal(self, a, b):
+        return a == b or not self.can_be([a, b ^ 1]) and not self.can_be([a ^ 1, b])
+
+    def can_be(self, lits):
+        """Whether all of these literals are 1 in a case. A gate that is 0 without a fan-in known to be 0 makes two cases."""
+        self.ones, self.trail, others, cases = {1}, [], [], 0
+        is_possible = all(map(self.assume, lits))
+        while is_possible or others:
+            if not is_possible:
+                length, lit = others.pop()
+                self.ones.difference_update(self.trail[length:])
+                del self.trail[length:]
+                is_possible = self.assume(lit)
+                continue
+            first = next((self.gates[lit // 2][0] for lit in self.trail if self.is_open(lit)), None)
+            cases += 1
+            if first is None:
+                return True
+            if cases > MOST_CASES and self.solver:
+                return self.is_solved(lits)
+            others.append((len(self.trail), first))
+            is_possible = self.assume(first ^ 1)
+        return False
+
+    def is_open(self, lit):
+        """Whether it says that a gate is 0, and neither fan-in is known."""
+        return bool(lit & 1) and lit // 2 in self.gates and not any({one, one ^ 1} & self.ones for one in self.gates[lit // 2])
+
+    def assume(self, lit):
+        """Takes a literal as 1, and whatever gates make of that; False where it can't be."""
+        waiting = [lit]
+        while waiting:
+            lit = waiting.pop()
+            if lit ^ 1 in self.ones:
+                return False
+            if lit not in self.ones:
+                self.ones.add(lit)
+                self.trail.append(lit)
+                waiting += [more for v in (lit // 2, *self.readers.get(lit // 2, ())) if v in self.gates for more in self.follows(v)]
+        return True
+
+    def follows(self, v):
+        """The literals that are 1 by what is known of a gate."""
+        (a, b), out = self.gates[v], 2 * v
+        if out in self.ones:
+            return [a, b]
+        if {a ^ 1, b ^ 1} & self.ones:
+            return [out ^ 1]
+        if {a, b} <= self.ones:
+            return [out]
+        return [lit ^ 1 for lit, other in ((a, b), (b, a)) if out ^ 1 in self.ones and other in self.ones]
+
+    def is_solved(self, lits):
+        """Whether the solver finds a case in which all of these literals are 1."""
+        waiting, numbers = [lit // 2 for lit in lits], {0: 1}
+        while waiting:
+            v = waiting.pop()
+            if v not in numbers:
+                numbers[v] = 1 + len(numbers)
+                waiting += [lit // 2 for lit in self.gates.get(v, ())]
+
+        def sign(lit):
+            return -numbers[lit // 2] if lit & 1 else numbers[lit // 2]
+
+        clauses = [[sign(lit)] for lit in (1, *lits)]
+        for v in self.gates.keys() & numbers.keys():
+            a, b = self.gates[v]
+            clauses += [[sign(2 * v + 1), sign(a)], [sign(2 * v + 1), sign(b)], [sign(2 * v), sign(a ^ 1), sign(b ^ 1)]]
+        with tempfile.NamedTemporaryFile('w', suffix='.cnf') as file:
+            file.write(f'p cnf {len(numbers)} {len(clauses)}\n' + ''.join(' '.join(map(str, clause)) + ' 0\n' for clause in clauses))
+            file.flush()
+            status = subprocess.run([*self.solver.split(), file.name], capture_output=True, check=False).returncode
+        if status not in (10, 20):
+            raise Refused(f'{self.solver}: status {status}')
+        return status == 10
+
+
+def misread(c, lines):
+    """The latch at which the lines of merged latches aren't a reading, or None: first by their order, then by what each reads as."""
+    last, reads = c.inputs, dict(lines)
+    for v, lit in lines:
+        if v not in c.latches or v <= last or lit == 2 * v:
+            return v
+        last = v
+    return next((v for v, lit in lines if not may_read(c, reads, v, lit)), None)
+
+
+def may_read(c, reads, v, lit):
+    """Whether a latch may read as a literal: the constant of its reset, or an earlier latch that reads as itself, negated where the resets differ.
+    Both are known and not held."""
+    may_merge = c.known() - c.held()
+    if v not in may_merge or lit < 2:
+        return v in may_merge and lit == c.latches[v].reset
+    first = lit // 2
+    return first < v and first in may_merge - reads.keys() and lit & 1 == c.latches[v].reset ^ c.latches[first].reset
+
+
+def merged_by(c, lines):
+    """What there is to print of the merged latches, and the circuit where they read so; None in its place where something speaks against it."""
+    wrong = misread(c, lines)
+    if wrong is not None:
+        return f'merged: no, Misread {wrong}', None
+    now = replaced(c, dict(lines))
+    gates, told = Gates(now), {v: latch.next_lit ^ (latch.reset or 0) for v, latch in now.latches.items()}
+    for v, lit in lines:
+        if not gates.are_equal(told[v], told[lit // 2] if lit > 1 else 0):
+            return f'merged: no, NotShown {v}', None
+    return f'merged: yes, {len(lines)} latches', now
 
 
 # What a block shows.
@@ -220,9 +335,14 @@ def objection(c, block, bound=None):
     return None if block.count == len(c.border(members)) == len(block.routes) else 'CountDiffers'
 
 
-def verify(c, blocks, bound):
+def verify(c, merged, blocks, bound):
     """What there is to print, and the status."""
     lines, c = [], cleaned(c)
+    if merged is not None:
+        line, c = merged_by(c, merged)
+        if c is None:
+            return [line], 5
+        lines, c = [line], cleaned(c)
     for k, block in enumerate(blocks):
         wrong = objection(c, block)
         if wrong and bound is not None and not objection(c, block, bound):
@@ -369,18 +489,27 @@ class Block:
     routes: list
 
 
-def read_blocks(data):
-    text, blocks = Text(data), []
+def read_certificates(data):
+    """The merged latches, each with what it reads as, or None where none are listed; and the blocks."""
+    text, merged, blocks = Text(data), None, []
     first = text.line() if data else b''
-    if first not in (b'fretime-cert 1', b'fretime-cert 2'):
+    if first not in (b'fretime-cert 1', b'fretime-cert 2', b'fretime-cert 3'):
         raise Refused('BadHeader at 0')
-    if first == b'fretime-cert 2':
+    if first != b'fretime-cert 1':
         parts(text, rb'choice (greatest|smallest)')
+    if first == b'fretime-cert 3':
+        count = limited(*parts(text, rb'merged (\d+)'), text)
+        merged = [merged_latch(text) for _ in range(count)]
     while text.has_more():
         count, gates, routes = (limited(digits, text) for digits in parts(text, rb'frame (\d+) (\d+) (\d+)'))
         gates = [limited(*parts(text, rb'g (\d+)'), text) for _ in range(gates)]
         blocks.append(Block(count, gates, [route(text) for _ in range(routes)]))
-    return blocks
+    return merged, blocks
+
+
+def merged_latch(text):
+    latch, lit = parts(text, rb'm (\d+) (\d+)')
+    return limited(latch, text), limited(lit, text, GREATEST_LITERAL)
 
 
 def parts(text, form):
@@ -391,8 +520,8 @@ def parts(text, form):
     return found.groups()
 
 
-def limited(digits, text):
-    if number(digits) > GREATEST:
+def limited(digits, text, greatest=GREATEST):
+    if number(digits) > greatest:
         raise Refused(f'TooLarge at {text.begun}')
     return number(digits)
 
@@ -420,7 +549,7 @@ def main(words):
     parser.add_argument('certificates', metavar='CERT')
     parser.add_argument('--keep', metavar='NAME', action='append', default=[], help='a latch with this name is held')
     parser.add_argument('--keep-latch', metavar='PLACE', action='append', default=[], type=int, help='the latch at this place, from 0, is held')
-    parser.add_argument('--merge', action='store_true', help='latches that always agree were merged before the first frame')
+    parser.add_argument('--merge', action='store_true', help='the file has to list merged latches')
     bounds = parser.add_mutually_exclusive_group()
     bounds.add_argument('--levels', metavar='N', type=int, help='moves made no path longer than N gates, or than the longest of IN')
     bounds.add_argument('--no-longer', action='store_true', help='moves made no path longer than the longest of IN')
@@ -428,13 +557,14 @@ def main(words):
     names = [os.fsencode(name) for name in given.keep]
     try:
         c, name_of = read(given.circuit, read_circuit)
-        blocks = read(given.certificates, read_blocks)
+        merged, blocks = read(given.certificates, read_certificates)
         hold(given.circuit, c, name_of, names, given.keep_latch)
         bound = max(c.levels(), given.levels or 0) if given.no_longer or given.levels is not None else None
-        c = merged(cleaned(c)) if given.merge else c
-        lines, status = verify(c, blocks, bound)
+        if given.merge and merged is None:
+            raise Refused(f'{given.certificates}: it lists no merged latches, and none are guessed here')
+        lines, status = verify(c, merged, blocks, bound)
         if not blocks:
-            print(f'{given.certificates}: no certificate: nothing was checked', file=sys.stderr)
+            print(f'{given.certificates}: no certificate: {"nothing" if merged is None else "no frame"} was checked', file=sys.stderr)
     except Refused as fault:
         lines, status = [], 1
         print(fault, file=sys.stderr)

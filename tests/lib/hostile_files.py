@@ -175,6 +175,16 @@ def announced_routes(_):
     return b'fretime-cert 1\nframe 0 0 9999999\n'
 
 
+def merged_lines(count):
+    """So many latches that are said to be 0."""
+    return f'fretime-cert 3\nchoice greatest\nmerged {count}\n'.encode() + b''.join(b'm %d 0\n' % (k + 2) for k in range(count))
+
+
+def announced_latches(_):
+    """Merged latches that aren't there."""
+    return b'fretime-cert 3\nchoice greatest\nmerged 9999999\n'
+
+
 def chain(gates):
     return generators.make(['chain', str(gates)])
 
@@ -212,7 +222,7 @@ def rows_before_gate_moved(length):
 MAKERS = {it.__name__: it for it in (
     justice_of_one, binary_outputs, symbols, commented, uncommented, long_name, long_line, no_newline, wide_step, nothing, chain,
     chain_in_binary, many_inputs, read_latches, route_each, listed_gates, long_route, blocks, announced_gates, announced_routes,
-    free_latches, symbols_of_each_kind, steps, sequences, bad_input, witness_of_steps, witness_carried, long_property,
+    merged_lines, announced_latches, free_latches, symbols_of_each_kind, steps, sequences, bad_input, witness_of_steps, witness_carried, long_property,
     list_of_missing, list_with_itself, list_of_one, decoder_rows, decoder_rows_moved, rows_before_gate, rows_before_gate_moved,
 )}
 
@@ -291,8 +301,10 @@ def certified():
     blocks_of = [[*words[:k], words[k].replace(words[k][0], '{}', 1), *words[k + 1 :]] for k in range(1, len(words))]
     for digits in numbers():
         for line in map(' '.join, blocks_of):
-            for first in ('fretime-cert 1', 'fretime-cert 2\nchoice smallest'):
+            for first in ('fretime-cert 1', 'fretime-cert 2\nchoice smallest', 'fretime-cert 3\nchoice smallest\nmerged 0'):
                 yield f'{first}\n{line.format(digits)}\n'.encode()
+        for lines in ('merged {}', 'merged 1\nm {} 0', 'merged 1\nm 4 {}'):
+            yield f'fretime-cert 3\nchoice greatest\n{lines.format(digits)}\n'.encode()
         yield f'fretime-cert {digits}\nframe 0 0 0\n'.encode()
 
 

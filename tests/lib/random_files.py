@@ -1,5 +1,5 @@
 """Random circuits, the files that spell them, stimuli, witnesses, and damaged files, for fuzz.py. A seed gives the same files everywhere."""
-from reference.certificates import read_blocks, written
+from reference.certificates import read_certificates, written
 from reference.circuit import FREE, KINDS, Circuit, delta, header, joined, ordered, property_lines, reset_of, symbol_lines
 from reference.witnesses import bad_places, first_step
 
@@ -279,11 +279,24 @@ def bent_blocks(rng, blocks):
         bent_route(rng, block)
 
 
+def bent_lines(rng, lines):
+    """A line of a merged latch more or less, or with another latch, literal or sign; there is one."""
+    k, way = rng.randrange(len(lines)), rng.randrange(5)
+    v, lit = lines[k]
+    if way == 0:
+        bent_list(rng, lines)
+    else:
+        lines[k] = {1: (v, lit ^ 1), 2: (v, max(0, lit + rng.choice([-2, 2]))), 3: (v, rng.choice([0, 1])), 4: (max(0, v + rng.choice([-1, 1])), lit)}[way]
+
+
 def bent(rng, certificates):
     """A certificate file with a thing or two changed: mostly in what it says, else in its bytes."""
     if rng.random() < 0.2:
         return damaged(rng, certificates)
-    blocks = read_blocks(certificates)
+    lines, blocks = read_certificates(certificates)
     for _ in range(rng.choice([1, 1, 1, 2])):
-        bent_blocks(rng, blocks)
-    return written(rng.choice(['greatest', 'smallest']), blocks)
+        if lines and rng.random() < 0.5:
+            bent_lines(rng, lines)
+        else:
+            bent_blocks(rng, blocks)
+    return written(rng.choice(['greatest', 'smallest']), lines, blocks)

@@ -3,11 +3,12 @@ import dataclasses
 import re
 
 from reference.cleaning import cleaned
-from reference.merging import start_of
+from reference.merging import lines_of_run, merged, misread, not_shown, start_of
 from reference.reading import Fault, number
 from reference.retiming import arcs_of, border, frames_of, held_latches, maximum_flow, moved, passable, read_outside
 
-MOST = 2**28 - 1
+MOST, MOST_LITERAL = 2**28 - 1, 2**29 - 1
+HEADERS = {b'fretime-cert 1': 1, b'fretime-cert 2': 2, b'fretime-cert 3': 3}
 CHOICES = {b'choice greatest': 'greatest', b'choice smallest': 'smallest'}
 
 
@@ -36,13 +37,16 @@ def routes_of(c, held, bound):
 
 
 def certificates(c, most, names, smallest, merge, bound):
-    """A block for each frame, and one for the last circuit where the limit of frames didn't end the run."""
-    return [Block(frame.count, sorted(frame.members), routes_of(frame.circuit, frame.held, frame.bound))
-            for frame in frames_of(c, most, names, smallest, merge, bound)]
+    """The lines of merged latches, None where none were to be merged; a block for each frame, and one for the last circuit where the limit of
+    frames didn't end the run."""
+    return lines_of_run(c, held_latches(c, names), merge), [
+        Block(frame.count, sorted(frame.members), routes_of(frame.circuit, frame.held, frame.bound))
+        for frame in frames_of(c, most, names, smallest, merge, bound)]
 
 
-def written(choice, blocks):
-    lines = ['fretime-cert 2', f'choice {choice}']
+def written(choice, listed, blocks):
+    lines = [f'fretime-cert {2 if listed is None else 3}', f'choice {choice}']
+    lines += [] if listed is None else [f'merged {len(listed)}', *(f'm {v} {lit}' for v, lit in listed)]
     for block in blocks:
         lines.append(f'frame {block.count} {len(block.gates)} {len(block.routes)}')
         lines += [f'g {v}' for v in block.gates]
@@ -66,34 +70,36 @@ class Lines:
         self.offset += len(line) + 1
         return line, offset
 
-    def numbers(self, form):
-        """The numbers of the next line, which has to have a form."""
+    def numbers(self, form, most=(MOST,)):
+        """The numbers of the next line, which has to have a form, and the most that each of them may be; the last holds for the others too."""
         line, offset = self.take()
         if not re.fullmatch(form, line):
             raise Fault('BadLine', offset)
         found = [number(digits) for digits in re.findall(rb'\d+', line)]
-        if max(found) > MOST:
+        if any(number > most[min(k, len(most) - 1)] for k, number in enumerate(found)):
             raise Fault('TooLarge', offset)
         return found, line
 
 
-def read_blocks(data):
-    lines = Lines(data)
-    header = lines.lines[:1]
-    if header not in ([b'fretime-cert 1'], [b'fretime-cert 2']):
+def read_certificates(data):
+    """The lines of merged latches, None where the version has none; and the blocks."""
+    lines, listed, blocks = Lines(data), None, []
+    version = HEADERS.get(lines.take()[0]) if lines.lines else None
+    if version is None:
         raise Fault('BadHeader', 0)
-    lines.take()
-    if header == [b'fretime-cert 2']:
+    if version > 1:
         line, offset = lines.take()
         if line not in CHOICES:
             raise Fault('BadLine', offset)
-    blocks = []
+    if version > 2:
+        (count,), _ = lines.numbers(rb'merged \d+')
+        listed = [tuple(lines.numbers(rb'm \d+ \d+', (MOST, MOST_LITERAL))[0]) for _ in range(count)]
     while lines.lines:
         (count, gates, routes), _ = lines.numbers(rb'frame \d+ \d+ \d+')
         members = [lines.numbers(rb'g \d+')[0][0] for _ in range(gates)]
         read = [lines.numbers(rb'r( \d+[+-])+') for _ in range(routes)]
         blocks.append(Block(count, members, [list(zip(found, re.findall('[+-]', line.decode()))) for found, line in read]))
-    return blocks
+    return listed, blocks
 
 
 def is_route(c, held, inside, points):
@@ -133,10 +139,27 @@ def objection(c, held, block, bound):
     return 'Yes'
 
 
-def audit(c, names, blocks, merge, bound):
+def objection_to_merged(c, held, listed):
+    """Why lines of merged latches don't hold, or None."""
+    wrong = misread(c, held, listed)
+    if wrong is not None:
+        return f'Misread {wrong}'
+    wrong = not_shown(c, listed)
+    return None if wrong is None else f'NotShown {wrong}'
+
+
+def audit(c, names, listed, blocks, merge, bound):
     """The printed lines, the status, and the circuit that the blocks end in, None where something speaks against one."""
-    c, held = start_of(c, held_latches(c, names), merge)
     lines, known = [], None
+    if listed is None:
+        c, held = start_of(c, held_latches(c, names), merge)
+    else:
+        c, held = cleaned(c, held_latches(c, names))
+        said = objection_to_merged(c, held, listed)
+        if said:
+            return [f'merged: no, {said}'], 5, None
+        lines.append(f'merged: yes, {len(listed)} latches')
+        c, held = cleaned(merged(c, held, listed), held)
     for k, block in enumerate(blocks):
         if known is not None and blocks[k - 1].count >= known:
             return [*lines, 'blocks follow the end'], 5, None

@@ -2,7 +2,7 @@
 import os
 import sys
 
-from reference.certificates import audit, certificates, first_difference, read_blocks, written
+from reference.certificates import audit, certificates, first_difference, read_certificates, written
 from reference.checks import are_alike, are_fitting, checked, is_map
 from reference.circuit import text
 from reference.back_lifts import lifted_back
@@ -219,10 +219,16 @@ def no_such_latch(path, place):
     return Ends(1, f'{source_name(path)}: NoSuchLatch {place}')
 
 
+def merge_of(options):
+    """False, True, or the lines that say which latches are merged."""
+    lines = options.get('--merge', False)
+    return True if lines == [''] else lines
+
+
 def retime(paths, options):
     c, letters = circuit_of(paths[0])
     most = int(options['--frames'][0]) if '--frames' in options else None
-    run = most, held_by(options), '--near' in options, '--merge' in options, bound_of(options, c)
+    run = most, held_by(options), '--near' in options, merge_of(options), bound_of(options, c)
     try:
         d, frames = retimed(c, *run)
     except NoSuchName as missing:
@@ -233,7 +239,7 @@ def retime(paths, options):
     for path in options.get('--map', []):
         write(path, text(state_map(c, *run)[0], letters_of(options, letters)))
     for path in options.get('--cert', []):
-        write(path, written('smallest' if '--near' in options else 'greatest', certificates(c, *run)))
+        write(path, written('smallest' if '--near' in options else 'greatest', *certificates(c, *run)))
     lines = [f'frame {k + 1}: {before} to {after}\n' for k, (before, after) in enumerate(frames)]
     return 0, ''.join(lines) + f'latches {len(c.latches)} to {len(d.latches)}\n'
 
@@ -277,7 +283,7 @@ def batch(paths, options):
             ended = ended or 1
             say(f'{k + 1} refused {fault}\n')
             continue
-        d, _ = retimed(c, most, [], '--near' in options, '--merge' in options, bound_of(options, c))
+        d, _ = retimed(c, most, [], '--near' in options, merge_of(options), bound_of(options, c))
         write_file(output_path, text(d, letters_of(options, letters)))
         say(f'{k + 1} done {len(c.latches)} to {len(d.latches)}\n')
     return ended, ''
@@ -291,7 +297,7 @@ def stat(paths, options):
         'passable': len(passable(c)),
     }
     if '--merge' in options:
-        counts['merged'], counts['constant'] = merge_counts(c)
+        counts['merged'], counts['constant'] = merge_counts(c, merge_of(options))
     return 0, ''.join(f'{name} {count}\n' for name, count in counts.items())
 
 
@@ -319,12 +325,12 @@ def same(paths, options):
 def verify(paths, options):
     c, _ = circuit_of(paths[0])
     try:
-        blocks = read_blocks(bytes_of(paths[1]))
+        listed, blocks = read_certificates(bytes_of(paths[1]))
     except Fault as fault:
         raise Ends(1, f'{source_name(paths[1])}: {fault}') from fault
     outs = [bytes_of(path) for path in options.get('--out', [])]
     try:
-        lines, status, last = audit(c, held_by(options), blocks, '--merge' in options, bound_of(options, c))
+        lines, status, last = audit(c, held_by(options), listed, blocks, merge_of(options), bound_of(options, c))
     except NoSuchName as missing:
         raise no_such_name(paths[0], c, missing.args[0]) from missing
     except NoSuchLatch as missing:
@@ -333,9 +339,14 @@ def verify(paths, options):
         at = first_difference(text(last, 'aig' if data[:3] == b'aig' else 'aag'), data)
         lines.append('out same' if at is None else f'out differs at {at}')
         status = 0 if at is None else 5
-    checked_then = 'no frame was checked' if outs else 'nothing was checked'
+    checked_then = 'nothing was checked' if listed is None and not outs else 'no frame was checked'
     told = '' if blocks else f'{source_name(paths[1])}: no certificate: {checked_then}\n'
     return status, ''.join(f'{line}\n' for line in lines), told
+
+
+def is_map_for(c, d, m):
+    """False for what isn't a map, and for one without the latches of circuits that have one shape."""
+    return is_map(m) and (not are_alike(c, d) or are_fitting(c, d, m))
 
 
 def check(paths, options):
@@ -345,7 +356,7 @@ def check(paths, options):
         said, status = compared(c, d, kept)
         return status, said
     m, _ = circuit_of(paths[2])
-    if not is_map(m) or are_alike(c, d) and not are_fitting(c, d, m):
+    if not is_map_for(c, d, m):
         raise Ends(1, f'{source_name(paths[2])}: NotAMap')
     said, status = checked(c, d, m)
     return status, said
@@ -353,9 +364,9 @@ def check(paths, options):
 
 def asked(paths, options):
     c, d, m = (circuit_of(path) for path in paths[:3])
-    if not is_map(m[0]):
+    if not is_map_for(c[0], d[0], m[0]):
         raise Ends(1, f'{source_name(paths[2])}: NotAMap')
-    if not are_fitting(c[0], d[0], m[0]):
+    if not are_alike(c[0], d[0]):
         return 1, 'shapes differ\n'
     spelling = letters_of(options, m[1])
     certificates_to = options.get('--certificate', []) + paths[4:]
@@ -370,10 +381,11 @@ def asked(paths, options):
 
 def lift(paths, options):
     c, d, m, w = (circuit_of(path) for path in paths[:4])
-    if not is_map(m[0]):
-        raise Ends(1, f'{source_name(paths[2])}: NotAMap')
     is_back = '--back' in options
-    if not (are_fitting(d[0], c[0], m[0]) and not c[0].free_latches() if is_back else are_fitting(c[0], d[0], m[0])):
+    ends = (d[0], c[0]) if is_back else (c[0], d[0])
+    if not is_map_for(*ends, m[0]):
+        raise Ends(1, f'{source_name(paths[2])}: NotAMap')
+    if not are_alike(*ends) or is_back and c[0].free_latches():
         return 1, 'shapes differ\n'
     try:
         found = (lifted_back if is_back else lifted)(c[0], d[0], m[0], w[0])
@@ -391,7 +403,7 @@ def drawn_circuit(c, path, options):
         held = held_latches(c, names)
         if '--frame' not in options:
             return c, held, None
-        frame = frames_of(c, 1, names, merge='--merge' in options, bound=bound_of(options, c))[0]
+        frame = frames_of(c, 1, names, merge=merge_of(options), bound=bound_of(options, c))[0]
     except NoSuchName as missing:
         raise no_such_name(path, c, missing.args[0]) from missing
     except NoSuchLatch as missing:
@@ -418,7 +430,7 @@ def dot(paths, options):
 def witness(paths, options):
     c, d = circuit_of(paths[0])[0], circuit_of(paths[1])[0]
     try:
-        said, status = carried_text(c, d, bytes_of(paths[2]), '--merge' in options)
+        said, status = carried_text(c, d, bytes_of(paths[2]), merge_of(options))
     except Fault as fault:
         raise Ends(1, f'{source_name(paths[2])}: {fault}') from fault
     return status, said
@@ -428,10 +440,12 @@ COMMANDS = {'retime': retime, 'batch': batch, 'stat': stat, 'convert': convert, 
             'check': check, 'miter': asked, 'product': asked, 'lift': lift, 'dot': dot, 'witness': witness}
 
 
-def run(words):
-    """The status, and the texts of standard output and standard error."""
+def run(words, merged=None):
+    """The status, and the texts of standard output and standard error. With `--merge` these latches are merged, where they are given."""
     try:
         command, paths, options = parsed(words)
+        if merged is not None and '--merge' in options:
+            options['--merge'] = merged
         status, said, *told = COMMANDS[command](paths, options)
         takes_stdout = command == 'retime' and '-' in paths[1:] + beside(options)
         return (status, '', said) if takes_stdout else (status, said, ''.join(told))

@@ -14,7 +14,7 @@ use Rattle.path_levels.specs.Bounded.{bounded}
 use Rattle.path_levels.proofs.BoundedLaws.{bounded-law}
 use Rattle.certificate_audits.specs.declared.outcome.Audit.{Audit}
 use Rattle.certificate_audits.specs.declared.outcome.End.{End}
-use Rattle.certificate_audits.specs.declared.outcome.End.TheVariants.{NoBlocks, Certified, Open, BlocksFollow, Objected}
+use Rattle.certificate_audits.specs.declared.outcome.End.TheVariants.{NoBlocks, Certified, Open, BlocksFollow, Objected, Misread, NotShown}
 use Rattle.certificate_audits.specs.declared.outcome.Replay.{Replay}
 use Rattle.certificate_audits.specs.Audits.{Audits, IsConfirmed, IsVerdictBy, Saves, IsNext, IsAudit, no_blocks, objected, open_end, certified_end, past_end, goes_on}
 use Rattle.certificate_audits.specs.Findings.{EndsWith, GoesOn, IsLastOf}
@@ -103,6 +103,8 @@ ends-audits bound held c block rest n Open p =
 ends-audits bound held c block rest n Certified p =
     let P : ℕ → List Certificate → Type 0 = λ m bs. Audits bound held c (block ∷ bs) m Certified in subst (λ (m : ℕ). P m rest) (sym p.0) (subst (P 1) (sym p.2) (certified_end held c block p.1))
 ends-audits bound held c block rest n BlocksFollow p = subst (λ (m : ℕ). Audits bound held c (block ∷ rest) m BlocksFollow) (sym p.0) (past_end held c block rest p.1 p.2)
+ends-audits bound held c block rest n (Misread latch) p = absurd p
+ends-audits bound held c block rest n (NotShown latch) p = absurd p
 
 -- and the circuit at which it ends is what the block and those after it end in
 pub ends-last : (bound : Option ℕ) (held : List ℕ) (c : Netlist) (block : Certificate) (rest : List Certificate) (n : ℕ) (end : End) (made : Option Netlist) → EndsWith bound held c block rest n end
@@ -117,6 +119,8 @@ ends-last bound held c block rest n BlocksFollow (Some d) p is = absurd is
 ends-last bound held c block rest n BlocksFollow None p is = is
 ends-last bound held c block rest n (Objected objection) (Some d) p is = absurd is
 ends-last bound held c block rest n (Objected objection) None p is = is
+ends-last bound held c block rest n (Misread latch) made p is = absurd p
+ends-last bound held c block rest n (NotShown latch) made p is = absurd p
 
 -- what the blocks from k on end in, all blocks end in, if nothing speaks against one
 all-last : (bound : Option ℕ) (held now : List ℕ) (first circuit : Netlist) (blocks : List Certificate) (k : ℕ) (block : Certificate) (end : End) (made : Option Netlist) → k < length blocks

@@ -6,12 +6,13 @@ use Rattle.aig_graph.specs.Closed.{IsClosedSet}
 use Rattle.cleaned_circuits.proofs.PassLaws.{IsCircuit, IsCircuit-cleans}
 use Rattle.retimed_circuits.proofs.CircuitLaws.{moved-circuit}
 use Rattle.retimed_circuits.proofs.CleaningLevelLaws.{cleans-levels}
-use Rattle.merged_circuits.proofs.MergingLaws.{IsGraph-merged_latches, IsNetlist-merged_latches, merged-by}
+use Rattle.merged_circuits.proofs.MergingLaws.{IsGraph-merged_by, IsNetlist-merged_by}
 use Rattle.retimed_circuits.proofs.ReplacedLevelLaws.{merged_latches-levels}
 use Rattle.retimed_circuits.specs.Frames.{CleansTo, held_over, moved_over}
 use Rattle.path_levels.specs.Levels.{levels}
 use Rattle.retimed_circuits.specs.RetimingLevels.{KeepsLevels}
 use Rattle.certificates.specs.declared.certificate.Certificate.{Certificate}
+use Rattle.certificates.specs.declared.merged.MergedLatch.{MergedLatch}
 use Rattle.certificate_audits.specs.declared.outcome.End.{End}
 use Rattle.certificate_audits.specs.declared.outcome.Replay.{Replay}
 use Rattle.certificate_audits.specs.Audits.{IsNext, IsMoveTaken}
@@ -67,17 +68,17 @@ replay-levels (Some most) held c blocks replay graph netlist is =
     replay-bounded most held c c blocks replay (record { circuit = record { graph = graph; netlist = netlist }; kept = omega arith }) is
 
 -- and so if latches were merged first
-pub merged-replay-levels : (bound : Option ℕ) (held : List ℕ) (c : Netlist) (blocks : List Certificate) → MergedReplayLevelLaw bound held c blocks
-merged-replay-levels None held c blocks replay graph netlist is = unbounded c replay.last
-merged-replay-levels (Some most) held c blocks replay graph netlist is =
+pub merged-replay-levels : (bound : Option ℕ) (held : List ℕ) (c : Netlist) (lines : List MergedLatch) (blocks : List Certificate) → MergedReplayLevelLaw bound held c lines blocks
+merged-replay-levels None held c lines blocks replay graph netlist is = unbounded c replay.last
+merged-replay-levels (Some most) held c lines blocks replay graph netlist is =
     let clean : Netlist = is.merges.clean in
     let whole : Bounded most c c = record { circuit = record { graph = graph; netlist = netlist }; kept = omega arith } in
     let first : Bounded most c clean = cleans-bounded most held c c clean is.kept is.start_held whole is.merges.cleaned in
-    let low : levels is.start ≤ levels clean = merged_latches-levels is.start_held is.merges.merged.reads clean is.start first.circuit.graph first.circuit.netlist (merged-by is.start_held clean is.start first.circuit.graph is.merges.merged) in
+    let low : levels is.start ≤ levels clean = merged_latches-levels is.start_held is.merges.reads clean is.start first.circuit.graph first.circuit.netlist is.merges.merged in
     let start : Bounded most c is.start = record {
       circuit = record {
-        graph = IsGraph-merged_latches is.start_held clean is.start first.circuit.graph is.merges.merged;
-        netlist = IsNetlist-merged_latches is.start_held clean is.start first.circuit.graph first.circuit.netlist is.merges.merged;
+        graph = IsGraph-merged_by is.start_held is.merges.reads clean is.start first.circuit.graph is.merges.merged;
+        netlist = IsNetlist-merged_by is.start_held is.merges.reads clean is.start first.circuit.graph first.circuit.netlist is.merges.merged;
       };
       kept = omega (arith, low, first.kept);
     } in

@@ -7,12 +7,13 @@ use Rattle.aig_graph.specs.Laws.{all_free, composed}
 use Rattle.aig_graph.specs.Move.{Move, move_of}
 use Rattle.aig_graph.proofs.StreamLaws.{same_streams-reflexive, same_streams-transitive}
 use Rattle.cleaned_circuits.proofs.PassLaws.{IsCircuit, IsCircuit-cleans, cleans-streams}
-use Rattle.merged_circuits.proofs.MergingLaws.{IsGraph-merged_latches, IsNetlist-merged_latches, merged-streams}
+use Rattle.merged_circuits.proofs.MergingLaws.{IsGraph-merged_by, IsNetlist-merged_by, merged_by-streams}
 use Rattle.rebuild.specs.Moved.{moved_of}
 use Rattle.rebuild.proofs.StreamLaws.{same_streams}
 use Rattle.retimed_circuits.specs.Frames.{CleansTo, held_over}
 use Rattle.retimed_circuits.proofs.CircuitLaws.{moved-circuit}
 use Rattle.certificates.specs.declared.certificate.Certificate.{Certificate}
+use Rattle.certificates.specs.declared.merged.MergedLatch.{MergedLatch}
 use Rattle.certificate_audits.specs.declared.outcome.End.{End}
 use Rattle.certificate_audits.specs.declared.outcome.Replay.{Replay}
 use Rattle.certificate_audits.specs.Audits.{IsNext, Saves}
@@ -66,16 +67,16 @@ replay-streams bound held c blocks replay graph netlist is =
     replay-from bound held c c blocks replay (record { circuit = record { graph = graph; netlist = netlist }; streams = (all_free c.aig, same_streams-reflexive c) }) is
 
 -- and so if latches were merged first
-pub merged-replay-streams : (bound : Option ℕ) (held : List ℕ) (c : Netlist) (blocks : List Certificate) → MergedReplayLaw bound held c blocks
-merged-replay-streams bound held c blocks replay graph netlist is =
+pub merged-replay-streams : (bound : Option ℕ) (held : List ℕ) (c : Netlist) (lines : List MergedLatch) (blocks : List Certificate) → MergedReplayLaw bound held c lines blocks
+merged-replay-streams bound held c lines blocks replay graph netlist is =
     let clean : Netlist = is.merges.clean in
     let now : List ℕ = is.start_held in
     let cleaned : Follows c clean = cleans-follows held c clean is.kept now (record { graph = graph; netlist = netlist }) is.merges.cleaned in
     let merged : Follows clean is.start = record {
       circuit = record {
-        graph = IsGraph-merged_latches now clean is.start cleaned.circuit.graph is.merges.merged;
-        netlist = IsNetlist-merged_latches now clean is.start cleaned.circuit.graph cleaned.circuit.netlist is.merges.merged;
+        graph = IsGraph-merged_by now is.merges.reads clean is.start cleaned.circuit.graph is.merges.merged;
+        netlist = IsNetlist-merged_by now is.merges.reads clean is.start cleaned.circuit.graph cleaned.circuit.netlist is.merges.merged;
       };
-      streams = (all_free clean.aig, merged-streams now clean is.start cleaned.circuit.graph cleaned.circuit.netlist is.merges.merged);
+      streams = (all_free clean.aig, merged_by-streams now is.merges.reads clean is.start cleaned.circuit.graph cleaned.circuit.netlist is.merges.merged);
     } in
     replay-from bound now c is.start blocks replay (follows-then c clean is.start cleaned merged) is.of_start

@@ -4,6 +4,7 @@ use Rattle.aig_graph.specs.Circuits.{Netlist}
 use Rattle.retimed_circuits.proofs.MergedRunLaws.{merges-one}
 use Rattle.retimed_circuits.proofs.RunLaws.{cleaned-one}
 use Rattle.certificates.specs.declared.certificate.Certificate.{Certificate}
+use Rattle.certificates.specs.declared.merged.MergedLatch.{MergedLatch}
 use Rattle.certificates.specs.declared.verdict.Verdict.{Verdict}
 use Rattle.certificates.specs.declared.verdict.Verdict.TheVariants.{Yes, No}
 use Rattle.certificates.specs.declared.verdict.Objection.{Objection}
@@ -202,10 +203,10 @@ audit-one bound held c blocks a b p q =
     let ends = audits-one bound blocks p.now p.first a.confirmed b.confirmed a.end b.end p.audits audits in
     λ i. record { confirmed = ends.0 i; end = ends.1 i }
 
--- and so are those of two replays of what a circuit is merged to
-pub merged-audit-one : (bound : Option ℕ) (held : List ℕ) (c : Netlist) (blocks : List Certificate) → MergedAuditLaw bound held c blocks
-merged-audit-one bound held c blocks a b p q =
-    let start = merges-one held c p.start q.start p.kept q.kept p.start_held q.start_held p.counts q.counts p.merges q.merges in
+-- and so are those of two replays of what a circuit is merged to by one list of latches
+pub merged-audit-one : (bound : Option ℕ) (held : List ℕ) (c : Netlist) (lines : List MergedLatch) (blocks : List Certificate) → MergedAuditLaw bound held c lines blocks
+merged-audit-one bound held c lines blocks a b p q =
+    let start = merges-one held c p.start q.start p.kept q.kept p.start_held q.start_held lines p.merges q.merges in
     let P : List ℕ → Netlist → Type 0 = λ now d. IsAudit bound now d blocks b.audit in
     let of_q : P q.start_held q.start = replay-audit bound q.start_held q.start blocks b q.of_start in
     let other : P p.start_held p.start = subst (λ (now : List ℕ). P now p.start) (sym start.held) (subst (P q.start_held) (sym start.circuit) of_q) in

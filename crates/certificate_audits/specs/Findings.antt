@@ -29,6 +29,8 @@ EndsWith bound held c block rest n (ends.Objected objection) = (n ≡ 0) × Obje
 EndsWith bound held c block rest n ends.Open = (n ≡ 1) × IsMoveTaken bound held c block × (rest ≡ [])
 EndsWith bound held c block rest n ends.Certified = (n ≡ 1) × SavesNone bound held c block × (rest ≡ [])
 EndsWith bound held c block rest n ends.BlocksFollow = (n ≡ 1) × SavesNone bound held c block × (rest ≢ [])
+EndsWith bound held c block rest n (ends.Misread latch) = ⊥
+EndsWith bound held c block rest n (ends.NotShown latch) = ⊥
 
 -- what the blocks end in, if the audit ends in this way with this block of c: after a last move, or
 -- at c itself
@@ -38,6 +40,8 @@ IsEndOf held c block ends.Certified d = d ≡ c
 IsEndOf held c block ends.Open d = (now : List ℕ) × IsNext held c block d now
 IsEndOf held c block ends.BlocksFollow d = ⊥
 IsEndOf held c block (ends.Objected objection) d = ⊥
+IsEndOf held c block (ends.Misread latch) d = ⊥
+IsEndOf held c block (ends.NotShown latch) d = ⊥
 
 -- what the blocks end in, or none if something speaks against the block
 abbrev pub IsLastOf : List ℕ → Netlist → Certificate → End → Option Netlist → Type 0

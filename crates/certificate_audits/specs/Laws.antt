@@ -7,6 +7,7 @@ use Rattle.aig_graph.specs.Border.{IsLeast, border_size}
 use Rattle.aig_graph.specs.Closed.{IsClosedSet}
 use Rattle.aig_graph.specs.Move.{move_of}
 use Rattle.certificates.specs.declared.certificate.Certificate.{Certificate}
+use Rattle.certificates.specs.declared.merged.MergedLatch.{MergedLatch}
 use Rattle.path_levels.specs.Bounded.{bounded}
 use Rattle.retimed_circuits.specs.Frames.{CleansTo}
 use Rattle.retimed_circuits.specs.RetimingLevels.{KeepsLevels}
@@ -58,12 +59,12 @@ abbrev pub AuditLaw : Option ℕ → List ℕ → Netlist → List Certificate �
 AuditLaw bound held c blocks = (a b : Audit) → IsAudit bound held c blocks a → IsAudit bound held c blocks b → a ≡ b
 
 -- if it ends certified, so does that of what c is merged to
-abbrev pub MergedCertifiedLaw : Option ℕ → List ℕ → Netlist → List Certificate → Type 0
-MergedCertifiedLaw bound held c blocks = (replay : Replay) (is : IsMergedReplay bound held c blocks replay) → replay.audit.end ≡ Certified → IsCertified bound is.start_held is.start blocks replay.audit
+abbrev pub MergedCertifiedLaw : Option ℕ → List ℕ → Netlist → List MergedLatch → List Certificate → Type 0
+MergedCertifiedLaw bound held c lines blocks = (replay : Replay) (is : IsMergedReplay bound held c lines blocks replay) → replay.audit.end ≡ Certified → IsCertified bound is.start_held is.start blocks replay.audit
 
--- there is one audit of a circuit whose latches were merged before the first frame
-abbrev pub MergedAuditLaw : Option ℕ → List ℕ → Netlist → List Certificate → Type 0
-MergedAuditLaw bound held c blocks = (a b : Replay) → IsMergedReplay bound held c blocks a → IsMergedReplay bound held c blocks b → a.audit ≡ b.audit
+-- there is one audit of a circuit whose latches were merged by these lines before the first frame
+abbrev pub MergedAuditLaw : Option ℕ → List ℕ → Netlist → List MergedLatch → List Certificate → Type 0
+MergedAuditLaw bound held c lines blocks = (a b : Replay) → IsMergedReplay bound held c lines blocks a → IsMergedReplay bound held c lines blocks b → a.audit ≡ b.audit
 
 -- d has the values of all properties of c, step by step, by some of c's free latches
 abbrev pub HasStreamsOf : Netlist → Netlist → Type 0
@@ -74,13 +75,13 @@ abbrev pub ReplayLaw : Option ℕ → List ℕ → Netlist → List Certificate 
 ReplayLaw bound held c blocks = (replay : Replay) → IsGraph c.aig → IsNetlist c → IsReplay bound held c blocks replay → IfSome replay.last (HasStreamsOf c)
 
 -- also if latches were merged first
-abbrev pub MergedReplayLaw : Option ℕ → List ℕ → Netlist → List Certificate → Type 0
-MergedReplayLaw bound held c blocks = (replay : Replay) → IsGraph c.aig → IsNetlist c → IsMergedReplay bound held c blocks replay → IfSome replay.last (HasStreamsOf c)
+abbrev pub MergedReplayLaw : Option ℕ → List ℕ → Netlist → List MergedLatch → List Certificate → Type 0
+MergedReplayLaw bound held c lines blocks = (replay : Replay) → IsGraph c.aig → IsNetlist c → IsMergedReplay bound held c lines blocks replay → IfSome replay.last (HasStreamsOf c)
 
 -- what the blocks end in has no path longer than the bound, but for those that c has
 abbrev pub ReplayLevelLaw : Option ℕ → List ℕ → Netlist → List Certificate → Type 0
 ReplayLevelLaw bound held c blocks = (replay : Replay) → IsGraph c.aig → IsNetlist c → IsReplay bound held c blocks replay → IfSome replay.last (KeepsLevels bound c)
 
 -- also if latches were merged first
-abbrev pub MergedReplayLevelLaw : Option ℕ → List ℕ → Netlist → List Certificate → Type 0
-MergedReplayLevelLaw bound held c blocks = (replay : Replay) → IsGraph c.aig → IsNetlist c → IsMergedReplay bound held c blocks replay → IfSome replay.last (KeepsLevels bound c)
+abbrev pub MergedReplayLevelLaw : Option ℕ → List ℕ → Netlist → List MergedLatch → List Certificate → Type 0
+MergedReplayLevelLaw bound held c lines blocks = (replay : Replay) → IsGraph c.aig → IsNetlist c → IsMergedReplay bound held c lines blocks replay → IfSome replay.last (KeepsLevels bound c)

@@ -1,11 +1,12 @@
 -- The circuits that blocks end in.
-use Rattle.std.specs.Prelude.{ℕ, ◌≡◌, false, List, [], ◌∷◌, Option, MatchOption}
+use Rattle.std.specs.Prelude.{ℕ, ◌≡◌, false, List, [], ◌∷◌, Option, None, MatchOption}
 use Rattle.aig_graph.specs.Circuits.{Netlist}
 use Rattle.certificates.specs.declared.certificate.Certificate.{Certificate}
-use Rattle.merged_circuits.specs.declared.counts.MergeCounts.{MergeCounts}
+use Rattle.certificates.specs.declared.merged.MergedLatch.{MergedLatch}
 use Rattle.retimed_circuits.specs.Frames.{CleansTo}
 use Rattle.retimed_circuits.specs.Merging.{MergesIn}
 use Rattle.certificate_audits.specs.declared.outcome.End.{End}
+use Rattle.certificate_audits.specs.declared.outcome.End.TheVariants.{Misread, NotShown}
 use Rattle.certificate_audits.specs.declared.outcome.Replay.{Replay}
 use Rattle.certificate_audits.specs.Audits.{Audits, IsNext, IsMoveTaken, SavesNone}
 use Rattle.certificate_audits.specs.Ends.{is_accepted}
@@ -36,11 +37,27 @@ pub record IsReplay (bound : Option ℕ) (held : List ℕ) (c : Netlist) (blocks
   pub cleaned : CleansTo held c first kept now
   pub replays : Replays bound now first blocks replay
 
--- the replay of blocks of a circuit whose latches were merged first: that of what c is merged to
-pub record IsMergedReplay (bound : Option ℕ) (held : List ℕ) (c : Netlist) (blocks : List Certificate) (replay : Replay) : Type 0 where
+-- the replay of blocks of a circuit whose latches were merged first by these lines: that of what c
+-- is merged to
+pub record IsMergedReplay (bound : Option ℕ) (held : List ℕ) (c : Netlist) (lines : List MergedLatch) (blocks : List Certificate) (replay : Replay) : Type 0 where
   pub start : Netlist
   pub kept : List ℕ
   pub start_held : List ℕ
-  pub counts : MergeCounts
-  pub merges : MergesIn held c start kept start_held counts
+  pub merges : MergesIn held c start kept start_held lines
   pub of_start : IsReplay bound start_held start blocks replay
+
+-- by some lines
+pub record IsGuessedReplay (bound : Option ℕ) (held : List ℕ) (c : Netlist) (blocks : List Certificate) (replay : Replay) : Type 0 where
+  pub lines : List MergedLatch
+  pub is : IsMergedReplay bound held c lines blocks replay
+
+-- the replay that ends so since a merged latch is refused: no block is judged
+abbrev pub refused_by : End → Replay
+refused_by end = record { audit = record { confirmed = 0; end = end }; last = None }
+
+-- The replay by the lines that a file gives: that of what c is merged to by them. Or it ends since
+-- a latch is refused; then it claims nothing.
+pub data IsGivenReplay (bound : Option ℕ) (held : List ℕ) (c : Netlist) (lines : List MergedLatch) (blocks : List Certificate) (replay : Replay) : Type 0 where
+  replayed : IsMergedReplay bound held c lines blocks replay → IsGivenReplay bound held c lines blocks replay
+  misread : (latch : ℕ) → replay ≡ refused_by (Misread latch) → IsGivenReplay bound held c lines blocks replay
+  not_shown : (latch : ℕ) → replay ≡ refused_by (NotShown latch) → IsGivenReplay bound held c lines blocks replay

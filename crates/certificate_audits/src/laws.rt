@@ -1,6 +1,7 @@
 ghost use Rattle.std.specs.Prelude.{ℕ, List, Option};
 ghost use Rattle.aig_graph.specs.Circuits.{Netlist};
 ghost use Rattle.certificates.specs.declared.certificate.Certificate.{Certificate as Block};
+ghost use Rattle.certificates.specs.declared.merged.MergedLatch.{MergedLatch};
 ghost use Rattle.certificate_audits.specs.Laws.{AuditLaw, CertifiedLaw, MergedAuditLaw, MergedCertifiedLaw, MergedReplayLaw, MergedReplayLevelLaw, ReplayLaw, ReplayLevelLaw};
 
 /// States that if an audit ends certified, all blocks are confirmed and each set is least in its
@@ -22,12 +23,14 @@ pub fn audit_law()
 {}
 
 /// States [`certified_law`] and [`audit_law`] of circuits whose latches are merged first. The audit
-/// is about the merged circuit.
+/// is about the merged circuit. There is one for each list of merged latches.
 pub fn merged_audit_laws()
-    ensures certified { (bound : Option ℕ) (held : List ℕ) (c : Netlist) (blocks : List Block)
-        → MergedCertifiedLaw bound held c blocks }
-    ensures one { (bound : Option ℕ) (held : List ℕ) (c : Netlist) (blocks : List Block)
-        → MergedAuditLaw bound held c blocks }
+    ensures certified { (bound : Option ℕ) (held : List ℕ) (c : Netlist)
+        (lines : List MergedLatch) (blocks : List Block)
+        → MergedCertifiedLaw bound held c lines blocks }
+    ensures one { (bound : Option ℕ) (held : List ℕ) (c : Netlist)
+        (lines : List MergedLatch) (blocks : List Block)
+        → MergedAuditLaw bound held c lines blocks }
 {}
 
 /// States that the circuit that blocks end in behaves as the circuit that they begin with, whoever
@@ -39,10 +42,12 @@ pub fn merged_audit_laws()
 pub fn replay_laws()
     ensures streams { (bound : Option ℕ) (held : List ℕ) (c : Netlist) (blocks : List Block)
         → ReplayLaw bound held c blocks }
-    ensures merged { (bound : Option ℕ) (held : List ℕ) (c : Netlist) (blocks : List Block)
-        → MergedReplayLaw bound held c blocks }
+    ensures merged { (bound : Option ℕ) (held : List ℕ) (c : Netlist)
+        (lines : List MergedLatch) (blocks : List Block)
+        → MergedReplayLaw bound held c lines blocks }
     ensures levels { (bound : Option ℕ) (held : List ℕ) (c : Netlist) (blocks : List Block)
         → ReplayLevelLaw bound held c blocks }
-    ensures merged_levels { (bound : Option ℕ) (held : List ℕ) (c : Netlist) (blocks : List Block)
-        → MergedReplayLevelLaw bound held c blocks }
+    ensures merged_levels { (bound : Option ℕ) (held : List ℕ) (c : Netlist)
+        (lines : List MergedLatch) (blocks : List Block)
+        → MergedReplayLevelLaw bound held c lines blocks }
 {}

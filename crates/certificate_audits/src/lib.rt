@@ -2,6 +2,9 @@
 //!
 //! Each block is judged for the circuit that the blocks before it make. If it is confirmed, latches
 //! move over its set and the circuit is cleaned.
+//!
+//! If a file says which latches were merged before the first frame, that is judged first. No block
+//! is judged if a latch isn't shown to agree with what it reads as.
 #![tactic(auto)]
 
 mod judging;
@@ -12,6 +15,6 @@ mod outcome;
 mod run;
 
 pub use laws::{audit_law, certified_law, merged_audit_laws, replay_laws};
-pub use merged::replay_merged;
+pub use merged::{replay_guessed, replay_merged};
 pub use outcome::{Audit, BlockObjection, End, Replay};
 pub use run::{audit_blocks, replay_blocks};

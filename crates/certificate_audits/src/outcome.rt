@@ -2,12 +2,13 @@
 //! blocks end in.
 ghost use Rattle.std.specs.Prelude.{◌≡◌};
 ghost use Rattle.certificate_audits.specs.Ends.{block_objection_name};
+ghost use Rattle.certificate_audits.specs.Replays as replays;
 
 use aig_graph::Circuit;
 use certificates::Objection;
 
 /// Why a block isn't confirmed.
-#[derive(Clone, Copy, PartialEq, Eq)]
+#[derive(Clone, Copy, Debug, PartialEq, Eq)]
 pub enum BlockObjection {
     /// The certificate fails a test.
     Fails(Objection),
@@ -42,18 +43,34 @@ pub enum End {
     BlocksFollow,
     /// A block isn't confirmed.
     Objected(BlockObjection),
+    /// The latch with this variable can't read as what the file says. No block is judged then.
+    Misread(u32),
+    /// The latch with this variable isn't shown to agree with what the file says. No block is
+    /// judged then.
+    NotShown(u32),
 }
 
 impl End {
-    ghost use Rattle.certificate_audits.specs.Ends.{is_accepted};
+    ghost use Rattle.certificate_audits.specs.Ends.{is_accepted, refused_latch};
 
-    /// Returns true if each block is confirmed and none follows the end.
+    /// Returns true if each merged latch is shown, each block is confirmed, and none follows the
+    /// end.
     pub fn is_accepted(self) -> bool
         ensures { result ≡ is_accepted self }
     {
         match self {
             End::NoBlocks | End::Certified | End::Open => true,
-            End::BlocksFollow | End::Objected(_) => false,
+            End::BlocksFollow | End::Objected(_) | End::Misread(_) | End::NotShown(_) => false,
+        }
+    }
+
+    /// Returns the variable of the merged latch that is refused, if one is.
+    pub fn refused_latch(self) -> Option<u32>
+        ensures { result ≡ refused_latch self }
+    {
+        match self {
+            End::Misread(latch) | End::NotShown(latch) => Some(latch),
+            _ => None,
         }
     }
 }
@@ -74,8 +91,19 @@ pub struct Replay {
     /// The outcome of the audit.
     pub audit: Audit,
     /// The circuit after latches moved over the set of each block that saves latches, cleaned after
-    /// each move. `None` if something speaks against a block.
+    /// each move. `None` if something speaks against a block or a merged latch.
     pub last: Option<Circuit>,
+}
+
+/// Returns the replay of certificates that merge a latch as they may not, by this end. None of
+/// their blocks is judged.
+pub(crate) fn refused_by(end: End) -> Replay
+    ensures { result ≡ replays.refused_by end }
+{
+    Replay {
+        audit: Audit { confirmed: 0, end },
+        last: None,
+    }
 }
 
 /// Returns the outcome of an audit, and drops the circuit.

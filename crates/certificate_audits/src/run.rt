@@ -33,7 +33,7 @@ fn last_circuit(
             Err(error) => Err(error),
         },
         End::NoBlocks | End::Certified => Ok(Some(circuit_of(stage))),
-        End::BlocksFollow | End::Objected(_) => {
+        End::BlocksFollow | End::Objected(_) | End::Misread(_) | End::NotShown(_) => {
             drop(stage);
             Ok(None)
         }

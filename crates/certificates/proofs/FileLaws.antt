@@ -1,5 +1,5 @@
--- The lines before the blocks, and a file as a whole.
-use Rattle.std.proofs.Common.{ℕ, ◌+◌, ◌-◌, ◌≤◌, ◌≡◌, ◌⊎◌, inl, inr, length, List, [], Option, Some, None, Result, Ok, Err, arith, Bool, true, false, ◌==◌, cond, ap, ap₂, ◌∙◌, subst, codes}
+-- The lines of the version and the choice, and a file as a whole.
+use Rattle.std.proofs.Common.{ℕ, ◌+◌, ◌-◌, ◌≤◌, ◌≡◌, ◌⊎◌, inl, inr, length, List, [], Option, Some, None, Result, Ok, Err, refl, arith, Bool, true, false, ◌==◌, cond, ap, ap₂, sym, ◌∙◌, subst, codes}
 use Rattle.std.proofs.lemmas.Bool.{eqb-true, and_parts}
 use Rattle.file_words.specs.Lines.{lines, is_word}
 use Rattle.file_words.specs.Cuts.{IsFirst}
@@ -10,9 +10,11 @@ use Rattle.certificates.specs.declared.fault.CertError.TheVariants.{BadHeader, B
 use Rattle.aig_graph.specs.declared.choice.Choice.{Choice}
 use Rattle.aig_graph.specs.declared.choice.Choice.TheVariants.{Greatest}
 use Rattle.certificates.specs.declared.file.CertFile.{CertFile}
-use Rattle.certificates.specs.Files.{choice_in_line, nothing_read, read_blocks, read_chosen, read_second_version, read_file, read_text, with_choice}
-use Rattle.certificates.specs.Steps.{read_rest}
+use Rattle.certificates.specs.declared.merged.MergedLatch.{MergedLatch}
+use Rattle.certificates.specs.Files.{choice_in_line, nothing_read, read_after_choice, read_blocks, read_choice, read_chosen, read_file, read_text, with_head}
+use Rattle.certificates.specs.Steps.{read_rest, rest_after_choice, rest_chosen}
 use Rattle.certificates.proofs.StepLaws.{same_start}
+use Rattle.certificates.proofs.MergedLaws.{counted_start}
 
 -- where the blocks begin, after a line
 behind : (end : ℕ) (text line more : List ℕ) (at : ℕ) → IsFirst text line more → length text ≤ end → at ≡ end - length text → (more ≡ []) ⊎ (at + length line + 1 ≡ end - length more)
@@ -24,21 +26,33 @@ behind end text line more at first within here = by_case first.starts
 
 -- ---- the second line
 
--- a file of the second version without a second line is truncated
-pub second_missing : (at end : ℕ) (rest : List ℕ) → rest ≡ [] → read_second_version at end (lines rest) ≡ Err (Truncated end)
-second_missing at end rest none = ap (read_second_version at end) (ap lines none ∙ no_lines)
+-- the offset of the line after the choice doesn't matter if there is none
+choice_start : (lists : Bool) (choice : Choice) (a end : ℕ) (more : List ℕ) → (more ≡ []) ⊎ (a ≡ end - length more)
+    → read_after_choice lists choice a end (lines more) ≡ rest_after_choice lists choice end more
+choice_start false choice a end more start = ap (with_head choice None) (same_start a end more nothing_read start)
+choice_start true choice a end more start = counted_start choice a end more start
 
--- a second line that names a choice gives the file this choice, and the blocks follow
-pub second_chosen : (at end : ℕ) (text line more : List ℕ) (choice : Choice) → IsFirst text line more → length text ≤ end → at ≡ end - length text → choice_in_line line ≡ Some choice
-    → read_second_version at end (lines text) ≡ with_choice choice (read_rest end more nothing_read)
-second_chosen at end text line more choice first within here is =
-    ap (read_second_version at end) first.whole ∙ ap (λ (o : Option Choice). read_chosen at end o (lines more) (length line)) is
-    ∙ ap (with_choice choice) (same_start (at + length line + 1) end more nothing_read (behind end text line more at first within here))
+-- a file that ends before the choice is truncated
+pub choice_missing : (lists : Bool) (at end : ℕ) (rest : List ℕ) → rest ≡ [] → read_choice lists at end (lines rest) ≡ Err (Truncated end)
+choice_missing lists at end rest none = ap (read_choice lists at end) (ap lines none ∙ no_lines)
+
+-- the offset of the line of the choice doesn't matter if there is none
+chosen_start : (lists : Bool) (a end : ℕ) (more : List ℕ) → (more ≡ []) ⊎ (a ≡ end - length more) → read_choice lists a end (lines more) ≡ rest_chosen lists end more
+chosen_start lists a end more (inl none) = choice_missing lists a end more none ∙ sym (choice_missing lists (end - length more) end more none)
+chosen_start lists a end more (inr here) = ap (λ (n : ℕ). read_choice lists n end (lines more)) here
+
+-- a second line that names a choice gives the file this choice, and the other lines follow
+pub choice_chosen : (lists : Bool) (end : ℕ) (text line more : List ℕ) (choice : Choice) → IsFirst text line more → length text ≤ end → choice_in_line line ≡ Some choice
+    → rest_chosen lists end text ≡ rest_after_choice lists choice end more
+choice_chosen lists end text line more choice first within is =
+    let at : ℕ = end - length text in
+    ap (read_choice lists at end) first.whole ∙ ap (λ (o : Option Choice). read_chosen lists at end o (lines more) (length line)) is
+    ∙ choice_start lists choice (at + length line + 1) end more (behind end text line more at first within refl)
 
 -- a second line that names no choice is a fault of that line
-pub second_other : (at end : ℕ) (text line more : List ℕ) → IsFirst text line more → choice_in_line line ≡ None → read_second_version at end (lines text) ≡ Err (BadLine at)
-second_other at end text line more first is =
-    ap (read_second_version at end) first.whole ∙ ap (λ (o : Option Choice). read_chosen at end o (lines more) (length line)) is
+pub choice_other : (lists : Bool) (at end : ℕ) (text line more : List ℕ) → IsFirst text line more → choice_in_line line ≡ None → read_choice lists at end (lines text) ≡ Err (BadLine at)
+choice_other lists at end text line more first is =
+    ap (read_choice lists at end) first.whole ∙ ap (λ (o : Option Choice). read_chosen lists at end o (lines more) (length line)) is
 
 -- ---- the first line
 
@@ -49,19 +63,21 @@ first_missing end rest none = ap (read_file end) (ap lines none ∙ no_lines)
 word_length : (text word : List ℕ) → is_word text word ≡ true → length word ≡ length text
 word_length text word is = eqb-true (length word) (length text) (and_parts (length word == length text) _ is).0
 
-abbrev by_words : Bool → Bool → ℕ → List (List ℕ) → Result CertFile CertError
-by_words one two end rest = cond one (with_choice Greatest (read_blocks 15 end nothing_read rest)) (cond two (read_second_version 15 end rest) (Err (BadHeader 0)))
+abbrev by_words : Bool → Bool → Bool → ℕ → List (List ℕ) → Result CertFile CertError
+by_words one two three end rest =
+    cond one (with_head Greatest None (read_blocks 15 end nothing_read rest)) (cond two (read_choice false 15 end rest) (cond three (read_choice true 15 end rest) (Err (BadHeader 0))))
 
-by_first : (end : ℕ) (text line more : List ℕ) → IsFirst text line more → read_file end (lines text) ≡ by_words (is_word line (codes "fretime-cert 1")) (is_word line (codes "fretime-cert 2")) end (lines more)
+by_first : (end : ℕ) (text line more : List ℕ) → IsFirst text line more
+    → read_file end (lines text) ≡ by_words (is_word line (codes "fretime-cert 1")) (is_word line (codes "fretime-cert 2")) (is_word line (codes "fretime-cert 3")) end (lines more)
 by_first end text line more first = ap (read_file end) first.whole
 
 -- after the line of the first version the blocks follow, of greatest sets
 pub first_version : (end : ℕ) (text line more : List ℕ) → IsFirst text line more → length text ≡ end → is_word line (codes "fretime-cert 1") ≡ true
-    → read_file end (lines text) ≡ with_choice Greatest (read_rest end more nothing_read)
+    → read_file end (lines text) ≡ with_head Greatest None (read_rest end more nothing_read)
 first_version end text line more first whole is =
     by_first end text line more first
-    ∙ ap (λ (one : Bool). by_words one (is_word line (codes "fretime-cert 2")) end (lines more)) is
-    ∙ ap (with_choice Greatest) (same_start 15 end more nothing_read start)
+    ∙ ap (λ (one : Bool). by_words one (is_word line (codes "fretime-cert 2")) (is_word line (codes "fretime-cert 3")) end (lines more)) is
+    ∙ ap (with_head Greatest None) (same_start 15 end more nothing_read start)
   where
     long : 14 ≡ length line
     long = word_length line (codes "fretime-cert 1") is
@@ -69,47 +85,52 @@ first_version end text line more first whole is =
     start : (more ≡ []) ⊎ (15 ≡ end - length more)
     start = subst (λ (n : ℕ). (more ≡ []) ⊎ (n ≡ end - length more)) (omega (arith, long)) (behind end text line more 0 first (omega (arith, whole)) (omega (arith, whole)))
 
--- after the line of the second version the line of the choice follows
-pub second_version : (end : ℕ) (text line more : List ℕ) → IsFirst text line more → is_word line (codes "fretime-cert 1") ≡ false → is_word line (codes "fretime-cert 2") ≡ true
-    → read_file end (lines text) ≡ read_second_version 15 end (lines more)
-second_version end text line more first differs is =
-    by_first end text line more first
-    ∙ ap (λ (one : Bool). by_words one (is_word line (codes "fretime-cert 2")) end (lines more)) differs
-    ∙ ap (λ (two : Bool). by_words false two end (lines more)) is
-
--- after the line of the second version the next line, if there is one, begins at offset 15
-pub second_start : (end : ℕ) (text line more : List ℕ) → IsFirst text line more → length text ≡ end → is_word line (codes "fretime-cert 2") ≡ true
+-- after a line of 14 bytes the next line, if there is one, begins at offset 15
+second_start : (end : ℕ) (text line more word : List ℕ) → IsFirst text line more → length text ≡ end → is_word line word ≡ true → length word ≡ 14
     → (more ≡ []) ⊎ (15 ≡ end - length more)
-second_start end text line more first whole is =
-    subst (λ (n : ℕ). (more ≡ []) ⊎ (n ≡ end - length more)) (omega (arith, long)) (behind end text line more 0 first (omega (arith, whole)) (omega (arith, whole)))
+second_start end text line more word first whole is fourteen =
+    subst (λ (n : ℕ). (more ≡ []) ⊎ (n ≡ end - length more)) (omega (arith, long, fourteen)) (behind end text line more 0 first (omega (arith, whole)) (omega (arith, whole)))
   where
-    long : 14 ≡ length line
-    long = word_length line (codes "fretime-cert 2") is
+    long : length word ≡ length line
+    long = word_length line word is
 
--- a first line of neither version is a bad header
-pub no_version : (end : ℕ) (text line more : List ℕ) → IsFirst text line more → is_word line (codes "fretime-cert 1") ≡ false → is_word line (codes "fretime-cert 2") ≡ false
-    → read_file end (lines text) ≡ Err (BadHeader 0)
-no_version end text line more first differs other =
+-- after the line of the second version the line of the choice follows
+pub second_version : (end : ℕ) (text line more : List ℕ) → IsFirst text line more → length text ≡ end → is_word line (codes "fretime-cert 1") ≡ false
+    → is_word line (codes "fretime-cert 2") ≡ true → read_file end (lines text) ≡ rest_chosen false end more
+second_version end text line more first whole one is =
     by_first end text line more first
-    ∙ ap (λ (one : Bool). by_words one (is_word line (codes "fretime-cert 2")) end (lines more)) differs
-    ∙ ap (λ (two : Bool). by_words false two end (lines more)) other
+    ∙ ap₂ (λ (a b : Bool). by_words a b (is_word line (codes "fretime-cert 3")) end (lines more)) one is
+    ∙ chosen_start false 15 end more (second_start end text line more (codes "fretime-cert 2") first whole is refl)
+
+-- that of the third version too, and merged latches after it
+pub third_version : (end : ℕ) (text line more : List ℕ) → IsFirst text line more → length text ≡ end → is_word line (codes "fretime-cert 1") ≡ false
+    → is_word line (codes "fretime-cert 2") ≡ false → is_word line (codes "fretime-cert 3") ≡ true → read_file end (lines text) ≡ rest_chosen true end more
+third_version end text line more first whole one two is =
+    by_first end text line more first
+    ∙ ap₂ (λ (a b : Bool). by_words a b (is_word line (codes "fretime-cert 3")) end (lines more)) one two
+    ∙ ap (λ (three : Bool). by_words false false three end (lines more)) is
+    ∙ chosen_start true 15 end more (second_start end text line more (codes "fretime-cert 3") first whole is refl)
+
+-- a first line of no version is a bad header
+pub no_version : (end : ℕ) (text line more : List ℕ) → IsFirst text line more → is_word line (codes "fretime-cert 1") ≡ false → is_word line (codes "fretime-cert 2") ≡ false
+    → is_word line (codes "fretime-cert 3") ≡ false → read_file end (lines text) ≡ Err (BadHeader 0)
+no_version end text line more first one two three =
+    by_first end text line more first
+    ∙ ap₂ (λ (a b : Bool). by_words a b (is_word line (codes "fretime-cert 3")) end (lines more)) one two
+    ∙ ap (λ (c : Bool). by_words false false c end (lines more)) three
 
 -- ---- the whole file
 
--- blocks that are read make, with the choice, the file
-pub with_blocks : (choice : Choice) (r : Result (List Certificate) CertError) (blocks : List Certificate) → r ≡ Ok blocks → with_choice choice r ≡ Ok (record { choice = choice; blocks = blocks })
-with_blocks choice r blocks is = ap (with_choice choice) is
+-- blocks that are read make, with what stands before them, the file
+pub with_blocks : (choice : Choice) (merged : Option (List MergedLatch)) (r : Result (List Certificate) CertError) (blocks : List Certificate) → r ≡ Ok blocks
+    → with_head choice merged r ≡ Ok (record { choice = choice; merged = merged; blocks = blocks })
+with_blocks choice merged r blocks is = ap (with_head choice merged) is
 
 -- a fault of the blocks is that of the file
-pub with_fault : (choice : Choice) (r : Result (List Certificate) CertError) (e : CertError) → r ≡ Err e → with_choice choice r ≡ Err e
-with_fault choice r e is = ap (with_choice choice) is
+pub with_fault : (choice : Choice) (merged : Option (List MergedLatch)) (r : Result (List Certificate) CertError) (e : CertError) → r ≡ Err e → with_head choice merged r ≡ Err e
+with_fault choice merged r e is = ap (with_head choice merged) is
 
 -- what is read of the lines of the whole text is what is read of the text
 pub text_read : (end : ℕ) (rest bytes : List ℕ) → rest ≡ bytes → end ≡ length bytes → read_file end (lines rest) ≡ read_text bytes
 unfolding read_text
 text_read end rest bytes is long = ap₂ (λ (n : ℕ) (bs : List ℕ). read_file n (lines bs)) long is
-
--- an offset that is right unless the text is empty is right for a text with a first line
-pub start_of : (text line more : List ℕ) (a b : ℕ) → IsFirst text line more → (text ≡ []) ⊎ (a ≡ b) → a ≡ b
-start_of text line more a b first (inl none) = absurd (omega (arith, first.shorter, ap length none))
-start_of text line more a b first (inr here) = here

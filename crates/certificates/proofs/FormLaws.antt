@@ -16,7 +16,7 @@ use Rattle.certificates.specs.Forms.{framed, gated, routed}
 -- ---- the letters
 
 -- a line that no rest completes to doesn't begin with the letters
-begins_not : (letters line : List ℕ) → ((rest : List ℕ) → line ≡ letters ++ rest → ⊥) → begins_with letters line ≡ false
+pub begins_not : (letters line : List ℕ) → ((rest : List ℕ) → line ≡ letters ++ rest → ⊥) → begins_with letters line ≡ false
 begins_not letters line never = by_test (begins_with letters line) refl
   where
     by_test : (b : Bool) → begins_with letters line ≡ b → b ≡ false
@@ -136,10 +136,12 @@ small_same n = by_test (is_small n) refl
 pub small_is : (n : ℕ) → is_small n ≡ true → clamped n ≡ n
 small_is n is = let within = leb-true n (2 ^ 28 - 1) is in omega (arith, within)
 
-abbrev cut_row : Option (List ℕ) → Option (List ℕ)
+-- the numbers of a line cut to 32 bits, if they are at most nine
+abbrev pub cut_row : Option (List ℕ) → Option (List ℕ)
 cut_row o = option_and_then (λ ns. up_to_nine (map clamped ns)) o
 
-row_cut : (text : List ℕ) → row_of text ≡ cut_row (numbers_of text)
+-- the numbers of a row are those of its text, cut to 32 bits
+pub row_cut : (text : List ℕ) → row_of text ≡ cut_row (numbers_of text)
 unfolding row_of
 row_cut text = refl
 
@@ -191,7 +193,8 @@ framed-cut at (Some (a ∷ b ∷ [])) = refl
 framed-cut at (Some (a ∷ b ∷ c ∷ [])) = framed-three at a b c
 framed-cut at (Some (a ∷ b ∷ c ∷ d ∷ ns)) = framed-many at (clamped a) (clamped b) (clamped c) (clamped d) (map clamped ns)
 
-gated-cut : (at : ℕ) (o : Option (List ℕ)) → gated at (gate_saying (cut_row o)) ≡ gated at (gate_saying o)
+-- a number cut to 32 bits is that of a gate's line if the number is
+pub gated-cut : (at : ℕ) (o : Option (List ℕ)) → gated at (gate_saying (cut_row o)) ≡ gated at (gate_saying o)
 gated-cut at None = refl
 gated-cut at (Some []) = refl
 gated-cut at (Some (a ∷ [])) = gated-one at a

@@ -11,12 +11,13 @@ use Rattle.certificates.specs.declared.fault.CertError.{CertError}
 use Rattle.certificates.specs.declared.fault.CertError.TheVariants.{BadHeader, TooLarge}
 use Rattle.aig_graph.specs.declared.choice.Choice.{Choice}
 use Rattle.aig_graph.specs.declared.choice.Choice.TheVariants.{Greatest}
+use Rattle.certificates.specs.declared.merged.MergedLatch.{MergedLatch}
 use Rattle.certificates.specs.declared.file.CertFile.{CertFile}
-use Rattle.certificates.specs.Files.{begins_with, is_point, point_of_word, is_small, Saying, Frame, Gate, Route, frame_saying, gate_saying, route_of, saying_of, Progress, settled, progress_after, sized, taken, blocks_at_end, read_blocks, nothing_read, with_choice, choice_in_line, read_chosen, read_second_version, read_file, read_text}
+use Rattle.certificates.specs.Files.{begins_with, is_point, point_of_word, is_small, Saying, Frame, Gate, Route, frame_saying, gate_saying, route_of, saying_of, Progress, settled, progress_after, sized, taken, blocks_at_end, read_blocks, nothing_read, with_head, is_small_literal, numbers_after, merged_latch, count_in_line, merged_count, merged_in_line, read_merged, read_counted, choice_in_line, read_after_choice, read_choice, read_chosen, read_file, read_text}
 use Rattle.certificates.specs.Forms.{are_small}
-use Rattle.certificates.specs.Laws.{is_writable_route, is_writable_block, is_writable, RereadingLaw}
+use Rattle.certificates.specs.Laws.{is_writable_route, is_writable_block, is_writable_latch, are_writable_latches, is_writable, RereadingLaw}
 use Rattle.certificates.specs.Steps.{certificate_block, block_with_gate, with_route}
-use Rattle.certificates.proofs.RoundTripLaws.{the_round_trip_law}
+use Rattle.certificates.proofs.FileTripLaws.{the_round_trip_law}
 
 -- ---- a route has a point
 
@@ -178,34 +179,84 @@ blocks_good (line ∷ rest) at end p good =
     then_good IsGood AreWritable (taken at p (saying_of line)) (λ next. read_blocks (at + length line + 1) end next rest) (taken_good at p (saying_of line) (said-point line) good)
     (λ next g. blocks_good rest (at + length line + 1) end next g)
 
--- ---- the file
+-- ---- what stands before the blocks
 
 abbrev IsWritable : CertFile → Type 0
 IsWritable f = is_writable f ≡ true
 
-choice_good : (choice : Choice) (r : Result (List Certificate) CertError) → IfOk r AreWritable → IfOk (with_choice choice r) IsWritable
-choice_good choice (Ok blocks) all = all
-choice_good choice (Err e) all = tt
+head_good : (choice : Choice) (merged : Option (List MergedLatch)) (r : Result (List Certificate) CertError) → are_writable_latches merged ≡ true → IfOk r AreWritable → IfOk (with_head choice merged r) IsWritable
+head_good choice merged (Ok blocks) latches all = and_from (are_writable_latches merged) (list_all is_writable_block blocks) latches all
+head_good choice merged (Err e) latches all = tt
 
-read_good : (ls : List (List ℕ)) (at end : ℕ) (choice : Choice) → IfOk (with_choice choice (read_blocks at end nothing_read ls)) IsWritable
-read_good ls at end choice = choice_good choice (read_blocks at end nothing_read ls) (blocks_good ls at end nothing_read (record { done = refl; begun = tt }))
+read_good : (ls : List (List ℕ)) (at end : ℕ) (choice : Choice) (merged : Option (List MergedLatch)) → are_writable_latches merged ≡ true
+    → IfOk (with_head choice merged (read_blocks at end nothing_read ls)) IsWritable
+read_good ls at end choice merged latches =
+    head_good choice merged (read_blocks at end nothing_read ls) latches (blocks_good ls at end nothing_read (record { done = refl; begun = tt }))
 
-chosen_good : (at end : ℕ) (o : Option Choice) (rest : List (List ℕ)) (len : ℕ) → IfOk (read_chosen at end o rest len) IsWritable
-chosen_good at end None rest len = tt
-chosen_good at end (Some choice) rest len = read_good rest (at + len + 1) end choice
+abbrev IsWritableLatch : MergedLatch → Type 0
+IsWritableLatch m = is_writable_latch m ≡ true
 
-second_good : (at end : ℕ) (ls : List (List ℕ)) → IfOk (read_second_version at end ls) IsWritable
-second_good at end [] = tt
-second_good at end (line ∷ rest) = chosen_good at end (choice_in_line line) rest (length line)
+latch_good : (at : ℕ) (line : List ℕ) → IfOk (merged_in_line at line) IsWritableLatch
+unfolding merged_in_line
+latch_good at line = by_numbers (numbers_after (codes "m ") line)
+  where
+    by_numbers : (o : Option (List ℕ)) → IfOk (merged_latch at o) IsWritableLatch
+    by_numbers None = tt
+    by_numbers (Some []) = tt
+    by_numbers (Some (a ∷ [])) = tt
+    by_numbers (Some (a ∷ b ∷ [])) = by_size IsWritableLatch (is_small a && is_small_literal b) (record { latch = a; reads = b }) (TooLarge at) (λ small. small)
+    by_numbers (Some (a ∷ b ∷ c ∷ ns)) = tt
+
+count_good : (at : ℕ) (line : List ℕ) → IfOk (count_in_line at line) (λ n. n ≤ 2 ^ 28 - 1)
+unfolding count_in_line
+count_good at line = by_numbers (numbers_after (codes "merged ") line)
+  where
+    by_numbers : (o : Option (List ℕ)) → IfOk (merged_count at o) (λ n. n ≤ 2 ^ 28 - 1)
+    by_numbers None = tt
+    by_numbers (Some []) = tt
+    by_numbers (Some (n ∷ [])) = by_size (λ n. n ≤ 2 ^ 28 - 1) (is_small n) n (TooLarge at) (λ small. leb-true n (2 ^ 28 - 1) small)
+    by_numbers (Some (n ∷ m ∷ ns)) = tt
+
+merged_good : (left : ℕ) (ls : List (List ℕ)) (choice : Choice) (at end : ℕ) (merged : List MergedLatch) → list_all is_writable_latch merged ≡ true → length merged + left ≤ 2 ^ 28 - 1
+    → IfOk (read_merged choice at end merged left ls) IsWritable
+unfolding read_merged
+merged_good zero ls choice at end merged all within =
+    read_good ls at end choice (Some merged) (and_from (is_small (length merged)) (list_all is_writable_latch merged) (small_from (length merged) (omega (arith, within))) all)
+merged_good (suc left) [] choice at end merged all within = tt
+merged_good (suc left) (line ∷ rest) choice at end merged all within =
+    then_good IsWritableLatch IsWritable (merged_in_line at line) (λ m. read_merged choice (at + length line + 1) end (merged ++ m ∷ []) left rest) (latch_good at line)
+    (λ m w. merged_good left rest choice (at + length line + 1) end (merged ++ m ∷ []) (one_more is_writable_latch merged m all w) (omega (arith, within, length-append merged (m ∷ []))))
+
+counted_good : (at end : ℕ) (choice : Choice) (ls : List (List ℕ)) → IfOk (read_counted choice at end ls) IsWritable
+counted_good at end choice [] = tt
+counted_good at end choice (line ∷ rest) =
+    then_good (λ n. n ≤ 2 ^ 28 - 1) IsWritable (count_in_line at line) (λ n. read_merged choice (at + length line + 1) end [] n rest) (count_good at line)
+    (λ n within. merged_good n rest choice (at + length line + 1) end [] refl (omega (arith, within)))
+
+-- ---- the file
+
+after_good : (lists : Bool) (choice : Choice) (at end : ℕ) (rest : List (List ℕ)) → IfOk (read_after_choice lists choice at end rest) IsWritable
+after_good false choice at end rest = read_good rest at end choice None refl
+after_good true choice at end rest = counted_good at end choice rest
+
+chosen_good : (lists : Bool) (at end : ℕ) (o : Option Choice) (rest : List (List ℕ)) (len : ℕ) → IfOk (read_chosen lists at end o rest len) IsWritable
+chosen_good lists at end None rest len = tt
+chosen_good lists at end (Some choice) rest len = after_good lists choice (at + len + 1) end rest
+
+choice_good : (lists : Bool) (at end : ℕ) (ls : List (List ℕ)) → IfOk (read_choice lists at end ls) IsWritable
+choice_good lists at end [] = tt
+choice_good lists at end (line ∷ rest) = chosen_good lists at end (choice_in_line line) rest (length line)
 
 file_good : (end : ℕ) (ls : List (List ℕ)) → IfOk (read_file end ls) IsWritable
 file_good end [] = tt
-file_good end (first ∷ rest) = by_tests (is_word first (codes "fretime-cert 1")) (is_word first (codes "fretime-cert 2"))
+file_good end (first ∷ rest) = by_tests (is_word first (codes "fretime-cert 1")) (is_word first (codes "fretime-cert 2")) (is_word first (codes "fretime-cert 3"))
   where
-    by_tests : (one two : Bool) → IfOk (cond one (with_choice Greatest (read_blocks 15 end nothing_read rest)) (cond two (read_second_version 15 end rest) (Err (BadHeader 0)))) IsWritable
-    by_tests true two = read_good rest 15 end Greatest
-    by_tests false true = second_good 15 end rest
-    by_tests false false = tt
+    by_tests : (one two three : Bool)
+        → IfOk (cond one (with_head Greatest None (read_blocks 15 end nothing_read rest)) (cond two (read_choice false 15 end rest) (cond three (read_choice true 15 end rest) (Err (BadHeader 0))))) IsWritable
+    by_tests true two three = read_good rest 15 end Greatest None refl
+    by_tests false true three = choice_good false 15 end rest
+    by_tests false false true = choice_good true 15 end rest
+    by_tests false false false = tt
 
 text_good : (bytes : List ℕ) → IfOk (read_text bytes) IsWritable
 unfolding read_text

@@ -1,4 +1,4 @@
--- What was written is read again.
+-- Blocks that were written are read again.
 use Rattle.std.proofs.Common.{ℕ, suc, ◌+◌, ◌-◌, ◌^◌, ◌<◌, ◌≡◌, length, List, [], ◌∷◌, ◌++◌, take, Some, None, Result, Ok, Err, refl, arith, Bool, true, false, not, ◌&&◌, ◌||◌, ◌==◌, ap, ap₂, sym, ◌∙◌, map, get_or, length-append, append_assoc, append-nil, decimal, codes, rules}
 use Rattle.std.proofs.Math.Seq.{take-append_seam}
 use Rattle.std.proofs.lemmas.Bool.{and_parts, and_from, cond-true, leb-true}
@@ -12,22 +12,20 @@ use Rattle.frame_net.specs.declared.net.Point.{Point}
 use Rattle.certificates.specs.declared.certificate.Certificate.{Certificate}
 use Rattle.certificates.specs.declared.fault.CertError.{CertError}
 use Rattle.certificates.specs.declared.fault.CertError.TheVariants.{TooLarge}
-use Rattle.aig_graph.specs.declared.choice.Choice.{Choice}
-use Rattle.aig_graph.specs.declared.choice.Choice.TheVariants.{Greatest, Smallest}
-use Rattle.certificates.specs.declared.file.CertFile.{CertFile}
 use Rattle.certificates.specs.declared.forms.FrameLine.{FrameLine}
-use Rattle.certificates.specs.Files.{sign_of, is_point, point_of_word, is_small, Route, frame_saying, gate_saying, route_of, saying_of, Progress, settled, taken, read_blocks, nothing_read, with_choice, read_file, read_text}
+use Rattle.certificates.specs.Files.{sign_of, is_point, point_of_word, is_small, Route, frame_saying, gate_saying, route_of, saying_of, Progress, settled, taken, read_blocks}
 use Rattle.certificates.specs.Forms.{framed, gated, routed, are_small}
-use Rattle.certificates.specs.Laws.{is_writable_route, is_writable_block, CertificatesRoundTripLaw}
+use Rattle.certificates.specs.Laws.{is_writable_route, is_writable_block}
 use Rattle.certificates.specs.Steps.{certificate_block, block_with_gate, with_route, ended_blocks}
-use Rattle.certificates.specs.Texts.{sign_code, point_text, route_text, gate_text, frame_line_text, block_text, choice_text, file_text}
+use Rattle.certificates.specs.Texts.{sign_code, point_text, route_text, gate_text, frame_line_text, block_text}
 use Rattle.certificates.proofs.FormLaws.{saying-frame, saying-gate, saying-route}
 use Rattle.certificates.proofs.StepLaws.{gate_next, route_next, frame_next}
 use Rattle.certificates.proofs.WordLaws.{last_of}
 
 -- ---- a small number is one that a row may have
 
-small_below : (n : ℕ) → is_small n ≡ true → n < 2 ^ 64
+-- a number within the limit is below 2^64
+pub small_below : (n : ℕ) → is_small n ≡ true → n < 2 ^ 64
 small_below n small = let within = leb-true n (2 ^ 28 - 1) small in omega (arith, within)
 
 -- ---- a point
@@ -130,7 +128,7 @@ frame-said at count gates routes a b c =
 -- ---- the lines of the text
 
 -- things of which each is written as a line
-lines-of : {X : Type 0} (text line_of : X → List ℕ) → ((x : X) → text x ≡ line_of x ++ 10 ∷ []) → ((x : X) → lacks 10 (line_of x) ≡ true)
+pub lines-of : {X : Type 0} (text line_of : X → List ℕ) → ((x : X) → text x ≡ line_of x ++ 10 ∷ []) → ((x : X) → lacks 10 (line_of x) ≡ true)
     → (xs : List X) (rest : List ℕ) → lines (flat_map text xs ++ rest) ≡ map line_of xs ++ lines rest
 lines-of text line_of is clean [] rest = refl
 lines-of text line_of is clean (x ∷ xs) rest =
@@ -233,7 +231,8 @@ reads-end : (end : ℕ) (done : List Certificate) → Reads end (ended_blocks do
 unfolding read_blocks lines
 reads-end end done at = refl
 
-reads-blocks : (end : ℕ) (done blocks : List Certificate) → list_all is_writable_block blocks ≡ true
+-- blocks that were written after others are read after them
+pub reads-blocks : (end : ℕ) (done blocks : List Certificate) → list_all is_writable_block blocks ≡ true
     → Reads end (ended_blocks done) (lines (flat_map block_text blocks)) (Ok (done ++ blocks))
 reads-blocks end done [] writable at = reads-end end done at ∙ ap (λ (bs : List Certificate). Ok bs) (sym (append-nil done))
 reads-blocks end done (b ∷ bs) writable at =
@@ -241,36 +240,3 @@ reads-blocks end done (b ∷ bs) writable at =
     ap (read_blocks at end (ended_blocks done)) (lines-block b (flat_map block_text bs))
     ∙ reads-block end done b (lines (flat_map block_text bs)) (Ok (done ++ b ∷ bs)) parts.0
     (λ a. reads-blocks end (done ++ b ∷ []) bs parts.1 a ∙ ap (λ (cs : List Certificate). Ok cs) (append_assoc done (b ∷ []) bs)) at
-
--- ---- the file
-
-abbrev choice_line : Choice → List ℕ
-choice_line Greatest = codes "choice greatest"
-choice_line Smallest = codes "choice smallest"
-
-file-lines : (f : CertFile) → lines (file_text f) ≡ codes "fretime-cert 2" ∷ choice_line f.choice ∷ lines (flat_map block_text f.blocks)
-unfolding file_text
-file-lines f = by_choice f.choice
-  where
-    blocks : List ℕ
-    blocks = flat_map block_text f.blocks
-
-    by_choice : (choice : Choice) → lines (codes "fretime-cert 2\n" ++ choice_text choice ++ blocks) ≡ codes "fretime-cert 2" ∷ choice_line choice ∷ lines blocks
-    by_choice Greatest =
-        lines-at_newline (codes "fretime-cert 2") (codes "choice greatest\n" ++ blocks) refl
-        ∙ ap (λ (ls : List (List ℕ)). codes "fretime-cert 2" ∷ ls) (lines-at_newline (codes "choice greatest") blocks refl)
-    by_choice Smallest =
-        lines-at_newline (codes "fretime-cert 2") (codes "choice smallest\n" ++ blocks) refl
-        ∙ ap (λ (ls : List (List ℕ)). codes "fretime-cert 2" ∷ ls) (lines-at_newline (codes "choice smallest") blocks refl)
-
-file-chosen : (end : ℕ) (choice : Choice) (rest : List (List ℕ)) → read_file end (codes "fretime-cert 2" ∷ choice_line choice ∷ rest) ≡ with_choice choice (read_blocks 31 end nothing_read rest)
-file-chosen end Greatest rest = refl
-file-chosen end Smallest rest = refl
-
--- what is written of a file that can be written is read as that file
-pub the_round_trip_law : (f : CertFile) → CertificatesRoundTripLaw f
-unfolding read_text
-the_round_trip_law f writable =
-    ap (read_file (length (file_text f))) (file-lines f)
-    ∙ file-chosen (length (file_text f)) f.choice (lines (flat_map block_text f.blocks))
-    ∙ ap (with_choice f.choice) (reads-blocks (length (file_text f)) [] f.blocks writable 31)

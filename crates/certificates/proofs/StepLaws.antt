@@ -16,7 +16,8 @@ use Rattle.certificates.specs.Steps.{read_rest, certificate_block, block_with_ga
 
 -- ---- one line
 
-then_same : {A B : Type 0} (r : Result A CertError) (f g : A → Result B CertError) → ((x : A) → f x ≡ g x) → (r >>= f) ≡ (r >>= g)
+-- two ways to go on that are one at each value are one after a result
+pub then_same : {A B : Type 0} (r : Result A CertError) (f g : A → Result B CertError) → ((x : A) → f x ≡ g x) → (r >>= f) ≡ (r >>= g)
 then_same (Ok x) f g same = same x
 then_same (Err e) f g same = refl
 
@@ -34,7 +35,8 @@ pub same_start : (a end : ℕ) (more : List ℕ) (p : Progress) → (more ≡ []
 same_start a end more p (inl none) = rw none (no_more a (end - 0) end p)
 same_start a end more p (inr here) = ap (λ (n : ℕ). read_blocks n end p (lines more)) here
 
-starts_at : (end : ℕ) (text line more : List ℕ) → IsFirst text line more → length text ≤ end → (more ≡ []) ⊎ (end - length text + length line + 1 ≡ end - length more)
+-- the next line, if there is one, begins behind the first one
+pub starts_at : (end : ℕ) (text line more : List ℕ) → IsFirst text line more → length text ≤ end → (more ≡ []) ⊎ (end - length text + length line + 1 ≡ end - length more)
 starts_at end text line more first within = by_case first.starts
   where
     by_case : (more ≡ []) ⊎ (length text ≡ length line + 1 + length more) → (more ≡ []) ⊎ (end - length text + length line + 1 ≡ end - length more)

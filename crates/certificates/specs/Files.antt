@@ -1,5 +1,5 @@
 -- The text of certificates.
-use Rattle.std.specs.Prelude.{ℕ, ◌+◌, ◌-◌, ◌^◌, ◌==◌, ◌&&◌, ◌||◌, Bool, nat_le, List, [], ◌∷◌, ◌++◌, length, map, take, drop, slice_index_or, Option, Some, None, Result, Ok, Err, codes, if◌then◌else◌, zero, suc}
+use Rattle.std.specs.Prelude.{ℕ, ◌+◌, ◌-◌, ◌^◌, ◌==◌, ◌&&◌, ◌||◌, Bool, true, false, nat_le, List, [], ◌∷◌, ◌++◌, length, map, take, drop, slice_index_or, Option, Some, None, Result, Ok, Err, codes, if◌then◌else◌, zero, suc}
 use Rattle.std.specs.List.{list_all, starts_with}
 use Rattle.file_words.specs.Answering.{◌>>=◌}
 use Rattle.file_words.specs.Lines.{lines, pieces, is_number, digits_value, numbers_of, is_word}
@@ -9,6 +9,7 @@ use Rattle.certificates.specs.declared.fault.CertError.{CertError}
 use Rattle.certificates.specs.declared.fault.CertError.TheVariants.{BadHeader, BadLine, TooLarge, Truncated}
 use Rattle.aig_graph.specs.declared.choice.Choice.{Choice}
 use Rattle.aig_graph.specs.declared.choice.Choice.TheVariants.{Greatest, Smallest}
+use Rattle.certificates.specs.declared.merged.MergedLatch.{MergedLatch}
 use Rattle.certificates.specs.declared.file.CertFile.{CertFile}
 
 -- ---- the lines of a block
@@ -105,35 +106,79 @@ unfoldable pub read_blocks : ℕ → ℕ → Progress → List (List ℕ) → Re
 read_blocks at end p [] = blocks_at_end end p
 read_blocks at end p (line ∷ rest) = taken at p (saying_of line) >>= λ next. read_blocks (at + length line + 1) end next rest
 
--- ---- the file
+-- ---- what stands before the blocks
 
 abbrev pub nothing_read : Progress
 nothing_read = record { blocks = []; begun = None; gates = 0; routes = 0 }
 
-abbrev pub with_choice : Choice → Result (List Certificate) CertError → Result CertFile CertError
-with_choice choice (Ok blocks) = Ok (record { choice = choice; blocks = blocks })
-with_choice choice (Err fault) = Err fault
+-- the file of these blocks, with a choice and the latches that were merged
+abbrev pub with_head : Choice → Option (List MergedLatch) → Result (List Certificate) CertError → Result CertFile CertError
+with_head choice merged (Ok blocks) = Ok (record { choice = choice; merged = merged; blocks = blocks })
+with_head choice merged (Err fault) = Err fault
+
+-- the numbers after the letters that a line begins with
+abbrev pub numbers_after : List ℕ → List ℕ → Option (List ℕ)
+numbers_after letters line = if begins_with letters line then numbers_of (drop (length letters) line) else None
+
+-- one number: how many latches are merged
+abbrev pub merged_count : ℕ → Option (List ℕ) → Result ℕ CertError
+merged_count at (Some (count ∷ [])) = if is_small count then Ok count else Err (TooLarge at)
+merged_count at numbers = Err (BadLine at)
+
+abbrev pub is_small_literal : ℕ → Bool
+is_small_literal lit = nat_le lit (2 ^ 29 - 1)
+
+-- two numbers: a latch, and the literal that it reads as
+abbrev pub merged_latch : ℕ → Option (List ℕ) → Result MergedLatch CertError
+merged_latch at (Some (latch ∷ lit ∷ [])) = if is_small latch && is_small_literal lit then Ok (record { latch = latch; reads = lit }) else Err (TooLarge at)
+merged_latch at numbers = Err (BadLine at)
+
+unfoldable pub count_in_line : ℕ → List ℕ → Result ℕ CertError
+count_in_line at line = merged_count at (numbers_after (codes "merged ") line)
+
+unfoldable pub merged_in_line : ℕ → List ℕ → Result MergedLatch CertError
+merged_in_line at line = merged_latch at (numbers_after (codes "m ") line)
+
+-- the file of the lines that are left, if these latches have been read and others are to come
+unfoldable pub read_merged : Choice → ℕ → ℕ → List MergedLatch → ℕ → List (List ℕ) → Result CertFile CertError
+read_merged choice at end merged zero rest = with_head choice (Some merged) (read_blocks at end nothing_read rest)
+read_merged choice at end merged (suc left) [] = Err (Truncated end)
+read_merged choice at end merged (suc left) (line ∷ rest) =
+    merged_in_line at line >>= λ latch. read_merged choice (at + length line + 1) end (merged ++ latch ∷ []) left rest
+
+-- the file of the lines from the one on that says how many latches are merged
+abbrev pub read_counted : Choice → ℕ → ℕ → List (List ℕ) → Result CertFile CertError
+read_counted choice at end [] = Err (Truncated end)
+read_counted choice at end (line ∷ rest) = count_in_line at line >>= λ count. read_merged choice (at + length line + 1) end [] count rest
 
 abbrev pub choice_in_line : List ℕ → Option Choice
 choice_in_line line = if is_word line (codes "choice greatest") then Some Greatest else (if is_word line (codes "choice smallest") then Some Smallest else None)
 
+-- the file after the line of the choice; merged latches come next if the version lists them
+abbrev pub read_after_choice : Bool → Choice → ℕ → ℕ → List (List ℕ) → Result CertFile CertError
+read_after_choice false choice at end rest = with_head choice None (read_blocks at end nothing_read rest)
+read_after_choice true choice at end rest = read_counted choice at end rest
+
 -- the file after its line of the choice, which is `len` long; that line is at fault if there is no
 -- choice
-abbrev pub read_chosen : ℕ → ℕ → Option Choice → List (List ℕ) → ℕ → Result CertFile CertError
-read_chosen at end None rest len = Err (BadLine at)
-read_chosen at end (Some choice) rest len = with_choice choice (read_blocks (at + len + 1) end nothing_read rest)
+abbrev pub read_chosen : Bool → ℕ → ℕ → Option Choice → List (List ℕ) → ℕ → Result CertFile CertError
+read_chosen lists at end None rest len = Err (BadLine at)
+read_chosen lists at end (Some choice) rest len = read_after_choice lists choice (at + len + 1) end rest
 
--- in the second version the choice comes next
-abbrev pub read_second_version : ℕ → ℕ → List (List ℕ) → Result CertFile CertError
-read_second_version at end [] = Err (Truncated end)
-read_second_version at end (line ∷ rest) = read_chosen at end (choice_in_line line) rest (length line)
+-- from the second version on the choice comes next
+abbrev pub read_choice : Bool → ℕ → ℕ → List (List ℕ) → Result CertFile CertError
+read_choice lists at end [] = Err (Truncated end)
+read_choice lists at end (line ∷ rest) = read_chosen lists at end (choice_in_line line) rest (length line)
+
+-- ---- the file
 
 -- the file of all lines, by the version that the first one names, or the first fault
 abbrev pub read_file : ℕ → List (List ℕ) → Result CertFile CertError
 read_file end [] = Err (BadHeader 0)
 read_file end (first ∷ rest) =
-    if is_word first (codes "fretime-cert 1") then with_choice Greatest (read_blocks 15 end nothing_read rest)
-    else (if is_word first (codes "fretime-cert 2") then read_second_version 15 end rest else Err (BadHeader 0))
+    if is_word first (codes "fretime-cert 1") then with_head Greatest None (read_blocks 15 end nothing_read rest)
+    else (if is_word first (codes "fretime-cert 2") then read_choice false 15 end rest
+    else (if is_word first (codes "fretime-cert 3") then read_choice true 15 end rest else Err (BadHeader 0)))
 
 -- the certificates of a text, or its first fault
 unfoldable pub read_text : List ℕ → Result CertFile CertError

@@ -1,10 +1,11 @@
 -- What holds of the text that is written.
-use Rattle.std.specs.Prelude.{◌≡◌, ◌==◌, ◌&&◌, Bool, not, true, List, length, Ok}
+use Rattle.std.specs.Prelude.{◌≡◌, ◌==◌, ◌&&◌, Bool, not, true, List, length, Option, Some, None, Ok}
 use Rattle.std.specs.List.{list_all}
 use Rattle.frame_net.specs.declared.net.Point.{Point}
 use Rattle.certificates.specs.declared.certificate.Certificate.{Certificate}
+use Rattle.certificates.specs.declared.merged.MergedLatch.{MergedLatch}
 use Rattle.certificates.specs.declared.file.CertFile.{CertFile}
-use Rattle.certificates.specs.Files.{is_small, read_text}
+use Rattle.certificates.specs.Files.{is_small, is_small_literal, read_text}
 use Rattle.certificates.specs.Texts.{file_text}
 
 -- there is a point, and no number is above the greatest
@@ -17,9 +18,18 @@ abbrev pub is_writable_block : Certificate → Bool
 is_writable_block block =
     is_small block.count && (is_small (length block.gates) && (is_small (length block.routes) && (list_all is_small block.gates && list_all is_writable_route block.routes)))
 
--- counts, gates and variables are at most 2^28 - 1, and each route has a point
+abbrev pub is_writable_latch : MergedLatch → Bool
+is_writable_latch m = is_small m.latch && is_small_literal m.reads
+
+-- the number of merged latches and their numbers are within the limits
+abbrev pub are_writable_latches : Option (List MergedLatch) → Bool
+are_writable_latches None = true
+are_writable_latches (Some merged) = is_small (length merged) && list_all is_writable_latch merged
+
+-- counts, gates, latches and variables are at most 2^28 - 1, literals at most 2^29 - 1, and each
+-- route has a point
 abbrev pub is_writable : CertFile → Bool
-is_writable f = list_all is_writable_block f.blocks
+is_writable f = are_writable_latches f.merged && list_all is_writable_block f.blocks
 
 -- what was written of a file is read as that file
 abbrev pub CertificatesRoundTripLaw : CertFile → Type 0

@@ -1,11 +1,13 @@
--- The text that is written of certificates: the second version.
-use Rattle.std.specs.Prelude.{ℕ, Bool, List, [], ◌∷◌, ◌++◌, length, decimal, codes, if◌then◌else◌}
+-- The text that is written of certificates: the third version if latches were merged, else the
+-- second.
+use Rattle.std.specs.Prelude.{ℕ, Bool, List, [], ◌∷◌, ◌++◌, length, decimal, codes, Option, Some, None, if◌then◌else◌}
 use Rattle.std.specs.List.{flat_map}
 use Rattle.counted_io.specs.Line.{line}
 use Rattle.frame_net.specs.declared.net.Point.{Point}
 use Rattle.certificates.specs.declared.certificate.Certificate.{Certificate}
 use Rattle.aig_graph.specs.declared.choice.Choice.{Choice}
 use Rattle.aig_graph.specs.declared.choice.Choice.TheVariants.{Greatest, Smallest}
+use Rattle.certificates.specs.declared.merged.MergedLatch.{MergedLatch}
 use Rattle.certificates.specs.declared.file.CertFile.{CertFile}
 
 -- + for the point after the variable, - for the one before it
@@ -33,6 +35,18 @@ abbrev pub choice_text : Choice → List ℕ
 choice_text Greatest = codes "choice greatest\n"
 choice_text Smallest = codes "choice smallest\n"
 
+abbrev pub merged_latch_text : MergedLatch → List ℕ
+merged_latch_text m = codes "m " ++ line (m.latch ∷ m.reads ∷ [])
+
+-- how many latches were merged, and then those
+abbrev pub merged_text : List MergedLatch → List ℕ
+merged_text merged = codes "merged " ++ line (length merged ∷ []) ++ flat_map merged_latch_text merged
+
+-- the version, the choice, and the merged latches if there is a list of them
+abbrev pub head_text : Choice → Option (List MergedLatch) → List ℕ
+head_text choice None = codes "fretime-cert 2\n" ++ choice_text choice
+head_text choice (Some merged) = codes "fretime-cert 3\n" ++ choice_text choice ++ merged_text merged
+
 -- the text of certificates that is written
 unfoldable pub file_text : CertFile → List ℕ
-file_text f = codes "fretime-cert 2\n" ++ choice_text f.choice ++ flat_map block_text f.blocks
+file_text f = head_text f.choice f.merged ++ flat_map block_text f.blocks

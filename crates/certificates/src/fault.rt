@@ -14,9 +14,9 @@ pub enum CertError {
     BadHeader(u64),
     /// A line has another form than the one that comes next.
     BadLine(u64),
-    /// A number is above 2^28 - 1.
+    /// A number is above 2^28 - 1, or the literal that a latch reads as is above 2^29 - 1.
     TooLarge(u64),
-    /// The text ends within a block, or before the line of the choice.
+    /// The text ends within a block or the merged latches, or before the line of the choice.
     Truncated(u64),
     /// Memory was refused.
     NoMemory,

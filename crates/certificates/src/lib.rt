@@ -4,7 +4,7 @@
 //! smaller border, whoever found set and routes.
 //!
 //! A file of certificates has the set of each frame, the size of its border, and the routes that
-//! show it to be least.
+//! show it to be least. It may list latches that were merged before the first frame.
 #![tactic(auto)]
 
 ghost use Rattle.certificates.specs.Verdicts.{LeastLaw, YesLaw};
@@ -19,6 +19,8 @@ mod forms;
 mod judging;
 mod laws;
 mod lines;
+mod merged;
+mod merged_lines;
 mod reading;
 mod routes;
 mod verdict;
@@ -32,6 +34,7 @@ pub use fault::CertError;
 pub use file::CertFile;
 pub use judging::{check, check_closed};
 pub use laws::{rereading_law, round_trip_law};
+pub use merged::MergedLatch;
 pub use reading::read_cert;
 pub use routes::Routes;
 pub use verdict::{Objection, Verdict};

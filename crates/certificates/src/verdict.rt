@@ -11,7 +11,7 @@ pub enum Verdict {
 }
 
 /// Why a certificate doesn't show that its set is least, in the order of the tests.
-#[derive(Clone, Copy, PartialEq, Eq)]
+#[derive(Clone, Copy, Debug, PartialEq, Eq)]
 pub enum Objection {
     /// The gates don't rise, one isn't a passable gate, or a fan-in of one is neither a latch nor
     /// among them.

@@ -4,12 +4,12 @@ ghost use Rattle.std.specs.Prelude.{◌≡◌};
 ghost use Rattle.std.specs.List.{flat_map};
 ghost use Rattle.counted_io.specs.Buffered.{Puts};
 ghost use Rattle.counted_io.specs.Output.{Writes};
-ghost use Rattle.certificates.specs.Texts.{sign_code, point_text, route_text, gate_text, frame_line_text, block_text, choice_text, file_text};
+ghost use Rattle.certificates.specs.Texts.{sign_code, point_text, route_text, gate_text, frame_line_text, block_text, choice_text, merged_latch_text, merged_text, head_text, file_text};
 
 use crate::file::CertFile;
 use crate::filling::Line;
-use crate::{Certificate, Routes};
-use aig_graph::Choice;
+use crate::{Certificate, MergedLatch, Routes};
+use aig_graph::{Choice, Sequence};
 use counted_io::{Buffered, CountedWrite, WriteError};
 use frame_net::Point;
 
@@ -107,16 +107,64 @@ fn put_choice<W: CountedWrite>(out: &mut Buffered<'_, W>, choice: &Choice)
     }
 }
 
+fn put_merged_latch<W: CountedWrite>(out: &mut Buffered<'_, W>, merged: &MergedLatch)
+    ensures { Puts W.output out.old out.new (merged_latch_text merged.now) }
+{
+    let latch = u64::from(merged.latch);
+    let reads = u64::from(merged.reads.code());
+    out.put(b"m ");
+    out.put_line(&[latch, reads]);
+}
+
+fn put_merged_latches<W: CountedWrite>(out: &mut Buffered<'_, W>, merged: &[MergedLatch])
+    ensures { Puts W.output out.old out.new (flat_map merged_latch_text merged.now) }
+{
+    for latch in merged {
+        put_merged_latch(out, latch);
+    }
+}
+
+/// Puts the number of merged latches, and then these.
+fn put_merged<W: CountedWrite>(out: &mut Buffered<'_, W>, merged: &[MergedLatch])
+    ensures { Puts W.output out.old out.new (merged_text merged.now) }
+{
+    let count = merged.len() as u64;
+    out.put(b"merged ");
+    out.put_line(&[count]);
+    put_merged_latches(out, merged);
+}
+
+/// Puts the version, the choice, and the merged latches if there is a list of them.
+fn put_head<W: CountedWrite>(
+    out: &mut Buffered<'_, W>,
+    choice: &Choice,
+    merged: &Option<Sequence<MergedLatch>>,
+)
+    ensures { Puts W.output out.old out.new (head_text choice.now merged.now) }
+{
+    match merged {
+        None => {
+            out.put(b"fretime-cert 2\n");
+            put_choice(out, choice);
+        }
+        Some(merged) => {
+            out.put(b"fretime-cert 3\n");
+            put_choice(out, choice);
+            put_merged(out, merged.as_slice());
+        }
+    }
+}
+
 /// Puts the whole text.
 fn put_file<W: CountedWrite>(out: &mut Buffered<'_, W>, file: &CertFile)
     ensures { Puts W.output out.old out.new (file_text file.now) }
 {
-    out.put(b"fretime-cert 2\n");
-    put_choice(out, &file.choice);
+    put_head(out, &file.choice, &file.merged);
     put_blocks(out, file.blocks.as_slice());
 }
 
-/// Writes the certificates: the second version, which names the choice.
+/// Writes the certificates: the third version if there is a list of merged latches, else the
+/// second. Both name the choice.
 ///
 /// Takes no memory, and calls the writer about once for each 8 KiB of text. The text is read again
 /// as these certificates if no route is empty and no number or length is above 2^28 - 1

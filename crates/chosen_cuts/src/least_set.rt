@@ -13,28 +13,28 @@ use pulse::{Crew, PhaseGate};
 use std::alloc::Global;
 use std::thread::Threads;
 use unit_components::chosen_least_in_parts;
+use unit_flows::Frame;
 use unit_routes::certificate_by_units;
 
-/// Returns the set, after adding its certificate by the routes of the records' units if
+/// Returns the set of a frame, after adding its certificate by the routes of the records' units if
 /// certificates are wanted.
 ///
 /// Returns `None` and changes nothing if these routes don't show the set.
 fn certified(
     alloc: Global,
-    circuit: &Circuit,
-    keep: &Keep,
+    frame: &Frame,
     set: ClosedSet,
     records: &mut Records,
 ) -> Result<Option<ClosedSet>, NoMemory>
-    requires { IsClosedSet circuit.now.aig keep.now set }
+    requires { IsClosedSet frame.now.circuit.now.aig frame.now.keep.now set }
     ensures set { IfOk result (λ shown. IfSome shown (λ same. same ≡ set)) }
     ensures certificate { IfOk result (λ shown. MatchOption shown (AddsNone records.old records.new)
-        (AddsOne circuit.now keep.now records.old records.new)) }
+        (AddsOne frame.now.circuit.now frame.now.keep.now records.old records.new)) }
 {
     if !records.certify {
         return Ok(Some(set));
     }
-    match certificate_by_units(alloc, circuit, keep, &set, records.flows.as_slice())? {
+    match certificate_by_units(alloc, frame, &set, records.flows.as_slice())? {
         Some(certificate) => {
             records.add(certificate)?;
             Ok(Some(set))
@@ -43,10 +43,34 @@ fn certified(
     }
 }
 
-/// Returns the chosen least set if a flow of units shows it, and adds its certificate. Otherwise
-/// the records change in their flows only.
-fn by_units<G: PhaseGate>(
-    rt: &(impl Threads + Sync),
+/// Returns the chosen least set of a frame if a flow of units shows it, and adds its certificate.
+/// Otherwise the records change in their flows only.
+fn shown_in<R: Threads + Sync, G: PhaseGate>(
+    rt: &R,
+    alloc: Global,
+    frame: &Frame,
+    choice: Choice,
+    crew: &Crew<G>,
+    records: &mut Records,
+) -> Result<Option<ClosedSet>, NoMemory>
+    ensures set { IfOk result (λ shown. IfSome shown (IsChosen choice frame.now.circuit.now
+        frame.now.keep.now)) }
+    ensures certificate { IfOk result (λ shown. MatchOption shown (AddsNone records.old records.new)
+        (AddsOne frame.now.circuit.now frame.now.keep.now records.old records.new)) }
+{
+    let mut flow = records.take_flow(alloc);
+    let shown = chosen_least_in_parts(rt, alloc, frame, choice, crew, &mut flow);
+    records.keep_flow(flow);
+    match shown {
+        Ok(Some(set)) => certified(alloc, frame, set, records),
+        Ok(None) => Ok(None),
+        Err(error) => Err(error),
+    }
+}
+
+/// Makes the circuit's frame, and returns its chosen least set as [`shown_in`] does.
+fn by_units<R: Threads + Sync, G: PhaseGate>(
+    rt: &R,
     alloc: Global,
     circuit: &Circuit,
     keep: &Keep,
@@ -58,14 +82,10 @@ fn by_units<G: PhaseGate>(
     ensures certificate { IfOk result (λ shown. MatchOption shown (AddsNone records.old records.new)
         (AddsOne circuit.now keep.now records.old records.new)) }
 {
-    let mut flow = records.take_flow(alloc);
-    let shown = chosen_least_in_parts(rt, alloc, circuit, keep, choice, crew, &mut flow);
-    records.keep_flow(flow);
-    match shown {
-        Ok(Some(set)) => certified(alloc, circuit, keep, set, records),
-        Ok(None) => Ok(None),
-        Err(error) => Err(error),
-    }
+    let frame = Frame::new(alloc, circuit, keep)?;
+    let shown = shown_in(rt, alloc, &frame, choice, crew, records);
+    drop(frame);
+    shown
 }
 
 /// Returns the chosen least set, by the circuit's network, and adds its certificate if certificates

@@ -1,5 +1,5 @@
 -- How a run ends, by why its command failed.
-use Rattle.std.specs.Prelude.{◌≡◌, ◌⊎◌, List, ℕ}
+use Rattle.std.specs.Prelude.{◌≡◌, ◌⊎◌, List, ℕ, Option, Some, None}
 use Rattle.std.specs.Borrow.{Bor}
 use Rattle.counted_io.specs.Output.{Output}
 use Rattle.file_words.specs.declared.fault.ReadError.{ReadError}
@@ -34,6 +34,22 @@ outcome_of (fails.NotAMap path) = ends.Refused
 outcome_of (fails.NoSuchLiteral path) = ends.Refused
 outcome_of (fails.Device path) = ends.Device
 outcome_of fails.Memory = ends.Memory
+
+-- the path of the file that it is about; none if memory was wanting
+abbrev pub path_of : Failure → Option (Bor (List ℕ))
+path_of (fails.Refused path fault) = Some path
+path_of (fails.RefusedStimulus path fault) = Some path
+path_of (fails.RefusedList path fault) = Some path
+path_of (fails.RefusedCertificates path fault) = Some path
+path_of (fails.RefusedWitness path fault) = Some path
+path_of (fails.NoSuchName path name) = Some path
+path_of (fails.NoSuchLatch path place) = Some path
+path_of (fails.TooManyNodes path) = Some path
+path_of (fails.TooManySteps path) = Some path
+path_of (fails.NotAMap path) = Some path
+path_of (fails.NoSuchLiteral path) = Some path
+path_of (fails.Device path) = Some path
+path_of fails.Memory = None
 
 -- the failure names this file, or none, since memory was wanting
 abbrev pub IsAbout : List ℕ → Failure → Type 0

@@ -1,7 +1,7 @@
 //! The ends of runs, and the failures of commands. All errors of the libraries come down to the few
 //! that a user tells apart by the exit status. Each has the path of its file.
 ghost use Rattle.std.specs.Prelude.{◌≡◌};
-ghost use Rattle.circuit_files.specs.Outcomes.{outcome_of, failure_of_bytes, failure_of_certificates, failure_of_list, failure_of_reading, failure_of_stimulus, failure_of_witness};
+ghost use Rattle.circuit_files.specs.Outcomes.{outcome_of, path_of, failure_of_bytes, failure_of_certificates, failure_of_list, failure_of_reading, failure_of_stimulus, failure_of_witness};
 
 use crate::ListError;
 use certificates::CertError;
@@ -13,7 +13,7 @@ use std::fmt::{Display, Formatter};
 use witnesses::WitnessError;
 
 /// How a run ended.
-#[derive(Clone, Copy, PartialEq, Eq)]
+#[derive(Clone, Copy, Debug, PartialEq, Eq)]
 pub enum Outcome {
     /// All was done.
     Done,
@@ -53,7 +53,7 @@ impl Outcome {
 
 /// Why a command failed, with the path of the file, or `stdin` or `stdout`. Its `Display` is the
 /// message on standard error, without a newline.
-#[derive(Clone, Copy)]
+#[derive(Clone, Copy, Debug)]
 pub enum Failure<'a> {
     /// The circuit has a fault.
     Refused(&'a str, ReadError),
@@ -168,7 +168,9 @@ impl<'a> Failure<'a> {
     }
 
     /// Returns the path of the file; none if memory was refused.
-    fn path(self) -> Option<&'a str> {
+    pub fn path(self) -> Option<&'a str>
+        ensures { result ≡ path_of self.entry }
+    {
         match self {
             Failure::Refused(path, _)
             | Failure::RefusedStimulus(path, _)

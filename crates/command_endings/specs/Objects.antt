@@ -13,7 +13,7 @@ use Rattle.json_reports.specs.declared.printing.PrintError.{PrintError}
 use Rattle.json_reports.specs.declared.printing.PrintError.TheVariants as printing
 use Rattle.json_reports.specs.declared.refusal.Refusal.{Refusal}
 use Rattle.circuit_files.specs.Codes.{status_of}
-use Rattle.circuit_files.specs.Outcomes.{outcome_of}
+use Rattle.circuit_files.specs.Outcomes.{outcome_of, path_of}
 use Rattle.circuit_files.specs.declared.outcome.Outcome.{Outcome}
 use Rattle.circuit_files.specs.declared.outcome.Outcome.TheVariants.{Done, Device, Differ, Memory}
 use Rattle.circuit_files.specs.declared.outcome.Failure.{Failure}
@@ -72,22 +72,6 @@ name_of (fails.NotAMap path) = None
 name_of (fails.NoSuchLiteral path) = None
 name_of (fails.Device path) = None
 name_of fails.Memory = None
-
--- the file that it is about
-abbrev pub path_of : Failure → Option (Bor (List ℕ))
-path_of (fails.Refused path fault) = Some path
-path_of (fails.RefusedStimulus path fault) = Some path
-path_of (fails.RefusedList path fault) = Some path
-path_of (fails.RefusedCertificates path fault) = Some path
-path_of (fails.RefusedWitness path fault) = Some path
-path_of (fails.NoSuchName path name) = Some path
-path_of (fails.NoSuchLatch path place) = Some path
-path_of (fails.TooManyNodes path) = Some path
-path_of (fails.TooManySteps path) = Some path
-path_of (fails.NotAMap path) = Some path
-path_of (fails.NoSuchLiteral path) = Some path
-path_of (fails.Device path) = Some path
-path_of fails.Memory = None
 
 -- what is printed of a failure of this command
 abbrev pub refusal_of : Bor (List ℕ) → Failure → Refusal

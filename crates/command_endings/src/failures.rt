@@ -42,27 +42,6 @@ fn name_of<'a>(failure: Failure<'a>) -> Option<&'a str>
     }
 }
 
-/// Returns the path of the file that a failure is about.
-fn path_of<'a>(failure: Failure<'a>) -> Option<&'a str>
-    ensures { result ≡ wanted.path_of failure.entry }
-{
-    match failure {
-        Failure::Refused(path, _)
-        | Failure::RefusedStimulus(path, _)
-        | Failure::RefusedList(path, _)
-        | Failure::RefusedCertificates(path, _)
-        | Failure::RefusedWitness(path, _)
-        | Failure::NoSuchName(path, _)
-        | Failure::NoSuchLatch(path, _)
-        | Failure::TooManyNodes(path)
-        | Failure::TooManySteps(path)
-        | Failure::NotAMap(path)
-        | Failure::NoSuchLiteral(path)
-        | Failure::Device(path) => Some(path),
-        Failure::Memory => None,
-    }
-}
-
 /// Returns what is printed of a failure of this command.
 fn refusal_of<'a>(command: &'a str, failure: Failure<'a>) -> Refusal<'a>
     ensures { result ≡ wanted.refusal_of command.entry failure.entry }
@@ -71,7 +50,7 @@ fn refusal_of<'a>(command: &'a str, failure: Failure<'a>) -> Refusal<'a>
         command,
         fault: fault_of(failure),
         latch: name_of(failure),
-        path: path_of(failure),
+        path: failure.path(),
         status: failure.outcome().status(),
     }
 }

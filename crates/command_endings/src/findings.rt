@@ -10,14 +10,13 @@ ghost use Rattle.circuit_files.specs.declared.outcome.Outcome.TheVariants.{Done,
 ghost use Rattle.command_endings.specs.Objects.{EndsBy, EndsPrintingObject};
 ghost use Rattle.command_endings.specs.Objects as wanted;
 
-use certificate_audits::Audit;
 use certificates::Certificate;
 use circuit_files::{Failure, Outcome};
 use counted_io::CountedWrite;
 use json_reports::{MapCounts, PrintError, ReadLevels, Times};
 use lane_sim::Place;
 use merged_circuits::MergeCounts;
-use reports::{Agreement, JobReport, Remaining, Statistics};
+use reports::{JobReport, Judgement, Remaining, Statistics};
 use retimed_circuits::Retimed;
 use std::alloc::Global;
 
@@ -105,23 +104,19 @@ pub fn print_shapes_differ<'a, W: CountedWrite>(
     ended(printed, Outcome::ShapesDiffer)
 }
 
-/// Prints an audit under a bound on levels, or none. Prints also the outcome of comparing a file
-/// with the circuit that its blocks end in. The run then ends so.
+/// Prints a judgement of a file's blocks. The run then ends so.
 pub fn print_audit<'a, W: CountedWrite>(
     alloc: Global,
     blocks: &[Certificate],
-    audit: Audit,
-    agreement: Option<Agreement>,
-    bound: Option<u32>,
+    judgement: &Judgement,
     outcome: Outcome,
     writer: &mut W,
 ) -> Result<Outcome, Failure<'a>>
-    ensures { EndsPrintingObject outcome
-        (audit_data blocks.now audit agreement bound (status_of outcome))
+    ensures { EndsPrintingObject outcome (audit_data blocks.now judgement.now (status_of outcome))
         (W.output writer.old) (W.output writer.new) result }
 {
     let status = outcome.status();
-    let printed = json_reports::print_audit(alloc, blocks, audit, agreement, bound, status, writer);
+    let printed = json_reports::print_audit(alloc, blocks, judgement, status, writer);
     ended(printed, outcome)
 }
 

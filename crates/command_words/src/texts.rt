@@ -36,9 +36,9 @@ values, or, if the reset sequence makes that right, set them to zero
 (`setundef -init -zero` in Yosys, before `write_aiger`).
 
 With --merge, latches that always agree, or that never change, are merged once
-before the first frame: it finds logic that is there twice, and features that
-are tied off. It is found without search; copies that were built differently are
-not. A merged latch has more readers, so here and there fewer can move.
+before the first frame: it finds logic that is there twice, also if it was built
+differently, and features that are tied off. What a bounded search doesn't show
+stays. A merged latch has more readers, so here and there fewer can move.
 
 A move makes paths longer: gates from behind a row of latches then stand in
 front of it. With --no-longer no path of OUT has more gates than the longest one
@@ -202,9 +202,12 @@ circuit of its frame, without any flow.
 
 'yes' says that no set of gates leaves fewer latches than the certificate's. The
 circuit of the next frame is made from IN by the certificate's set. Say which
-latches were held, and give --merge, --levels and --no-longer, as for 'retime'.
-Under a bound on levels 'yes' says that no set of all gates leaves fewer, or of
-those within it, and that no path gets longer than the bound by the move.
+latches were held, and give --levels and --no-longer, as for 'retime'. Under a
+bound on levels 'yes' says that no set of all gates leaves fewer, or of those
+within it, and that no path gets longer than the bound by the move.
+
+If CERT lists merged latches, it is checked first that each always has the value
+of what it reads as. For a file that lists none, give --merge as for 'retime'.
 
 With --out it compares OUT with what 'retime' writes of the circuit that all of
 them make of IN, byte for byte.";
@@ -285,7 +288,8 @@ pub(crate) const MITER_EXAMPLE: &str = "Example:
   fretime miter counter.aag smaller.aag counter.map counter.aig --binary
 
 MITER is made at its first byte: if something is refused, it stays as it was.
-'shapes differ' is printed if IN, OUT and MAP don't fit together.
+If MAP has other latches than IN and OUT, it is refused as no map. 'shapes
+differ' is printed if IN and OUT differ in their inputs or properties.
 
 Exit status: 0 done, 1 a file is refused, MAP is no map, or shapes differ,
 2 command line, 3 device, 4 out of memory.";
@@ -308,8 +312,9 @@ pub(crate) const PRODUCT_EXAMPLE: &str = "Example:
   fretime product counter.aag smaller.aag counter.map model.aig cert.aig
 
 MODEL is made at its first byte, and then CERT: if something is refused, they
-stay as they were. 'shapes differ' is printed if IN, OUT and MAP don't fit
-together.
+stay as they were. If MAP has other latches than IN and OUT, it is refused as no
+map. 'shapes differ' is printed if IN and OUT differ in their inputs or
+properties.
 
 Exit status: 0 done, 1 a file is refused, MAP is no map, or shapes differ,
 2 command line, 3 device, 4 out of memory.";
@@ -346,8 +351,9 @@ Back over latches that moved backward:
   fretime backward less.aag least.aag --map least.map
   fretime lift --back less.aag least.aag least.map least.cert less.cert
 
-RESULT is made at its first byte: if something is refused, it stays as it
-was. 'shapes differ' is printed if IN, OUT and MAP don't fit together, or with
+RESULT is made at its first byte: if something is refused, it stays as it was.
+If MAP has other latches than IN and OUT, it is refused as no map. 'shapes
+differ' is printed if IN and OUT differ in their inputs or properties, or with
 --back if IN has a free latch.
 
 Exit status: 0 done, 1 a file is refused, MAP is no map, CERT names what OUT

@@ -13,9 +13,7 @@ use Rattle.circuit_files.specs.declared.outcome.Failure.{Failure}
 use Rattle.command_endings.specs.Objects.{EndsPrintingObject}
 use Rattle.reports.specs.declared.remaining_counts.Remaining.{Remaining}
 use Rattle.command_line.specs.declared.task.Retiming.{Retiming}
-use Rattle.reports.specs.Retimings.{retiming_text}
-use Rattle.command_endings.specs.Printing.{EndsPrinting}
-use Rattle.commands.specs.RetimingTasks.{EndsPrintingFrames, PrintsAlike, SaysFrames, remaining_of}
+use Rattle.commands.specs.RetimingTasks.{EndsPrintingFrames, remaining_of}
 
 -- an object where it was asked for
 pub frames_as_object : (json : Bool) (task : Retiming) (r : Retimed) (held : List ℕ) (levels : ReadLevels) (times : Option Times) (mapped : Option MapCounts) (old new : Output) (result : Result Outcome Failure)
@@ -33,17 +31,3 @@ object_of_frames task r held levels left took times mapped old new result is sam
 pub remaining_is : (task : Retiming) (bound : Option ℕ) (r : Retimed) (held : List ℕ) (frames : ℕ) → frames ≡ length r.frames
     → remaining r.circuit held bound (nat_lt frames task.options.frames) ≡ remaining_of task bound r held
 remaining_is task bound r held frames many = ap (λ (n : ℕ). remaining r.circuit held bound (nat_lt n task.options.frames)) many
-
--- what is printed alike ends alike
-pub frames_alike : (json : Bool) (task : Retiming) (r s : Retimed) (held : List ℕ) (levels : ReadLevels) (times : Option Times) (mapped : Option MapCounts) (old new : Output) (result : Result Outcome Failure)
-    → PrintsAlike r s → EndsPrintingFrames json task r held levels times mapped old new result → EndsPrintingFrames json task s held levels times mapped old new result
-frames_alike true task r s held levels times mapped old new result alike p = subst (λ value. EndsPrintingObject Done value old new result) (alike.1 task held levels times mapped) p
-frames_alike false task r s held levels times mapped old new result alike p = subst (λ (text : List ℕ). EndsPrinting Done text old new result) alike.0 p
-
--- where two retimings are printed alike, what says the frames of the one says those of the other
-pub says_alike : (task : Retiming) (r s : Retimed) (held : List ℕ) (levels : ReadLevels) (times : Option Times) (mapped : Option MapCounts) (old new : Output) → PrintsAlike r s → SaysFrames task r held levels times mapped old new → SaysFrames task s held levels times mapped old new
-says_alike task r s held levels times mapped old new alike p = record { ended = p.ended; prints = frames_alike task.json task r s held levels times mapped old new p.ended alike p.prints }
-
--- each retiming is printed as itself
-pub alike_itself : (r : Retimed) → PrintsAlike r r
-alike_itself r = (refl, λ task held levels times mapped. refl)

@@ -38,9 +38,8 @@ use Rattle.json_reports.specs.declared.counts.ReadLevels.{ReadLevels}
 use Rattle.commands.specs.declared.answer.Answer.{Answer as Answered}
 use Rattle.commands.specs.Pipes.{AnswersPipe, IsAnswerTo, IsMapOf, IsPipe, IsReportOf, PrintsRetiming, WritesAnswer, WritesBeside, WritesCertificates, WritesMap, WritesPipe, WritesRetiming, blocks_text}
 use Rattle.command_endings.specs.Printing.{EndsAside, Prints, ending}
-use Rattle.commands.specs.RetimingTasks.{EndsPrintingFrames, HasFailed, IsFailureOf, IsMapFailureOf, PrintsAlike, SaysFrames, counts_of, levels_reported}
+use Rattle.commands.specs.RetimingTasks.{EndsPrintingFrames, HasFailed, IsFailureOf, IsMapFailureOf, SaysFrames, counts_of, levels_reported}
 use Rattle.command_endings.proofs.PrintingLaws.{failing_after, by_stream}
-use Rattle.commands.proofs.FrameLaws.{frames_alike, says_alike}
 
 -- why there is no whole answer of what was read, as the failure of the task
 pub stopped : (task : Retiming) (options : Options) (spelt : SpeltCircuit) (before after : Output) (e : BytesError) (f : Failure)
@@ -118,12 +117,12 @@ answers_pipe FileGiven task input old new answer pipe all =
 
 -- what is written beside the answer changes nothing of what is reported of it
 pub report_of : (FileGiven : List ℕ → List ℕ → Type 0) (task : Retiming) (input : Input) (old mid new : Output) (answer after : Answered) (r : Retimed) (held : List ℕ) (levels : ReadLevels) (counts : Option MapCounts)
-    → held ≡ after.keep → after.keep ≡ answer.keep → levels ≡ after.levels → after.levels ≡ answer.levels → r ≡ after.retimed → PrintsAlike after.retimed answer.retimed
+    → held ≡ after.keep → after.keep ≡ answer.keep → levels ≡ after.levels → after.levels ≡ answer.levels → r ≡ after.retimed → after.retimed ≡ answer.retimed
     → counts ≡ option_map (λ (m : SpeltMap). counts_of m.circuit) after.map → after.map ≡ answer.map
     → WritesAnswer FileGiven task input old mid answer → WritesBeside FileGiven task answer mid new → IsReportOf FileGiven task input old new r held levels counts
-report_of FileGiven task input old mid new answer after r held levels counts stand stood reported leveled same alike counted mapped circuit beside = record {
+report_of FileGiven task input old mid new answer after r held levels counts stand stood reported leveled same stays counted mapped circuit beside = record {
   answer = answer;
-  alike = subst (λ (x : Retimed). PrintsAlike x answer.retimed) (sym same) alike;
+  retimed_is = same ∙ stays;
   held_are = stand ∙ stood;
   levels_are = reported ∙ leveled;
   counts_are = subst (λ (m : Option SpeltMap). counts ≡ option_map (λ (x : SpeltMap). counts_of x.circuit) m) mapped counted;
@@ -168,14 +167,14 @@ prints_retiming FileGiven task is_terminal input old mid new shown reported said
       printed = λ free. subst (λ (m : Option MapCounts). EndsPrintingFrames task.json task answer.retimed answer.keep answer.levels times m mid new result) of.counts_are
           (subst (λ (l : ReadLevels). EndsPrintingFrames task.json task answer.retimed answer.keep l times mapped mid new result) of.levels_are
           (subst (λ (js : List ℕ). EndsPrintingFrames task.json task answer.retimed js levels times mapped mid new result) of.held_are
-          (frames_alike task.json task r answer.retimed held levels times mapped mid new result of.alike (frames free))));
+          (subst (λ (x : Retimed). EndsPrintingFrames task.json task x held levels times mapped mid new result) of.retimed_is (frames free))));
       quiet = λ taken. stays_quiet mid mid new result (aside taken);
       shown = shown;
       aside = λ taken quiet. subst (SaysFrames task answer.retimed answer.keep answer.levels times counts shown) (sym (still quiet))
           (subst (λ (m : Option MapCounts). SaysFrames task answer.retimed answer.keep answer.levels times m shown reported) of.counts_are
           (subst (λ (l : ReadLevels). SaysFrames task answer.retimed answer.keep l times mapped shown reported) of.levels_are
           (subst (λ (js : List ℕ). SaysFrames task answer.retimed js levels times mapped shown reported) of.held_are
-          (says_alike task r answer.retimed held levels times mapped shown reported of.alike (says taken)))));
+          (subst (λ (x : Retimed). SaysFrames task x held levels times mapped shown reported) of.retimed_is (says taken)))));
     })
 
 -- what holds anyway holds where a result is there

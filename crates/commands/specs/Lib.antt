@@ -1,5 +1,6 @@
 pub mod RetimingTasks
 pub mod OtherSpelling
+pub mod CertFiles
 pub mod Pipes
 pub mod Replaying
 pub mod Verifying

@@ -26,7 +26,8 @@ use Rattle.json_reports.specs.declared.counts.ReadLevels.{ReadLevels}
 use Rattle.circuit_files.specs.WrittenFiles.{IsTargetGiven}
 use Rattle.circuit_files.specs.declared.outcome.Outcome.{Outcome}
 use Rattle.circuit_files.specs.declared.outcome.Failure.{Failure}
-use Rattle.commands.specs.RetimingTasks.{AreOptionsFor, EndsPrintingFrames, PrintsAlike, SaysFrames, counts_of, levels_reported}
+use Rattle.commands.specs.CertFiles.{file_of}
+use Rattle.commands.specs.RetimingTasks.{AreOptionsFor, EndsPrintingFrames, SaysFrames, counts_of, levels_reported}
 use Rattle.commands.specs.declared.answer.Answer.{Answer}
 
 -- a retiming from standard input to standard output, which gets the circuit alone
@@ -78,9 +79,9 @@ WritesMap FileGiven (Some target) (Some m) old new = IsTargetGiven FileGiven tar
 WritesMap FileGiven (Some target) None old new = new ≡ old
 WritesMap FileGiven None made old new = new ≡ old
 
--- the text of a retiming's certificates
+-- the text of a retiming's certificates, with the latches that were merged, if they were to be
 abbrev pub blocks_text : Retiming → Retimed → List ℕ
-blocks_text task r = certificates_text (record { choice = task.options.choice; blocks = r.certificates })
+blocks_text task r = certificates_text (file_of task.options.choice r)
 
 -- so were the certificates
 abbrev pub WritesCertificates : (List ℕ → List ℕ → Type 0) → Option Target → List ℕ → Output → Output → Type 0
@@ -100,10 +101,10 @@ pub record WritesRetiming (FileGiven : List ℕ → List ℕ → Type 0) (task :
   pub circuit : WritesAnswer FileGiven task input old between answer
   pub beside : WritesBeside FileGiven task answer between new
 
--- what is reported of r is reported of an answer whose parts were all written, and of its map
+-- r is reported of an answer whose parts were all written, and so is its map
 pub record IsReportOf (FileGiven : List ℕ → List ℕ → Type 0) (task : Retiming) (input : Input) (old new : Output) (r : Retimed) (held : List ℕ) (levels : ReadLevels) (mapped : Option MapCounts) : Type 0 where
   pub answer : Answer
-  pub alike : PrintsAlike r answer.retimed
+  pub retimed_is : r ≡ answer.retimed
   pub held_are : held ≡ answer.keep
   pub levels_are : levels ≡ answer.levels
   pub counts_are : mapped ≡ option_map (λ (m : SpeltMap). counts_of m.circuit) answer.map

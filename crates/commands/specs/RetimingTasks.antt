@@ -84,9 +84,3 @@ EndsPrintingFrames false task r held levels times mapped old new result = EndsPr
 pub record SaysFrames (task : Retiming) (r : Retimed) (held : List ℕ) (levels : ReadLevels) (times : Option Times) (mapped : Option MapCounts) (old new : Output) : Type 0 where
   pub ended : Result Outcome Failure
   pub prints : EndsPrintingFrames task.json task r held levels times mapped old new ended
-
--- both are printed alike: certificates change nothing that is printed
-abbrev pub PrintsAlike : Retimed → Retimed → Type 0
-PrintsAlike r s = (retiming_text r ≡ retiming_text s)
-    × ((task : Retiming) (held : List ℕ) (levels : ReadLevels) (times : Option Times) (mapped : Option MapCounts)
-    → retiming_data r levels (remaining_of task levels.bound r held) times mapped ≡ retiming_data s levels (remaining_of task levels.bound s held) times mapped)

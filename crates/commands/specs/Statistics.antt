@@ -3,6 +3,8 @@ use Rattle.std.specs.Prelude.{ℕ, ◌≡◌, Bool, true, false, List, [], Optio
 use Rattle.aig_graph.specs.Circuits.{Netlist}
 use Rattle.aig_binary.specs.declared.reading.SpeltCircuit.{SpeltCircuit}
 use Rattle.reports.specs.CircuitCounts.{statistics}
+use Rattle.certificates.specs.declared.merged.MergedLatch.{MergedLatch}
+use Rattle.merged_circuits.specs.Counts.{counts_of}
 use Rattle.merged_circuits.specs.declared.counts.MergeCounts.{MergeCounts}
 use Rattle.retimed_circuits.specs.Merging.{MergesIn}
 use Rattle.reports.specs.Counts.{counts_text}
@@ -21,7 +23,9 @@ pub record AreMergeCounts (c : Netlist) (counts : MergeCounts) : Type 0 where
   pub start : Netlist
   pub kept : List ℕ
   pub now : List ℕ
-  pub merges : MergesIn [] c start kept now counts
+  pub lines : List MergedLatch
+  pub merges : MergesIn [] c start kept now lines
+  pub counted : counts ≡ counts_of lines
 
 -- if they are asked for
 abbrev pub AreMergeCountsFor : Bool → Netlist → Option MergeCounts → Type 0

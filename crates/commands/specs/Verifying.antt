@@ -8,11 +8,12 @@ use Rattle.counted_io.specs.Output.{Output, WritesAll}
 use Rattle.certificates.specs.declared.certificate.Certificate.{Certificate}
 use Rattle.certificates.specs.declared.file.CertFile.{CertFile}
 use Rattle.certificate_audits.specs.declared.outcome.End.{End}
-use Rattle.certificate_audits.specs.declared.outcome.End.TheVariants.{NoBlocks, Certified, Open, BlocksFollow, Objected}
+use Rattle.certificate_audits.specs.declared.outcome.End.TheVariants.{NoBlocks, Certified, Open, BlocksFollow, Objected, Misread, NotShown}
 use Rattle.certificate_audits.specs.declared.outcome.Replay.{Replay}
 use Rattle.reports.specs.Audits.{audit_text}
 use Rattle.reports.specs.declared.agreement.Agreement.{Agreement}
 use Rattle.reports.specs.declared.agreement.Agreement.TheVariants.{Same, DiffersAt}
+use Rattle.reports.specs.declared.judgement.Judgement.{Judgement}
 use Rattle.frames.specs.Bounds.{bound_for}
 use Rattle.json_reports.specs.Audits.{audit_data}
 use Rattle.json_reports.specs.Lines.{json_line}
@@ -24,16 +25,18 @@ use Rattle.circuit_files.specs.declared.outcome.Outcome.TheVariants.{Done, Uncon
 use Rattle.command_endings.specs.HeldNames.{held_by}
 use Rattle.command_endings.specs.Objects.{EndsPrintingObject}
 use Rattle.command_endings.specs.Sources.{AreCertificatesAt, IsCircuitAt}
-use Rattle.commands.specs.Replaying.{AreRetimedAt, IsJudgement, IsReplayFor}
-use Rattle.commands.specs.declared.replaying.Judgement.{Judgement}
+use Rattle.commands.specs.Replaying.{AreRetimedAt, IsJudgement, IsReplayFor, merged_count}
 
--- how a run ends by the end of an audit: done if nothing speaks against a block, else unconfirmed
+-- how a run ends by the end of an audit: done if nothing speaks against a block or a merged latch,
+-- else unconfirmed
 abbrev pub outcome_of_end : End → Outcome
 outcome_of_end NoBlocks = Done
 outcome_of_end Certified = Done
 outcome_of_end Open = Done
 outcome_of_end BlocksFollow = Unconfirmed
 outcome_of_end (Objected objection) = Unconfirmed
+outcome_of_end (Misread latch) = Unconfirmed
+outcome_of_end (NotShown latch) = Unconfirmed
 
 -- how a run ends by what came of comparing a file, and else by the end of the audit
 abbrev pub outcome_by : Option Agreement → End → Outcome
@@ -48,47 +51,47 @@ outcome_of_judgement judgement = outcome_by judgement.agreement judgement.audit.
 -- the object of a judgement after which the run ends so
 abbrev pub EndsWithObject : List Certificate → Judgement → Outcome → Output → Output → Result Outcome Failure → Type 0
 EndsWithObject blocks judgement outcome old new result =
-    EndsPrintingObject outcome (audit_data blocks judgement.audit judgement.agreement judgement.bound (status_of outcome)) old new result
+    EndsPrintingObject outcome (audit_data blocks judgement (status_of outcome)) old new result
 
 -- what is printed of a judgement: an object on a line if that is asked for, else lines
 abbrev pub printed_audit : Bool → List Certificate → Judgement → List ℕ
-printed_audit true blocks judgement = json_line (audit_data blocks judgement.audit judgement.agreement judgement.bound (status_of (outcome_of_judgement judgement)))
-printed_audit false blocks judgement = audit_text blocks judgement.audit judgement.agreement
+printed_audit true blocks judgement = json_line (audit_data blocks judgement (status_of (outcome_of_judgement judgement)))
+printed_audit false blocks judgement = audit_text blocks judgement
 
 -- the judgement is printed in this form, and the run ends by it
 pub record EndsWithAudit (json : Bool) (blocks : List Certificate) (judgement : Judgement) (old new : Output) (ended : Outcome) : Type 0 where
   pub prints : WritesAll old new (printed_audit json blocks judgement)
   pub ends : ended ≡ outcome_of_judgement judgement
 
--- what the blocks end in for c, with the latches held that the task names
-abbrev pub IsReplayOf : Verification → Netlist → List Certificate → Replay → Type 0
-IsReplayOf task c blocks replay = IsReplayFor task.options.bound task.options.merge (held_by task.options c) c blocks replay
+-- what the blocks of the file end in for c, with the latches held that the task names
+abbrev pub IsReplayOf : Verification → Netlist → CertFile → Replay → Type 0
+IsReplayOf task c file replay = IsReplayFor task.options.bound task.options.merge (held_by task.options c) c file replay
 
--- The audit of the blocks for this circuit, with the latches held that the task names. Also the
--- outcome of comparing these bytes with what they end in.
-pub record IsJudgedBy (task : Verification) (c : Netlist) (blocks : List Certificate) (bytes : Option (List ℕ)) (judgement : Judgement) : Type 0 where
+-- The audit of the file for this circuit, with the latches held that the task names. Also the
+-- outcome of comparing these bytes with what its blocks end in.
+pub record IsJudgedBy (task : Verification) (c : Netlist) (file : CertFile) (bytes : Option (List ℕ)) (judgement : Judgement) : Type 0 where
   pub replay : Replay
-  pub replays : IsReplayOf task c blocks replay
-  pub judges : IsJudgement (bound_for task.options.bound c) bytes replay judgement
+  pub replays : IsReplayOf task c file replay
+  pub judges : IsJudgement (bound_for task.options.bound c) (merged_count file) bytes replay judgement
 
 -- that is printed as the task asks, and the run ends by it
-pub record PrintsAudit (task : Verification) (c : Netlist) (blocks : List Certificate) (bytes : Option (List ℕ)) (ended : Outcome) (old new : Output) : Type 0 where
+pub record PrintsAudit (task : Verification) (c : Netlist) (file : CertFile) (bytes : Option (List ℕ)) (ended : Outcome) (old new : Output) : Type 0 where
   pub judgement : Judgement
-  pub judged : IsJudgedBy task c blocks bytes judgement
-  pub printed : EndsWithAudit task.json blocks judgement old new ended
+  pub judged : IsJudgedBy task c file bytes judgement
+  pub printed : EndsWithAudit task.json file.blocks judgement old new ended
 
 -- that of the file that is read, if one is compared
-pub record PrintsAuditBeside (task : Verification) (c : Netlist) (blocks : List Certificate) (before after : Input) (old new : Output) (ended : Outcome) : Type 0 where
+pub record PrintsAuditBeside (task : Verification) (c : Netlist) (file : CertFile) (before after : Input) (old new : Output) (ended : Outcome) : Type 0 where
   pub bytes : Option (List ℕ)
   pub read : AreRetimedAt task.retimed before after bytes
-  pub printed : PrintsAudit task c blocks bytes ended old new
+  pub printed : PrintsAudit task c file bytes ended old new
 
 -- that of the certificates that are read before it, for this circuit
 pub record PrintsAuditFor (task : Verification) (c : Netlist) (before after : Input) (old new : Output) (ended : Outcome) : Type 0 where
   pub certificates : CertFile
   pub between : Input
   pub read : AreCertificatesAt task.certificates before between certificates
-  pub printed : PrintsAuditBeside task c certificates.blocks between after old new ended
+  pub printed : PrintsAuditBeside task c certificates between after old new ended
 
 -- that of the certificates that are read, for the circuit that is read before them
 pub record PrintsAuditOf (task : Verification) (before after : Input) (old new : Output) (ended : Outcome) : Type 0 where

@@ -2,52 +2,71 @@
 ghost use Rattle.std.specs.Prelude.{◌≡◌, ◌<◌, All, IfErr, IfOk, length};
 ghost use Rattle.aig_binary.specs.Spellings.{text_in};
 ghost use Rattle.reports.specs.Agreements.{IsAgreement};
-ghost use Rattle.commands.specs.Replaying.{AreRetimedAt, IsAboutRetimed, IsAgreementOn, IsAgreementWith, IsJudgement, IsReplayFor, bytes_in, text_like};
+ghost use Rattle.commands.specs.Replaying.{AreRetimedAt, IsAboutRetimed, IsAgreementOn, IsAgreementWith, IsJudgement, IsReplayFor, IsUnsaidReplay, bytes_in, text_like};
+ghost use Rattle.commands.specs.Replaying as wanted;
 
 use aig_binary::{Spelling, spelling, write};
 use aig_graph::{Circuit, Keep, NoMemory};
-use certificate_audits::{Audit, Replay, replay_blocks, replay_merged};
-use certificates::Certificate;
+use certificate_audits::{Replay, replay_blocks, replay_guessed, replay_merged};
+use certificates::{CertFile, Certificate};
 use circuit_files::{Failure, bytes_at};
 use command_line::Verification;
 use counted_io::{Counted, CountedRead};
 use frames::PathBound;
-use reports::{Agreement, compare};
+use reports::{Agreement, Judgement, compare};
 use std::alloc::Global;
 use std::rt::Files;
 
-/// The judgement of certificates of a circuit.
-///
-/// `bound` is the bound on levels, if there was one. `agreement` compares a file with the circuit
-/// that the certificates end in, if a file was given.
-#[derive(Clone, Copy)]
-pub(crate) struct Judgement {
-    pub(crate) bound: Option<u32>,
-    pub(crate) audit: Audit,
-    pub(crate) agreement: Option<Agreement>,
-}
-
-/// Replays the certificates `blocks` of a run of `circuit`, and returns their audit and the circuit
-/// that they end in.
-///
-/// The run held the latches `keep` and had the bound `bound`. It merged latches first if `merge` is
-/// true.
-pub(crate) fn replay_of(
+/// Replays certificates that don't say which latches their run merged, if it merged any.
+fn replay_unsaid(
     alloc: Global,
     circuit: &Circuit,
     blocks: &[Certificate],
     keep: &Keep,
     merge: bool,
+    most: Option<u32>,
+) -> Result<Replay, NoMemory>
+    requires { All (λ j. j < length circuit.now.aig.latches) keep.now }
+    ensures { IfOk result (IsUnsaidReplay most merge keep.now circuit.now blocks.now) }
+{
+    if merge {
+        replay_guessed(alloc, circuit, blocks, keep, most)
+    } else {
+        replay_blocks(alloc, circuit, blocks, keep, most)
+    }
+}
+
+/// Replays the certificates of a run of `circuit`, and returns their audit and the circuit that
+/// they end in.
+///
+/// The run held the latches `keep` and had the bound `bound`. It merged latches first if the file
+/// says which. If the file doesn't, it did so if `merge` is true.
+pub(crate) fn replay_of(
+    alloc: Global,
+    circuit: &Circuit,
+    file: &CertFile,
+    keep: &Keep,
+    merge: bool,
     bound: PathBound,
 ) -> Result<Replay, NoMemory>
     requires { All (λ j. j < length circuit.now.aig.latches) keep.now }
-    ensures { IfOk result (IsReplayFor bound merge keep.now circuit.now blocks.now) }
+    ensures { IfOk result (IsReplayFor bound merge keep.now circuit.now file.now) }
 {
     let most = bound.for_circuit(alloc, circuit)?;
-    if merge {
-        replay_merged(alloc, circuit, blocks, keep, most)
-    } else {
-        replay_blocks(alloc, circuit, blocks, keep, most)
+    let blocks = file.blocks.as_slice();
+    match &file.merged {
+        Some(lines) => replay_merged(alloc, circuit, lines.as_slice(), blocks, keep, most),
+        None => replay_unsaid(alloc, circuit, blocks, keep, merge, most),
+    }
+}
+
+/// Returns how many merged latches a file has, if it says which were merged.
+pub(crate) fn merged_count(file: &CertFile) -> Option<u64>
+    ensures { result ≡ wanted.merged_count file.now }
+{
+    match &file.merged {
+        Some(lines) => Some(lines.len() as u64),
+        None => None,
     }
 }
 
@@ -134,14 +153,15 @@ fn agreement_of(
 }
 
 /// Judges a replay under `bound`, if there is one, and compares the circuit at its end with
-/// `bytes`.
+/// `bytes`. The file has `merged` merged latches, if it says which they are.
 pub(crate) fn judged(
     alloc: Global,
     replay: Replay,
     bytes: &Option<Vec<u8>>,
     bound: Option<u32>,
+    merged: Option<u64>,
 ) -> Result<Judgement, NoMemory>
-    ensures { IfOk result (IsJudgement bound (bytes_in bytes.now) replay) }
+    ensures { IfOk result (IsJudgement bound merged (bytes_in bytes.now) replay) }
 {
     let audit = replay.audit;
     let found = agreement_of(alloc, &replay.last, bytes);
@@ -149,6 +169,7 @@ pub(crate) fn judged(
     match found {
         Ok(agreement) => Ok(Judgement {
             bound,
+            merged,
             audit,
             agreement,
         }),

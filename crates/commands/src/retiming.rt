@@ -1,26 +1,27 @@
 //! The command `retime`.
 ghost use Rattle.std.specs.Prelude.{◌≡◌, ◌⊎◌, true, false, IfErr, IfOk, Ok, OnOk, option_map};
-ghost use Rattle.counted_io.specs.Output.{Writes};
 ghost use Rattle.certificates.specs.Texts.{file_text};
 ghost use Rattle.counted_io.specs.Streams.{is_stdout};
 ghost use Rattle.command_line.specs.StreamUses.{takes_stdout, writes_stdout};
 ghost use Rattle.circuit_files.specs.Outcomes.{outcome_of};
 ghost use Rattle.circuit_files.specs.WrittenFiles.{IsFileGiven, IsTargetGiven};
 ghost use Rattle.circuit_files.specs.declared.outcome.Outcome.TheVariants.{Done};
+ghost use Rattle.commands.specs.CertFiles.{file_of, with_file, without_file};
 ghost use Rattle.commands.specs.Pipes.{IsAnswerAt, IsPipe, IsReportOf, PrintsRetiming, WritesAnswer, WritesBeside, WritesCertificates, WritesPipe, blocks_text};
 ghost use Rattle.command_endings.specs.Printing.{EndsAside, Prints, ending};
-ghost use Rattle.commands.specs.RetimingTasks.{AreOptionsFor, EndsPrintingFrames, HasFailed, PrintsAlike, SaysFrames, counts_of, remaining_of};
+ghost use Rattle.commands.specs.RetimingTasks.{AreOptionsFor, EndsPrintingFrames, HasFailed, SaysFrames, counts_of, remaining_of};
 ghost use Rattle.command_line.specs.declared.task.Shown.TheVariants.{Nothing};
 
 use crate::answer::{Answer, map_counts, map_written, retime_to};
 use aig_binary::{Spelling, SpeltCircuit};
 use aig_graph::{Keep, NoMemory, Sequence};
-use certificates::{CertFile, Certificate, Choice, write_cert};
+use certificates::{CertFile, Choice, write_cert};
 use circuit_files::{Failure, Outcome, OutputFiles, circuit_at, close, file_at};
 use command_endings::{Progress, ended, run_options};
 use command_line::{Retiming, Shown};
 use counted_io::{CountedRead, CountedWrite, Streams, Target, WriteError};
 use frames::{FrameWatcher, Options, Retimed};
+use hold_counts::{Holding, print_holding};
 use json_reports::{MapCounts, ReadLevels, Times};
 use reports::{Remaining, print_remaining, print_retiming};
 use std::alloc::Global;
@@ -113,44 +114,51 @@ fn retimed<
     }
 }
 
-/// Writes the certificates of a retiming. `choice` is its choice among least sets.
-fn put_certificates<W: CountedWrite>(
-    choice: Choice,
-    blocks: Sequence<Certificate>,
-    writer: &mut W,
-) -> Result<(), WriteError>
-    ensures { Writes (W.output writer.old) (W.output writer.new) result
-        (file_text (record { choice = choice; blocks = blocks })) }
+/// Takes the certificates of a retiming by `choice` out of it, with the latches that it merged.
+fn file_of(alloc: Global, choice: Choice, retimed: &mut Retimed) -> CertFile
+    ensures file { result ≡ file_of choice retimed.old }
+    ensures left { retimed.new ≡ without_file retimed.old }
 {
-    let file = CertFile { choice, blocks };
-    write_cert(&file, writer)
+    CertFile {
+        choice,
+        merged: mem::replace(&mut retimed.merged, None),
+        blocks: mem::replace(&mut retimed.certificates, Sequence::empty(alloc)),
+    }
 }
 
-/// Writes the certificates of a retiming by `choice` to `target`.
+/// Puts a file of certificates back into the retiming that it was taken out of.
+fn put_back(file: CertFile, retimed: &mut Retimed)
+    ensures { retimed.new ≡ with_file file retimed.old }
+{
+    let CertFile { merged, blocks, .. } = file;
+    drop(mem::replace(&mut retimed.merged, merged));
+    drop(mem::replace(&mut retimed.certificates, blocks));
+}
+
+/// Writes a file of certificates to `target`.
 fn write_certificates<R: OutputFiles, O: CountedWrite>(
     rt: &R,
-    choice: Choice,
-    blocks: Sequence<Certificate>,
+    file: &CertFile,
     target: Target<'_>,
     out: &mut O,
 ) -> Result<(), WriteError>
     ensures given { OnOk result (IsTargetGiven (IsFileGiven R.Output.contents R.is_made R.is_let_go) target.entry
-        (O.output out.old) (O.output out.new)
-        (file_text (record { choice = choice; blocks = blocks }))) }
+        (O.output out.old) (O.output out.new) (file_text file.now)) }
     ensures file { is_stdout target.entry ≡ false → O.output out.new ≡ O.output out.old }
 {
     match target {
-        Target::Stdout => put_certificates(choice, blocks, out),
+        Target::Stdout => write_cert(file, out),
         Target::File(path) => {
-            let mut file = file_at(rt, path);
-            let written = put_certificates(choice, blocks, &mut file);
-            close(file);
+            let mut target_file = file_at(rt, path);
+            let written = write_cert(file, &mut target_file);
+            close(target_file);
             written
         }
     }
 }
 
-/// Writes the certificates if they are asked for. They are taken out of the retiming.
+/// Writes the certificates if they are asked for, with the latches that were merged. The retiming
+/// stays as it is.
 fn certify<'a, R: OutputFiles, O: CountedWrite>(
     rt: &R,
     alloc: Global,
@@ -163,14 +171,16 @@ fn certify<'a, R: OutputFiles, O: CountedWrite>(
         (O.output out.new)) }
     ensures file { writes_stdout task.now.certificates ≡ false
         → O.output out.new ≡ O.output out.old }
-    ensures frames { PrintsAlike retimed.new retimed.old }
+    ensures retimed { retimed.new ≡ retimed.old }
     ensures err { IfErr result (HasFailed task.now.certificates) }
 {
     let Some(target) = task.certificates else {
         return Ok(());
     };
-    let blocks = mem::replace(&mut retimed.certificates, Sequence::empty(alloc));
-    match write_certificates(rt, task.options.choice, blocks, target, out) {
+    let file = file_of(alloc, task.options.choice, retimed);
+    let written = write_certificates(rt, &file, target, out);
+    put_back(file, retimed);
+    match written {
         Ok(()) => Ok(()),
         Err(_) => Err(Failure::Device(target.name())),
     }
@@ -188,7 +198,7 @@ fn write_beside<'a, R: OutputFiles, O: CountedWrite>(
         answer.old (O.output out.old) (O.output out.new)) }
     ensures file { writes_stdout task.now.map ≡ false → writes_stdout task.now.certificates
         ≡ false → O.output out.new ≡ O.output out.old }
-    ensures frames { PrintsAlike answer.new.retimed answer.old.retimed }
+    ensures retimed { answer.new.retimed ≡ answer.old.retimed }
     ensures keep { answer.new.keep ≡ answer.old.keep }
     ensures levels { answer.new.levels ≡ answer.old.levels }
     ensures map { answer.new.map ≡ answer.old.map }
@@ -354,6 +364,13 @@ fn print_as<'a, W: CountedWrite>(
     }
 }
 
+/// Tells how many registers hold of those that are left, if one does.
+fn tell_holding<E: CountedWrite>(alloc: Global, timed: &Timed, err: &mut E) {
+    if let Ok(holding) = Holding::of(alloc, timed.retimed.circuit.aig(), &timed.keep) {
+        let _ = print_holding(&holding, err);
+    }
+}
+
 /// Tells on a terminal why no more latches go, unless the task asks for an object of JSON or for
 /// quiet. A write that fails changes nothing.
 fn tell_remaining<E: CountedWrite>(
@@ -369,6 +386,7 @@ fn tell_remaining<E: CountedWrite>(
     if is_terminal && !task.json && task.shown != Shown::Nothing {
         if let Ok(left) = remaining(alloc, task, timed) {
             let _ = print_remaining(&left, err);
+            tell_holding(alloc, timed, err);
         }
     }
 }

@@ -11,7 +11,7 @@ use command_endings::ended;
 use command_line::Counting;
 use counted_io::{CountedRead, CountedWrite};
 use latch_merging::merged_start;
-use merged_circuits::MergeCounts;
+use merged_circuits::{MergeCounts, counts_of};
 use reports::{Statistics, print_counts};
 use std::alloc::Global;
 use std::rt::Files;
@@ -21,7 +21,7 @@ fn merge_counts(alloc: Global, circuit: &Circuit) -> Result<MergeCounts, NoMemor
     ensures { IfOk result (AreMergeCounts circuit.now) }
 {
     let start = merged_start(alloc, circuit, &Keep::none())?;
-    let counts = start.counts;
+    let counts = counts_of(start.merged.as_slice());
     drop(start);
     Ok(counts)
 }

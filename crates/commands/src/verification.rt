@@ -8,15 +8,15 @@ ghost use Rattle.command_endings.specs.Sources.{AreCertificatesAt, IsCircuitAt};
 ghost use Rattle.commands.specs.Replaying.{bytes_in};
 ghost use Rattle.commands.specs.Verifying.{EndsWithAudit, EndsWithObject, IsJudgedBy, IsReplayOf, PrintsAudit, PrintsAuditBeside, PrintsAuditFor, PrintsAuditOf, outcome_of_end, outcome_of_judgement};
 
-use crate::replaying::{Judgement, judged, replay_of, retimed_at};
+use crate::replaying::{judged, merged_count, replay_of, retimed_at};
 use aig_graph::Circuit;
 use certificate_audits::{End, Replay};
-use certificates::Certificate;
+use certificates::{CertFile, Certificate};
 use circuit_files::{Failure, Outcome, certificates_at, circuit_at};
 use command_endings::{ended, held_latches};
 use command_line::Verification;
 use counted_io::{CountedRead, CountedWrite};
-use reports::{Agreement, print_audit};
+use reports::{Agreement, Judgement, print_audit};
 use std::alloc::Global;
 use std::fmt::Write;
 use std::rt::Files;
@@ -25,15 +25,15 @@ use std::rt::Files;
 fn replayed<'a>(
     alloc: Global,
     circuit: &Circuit,
-    blocks: &[Certificate],
+    file: &CertFile,
     task: &Verification<'a>,
 ) -> Result<Replay, Failure<'a>>
-    ensures { IfOk result (IsReplayOf task.now circuit.now blocks.now) }
+    ensures { IfOk result (IsReplayOf task.now circuit.now file.now) }
 {
     let options = &task.options;
     match held_latches(alloc, circuit, task.input, options) {
         Ok(keep) => {
-            let replay = replay_of(alloc, circuit, blocks, &keep, options.merge, options.bound);
+            let replay = replay_of(alloc, circuit, file, &keep, options.merge, options.bound);
             drop(keep);
             match replay {
                 Ok(replay) => Ok(replay),
@@ -48,17 +48,17 @@ fn replayed<'a>(
 fn judged_by<'a>(
     alloc: Global,
     circuit: &Circuit,
-    blocks: &[Certificate],
+    file: &CertFile,
     bytes: &Option<Vec<u8>>,
     task: &Verification<'a>,
 ) -> Result<Judgement, Failure<'a>>
-    ensures { IfOk result (IsJudgedBy task.now circuit.now blocks.now (bytes_in bytes.now)) }
+    ensures { IfOk result (IsJudgedBy task.now circuit.now file.now (bytes_in bytes.now)) }
 {
     let Ok(bound) = task.options.bound.for_circuit(alloc, circuit) else {
         return Err(Failure::Memory);
     };
-    match replayed(alloc, circuit, blocks, task) {
-        Ok(replay) => match judged(alloc, replay, bytes, bound) {
+    match replayed(alloc, circuit, file, task) {
+        Ok(replay) => match judged(alloc, replay, bytes, bound, merged_count(file)) {
             Ok(judgement) => Ok(judgement),
             Err(_) => Err(Failure::Memory),
         },
@@ -72,7 +72,9 @@ fn outcome_at(end: End) -> Outcome
 {
     match end {
         End::NoBlocks | End::Certified | End::Open => Outcome::Done,
-        End::BlocksFollow | End::Objected(_) => Outcome::Unconfirmed,
+        End::BlocksFollow | End::Objected(_) | End::Misread(_) | End::NotShown(_) => {
+            Outcome::Unconfirmed
+        }
     }
 }
 
@@ -92,10 +94,10 @@ fn print_outcome<'a, O: CountedWrite>(
     out: &mut O,
 ) -> Result<Outcome, Failure<'a>>
     ensures { EndsPrinting (outcome_of_judgement judgement.now)
-        (audit_text blocks.now judgement.now.audit judgement.now.agreement)
+        (audit_text blocks.now judgement.now)
         (O.output out.old) (O.output out.new) result }
 {
-    let printed = print_audit(blocks, judgement.audit, judgement.agreement, out);
+    let printed = print_audit(blocks, judgement, out);
     ended(printed, outcome_of(judgement))
 }
 
@@ -109,13 +111,7 @@ fn print_object<'a, O: CountedWrite>(
     ensures { EndsWithObject blocks.now judgement.now (outcome_of_judgement judgement.now)
         (O.output out.old) (O.output out.new) result }
 {
-    let outcome = outcome_of(judgement);
-    let Judgement {
-        bound,
-        audit,
-        agreement,
-    } = *judgement;
-    command_endings::print_audit(alloc, blocks, audit, agreement, bound, outcome, out)
+    command_endings::print_audit(alloc, blocks, judgement, outcome_of(judgement), out)
 }
 
 /// Prints a judgement of certificates as an object of JSON or in lines.
@@ -138,20 +134,20 @@ fn print_as<'a, O: CountedWrite>(
 }
 
 /// Prints what the certificates show, and how `bytes` compare with the circuit that they end in.
-fn print_blocks<'a, O: CountedWrite>(
+fn print_judged<'a, O: CountedWrite>(
     alloc: Global,
     circuit: &Circuit,
-    blocks: &[Certificate],
+    file: &CertFile,
     bytes: &Option<Vec<u8>>,
     task: &Verification<'a>,
     out: &mut O,
 ) -> Result<Outcome, Failure<'a>>
-    ensures audit { IfOk result (λ ended. PrintsAudit task.now circuit.now blocks.now
+    ensures audit { IfOk result (λ ended. PrintsAudit task.now circuit.now file.now
         (bytes_in bytes.now) ended (O.output out.old) (O.output out.new)) }
     ensures prints { Prints (ending result) (O.output out.old) (O.output out.new) }
 {
-    let judgement = judged_by(alloc, circuit, blocks, bytes, task)?;
-    print_as(alloc, blocks, &judgement, task.json, out)
+    let judgement = judged_by(alloc, circuit, file, bytes, task)?;
+    print_as(alloc, file.blocks.as_slice(), &judgement, task.json, out)
 }
 
 /// Reads the file to compare, if there is one. Prints what the certificates show, and whether they
@@ -160,18 +156,18 @@ fn print_beside<'a, R: Files, I: CountedRead, O: CountedWrite>(
     rt: &R,
     alloc: Global,
     circuit: &Circuit,
-    blocks: &[Certificate],
+    file: &CertFile,
     task: &Verification<'a>,
     stdin: &mut I,
     out: &mut O,
 ) -> Result<Outcome, Failure<'a>>
-    ensures audit { IfOk result (PrintsAuditBeside task.now circuit.now blocks.now
+    ensures audit { IfOk result (PrintsAuditBeside task.now circuit.now file.now
         (I.input stdin.old) (I.input stdin.new) (O.output out.old) (O.output out.new)) }
     ensures prints { Prints (ending result) (O.output out.old) (O.output out.new) }
 {
     match retimed_at(rt, alloc, task, stdin) {
         Ok(bytes) => {
-            let printed = print_blocks(alloc, circuit, blocks, &bytes, task, out);
+            let printed = print_judged(alloc, circuit, file, &bytes, task, out);
             drop(bytes);
             printed
         }
@@ -199,7 +195,7 @@ fn certificates_of<'a, R: Files, I: CountedRead>(
     alloc: Global,
     task: &Verification<'a>,
     stdin: &mut I,
-) -> Result<certificates::CertFile, Failure<'a>>
+) -> Result<CertFile, Failure<'a>>
     ensures certificates { IfOk result (AreCertificatesAt task.now.certificates
         (I.input stdin.old) (I.input stdin.new)) }
     ensures named { IfErr result (IsAbout (source_name task.now.certificates)) }
@@ -208,12 +204,13 @@ fn certificates_of<'a, R: Files, I: CountedRead>(
 }
 
 /// Says that a file has no certificate, and what was checked then. A failed write changes nothing.
-fn tell_of_none<M: Write>(task: &Verification<'_>, message: &mut M) {
+fn tell_of_none<M: Write>(task: &Verification<'_>, file: &CertFile, message: &mut M) {
     let _ = message.write_str(task.certificates.name());
     let _ = message.write_str(": no certificate: ");
-    let _ = message.write_str(match task.retimed {
-        Some(_) => "no frame was checked\n",
-        None => "nothing was checked\n",
+    let _ = message.write_str(if task.retimed.is_some() | file.merged.is_some() {
+        "no frame was checked\n"
+    } else {
+        "nothing was checked\n"
     });
 }
 
@@ -234,10 +231,9 @@ fn print_file<'a, R: Files, I: CountedRead, O: CountedWrite, M: Write>(
 {
     match certificates_of(rt, alloc, task, stdin) {
         Ok(file) => {
-            let blocks = file.blocks.as_slice();
-            let printed = print_beside(rt, alloc, circuit, blocks, task, stdin, out);
+            let printed = print_beside(rt, alloc, circuit, &file, task, stdin, out);
             if printed.is_ok() & file.blocks.is_empty() {
-                tell_of_none(task, message);
+                tell_of_none(task, &file, message);
             }
             drop(file);
             printed
@@ -249,9 +245,9 @@ fn print_file<'a, R: Files, I: CountedRead, O: CountedWrite, M: Write>(
 /// Reads a circuit, then certificates, and then the circuit that they should end in, if one is
 /// given.
 ///
-/// Prints whether each certificate is confirmed, as an object of JSON or in lines. If nothing
-/// speaks against one, it prints whether they end in that circuit, byte for byte. A name that no
-/// latch has is found once all is read.
+/// Prints whether merged latches are shown and each certificate is confirmed, as an object of JSON
+/// or in lines. If nothing speaks against one, it prints whether they end in that circuit, byte for
+/// byte. A name that no latch has is found once all is read.
 ///
 /// If there is no certificate, `message` gets a line that says so; a failed write there changes
 /// nothing.

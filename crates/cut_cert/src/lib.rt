@@ -37,8 +37,8 @@ mod walk;
 ghost use Rattle.cut_cert.specs.Cuts.{NearSideIsSmallest, SmallestCutIsSmallestSet};
 
 pub use certificates::{
-    CertError, CertFile, Certificate, Choice, Objection, Routes, Verdict, check, read_cert,
-    write_cert,
+    CertError, CertFile, Certificate, Choice, MergedLatch, Objection, Routes, Verdict, check,
+    read_cert, write_cert,
 };
 pub use certifying::certificate_of;
 pub use chosen::{chosen_of_network, shown_by_network};

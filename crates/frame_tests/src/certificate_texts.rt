@@ -1,4 +1,4 @@
-//! Files of certificates of both versions, one that shows its set, and a number of their faults and
+//! Files of certificates of each version, one that shows its set, and a number of their faults and
 //! of objections to certificates. Contracts say all numbers.
 use crate::circuits::TWO_LATCHES;
 use aag_text::{Counted, read_aag};
@@ -12,6 +12,9 @@ const FIRST_VERSION: &[u8] =
 
 const SECOND_VERSION: &[u8] =
     b"fretime-cert 2\nchoice greatest\nframe 3 1 3\ng 7\nr 3+\nr 5+\nr 4+ 7- 7+\nframe 2 0 1\nr 3+\n";
+
+const THIRD_VERSION: &[u8] =
+    b"fretime-cert 3\nchoice greatest\nmerged 2\nm 5 0\nm 7 11\nframe 2 0 1\nr 3+\n";
 
 const NO_FRAME: &[u8] = b"fretime-cert 2\nchoice smallest\n";
 
@@ -36,13 +39,14 @@ fn is_read(alloc: Global, bytes: &[u8], text: &[u8]) -> bool {
 }
 
 #[test]
-fn reads_and_writes_both_versions_and_numbers_faults_and_objections(rt: HostRuntime) {
+fn reads_and_writes_each_version_and_numbers_faults_and_objections(rt: HostRuntime) {
     let alloc = rt.alloc();
     let first = is_read(alloc, FIRST_VERSION, SECOND_VERSION);
     let second = is_read(alloc, SECOND_VERSION, SECOND_VERSION);
+    let third = is_read(alloc, THIRD_VERSION, THIRD_VERSION);
     let no_frame = is_read(alloc, NO_FRAME, NO_FRAME);
     let numbers = (Objection::CountDiffers.code() == 4) & (CertError::NoMemory.code() == 5);
-    assert!(rt; first & second & no_frame & numbers);
+    assert!(rt; first & second & third & no_frame & numbers);
 }
 
 /// The set of the gate of two latches, along the first.

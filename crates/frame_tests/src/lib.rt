@@ -6,7 +6,7 @@
 //! runs: files of certificates, frames by crews, from bytes to bytes, simulation, many files. Of
 //! files: reading and writing circuits in both spellings, the order that gates take, buffered
 //! writing, devices that fail. Of registers: moves backward, latches that are opened, the judge of
-//! moves past an enable.
+//! moves past an enable, latches that are guessed to be equal.
 #![tactic(auto)]
 
 #[cfg(test)]
@@ -49,6 +49,8 @@ mod faults;
 mod first_pulses;
 #[cfg(test)]
 mod graphs;
+#[cfg(test)]
+mod guessed_readings;
 #[cfg(test)]
 mod held;
 #[cfg(test)]

@@ -46,13 +46,24 @@ fn takes_two_frames<R: Threads + Sync>(rt: &R, alloc: Global, circuit: &Circuit)
 }
 
 /// Returns the flow of a gate that a number spells, bit by bit.
-fn flow_of(number: u32) -> GateFlow {
+fn flow_of(number: u8) -> GateFlow {
     GateFlow {
         first_up: number % 2 == 1,
         second_up: number / 2 % 2 == 1,
         through: number / 4 % 2 == 1,
         first_down: number / 8 % 4,
         second_down: number / 32,
+    }
+}
+
+/// Returns the flow with all that a gate's flow can have.
+fn fullest_flow() -> GateFlow {
+    GateFlow {
+        first_up: true,
+        second_up: true,
+        through: true,
+        first_down: u8::MAX,
+        second_down: u8::MAX,
     }
 }
 
@@ -73,15 +84,15 @@ fn finds_gate<R: Threads + Sync>(
     is_set(set, &[7])
 }
 
-/// Returns true if it is with `count` known flows of the number `number`.
+/// Returns true if it is with `count` known flows, each of them `flow`.
 fn finds_gate_along<R: Threads + Sync>(
     rt: &R,
     alloc: Global,
     circuit: &Circuit,
-    number: u32,
+    flow: GateFlow,
     count: usize,
 ) -> bool {
-    match vec![in alloc; flow_of(number); count] {
+    match vec![in alloc; flow; count] {
         Ok(flows) => finds_gate(rt, alloc, circuit, flows),
         Err(_) => false,
     }
@@ -93,9 +104,10 @@ fn finds_gate_whatever_is_known<R: Threads + Sync>(
     alloc: Global,
     circuit: &Circuit,
 ) -> bool {
-    let mut finds = finds_gate_along(rt, alloc, circuit, u32::MAX, 1);
-    for number in 0..128u32 {
-        finds = finds & finds_gate_along(rt, alloc, circuit, number, number as usize % 3);
+    let mut finds = finds_gate_along(rt, alloc, circuit, fullest_flow(), 1);
+    for number in 0..128u8 {
+        let count = number as usize % 3;
+        finds = finds & finds_gate_along(rt, alloc, circuit, flow_of(number), count);
     }
     finds
 }

@@ -31,9 +31,9 @@ one-spelt bytes input other a b first second p q =
 
 -- these bytes have one answer by these options, but for certificates
 pub one-answer : (bytes : List ℕ) (options : Options) → IsOneAnswer bytes options
-one-answer bytes options certify input other old new before after r s first second p q =
+one-answer bytes options certify input other old new before after r s first second p q alike =
     let spelt : p.spelt ≡ q.spelt = one-spelt bytes input other p.spelt q.spelt first second p.read q.read in
     let P : SpeltCircuit → Type 0 = λ a. IsRetimedBy options a.circuit r in
     let same : IsSameRetiming options.certify certify r s =
-    retiming-with-one options.merge (bound_in options q.spelt.circuit) options.choice q.spelt.circuit (holding_in options) options.max_frames options.certify certify r s (subst P spelt p.written.answer.retimed) q.written.answer.retimed in
+    retiming-with-one options.merge (bound_in options q.spelt.circuit) options.choice q.spelt.circuit (holding_in options) options.max_frames options.certify certify r s (subst P spelt p.written.answer.retimed) q.written.answer.retimed alike in
     (same, ap₂ (λ (a : SpeltCircuit) (d : Netlist). text_in (unwrap_or options.spelling a.spelling) d) spelt same.circuit)

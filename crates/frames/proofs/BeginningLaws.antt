@@ -41,10 +41,10 @@ plain-begun has_come options bound most c held old new r now valid unasked keep 
 -- cleaned to
 pub merged-begun : {F : Type 0} (has_come : F → Netlist → Netlist → List ℕ → Type 0) (options : Options) (bound most : Option ℕ) (c : Netlist) (held : List ℕ) (first mid : F) (m : MergedStart) (last : F) (r : Retimed)
     (now : List ℕ) (read : Option ReadCircuit) → IsCircuit c → options.merge ≡ true → held ≡ kept_by options c → bound ≡ bound_in options c → most ≡ bound → has_come first c c (all_free c.aig)
-    → MergesIn held c m.circuit m.kept_free m.keep m.counts → SameStreams c m.circuit m.kept_free → StayHeld held c m.keep m.circuit → ComesOn has_come first mid c m.circuit m.kept_free
+    → MergesIn held c m.circuit m.kept_free m.keep m.merged → SameStreams c m.circuit m.kept_free → StayHeld held c m.keep m.circuit → ComesOn has_come first mid c m.circuit m.kept_free
     → IsMergedFrom has_come options bound m (length c.aig.latches) mid last r now read → IsRunBegun has_come options most c read r now last
 merged-begun has_come options bound most c held first mid m last r now read valid asked keep right same there so streams stand comes from =
-    let M : List ℕ → Type 0 = λ js. MergesIn js c m.circuit m.kept_free m.keep m.counts × StayHeld js c m.keep m.circuit in
+    let M : List ℕ → Type 0 = λ js. MergesIn js c m.circuit m.kept_free m.keep m.merged × StayHeld js c m.keep m.circuit in
     let both = subst M keep (so, stand) in
     let P : List ℕ → Type 0 = λ places. has_come mid c m.circuit places in
     let come : P m.kept_free =

@@ -14,7 +14,7 @@ use Rattle.aig_graph.specs.Counting.{count_below}
 use Rattle.rebuild.specs.Moved.{is_latched, moved_symbols, stays}
 use Rattle.aig_graph.specs.Streams.{SameShape}
 use Rattle.ascii_file.specs.Laws.{all_names, IsWithinLimits}
-use Rattle.merged_circuits.specs.declared.counts.MergeCounts.{MergeCounts}
+use Rattle.certificates.specs.declared.merged.MergedLatch.{MergedLatch}
 use Rattle.aig_graph.specs.declared.choice.Choice.{Choice}
 use Rattle.retimed_circuits.specs.declared.report.FrameReport.{FrameReport}
 use Rattle.aig_graph.specs.Keep.{Holding, held_of}
@@ -61,8 +61,8 @@ within-by c d shape names within =
       names = All-from_recursion IsOneLine (all_names d.symbols) names;
     }
 
-merged-names : (held : List ℕ) (c d : Netlist) (kept now : List ℕ) (counts : MergeCounts) → MergesIn held c d kept now counts → HasOneLineNames c → HasOneLineNames d
-merged-names held c d kept now counts merges all =
+merged-names : (held : List ℕ) (c d : Netlist) (kept now : List ℕ) (lines : List MergedLatch) → MergesIn held c d kept now lines → HasOneLineNames c → HasOneLineNames d
+merged-names held c d kept now lines merges all =
     subst HasOneLineNames (sym merges.merged.circuit) (cleans-names merges.clean held c kept merges.cleaned.cleans all)
 
 -- what a circuit within the limits of a header is retimed to is within them
@@ -74,6 +74,6 @@ stays-within false bound choice c holding max_frames certify r retimed within =
 stays-within true bound choice c holding max_frames certify r retimed within =
     let all = recursion_from_All IsOneLine (all_names c.symbols) within.names in
     let s = retimed.from_start in
-    let started : HasOneLineNames retimed.start = merged-names (held_of holding c) c retimed.start retimed.kept retimed.start_held retimed.counts retimed.merges all in
+    let started : HasOneLineNames retimed.start = merged-names (held_of holding c) c retimed.start retimed.kept retimed.start_held retimed.lines retimed.merges all in
     let ended : HasOneLineNames s.circuit = after-names bound choice retimed.start_held retimed.start (length s.frames) s.circuit s.kept_free retimed.retimed.now s.frames retimed.retimed.frames started in
     within-by c r.circuit retimed.streams.shape (subst HasOneLineNames (sym (ap (λ (x : Retimed). x.circuit) retimed.whole)) ended) within

@@ -41,11 +41,11 @@ merged-retimed options bound c start held read r s now covers asked most is reti
         start = start;
         kept = kept;
         start_held = held;
-        counts = read.counts;
+        lines = read.merged;
         merges = is.merges;
         from_start = s;
         retimed = retimed;
-        whole = same ∙ ap (λ (n : ℕ). since_merged n kept read.counts s) is.latches;
+        whole = same ∙ ap (λ (n : ℕ). since_merged n kept read.merged s) is.latches;
         streams = subst P (sym same) streams;
         stay = subst L (sym same) (retimed.stay ∙ is.stays.stay);
         held = ap (λ (x : Retimed). held_latches (names_in options) x.circuit) same ∙ through.named (names_in options) covers;

@@ -76,10 +76,11 @@ abbrev pub certifying : Options → Bool → Options
 certifying options certify = record { spelling = options.spelling; max_frames = options.max_frames; choice = options.choice; certify = certify; keep = options.keep; keep_latches = options.keep_latches; merge = options.merge; bound = options.bound }
 
 -- Of these bytes by these options, with certificates or without, there is one answer but for the
--- routes of certificates. There is one text of it.
+-- routes of certificates. There is one text of it. If latches were merged, there is one for each
+-- list of merged latches.
 abbrev pub IsOneAnswer : List ℕ → Options → Type 0
 IsOneAnswer bytes options = (certify : Bool) (input other : Input) (old new before after : Output) (r s : Retimed) → input.bytes ≡ Some bytes → other.bytes ≡ Some bytes
-    → (p : IsAnswered input old new options r) (q : IsAnswered other before after (certifying options certify) s)
+    → (p : IsAnswered input old new options r) (q : IsAnswered other before after (certifying options certify) s) → r.merged ≡ s.merged
     → IsSameRetiming options.certify certify r s × (text_for options p.spelt r ≡ text_for options q.spelt s)
 
 -- the bytes were read to their end, and are those of a circuit in a spelling, but there is no whole

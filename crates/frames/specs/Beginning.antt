@@ -21,7 +21,7 @@ pub record IsCleanedRun {F : Type 0} (has_come : F → Netlist → Netlist → L
 
 -- the report of a circuit with `latches` latches that was merged to m
 abbrev pub read_before : MergedStart → ℕ → ReadCircuit
-read_before m latches = record { latches = latches; kept_free = m.kept_free; counts = m.counts }
+read_before m latches = record { latches = latches; kept_free = m.kept_free; merged = m.merged }
 
 -- a merged circuit cleaned, and it was followed; what is reported of the circuit that was merged is
 -- beside it

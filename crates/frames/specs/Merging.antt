@@ -13,10 +13,10 @@ use Rattle.frames.specs.Named.{kept_by}
 -- c cleaned and merged, the positions of its held latches then, and what is reported of c
 pub record IsRunStart (options : Options) (c start : Netlist) (held : List ℕ) (read : ReadCircuit) : Type 0 where
   pub latches : read.latches ≡ length c.aig.latches
-  pub merges : MergesIn (kept_by options c) c start read.kept_free held read.counts
+  pub merges : MergesIn (kept_by options c) c start read.kept_free held read.merged
   pub streams : SameStreams c start read.kept_free
   pub stays : StayHeld (kept_by options c) c held start
 
 -- what is reported of the circuit that was read, if this is what frames start from retimed
 abbrev pub reported_of_read : ReadCircuit → Retimed → Retimed
-reported_of_read read r = since_merged read.latches read.kept_free read.counts r
+reported_of_read read r = since_merged read.latches read.kept_free read.merged r

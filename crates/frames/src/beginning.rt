@@ -124,7 +124,7 @@ fn merged_run<F: RunFollower + Drop>(
         circuit,
         keep,
         kept_free,
-        counts,
+        merged,
     } = start;
     let run = cleaned_run(alloc, follower, &circuit, &keep, bound, options)?;
     drop(circuit);
@@ -133,7 +133,7 @@ fn merged_run<F: RunFollower + Drop>(
         read: Some(ReadCircuit {
             latches,
             kept_free,
-            counts,
+            merged,
         }),
     })
 }

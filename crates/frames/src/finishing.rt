@@ -30,12 +30,17 @@ fn reported_of_read(alloc: Global, retimed: Retimed, read: ReadCircuit) -> Resul
         certificates,
         ..
     } = retimed;
-    match composed(alloc, read.kept_free.as_slice(), kept_free.as_slice()) {
+    let ReadCircuit {
+        latches,
+        kept_free: before,
+        merged,
+    } = read;
+    match composed(alloc, before.as_slice(), kept_free.as_slice()) {
         Ok(places) => Ok(Retimed {
             circuit,
             kept_free: Sequence::from_vec(places),
-            read_latches: read.latches,
-            merged: Some(read.counts),
+            read_latches: latches,
+            merged: Some(merged),
             frames,
             certificates,
         }),

@@ -59,7 +59,7 @@ pub trait RunFollower {
         requires there { HasComeTo has_come self.old circuit.now }
         requires in_range { All (λ j. j < length circuit.now.aig.latches) keep.now }
         ensures merges { IfOk result (λ m. MergesIn keep.now circuit.now m.circuit m.kept_free
-            m.keep m.counts) }
+            m.keep m.merged) }
         ensures in_range { IfOk result (λ m. All (λ j. j < length m.circuit.aig.latches) m.keep) }
         ensures streams { IfOk result (λ m. SameStreams circuit.now m.circuit m.kept_free) }
         ensures stay { IfOk result (λ m. StayHeld keep.now circuit.now m.keep m.circuit) }

@@ -85,21 +85,6 @@ fn moved_over<F: RunFollower>(
     settled(alloc, follower, after, held, copies)
 }
 
-/// Returns the places of the gates that a cleaning keeps. `kept` marks the latches and then the
-/// `gates` gates before it.
-fn kept_places(alloc: Global, kept: &[bool], gates: usize) -> Result<Vec<u32>, NoMemory> {
-    let latches = kept.len().saturating_sub(gates);
-    let mut places = Vec::new(alloc);
-    let mut place: u32 = 0;
-    for stays in &kept[latches..] {
-        if *stays {
-            places.push(place)?;
-        }
-        place = place.saturating_add(1);
-    }
-    Ok(places)
-}
-
 /// Carries the flow at each gate to the circuit after the move over `set` and its cleaning.
 ///
 /// `kept` marks the latches and gates that the cleaning keeps; it is empty if it keeps all.
@@ -110,13 +95,11 @@ fn carried(
     kept: &[bool],
     flows: Vec<GateFlow>,
 ) -> Result<Vec<GateFlow>, NoMemory> {
-    let moved = after_move(alloc, circuit.aig(), set, flows.as_slice())?;
-    drop(flows);
+    let moved = after_move(alloc, circuit.aig(), set, flows)?;
     if kept.is_empty() {
         return Ok(moved);
     }
-    let places = kept_places(alloc, kept, moved.len())?;
-    after_cleaning(alloc, places.as_slice(), moved.as_slice())
+    Ok(after_cleaning(kept, moved))
 }
 
 /// Takes the next frame of `run`, or returns `None` if no set leaves fewer latches.

@@ -6,7 +6,7 @@ ghost use Rattle.frames.specs.Answering.{IsOneAnswer};
 ///
 /// They don't depend on the crew, on the pieces in which the bytes are read, or on what was written
 /// before. Asking for certificates changes nothing else, and of certificates only the routes may
-/// differ.
+/// differ. If latches are merged, there is one answer for each list of merged latches.
 pub fn answer_law()
     ensures { (bytes : List ℕ) (options : Options) → IsOneAnswer bytes options }
 {}

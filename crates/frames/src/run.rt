@@ -1,5 +1,5 @@
 use aig_graph::{Keep, Sequence};
-use merged_circuits::MergeCounts;
+use certificates::MergedLatch;
 use retimed_circuits::Retimed;
 
 /// A run under way: the circuit that it has come to, and the follower that went with it.
@@ -25,8 +25,8 @@ pub struct ReadCircuit {
     /// For each free latch of the merged circuit its place, from 0, among the free latches of this
     /// one.
     pub kept_free: Sequence<u32>,
-    /// The numbers of latches that were merged.
-    pub counts: MergeCounts,
+    /// The latches of the cleaned circuit that were merged, and what each reads as.
+    pub merged: Sequence<MergedLatch>,
 }
 
 /// A run before its first frame. It doesn't need the circuit that was read.

@@ -1,6 +1,7 @@
 -- What a run prints, by its status.
-use Rattle.std.proofs.Common.{◌≡◌, ◌⊎◌, Bool, true, false, inl, inr, Result, Ok, Err, refl, sym, ◌∙◌, subst, ⊎_elim, arith}
+use Rattle.std.proofs.Common.{ℕ, ◌≡◌, ◌⊎◌, List, Bool, true, false, inl, inr, Result, Ok, Err, refl, sym, ◌∙◌, subst, ⊎_elim, arith}
 use Rattle.std.specs.Result.{IfOk}
+use Rattle.counted_io.specs.Input.{Input}
 use Rattle.counted_io.specs.Output.{Output}
 use Rattle.circuit_files.specs.Codes.{status_of}
 use Rattle.circuit_files.specs.Outcomes.{outcome_of}
@@ -10,8 +11,9 @@ use Rattle.circuit_files.specs.declared.outcome.Failure.{Failure}
 use Rattle.circuit_files.specs.declared.outcome.Failure.TheVariants as fails
 use Rattle.fretime.specs.Reporting.{MayRefuse, PrintsFailure}
 use Rattle.command_endings.specs.Printing.{Prints, ending}
+use Rattle.command_line.specs.declared.task.Task.{Task}
 use Rattle.fretime.specs.Batches.{PrintsList}
-use Rattle.fretime.specs.Runs.{MayGive, MayPrint, PrintsFilesOrRefusal, PrintsShapes}
+use Rattle.fretime.specs.Runs.{Does, MayGive, MayPrint, PrintsFilesOrRefusal, PrintsShapes}
 
 -- a command that isn't a batch
 pub by_command : (r : Result Outcome Failure) (old new : Output) → Prints (ending r) old new → MayGive r old new
@@ -22,6 +24,12 @@ by_command (Err failure) old new prints = prints
 pub both : {T E : Type 0} (r : Result T E) (P Q : T → Type 0) → IfOk r P → IfOk r Q → IfOk r (λ x. P x × Q x)
 both (Ok x) P Q p q = (p, q)
 both (Err e) P Q p q = tt
+
+-- What a task's command ensures, if it didn't fail, is what the task does: `other` is the task as
+-- the branch has it.
+pub by_task : (FileGiven : List ℕ → List ℕ → Type 0) (r : Result Outcome Failure) (is_terminal : Bool) (before after : Input) (old new said : Output) (task other : Task)
+    → task ≡ other → IfOk r (Does FileGiven other is_terminal before after old new said) → IfOk r (Does FileGiven task is_terminal before after old new said)
+by_task FileGiven r is_terminal before after old new said task other is does = subst (λ (it : Task). IfOk r (Does FileGiven it is_terminal before after old new said)) (sym is) does
 
 -- a failure of it that gave standard output nothing before
 printed : (json : Bool) (o : Outcome) (old mid new : Output) → mid ≡ old → ((json : Bool) → PrintsFailure json o old new → PrintsList json o old new) → Prints o old old

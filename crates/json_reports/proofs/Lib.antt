@@ -1,4 +1,5 @@
 mod ArrayLaws
 mod PutLaws
+mod MergedLaws
 pub mod PlainLaws
 mod Examples

@@ -8,10 +8,11 @@ use Rattle.reports.specs.declared.remaining_counts.Remaining.{Remaining}
 use Rattle.reports.specs.declared.statistics.Counts.{Counts}
 use Rattle.reports.specs.declared.statistics.Statistics.{Statistics}
 use Rattle.certificates.specs.declared.certificate.Certificate.{Certificate}
-use Rattle.certificate_audits.specs.declared.outcome.Audit.{Audit}
+use Rattle.certificate_audits.specs.declared.outcome.End.{End}
 use Rattle.counted_io.specs.Output.{Output}
 use Rattle.lane_sim.specs.declared.difference.Place.{Place}
 use Rattle.reports.specs.declared.agreement.Agreement.{Agreement}
+use Rattle.reports.specs.declared.judgement.Judgement.{Judgement}
 use Rattle.reports.specs.declared.agreement.Agreement.TheVariants.{Same, DiffersAt}
 use Rattle.reports.specs.declared.batch.JobReport.{JobReport}
 use Rattle.reports.specs.declared.batch.JobReport.TheVariants.{Done, Refused, NoMemory, NoSuchLatch, NoSuchName}
@@ -20,8 +21,8 @@ use Rattle.serde_json.specs.Data.{Data, null, string, object, Members, member, n
 use Rattle.serde_json.specs.View.{items_of, view}
 use Rattle.serde_json.specs.declared.value.Value.{Value}
 use Rattle.serde_json.specs.Written.{has_float, items_have_float, members_have_float}
-use Rattle.certificate_audits.specs.Ends.{block_objection_name}
-use Rattle.json_reports.specs.Audits.{agreement_data, audit_data, block_data, objection_at}
+use Rattle.certificate_audits.specs.Ends.{block_objection_name, refused_latch}
+use Rattle.json_reports.specs.Audits.{agreement_data, audit_data, block_data, latch_objection, merged_before, merged_data, objection_at}
 use Rattle.json_reports.specs.Batches.{batch_data, job_data}
 use Rattle.merged_circuits.specs.declared.counts.MergeCounts.{MergeCounts}
 use Rattle.json_reports.specs.Counts.{circuit_data, map_data, merge_data, statistics_data}
@@ -30,7 +31,7 @@ use Rattle.json_reports.specs.Faults.{fault_data, fault_offset}
 use Rattle.json_reports.specs.Lines.{IsPlain, PrintsLine, PrintsMade}
 use Rattle.json_reports.specs.Members.{count, array_of, or_null}
 use Rattle.json_reports.specs.Refusals.{refusal_data}
-use Rattle.json_reports.specs.Retimings.{networks_of, frame_data, held_back_data, retiming_data}
+use Rattle.json_reports.specs.Retimings.{merged_counts, networks_of, frame_data, held_back_data, retiming_data}
 use Rattle.json_reports.specs.Timings.{frame_times_data, times_data}
 use Rattle.json_reports.specs.declared.fault.Fault.{Fault}
 use Rattle.json_reports.specs.declared.fault.Fault.TheVariants as faults
@@ -128,19 +129,27 @@ pub retiming : (r : Retimed) (levels : ReadLevels) (left : Remaining) (times : O
 retiming r levels left times mapped =
     is_plain {n = 4} (omega arith) (plain-object (plain-member (plain-circuit left.counts) (plain-member (plain-object (plain-member (plain-count r.read_latches) (plain-member (plain-or_null count plain-count levels.counted) plain-none)))
     (plain-member (plain-or_null count plain-count levels.bound) (plain-member (plain-string _) (plain-member (plain-array frame_data r.frames plain-frame) (plain-member (plain-array count r.kept_free plain-count) (plain-member (plain-held_back left.held_back left.is_least)
-    (plain-member (plain-or_null map_data plain-map mapped) (plain-member (plain-or_null merge_data plain-merge r.merged) (plain-member (plain-or_null times_data plain-times times)
+    (plain-member (plain-or_null map_data plain-map mapped) (plain-member (plain-or_null merge_data plain-merge (merged_counts r.merged)) (plain-member (plain-or_null times_data plain-times times)
     (plain-member (plain-or_null count plain-count (networks_of times)) (plain-member (plain-count 0) plain-none)))))))))))))
 
-plain-agreement : (agreement : Agreement) → Plain 1 (agreement_data agreement)
+plain-agreement : {n : ℕ} (agreement : Agreement) → Plain (suc n) (agreement_data agreement)
 plain-agreement Same = record { whole = refl; nests = omega arith }
 plain-agreement (DiffersAt offset) = record { whole = refl; nests = omega arith }
 
+plain-merged : (latches : ℕ) (end : End) → Plain 2 (merged_data latches end)
+plain-merged latches end =
+    plain-object (plain-member (plain-or_null count plain-count (refused_latch end)) (plain-member (plain-count latches) (plain-member (plain-or_null string plain-string (latch_objection end)) plain-none)))
+
+plain-before : (merged : Option ℕ) (end : End) {ms : Members} → PlainMembers 2 ms → PlainMembers 2 (merged_before merged end ms)
+plain-before None end p = p
+plain-before (Some latches) end p = plain-member (plain-merged latches end) p
+
 -- of an audit
-pub audit : (blocks : List Certificate) (a : Audit) (agreement : Option Agreement) (bound : Option ℕ) (status : ℕ) → IsPlain (audit_data blocks a agreement bound status)
-audit blocks a agreement bound status =
-    is_plain {n = 2} (omega arith) (plain-object (plain-member (plain-or_null count plain-count bound) (plain-member (plain-string _) (plain-member (plain-array block_data _ (λ b. plain-count b.count))
-    (plain-member (plain-string _) (plain-member (plain-or_null (λ o. string (block_objection_name o)) (λ o. plain-string _) (objection_at a.end))
-    (plain-member (plain-or_null agreement_data plain-agreement agreement) (plain-member (plain-count status) plain-none))))))))
+pub audit : (blocks : List Certificate) (j : Judgement) (status : ℕ) → IsPlain (audit_data blocks j status)
+audit blocks j status =
+    is_plain {n = 3} (omega arith) (plain-object (plain-member (plain-or_null count plain-count j.bound) (plain-member (plain-string _) (plain-member (plain-array block_data _ (λ b. plain-count b.count))
+    (plain-member (plain-string _) (plain-before j.merged j.audit.end (plain-member (plain-or_null (λ o. string (block_objection_name o)) (λ o. plain-string _) (objection_at j.audit.end))
+    (plain-member (plain-or_null agreement_data plain-agreement j.agreement) (plain-member (plain-count status) plain-none)))))))))
 
 plain-job : (report : JobReport) → Plain 2 (job_data report)
 plain-job (Done before after) = record { whole = refl; nests = omega arith }

@@ -1,5 +1,8 @@
 -- A retimed circuit and its frames, as an object.
-use Rattle.std.specs.Prelude.{ℕ, Bool, Option, codes, option_map}
+use Rattle.std.specs.Prelude.{ℕ, Bool, List, Option, codes, option_map}
+use Rattle.certificates.specs.declared.merged.MergedLatch.{MergedLatch}
+use Rattle.merged_circuits.specs.Counts.{counts_of}
+use Rattle.merged_circuits.specs.declared.counts.MergeCounts.{MergeCounts}
 use Rattle.reports.specs.declared.held_back.HeldBack.{HeldBack}
 use Rattle.reports.specs.declared.remaining_counts.Remaining.{Remaining}
 use Rattle.retimed_circuits.specs.declared.report.FrameReport.{FrameReport}
@@ -36,6 +39,10 @@ held_back_data h is_least =
 abbrev pub networks_of : Option Times → Option ℕ
 networks_of times = option_map (λ t. t.networks) times
 
+-- the number of merged latches, if latches were to be merged
+abbrev pub merged_counts : Option (List MergedLatch) → Option MergeCounts
+merged_counts merged = option_map counts_of merged
+
 -- Each frame, what the written circuit has, the latches that were read and the free latches that
 -- stayed. Also what holds latches, and the time of each part.
 abbrev pub retiming_data : Retimed → ReadLevels → Remaining → Option Times → Option MapCounts → Data
@@ -48,7 +55,7 @@ retiming_data r levels left times mapped =
     (member (codes "free_kept") (array_of count r.kept_free)
     (member (codes "held_back") (held_back_data left.held_back left.is_least)
     (member (codes "map") (or_null map_data mapped)
-    (member (codes "merged") (or_null merge_data r.merged)
+    (member (codes "merged") (or_null merge_data (merged_counts r.merged))
     (member (codes "microseconds") (or_null times_data times)
     (member (codes "network") (or_null count (networks_of times))
     (member (codes "status") (count 0) no_members))))))))))))

@@ -2,15 +2,15 @@
 ghost use Rattle.std.specs.Prelude.{◌≡◌, IfOk, OnOk, take};
 ghost use Rattle.serde_json.specs.View.{members_view, view};
 ghost use Rattle.certificate_audits.specs.Ends.{block_objection_name};
-ghost use Rattle.json_reports.specs.Audits.{agreement_data, audit_data, block_data, objection_at};
+ghost use Rattle.json_reports.specs.Audits.{agreement_data, audit_data, audit_members, block_data, latch_objection, merged_data, objection_at, with_merged, without_merged};
 ghost use Rattle.json_reports.specs.Audits as names;
-ghost use Rattle.json_reports.specs.Members.{array_of, or_null};
+ghost use Rattle.json_reports.specs.Members.{array_of, or_null, scalar_data};
 ghost use Rattle.serde_json.specs.Data.{no_members, object, string};
 
 use crate::members::{Scalar, put_made, put_scalars, scalars_object, wide};
-use certificate_audits::{Audit, End};
+use certificate_audits::End;
 use certificates::Certificate;
-use reports::Agreement;
+use reports::{Agreement, Judgement};
 use serde_json::{Map, Value};
 use std::alloc::{AllocError, Global};
 
@@ -23,6 +23,8 @@ fn end_name(end: End) -> &'static str
         End::Open => "Open",
         End::BlocksFollow => "BlocksFollow",
         End::Objected(_) => "Objected",
+        End::Misread(_) => "Misread",
+        End::NotShown(_) => "NotShown",
     }
 }
 
@@ -83,20 +85,60 @@ fn agreement_value(alloc: Global, agreement: Option<Agreement>) -> Result<Value,
     }
 }
 
-/// Puts the members of an audit into an object that has none.
+/// Returns why a merged latch is refused, or null if none is.
+fn latch_objection(end: End) -> Scalar<'static>
+    ensures { scalar_data result ≡ or_null string (latch_objection end) }
+{
+    match end {
+        End::Misread(_) => Scalar::Text("Misread"),
+        End::NotShown(_) => Scalar::Text("NotShown"),
+        _ => Scalar::Null,
+    }
+}
+
+fn merged_object(alloc: Global, latches: u64, end: End) -> Result<Value, AllocError>
+    ensures { IfOk result (λ v. view v ≡ merged_data latches end) }
+{
+    scalars_object(
+        alloc,
+        &[
+            ("latch", Scalar::CountIfAny(wide(end.refused_latch()))),
+            ("latches", Scalar::Count(latches)),
+            ("objection", latch_objection(end)),
+        ],
+    )
+}
+
+/// Puts what is judged of merged latches, if the file has them.
+fn put_merged(
+    members: &mut Map<String, Value>,
+    alloc: Global,
+    merged: Option<u64>,
+    end: End,
+) -> Result<(), AllocError>
+    ensures { OnOk result (members_view members.new.entries
+        ≡ with_merged merged end (members_view members.old.entries)) }
+{
+    match merged {
+        None => Ok(()),
+        Some(latches) => put_made(members, alloc, "merged", merged_object(alloc, latches, end)),
+    }
+}
+
+/// Puts the members of a judgement, but for merged latches, into an object that has none.
 fn put_audit(
     members: &mut Map<String, Value>,
     alloc: Global,
     blocks: &[Certificate],
-    audit: Audit,
-    agreement: Option<Agreement>,
-    bound: Option<u32>,
+    judgement: &Judgement,
     status: u8,
 ) -> Result<(), AllocError>
     ensures { OnOk result (members_view members.old.entries ≡ no_members
-        → object (members_view members.new.entries)
-        ≡ audit_data blocks.now audit agreement bound status) }
+        → members_view members.new.entries
+        ≡ audit_members blocks.now (without_merged judgement.now) status) }
 {
+    let audit = judgement.audit;
+    let agreement = judgement.agreement;
     let confirmed = first_blocks(blocks, audit.confirmed);
     put_made(members, alloc, "counts", counts_array(alloc, confirmed))?;
     put_made(
@@ -110,7 +152,7 @@ fn put_audit(
         members,
         alloc,
         &[
-            ("bound", Scalar::CountIfAny(wide(bound))),
+            ("bound", Scalar::CountIfAny(wide(judgement.bound))),
             ("command", Scalar::Text("verify")),
             ("end", Scalar::Text(end_name(audit.end))),
             ("status", Scalar::Count(u64::from(status))),
@@ -118,9 +160,7 @@ fn put_audit(
     )
 }
 
-/// Returns what `verify` prints of an audit that ends with this status. It is of the audit of a
-/// file's blocks under a bound on levels, or none. A file may have been compared with the circuit
-/// that they end in.
+/// Returns what `verify` prints of a judgement of a file's blocks. It ends with this status.
 ///
 /// # Errors
 ///
@@ -128,14 +168,14 @@ fn put_audit(
 pub fn audit_object(
     alloc: Global,
     blocks: &[Certificate],
-    audit: Audit,
-    agreement: Option<Agreement>,
-    bound: Option<u32>,
+    judgement: &Judgement,
     status: u8,
 ) -> Result<Value, AllocError>
-    ensures { IfOk result (λ v. view v ≡ audit_data blocks.now audit agreement bound status) }
+    ensures { IfOk result (λ v. view v ≡ audit_data blocks.now judgement.now status) }
 {
     let mut members = Map::new(alloc);
-    put_audit(&mut members, alloc, blocks, audit, agreement, bound, status)?;
+    put_audit(&mut members, alloc, blocks, judgement, status)?;
+    let end = judgement.audit.end;
+    put_merged(&mut members, alloc, judgement.merged, end)?;
     Ok(Value::Object(members))
 }

@@ -16,12 +16,11 @@ use crate::printing::{PrintError, print_made};
 use crate::refusal::{Refusal, refusal_object};
 use crate::retiming::retiming_object;
 use crate::times::Times;
-use certificate_audits::Audit;
 use certificates::Certificate;
 use counted_io::CountedWrite;
 use lane_sim::Place;
 use merged_circuits::MergeCounts;
-use reports::{Agreement, JobReport, Remaining, Statistics};
+use reports::{JobReport, Judgement, Remaining, Statistics};
 use retimed_circuits::Retimed;
 use std::alloc::Global;
 
@@ -106,18 +105,16 @@ pub fn print_shapes_differ<W: CountedWrite>(alloc: Global, writer: &mut W) -> Re
 pub fn print_audit<W: CountedWrite>(
     alloc: Global,
     blocks: &[Certificate],
-    audit: Audit,
-    agreement: Option<Agreement>,
-    bound: Option<u32>,
+    judgement: &Judgement,
     status: u8,
     writer: &mut W,
 ) -> Result<(), PrintError>
-    ensures { PrintsLine (audit_data blocks.now audit agreement bound status)
+    ensures { PrintsLine (audit_data blocks.now judgement.now status)
         (W.output writer.old) (W.output writer.new) result }
 {
     print_made(
         alloc,
-        audit_object(alloc, blocks, audit, agreement, bound, status),
+        audit_object(alloc, blocks, judgement, status),
         writer,
     )
 }

@@ -43,8 +43,8 @@ fn merge_object(alloc: Global, counts: MergeCounts) -> Result<Value, AllocError>
     scalars_object(
         alloc,
         &[
-            ("constant", Scalar::Count(u64::from(counts.constant))),
-            ("latches", Scalar::Count(u64::from(counts.merged))),
+            ("constant", Scalar::Count(counts.constant)),
+            ("latches", Scalar::Count(counts.merged)),
         ],
     )
 }

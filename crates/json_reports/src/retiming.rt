@@ -9,6 +9,9 @@ ghost use Rattle.json_reports.specs.Retimings as told;
 use crate::counts::{MapCounts, ReadLevels, circuit_object, map_value, merged_value};
 use crate::members::{Scalar, put_made, put_scalars, scalars_object, wide};
 use crate::times::{Times, times_value};
+use aig_graph::Sequence;
+use certificates::MergedLatch;
+use merged_circuits::{MergeCounts, counts_of};
 use reports::{HeldBack, Remaining};
 use retimed_circuits::{FrameReport, Retimed};
 use serde_json::{Map, Value};
@@ -91,6 +94,16 @@ fn networks_of(times: Option<&Times>) -> Option<u32>
     }
 }
 
+/// Counts the merged latches, if latches were to be merged.
+fn counts_of_merged(merged: &Option<Sequence<MergedLatch>>) -> Option<MergeCounts>
+    ensures { result ≡ told.merged_counts merged.now }
+{
+    match merged {
+        Some(lines) => Some(counts_of(lines.as_slice())),
+        None => None,
+    }
+}
+
 /// Puts the members of a retiming into an object that has none.
 fn put_retiming(
     members: &mut Map<String, Value>,
@@ -116,12 +129,8 @@ fn put_retiming(
     let held_back = held_back_object(alloc, &remaining.held_back, remaining.is_least);
     put_made(members, alloc, "held_back", held_back)?;
     put_made(members, alloc, "map", map_value(alloc, map))?;
-    put_made(
-        members,
-        alloc,
-        "merged",
-        merged_value(alloc, retimed.merged),
-    )?;
+    let merged = counts_of_merged(&retimed.merged);
+    put_made(members, alloc, "merged", merged_value(alloc, merged))?;
     put_made(members, alloc, "microseconds", times_value(alloc, times))?;
     put_scalars(
         members,

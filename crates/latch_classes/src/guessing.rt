@@ -1,37 +1,90 @@
 //! The rounds of a guess.
 use crate::asking::round;
-use crate::merging::merged;
-use crate::parting::part_by_step;
-use crate::states::States;
+use crate::budget::Budget;
+use crate::questions::Questions;
+use crate::steps::{Steps, cost};
 use aig_graph::{Aig, Lit, NoMemory};
 use gate_sharing::SharingError;
 use std::alloc::Global;
 
 /// How many random steps part no class before they end.
-const QUIET: usize = 8;
+const QUIET: usize = 3;
 
 /// How many random steps there are in a round at most.
 const MOST_STEPS: usize = 4096;
+
+/// How many steps over all gates a budget must have. Fewer part too little, and the words of a
+/// large circuit take much memory.
+const FEWEST_STEPS: u64 = 16;
+
+/// What latches are taken for.
+#[derive(Drop)]
+pub struct GuessedReads {
+    /// By latch what it reads as.
+    pub reads: Vec<Lit>,
+    /// Whether propagation shows that latches go on to hold what they read as. If not, the budget
+    /// was spent, and classes have to be parted further.
+    pub is_settled: bool,
+}
 
 /// Parts classes by steps from random states in which latches hold what they read as.
 fn simulate(
     alloc: Global,
     aig: &Aig,
-    states: &mut States,
+    steps: &mut Steps,
     reads: &mut Vec<Lit>,
 ) -> Result<(), NoMemory> {
     let mut quiet = 0;
     for _ in 0..MOST_STEPS {
-        if quiet >= QUIET {
+        if quiet >= QUIET || steps.budget.is_spent() {
             return Ok(());
         }
-        states.random_step(aig, reads.as_slice());
+        steps.narrow(alloc, aig, reads.as_slice())?;
+        steps.random_step(aig, reads.as_slice());
         quiet += 1;
-        if part_by_step(alloc, aig, states, reads)? {
+        if steps.part(alloc, aig, reads)? {
             quiet = 0;
         }
     }
     Ok(())
+}
+
+/// Simulates, and then asks of all latches. Whether a class was parted by what was asked.
+fn turn(
+    alloc: Global,
+    aig: &Aig,
+    steps: &mut Steps,
+    reads: &mut Vec<Lit>,
+) -> Result<bool, SharingError> {
+    simulate(alloc, aig, steps, reads)?;
+    if steps.budget.is_spent() {
+        return Ok(false);
+    }
+    let found = Questions::of(alloc, aig, reads.as_slice(), &mut steps.budget)?;
+    match found {
+        Some(questions) => {
+            let mut questions = questions;
+            let parted = round(alloc, aig, &mut questions, steps, reads)?;
+            Ok(parted)
+        }
+        None => Ok(false),
+    }
+}
+
+/// Takes turns until none parts a class. Whether that was before the budget was spent.
+fn settle(
+    alloc: Global,
+    aig: &Aig,
+    budget: Budget,
+    reads: &mut Vec<Lit>,
+) -> Result<bool, SharingError> {
+    let mut steps = Steps::of(alloc, aig, reads.as_slice(), budget)?;
+    for _ in 0..=aig.latches().len() {
+        if !turn(alloc, aig, &mut steps, reads)? {
+            return Ok(!steps.budget.is_spent());
+        }
+    }
+    Ok(false)
 }
 
 /// Guesses what each latch of a circuit may be taken for: itself, a constant, or an earlier latch
@@ -43,17 +96,19 @@ fn simulate(
 /// # Errors
 ///
 /// `NoMemory` where memory is refused, and `TooLarge` where there are too many gates.
-pub fn guess(alloc: Global, aig: &Aig, reads: Vec<Lit>) -> Result<Vec<Lit>, SharingError> {
+pub fn guess(
+    alloc: Global,
+    aig: &Aig,
+    reads: Vec<Lit>,
+    budget: Budget,
+) -> Result<GuessedReads, SharingError> {
     let mut reads = reads;
-    let mut states = States::of(alloc, aig)?;
-    for _ in 0..aig.latches().len() {
-        simulate(alloc, aig, &mut states, &mut reads)?;
-        let Some(graph) = merged(alloc, aig, reads.as_slice())? else {
-            return Ok(reads);
-        };
-        if !round(alloc, aig, &graph, &mut states, &mut reads)? {
-            return Ok(reads);
-        }
+    if budget.total() / FEWEST_STEPS < cost(aig) {
+        return Ok(GuessedReads {
+            reads,
+            is_settled: false,
+        });
     }
-    Ok(reads)
+    let is_settled = settle(alloc, aig, budget, &mut reads)?;
+    Ok(GuessedReads { reads, is_settled })
 }

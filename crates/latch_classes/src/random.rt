@@ -1,4 +1,5 @@
 //! Words of random bits, from a fixed seed.
+use crate::words::Words;
 
 /// How often a bit is 1.
 #[derive(Clone, Copy)]
@@ -18,6 +19,25 @@ pub(crate) struct Random {
     state: u64,
 }
 
+/// Returns a word, of which an eighth of the bits is 1. Lanes of one word depend on one another,
+/// and what two words have in one lane doesn't.
+fn one_eighth(word: u64) -> u64 {
+    word & word.rotate_left(21) & word.rotate_left(42)
+}
+
+fn nearly_none(word: u64) -> u64 {
+    let eighth = one_eighth(word);
+    eighth & eighth.rotate_left(11)
+}
+
+fn mixed(word: u64) -> u64 {
+    match word >> 62 {
+        0 => one_eighth(word.rotate_left(7)),
+        1 => !one_eighth(word.rotate_left(7)),
+        _ => word,
+    }
+}
+
 impl Random {
     /// Those of the one seed.
     pub(crate) fn seeded() -> Random {
@@ -25,7 +45,7 @@ impl Random {
     }
 
     /// The next word, of which each bit is 1 half of the time.
-    pub(crate) fn next(&mut self) -> u64 {
+    fn next(&mut self) -> u64 {
         let mut word = self.state;
         word ^= word << 13;
         word ^= word >> 7;
@@ -34,31 +54,26 @@ impl Random {
         word
     }
 
-    fn seven_eighths(&mut self) -> u64 {
-        self.next() | self.next() | self.next()
-    }
-
-    pub(crate) fn one_eighth(&mut self) -> u64 {
-        self.next() & self.next() & self.next()
-    }
-
-    fn mixed(&mut self) -> u64 {
-        match self.next() >> 62 {
-            0 => self.one_eighth(),
-            1 => self.seven_eighths(),
-            _ => self.next(),
+    /// The next word, of which each bit is 1 so often.
+    pub(crate) fn word(&mut self, density: Density) -> u64 {
+        let word = self.next();
+        match density {
+            Density::Half => word,
+            Density::SevenEighths => !one_eighth(word),
+            Density::OneEighth => one_eighth(word),
+            Density::NearlyAll => !nearly_none(word),
+            Density::NearlyNone => nearly_none(word),
+            Density::Mixed => mixed(word),
         }
     }
 
-    /// The next word, of which each bit is 1 so often.
-    pub(crate) fn word(&mut self, density: Density) -> u64 {
-        match density {
-            Density::Half => self.next(),
-            Density::SevenEighths => self.seven_eighths(),
-            Density::OneEighth => self.one_eighth(),
-            Density::NearlyAll => !(self.one_eighth() & self.one_eighth()),
-            Density::NearlyNone => self.one_eighth() & self.one_eighth(),
-            Density::Mixed => self.mixed(),
+    /// The next words, of which each has its density.
+    pub(crate) fn words(&mut self, densities: &[Density; 4]) -> Words {
+        Words {
+            a: self.word(densities[0]),
+            b: self.word(densities[1]),
+            c: self.word(densities[2]),
+            d: self.word(densities[3]),
         }
     }
 }

@@ -1,11 +1,1 @@
-pub mod RoundLaws
-pub mod RoundStepLaws
-pub mod CoarsestLaws
-pub mod MarkLaws
-pub mod NameLaws
-pub mod ReaderLaws
-pub mod SplitLaws
-pub mod SameRunLaws
-pub mod SameRoundLaws
-pub mod AgainLaws
 pub mod StartLaws

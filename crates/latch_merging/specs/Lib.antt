@@ -1,3 +1,2 @@
-pub mod Rounds
-pub mod Names
-pub mod Laws
+pub mod Merging
+pub mod Starts

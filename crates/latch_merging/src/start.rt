@@ -2,18 +2,16 @@
 //!
 //! It is cleaned first so that a class's first latch is one that something depends on. Also, a
 //! circuit in which no two latches agree is then what it is without merging.
-ghost use Rattle.std.specs.Prelude.{◌≡◌, ◌<◌, All, IfOk, length};
-ghost use Rattle.aig_graph.specs.Laws.{all_free};
+ghost use Rattle.std.specs.Prelude.{◌<◌, All, IfOk, length};
 ghost use Rattle.aig_graph.specs.Streams.{SameStreams};
-ghost use Rattle.merged_circuits.specs.Counts.{AreCounts};
-ghost use Rattle.merged_circuits.specs.Partitions.{IsMerged};
 ghost use Rattle.retimed_circuits.specs.Merging.{MergesIn};
 ghost use Rattle.retimed_circuits.specs.Names.{StayHeld};
+ghost use Rattle.latch_merging.specs.Starts.{IsStartOf};
 
 use crate::merging::{MergedCircuit, merge_latches};
 use aig_graph::{Circuit, Keep, NoMemory, Sequence};
+use certificates::MergedLatch;
 use clean::{Cleaned, clean};
-use merged_circuits::MergeCounts;
 use std::alloc::Global;
 
 /// A circuit that was cleaned and then merged.
@@ -26,18 +24,13 @@ pub struct MergedStart {
     /// For each free latch of that circuit its place, from 0, among the free latches of the circuit
     /// that was given.
     pub kept_free: Sequence<u32>,
-    /// The numbers of latches of the cleaned circuit that were merged.
-    pub counts: MergeCounts,
+    /// The latches of the cleaned circuit that were merged, in order, and what each reads as.
+    pub merged: Sequence<MergedLatch>,
 }
 
 /// Merges the latches of a cleaned circuit. Its held latches take no part.
 fn start_of(alloc: Global, cleaned: Cleaned) -> Result<MergedStart, NoMemory>
-    ensures merged { IfOk result (λ m. IsMerged cleaned.keep cleaned.circuit m.circuit) }
-    ensures counted { IfOk result (λ m. AreCounts cleaned.circuit.aig cleaned.keep m.counts) }
-    ensures streams { IfOk result (λ m. SameStreams cleaned.circuit m.circuit
-        (all_free cleaned.circuit.aig)) }
-    ensures keep { IfOk result (λ m. m.keep ≡ cleaned.keep) }
-    ensures kept_free { IfOk result (λ m. m.kept_free ≡ cleaned.kept_free) }
+    ensures { IfOk result (IsStartOf cleaned) }
 {
     let Cleaned {
         circuit: before,
@@ -45,14 +38,20 @@ fn start_of(alloc: Global, cleaned: Cleaned) -> Result<MergedStart, NoMemory>
         kept_free,
         ..
     } = cleaned;
-    let merged = merge_latches(alloc, &before, &keep);
+    let merging = merge_latches(alloc, &before, &keep);
     drop(before);
-    match merged {
-        Ok(MergedCircuit { circuit, counts }) => Ok(MergedStart {
+    match merging {
+        Ok(
+            MergedCircuit {
+                circuit,
+                merged,
+                ..
+            },
+        ) => Ok(MergedStart {
             circuit,
             keep,
             kept_free,
-            counts,
+            merged,
         }),
         Err(error) => Err(error),
     }
@@ -67,7 +66,7 @@ fn start_of(alloc: Global, cleaned: Cleaned) -> Result<MergedStart, NoMemory>
 pub fn merged_start(alloc: Global, circuit: &Circuit, keep: &Keep) -> Result<MergedStart, NoMemory>
     requires in_range { All (λ j. j < length circuit.now.aig.latches) keep.now }
     ensures merges { IfOk result (λ m. MergesIn keep.now circuit.now m.circuit m.kept_free
-        m.keep m.counts) }
+        m.keep m.merged) }
     ensures streams { IfOk result (λ m. SameStreams circuit.now m.circuit m.kept_free) }
     ensures stay { IfOk result (λ m. StayHeld keep.now circuit.now m.keep m.circuit) }
     ensures in_range { IfOk result (λ m. All (λ j. j < length m.circuit.aig.latches) m.keep) }

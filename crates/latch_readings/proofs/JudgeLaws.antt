@@ -10,10 +10,10 @@ use Rattle.aig_graph.specs.Value.{opening_literal, signed_as}
 use Rattle.cleaned_circuits.specs.Latches.{constant_of}
 use Rattle.cleaned_circuits.specs.Merged.{replaced, replaced_latch}
 use Rattle.cleaned_circuits.proofs.MergedLaws.{replaced-first_latch, replaced-latch}
-use Rattle.merged_circuits.specs.Preserved.{IsPreserved}
+use Rattle.merged_circuits.specs.Inductive.{IsInductive}
 use Rattle.merged_circuits.specs.Readings.{IsReading, read, signature, substitutes_by}
 use Rattle.merged_circuits.specs.Shown.{merged_graph}
-use Rattle.merged_circuits.proofs.ShownLaws.{shown-preserved}
+use Rattle.merged_circuits.proofs.ShownLaws.{shown-inductive}
 use Rattle.unit_refutations.specs.Classes.{AreAlike, IsAlike, told}
 
 same-constant : (reset : Reset) → opening_literal reset 0 ≡ constant_of reset
@@ -27,8 +27,8 @@ told-signature substitutes latch = ap (λ (sign : ℕ). signed_as sign (replaced
 
 -- steps preserve a reading if each latch of the merged graph is told what that is told which it
 -- reads as
-pub judges-right : (g : Graph) (held reads : List ℕ) → IsGraph g → IsReading g held reads → AreAlike (merged_graph g reads) reads → IsPreserved g held reads
-judges-right g held reads valid reading alike = shown-preserved g held reads valid (record {
+pub judges-right : (g : Graph) (held reads : List ℕ) → IsGraph g → IsReading g held reads → AreAlike (merged_graph g reads) reads → IsInductive g held reads
+judges-right g held reads valid reading alike = shown-inductive g held reads valid (record {
   reading = reading;
   constants = λ j latch there zero values respects.
       let here : IsAlike (merged_graph g reads) j (read reads j) = alike j (omega (arith, reading.long, slice_get_within g.latches j latch there)) in

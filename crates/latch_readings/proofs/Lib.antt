@@ -1,3 +1,4 @@
 pub mod SubstituteLaws
 pub mod ReadingLaws
+pub mod LineLaws
 mod JudgeLaws

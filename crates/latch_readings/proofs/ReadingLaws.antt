@@ -1,11 +1,11 @@
 -- What latches read as, one by one.
-use Rattle.std.proofs.Common.{ℕ, ◌<◌, ◌≡◌, List, length, Bool, true, false, not, nat_eq, Some, slice_get, get_or, ap, ◌∙◌}
+use Rattle.std.proofs.Common.{ℕ, ◌+◌, ◌<◌, ◌≡◌, List, length, Bool, true, false, not, nat_eq, Some, slice_get, get_or, arith, ap, ◌∙◌}
 use Rattle.std.proofs.lemmas.List.{get_or_default}
 use Rattle.aig_graph.specs.declared.graph.Latch.{Latch}
-use Rattle.aig_graph.specs.Graph.{Graph}
+use Rattle.aig_graph.specs.Graph.{Graph, first_latch, variable}
 use Rattle.aig_graph.specs.Value.{signed_as}
 use Rattle.cleaned_circuits.specs.Latches.{constant_of}
-use Rattle.merged_circuits.specs.Counts.{is_merged}
+use Rattle.merged_circuits.specs.Lines.{is_merged, latch_line}
 use Rattle.merged_circuits.specs.Readings.{ReadsAs, as_first, may_merge, own_literal, read}
 
 -- what the loop reads
@@ -13,9 +13,15 @@ pub item-read : (reads : List ℕ) (k lit : ℕ) → k < length reads → lit �
 item-read reads k lit h e = e ∙ get_or_default reads k lit 0 h
 
 -- whether a latch reads as another
-pub merged-is : (g : Graph) (reads : List ℕ) (k lit own : ℕ) (ne : Bool) → k < length reads → lit ≡ get_or reads k lit → own ≡ own_literal g k → ne ≡ not (nat_eq lit own) → ne ≡ is_merged g reads k
+pub merged-is : (g : Graph) (reads : List ℕ) (k lit own : ℕ) (ne : Bool) → k < length reads → lit ≡ get_or reads k lit → own ≡ own_literal g k → ne ≡ not (nat_eq lit own) → ne ≡ is_merged (latch_line g reads k)
 merged-is g reads k lit own ne h e is signature_ne =
     signature_ne ∙ ap (λ (n : ℕ). not (nat_eq n own)) (item-read reads k lit h e) ∙ ap (λ (n : ℕ). not (nat_eq (read reads k) n)) is
+
+-- and by what line
+pub line-is : (g : Graph) (reads : List ℕ) (k lit own v : ℕ) → k < length reads → lit ≡ get_or reads k lit → own ≡ own_literal g k → v ≡ variable own → record { latch = v; reads = lit } ≡ latch_line g reads k
+line-is g reads k lit own v h e is at =
+    let place : v ≡ first_latch g + k = omega (arith, at, is) in
+    ap (λ (n : ℕ). record { latch = n; reads = lit }) place ∙ ap (λ (n : ℕ). record { latch = first_latch g + k; reads = n }) (item-read reads k lit h e)
 
 -- a test has one answer
 pub not-both : (b : Bool) → b ≡ false → b ≡ true → ⊥

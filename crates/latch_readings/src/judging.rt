@@ -12,6 +12,9 @@ use clean::Held;
 use std::alloc::Global;
 use unit_refutations::{Propagation, first_open};
 
+/// How many visits of gates the question of a latch may take.
+const VISITS: u32 = 200_000;
+
 /// What the judge of a reading answers.
 #[derive(Drop)]
 pub enum Judgement {
@@ -29,7 +32,6 @@ fn judge_reading(
     circuit: &Circuit,
     keep: &Keep,
     reads: &[Lit],
-    visits: u32,
 ) -> Result<Judgement, NoMemory>
     requires { IsReading circuit.now.aig keep.now reads.now }
     ensures { IfOk result (IsJudgement circuit.now keep.now reads.now) }
@@ -38,16 +40,16 @@ fn judge_reading(
     let merged = circuit_by(alloc, circuit, keep, reads)?;
     let aig = merged.aig();
     let mut propagation = Propagation::of(alloc, aig)?;
-    let open = first_open(alloc, &mut propagation, aig, reads, visits)?;
+    let open = first_open(alloc, &mut propagation, aig, reads, VISITS)?;
     match open {
         None => Ok(Judgement::Merged(merged)),
         Some(place) => Ok(Judgement::Open(place)),
     }
 }
 
-/// Judges whether steps preserve a reading, by unit propagation and probing with at most `visits`
-/// visits of gates for each latch. If so, the answer is the circuit in which latches read so.
-/// `Open` says nothing of the latch: more visits may show it.
+/// Judges whether steps preserve a reading, by unit propagation and probing. If so, the answer is
+/// the circuit in which latches read so. `Open` says nothing of the latch: more visits of gates may
+/// show it.
 ///
 /// # Errors
 ///
@@ -57,7 +59,6 @@ pub fn judge(
     circuit: &Circuit,
     keep: &Keep,
     reads: &[Lit],
-    visits: u32,
 ) -> Result<Judgement, NoMemory>
     ensures { IfOk result (IsJudgement circuit.now keep.now reads.now) }
 {
@@ -67,6 +68,6 @@ pub fn judge(
     drop(held);
     match misread {
         Some(place) => Ok(Judgement::Misread(place)),
-        None => judge_reading(alloc, circuit, keep, reads, visits),
+        None => judge_reading(alloc, circuit, keep, reads),
     }
 }

@@ -6,14 +6,13 @@
 //! all classes agree.
 #![tactic(auto)]
 
-mod counting;
 mod guessing;
 mod judging;
+mod lines;
 mod reading;
 mod substitutes;
 
-pub use counting::{counts_of, merged_latches};
 pub use guessing::guessed_reading;
 pub use judging::{Judgement, judge};
-pub use reading::may_merge;
-pub use substitutes::substitutes_by;
+pub use lines::{LineReading, merged_lines, own_reading, reading_of};
+pub use substitutes::circuit_by;

@@ -6,7 +6,7 @@ use aig_graph::{Aig, Latch, Lit, Reset};
 use clean::{Held, constant_of, own_literal};
 
 /// Returns true if the latch at a place may be merged.
-pub fn may_merge(held: &Held<'_>, place: usize, latch: &Latch) -> bool
+pub(crate) fn may_merge(held: &Held<'_>, place: usize, latch: &Latch) -> bool
     requires { place < length held.now.marks.items }
     ensures { result ≡ may_merge held.now.positions.now place latch.now }
 {

@@ -8,11 +8,7 @@ use clean::{Substitution, merge_gates, replaced_circuit};
 use std::alloc::Global;
 
 /// Returns the literal that stands for each variable if latches read as `reads` says.
-///
-/// # Errors
-///
-/// `NoMemory` if memory is refused.
-pub fn substitutes_by(alloc: Global, aig: &Aig, reads: &[Lit]) -> Result<Substitution, NoMemory>
+fn substitutes_by(alloc: Global, aig: &Aig, reads: &[Lit]) -> Result<Substitution, NoMemory>
     requires { length reads.now ≡ length aig.now.latches }
     ensures { IfOk result (λ substitutes. substitutes ≡ substitutes_by aig.now reads.now) }
 {
@@ -25,7 +21,11 @@ pub fn substitutes_by(alloc: Global, aig: &Aig, reads: &[Lit]) -> Result<Substit
 }
 
 /// Returns the circuit in which latches read as `reads` says. Nothing goes, and names stay.
-pub(crate) fn circuit_by(
+///
+/// # Errors
+///
+/// `NoMemory` if memory is refused.
+pub fn circuit_by(
     alloc: Global,
     circuit: &Circuit,
     keep: &Keep,

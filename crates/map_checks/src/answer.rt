@@ -12,7 +12,7 @@ pub enum Answer {
 }
 
 /// What sharing gates doesn't show; each is counted from 0 among those of its kind.
-#[derive(Clone, Copy, PartialEq, Eq)]
+#[derive(Clone, Copy, Debug, PartialEq, Eq)]
 pub enum Obligation {
     /// At step 0 this constraint of the map is 1.
     ConstraintAtReset(usize),

@@ -20,14 +20,14 @@ use Rattle.aig_graph.proofs.StreamLaws.{funext, composed-every}
 -- to
 pub merging-step : (c d e : Netlist) (held reads kept : List ℕ) (g h : Graph) (functions old new : List ℕ) → MergingStep c d e held reads kept g h functions old new
 merging-step c d e held reads kept g h functions old new valid netlist merged graph all many free p adds =
-    let reading = merged.preserved.reading in
+    let reading = merged.inductive.reading in
     let both : IsStateMap c e (composed kept (all_free d.aig)) (λ s. AreOne g old s × ReadsHold d.aig reads (state_of g functions s)) (λ s. state_of g functions s) =
     maps-compose c d e kept (all_free d.aig) (AreOne g old) (ReadsHold d.aig reads) (state_of g functions) (λ s. s)
     (IsGraph-merged_by held reads d e valid merged) (merged_by-streams held reads d e valid netlist merged).places p (merging-maps held reads d e valid netlist merged) in
     let told : IsStateMap c e (composed kept (all_free d.aig)) (AreOne h new) (state_of g functions) =
     restated c e (composed kept (all_free d.aig)) (λ s. AreOne g old s × ReadsHold d.aig reads (state_of g functions s)) (AreOne h new) (state_of g functions)
     (λ s here. (adds.says s).1 (here.0, reads-below d.aig held reads functions reading many g graph valid s here.1))
-    (λ s ones. let here = (adds.says s).0 ones in (here.0, reads-hold d.aig held reads functions reading many g graph valid s merged.preserved here.1)) both in
+    (λ s ones. let here = (adds.says s).0 ones in (here.0, reads-hold d.aig held reads functions reading many g graph valid s merged.inductive here.1)) both in
     let same : state_of g functions ≡ state_of h functions = funext _ _ (λ s. sym (state-kept g h functions adds.extends all s)) in
     let P : List ℕ → Type 0 = λ places. IsStateMap c e places (AreOne h new) (state_of g functions) in
     let Q : (State → State) → Type 0 = λ to. IsStateMap c e kept (AreOne h new) to in

@@ -67,5 +67,5 @@ same-states c d kept holds to on same p = record {
 pub merged-step : (c d e : Netlist) (held reads kept : List ℕ) (g h : Graph) (functions old new : List ℕ) → MergedStep c d e held reads kept g h functions old new
 merged-step c d e held reads kept g h functions old new valid netlist merged graph all many free p adds =
     same-states c e kept (AreOne h new) (state_of h functions) (state_of h (read_functions (first_latch d.aig) functions reads))
-    (λ s ones. read-state d.aig held reads functions merged.preserved.reading many g h old new graph all adds s ones)
+    (λ s ones. read-state d.aig held reads functions merged.inductive.reading many g h old new graph all adds s ones)
     (merging-step c d e held reads kept g h functions old new valid netlist merged graph all many free p adds)

@@ -8,7 +8,7 @@ use Rattle.aig_graph.specs.Graph.{Graph, IsGraph, first_latch}
 use Rattle.aig_graph.specs.Value.{value_within}
 use Rattle.aig_graph.proofs.KindLaws.{element}
 use Rattle.cleaned_circuits.proofs.LatchLaws.{constant-even}
-use Rattle.merged_circuits.specs.Preserved.{IsPreserved}
+use Rattle.merged_circuits.specs.Inductive.{IsInductive}
 use Rattle.merged_circuits.specs.Readings.{IsReading, ReadsAs, as_constant, as_first, as_itself, read}
 use Rattle.state_maps.specs.States.{State}
 use Rattle.map_circuits.specs.Constraining.{IsSubstitute, SubstitutesBelow, substitute_function}
@@ -60,7 +60,7 @@ module _ (d : Graph) (held reads functions : List ℕ) (reading : IsReading d he
 
     -- if each function has the value of what its latch reads as, and steps preserve that, latches
     -- hold what they read as
-    pub reads-hold : IsPreserved d held reads → SubstitutesBelow g first functions reads (length reads) s → ReadsHold d reads (state_of g functions s)
+    pub reads-hold : IsInductive d held reads → SubstitutesBelow g first functions reads (length reads) s → ReadsHold d reads (state_of g functions s)
     reads-hold kept below x j latch at =
         let less : j < length d.latches = slice_get_within d.latches j latch at in
         steady d held reads valid kept (state_of g functions s) x j latch at

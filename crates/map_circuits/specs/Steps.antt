@@ -2,7 +2,7 @@
 use Rattle.std.specs.Prelude.{ℕ, ◌≡◌, List, length, map}
 use Rattle.aig_graph.specs.Circuits.{AreLiteralsOf, IsNetlist, Netlist}
 use Rattle.aig_graph.specs.Graph.{Graph, IsGraph, first_latch, free_latches}
-use Rattle.merged_circuits.specs.Preserved.{IsMergedBy}
+use Rattle.merged_circuits.specs.Inductive.{IsMergedBy}
 use Rattle.merged_circuits.specs.Readings.{IsReading}
 use Rattle.map_circuits.specs.Constraining.{AddsSubstitutes, AreOne, substitute_function}
 use Rattle.map_circuits.specs.Following.{state_of}

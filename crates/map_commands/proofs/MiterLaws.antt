@@ -12,8 +12,9 @@ use Rattle.circuit_files.specs.declared.outcome.Outcome.{Outcome}
 use Rattle.circuit_files.specs.declared.outcome.Failure.{Failure}
 use Rattle.map_commands.specs.declared.given.Mapped.{Mapped}
 use Rattle.map_commands.specs.declared.made.Made.{Made}
-use Rattle.map_commands.specs.Asking.{AreMapped, IsMadeOf, PrintsMiter}
+use Rattle.map_commands.specs.Asking.{IsMadeOf, PrintsMiter}
 use Rattle.map_commands.specs.Making.{EndsMaking}
+use Rattle.map_commands.specs.Reading.{AreReadWithMap}
 
 -- the questions can be asked of a map that fits both circuits
 pub askable : (c d m : Netlist) → IsMap m → AreFitting c d m → IsAskable c d m
@@ -21,7 +22,7 @@ askable c d m is fits = record { shape = fits.shape; inputs = fits.inputs; latch
 
 -- what is made of what was read is written, in the spelling that is chosen
 pub prints-miter : {before after : Input} (FileGiven : List ℕ → List ℕ → Type 0) (old new : Output) (task : Asking) (mapped : Mapped) (made : Made) (spelling : Spelling) (result : Result Outcome Failure)
-    → AreMapped task before after mapped → IsMadeOf mapped made → spelling ≡ unwrap_or task.spelling mapped.map.spelling
+    → AreReadWithMap task.input task.retimed task.map before after mapped → IsMadeOf mapped made → spelling ≡ unwrap_or task.spelling mapped.map.spelling
     → IfOk result (EndsMaking FileGiven made spelling task.output old new) → IfOk result (PrintsMiter FileGiven task before after old new)
 prints-miter {before} {after} FileGiven old new task mapped made spelling result read is chosen printed =
     let P : Spelling → Type 0 = λ s. IfOk result (EndsMaking FileGiven made s task.output old new) in

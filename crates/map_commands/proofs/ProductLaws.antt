@@ -10,12 +10,12 @@ use Rattle.circuit_files.specs.declared.outcome.Outcome.{Outcome}
 use Rattle.circuit_files.specs.declared.outcome.Failure.{Failure}
 use Rattle.map_commands.specs.declared.given.Mapped.{Mapped}
 use Rattle.map_commands.specs.declared.products.Shown.{Shown}
-use Rattle.map_commands.specs.Asking.{AreMapped}
-use Rattle.map_commands.specs.Products.{EndsShowing, IsShownOf, PrintsProduct}
+use Rattle.map_commands.specs.Products.{EndsShowing, AreMadeSideBySide, PrintsProduct}
+use Rattle.map_commands.specs.Reading.{AreReadWithMap}
 
 -- what is made of what was read is written, in the spelling that is chosen
 pub prints-product : {before after : Input} (FileGiven : List ℕ → List ℕ → Type 0) (old new : Output) (certificate : Target) (task : Asking) (mapped : Mapped) (shown : Shown) (spelling : Spelling) (result : Result Outcome Failure)
-    → AreMapped task before after mapped → IsShownOf mapped shown → spelling ≡ unwrap_or task.spelling mapped.map.spelling
+    → AreReadWithMap task.input task.retimed task.map before after mapped → AreMadeSideBySide mapped shown → spelling ≡ unwrap_or task.spelling mapped.map.spelling
     → IfOk result (EndsShowing FileGiven shown spelling task.output certificate old new) → IfOk result (PrintsProduct FileGiven certificate task before after old new)
 prints-product {before} {after} FileGiven old new certificate task mapped shown spelling result read is chosen printed =
     let P : Spelling → Type 0 = λ s. IfOk result (EndsShowing FileGiven shown s task.output certificate old new) in

@@ -6,7 +6,6 @@ use Rattle.aig_graph.specs.Laws.{all_free}
 use Rattle.aig_graph.specs.Streams.{AreKept, SameShape, SameStreams}
 use Rattle.state_maps.specs.MapCircuits.{IsMapCircuit}
 use Rattle.map_checks.specs.Answers.{AreFitting, IsMap}
-use Rattle.aig_binary.specs.declared.reading.SpeltCircuit.{SpeltCircuit}
 use Rattle.reports.specs.Differences.{shapes_text}
 use Rattle.counted_io.specs.Input.{Input}
 use Rattle.counted_io.specs.Output.{Output}
@@ -15,11 +14,14 @@ use Rattle.command_line.specs.declared.task.Checking.{Checking}
 use Rattle.circuit_files.specs.declared.outcome.Outcome.{Outcome}
 use Rattle.circuit_files.specs.declared.outcome.Outcome.TheVariants as ends
 use Rattle.command_endings.specs.Printing.{EndsWith}
-use Rattle.command_endings.specs.Sources.{IsCircuitAt}
 use Rattle.simulation_commands.specs.Keeping.{AreSharedAt}
+use Rattle.simulation_commands.specs.Reading.{ArePair}
 use Rattle.simulation_commands.specs.declared.kept.Shared.{Shared}
 use Rattle.simulation_commands.specs.declared.kept.Shared.TheVariants.{Each, Kept}
-use Rattle.map_commands.specs.Obligations.{equal_text, obligation_text, retiming_text}
+use Rattle.simulation_commands.specs.declared.reading.Pair.{Pair}
+use Rattle.map_commands.specs.Reading.{AreReadWithMap}
+use Rattle.map_commands.specs.declared.given.Mapped.{Mapped}
+use Rattle.map_commands.specs.Obligations.{equal_line, obligation_text, retiming_line}
 use Rattle.map_commands.specs.declared.check.Verdict.{Verdict}
 use Rattle.map_commands.specs.declared.check.Verdict.TheVariants.{Retiming, Equal, NotShown, Open, ShapesDiffer}
 
@@ -47,9 +49,9 @@ IsVerdictKept c d kept (Open obligation shown all) = SameShape c d
 IsVerdictKept c d kept ShapesDiffer = SameShape c d → ⊥
 
 -- these free latches of c may be those of d
-abbrev pub IsSharedBy : Shared → Netlist → Netlist → Type 0
-IsSharedBy Each c d = Unit {0}
-IsSharedBy (Kept kept) c d = AreKept c d kept
+abbrev pub MayShare : Shared → Netlist → Netlist → Type 0
+MayShare Each c d = Unit {0}
+MayShare (Kept kept) c d = AreKept c d kept
 
 -- the same where d has these free latches of c, or each
 abbrev pub IsPairVerdict : Shared → Netlist → Netlist → Verdict → Type 0
@@ -57,40 +59,26 @@ IsPairVerdict Each c d verdict = (free_latches d.aig ≡ free_latches c.aig → 
 IsPairVerdict (Kept kept) c d verdict = IsVerdictKept c d kept verdict
 
 -- what is printed of it, and how the run ends
-abbrev pub verdict_text : Verdict → List ℕ
-verdict_text Retiming = retiming_text
-verdict_text Equal = equal_text
-verdict_text (NotShown obligation) = obligation_text obligation
-verdict_text (Open obligation shown all) = obligation_text obligation
-verdict_text ShapesDiffer = shapes_text
+abbrev pub check_text : Verdict → List ℕ
+check_text Retiming = retiming_line
+check_text Equal = equal_line
+check_text (NotShown obligation) = obligation_text obligation
+check_text (Open obligation shown all) = obligation_text obligation
+check_text ShapesDiffer = shapes_text
 
 -- how a run ends by the verdict
-abbrev pub outcome_of_verdict : Verdict → Outcome
-outcome_of_verdict Retiming = ends.Done
-outcome_of_verdict Equal = ends.Done
-outcome_of_verdict (NotShown obligation) = ends.Unconfirmed
-outcome_of_verdict (Open obligation shown all) = ends.Unconfirmed
-outcome_of_verdict ShapesDiffer = ends.ShapesDiffer
-
--- what is found of two circuits and the map that is read
-pub record IsVerdictUnder (c d : Netlist) (map : Source) (before after : Input) (verdict : Verdict) : Type 0 where
-  pub spelt : SpeltCircuit
-  pub read : IsCircuitAt map before after spelt
-  pub is : IsVerdict c d spelt.circuit verdict
-
--- what is found of a circuit, the one that is read, and the map that is read after it
-pub record IsVerdictWith (c : Netlist) (second map : Source) (before after : Input) (verdict : Verdict) : Type 0 where
-  pub spelt : SpeltCircuit
-  pub between : Input
-  pub read : IsCircuitAt second before between spelt
-  pub found : IsVerdictUnder c spelt.circuit map between after verdict
+abbrev pub outcome_of_check : Verdict → Outcome
+outcome_of_check Retiming = ends.Done
+outcome_of_check Equal = ends.Done
+outcome_of_check (NotShown obligation) = ends.Unconfirmed
+outcome_of_check (Open obligation shown all) = ends.Unconfirmed
+outcome_of_check ShapesDiffer = ends.ShapesDiffer
 
 -- what is found of the circuits and the map that are read in this order
 pub record IsVerdictOf (first second map : Source) (before after : Input) (verdict : Verdict) : Type 0 where
-  pub spelt : SpeltCircuit
-  pub between : Input
-  pub read : IsCircuitAt first before between spelt
-  pub found : IsVerdictWith spelt.circuit second map between after verdict
+  pub mapped : Mapped
+  pub read : AreReadWithMap first second map before after mapped
+  pub is : IsVerdict mapped.pair.first.circuit mapped.pair.second.circuit mapped.map.circuit verdict
 
 -- what is found of two circuits, and of the list of kept free latches that is read if there is one
 pub record IsPairVerdictUnder (c d : Netlist) (kept : Option Source) (before after : Input) (verdict : Verdict) : Type 0 where
@@ -98,19 +86,12 @@ pub record IsPairVerdictUnder (c d : Netlist) (kept : Option Source) (before aft
   pub read : AreSharedAt kept c d before after shared
   pub is : IsPairVerdict shared c d verdict
 
--- what is found of a circuit and the one that is read, without a map
-pub record IsPairVerdictWith (c : Netlist) (task : Checking) (before after : Input) (verdict : Verdict) : Type 0 where
-  pub spelt : SpeltCircuit
-  pub between : Input
-  pub read : IsCircuitAt task.retimed before between spelt
-  pub found : IsPairVerdictUnder c spelt.circuit task.kept between after verdict
-
 -- what is found of the circuits that are read in this order, without a map
 pub record IsPairVerdictOf (task : Checking) (before after : Input) (verdict : Verdict) : Type 0 where
-  pub spelt : SpeltCircuit
+  pub pair : Pair
   pub between : Input
-  pub read : IsCircuitAt task.input before between spelt
-  pub found : IsPairVerdictWith spelt.circuit task between after verdict
+  pub read : ArePair task.input task.retimed before between pair
+  pub found : IsPairVerdictUnder pair.first.circuit pair.second.circuit task.kept between after verdict
 
 -- what is found, by a map where there is one
 abbrev pub IsFoundBy : Option Source → Checking → Input → Input → Verdict → Type 0
@@ -121,4 +102,4 @@ IsFoundBy (Some map) task before after verdict = IsVerdictOf task.input task.ret
 pub record PrintsCheck (task : Checking) (before after : Input) (old new : Output) (ended : Outcome) : Type 0 where
   pub verdict : Verdict
   pub found : IsFoundBy task.map task before after verdict
-  pub printed : EndsWith (outcome_of_verdict verdict) (verdict_text verdict) old new ended
+  pub printed : EndsWith (outcome_of_check verdict) (check_text verdict) old new ended

@@ -2,6 +2,7 @@
 use Rattle.std.specs.Prelude.{ℕ, ◌≡◌, Bool, true, false, List, unwrap_or}
 use Rattle.aig_graph.specs.Circuits.{Netlist}
 use Rattle.aig_graph.specs.Graph.{free_latches}
+use Rattle.aig_graph.specs.Streams.{SameShape}
 use Rattle.state_maps.specs.MapCircuits.{IsMapCircuit}
 use Rattle.witness_circuits.specs.declared.sharing.Sharing.{Sharing}
 use Rattle.witness_circuits.specs.Witnesses.{IsSharing, IsWitness}
@@ -22,8 +23,9 @@ use Rattle.command_endings.specs.Sources.{IsCircuitAt}
 use Rattle.map_commands.specs.declared.given.Given.{Given}
 use Rattle.map_commands.specs.declared.made.Made.{Made}
 use Rattle.map_commands.specs.declared.made.Made.TheVariants.{Circuit, ShapesDiffer}
+use Rattle.map_commands.specs.Fitting.{IsMisfit}
 use Rattle.map_commands.specs.Making.{EndsMaking}
-use Rattle.map_commands.specs.Reading.{ArePair}
+use Rattle.map_commands.specs.Reading.{AreReadWithMap}
 
 -- r is the witness circuit for c that is made of w, which shares this with d. If m maps the states
 -- of c to those of d and w passes the five checks for d, r passes them for c.
@@ -55,6 +57,16 @@ abbrev pub AreLiftable : Bool → Netlist → Netlist → Netlist → Type 0
 AreLiftable false c d m = AreFitting c d m
 AreLiftable true c d m = AreFitting d c m × (free_latches c.aig ≡ 0)
 
+-- c and d have one shape; back, c has no free latch
+abbrev pub HaveLiftableShapes : Bool → Netlist → Netlist → Type 0
+HaveLiftableShapes false c d = SameShape c d
+HaveLiftableShapes true c d = SameShape d c × (free_latches c.aig ≡ 0)
+
+-- the map that is read hasn't the latches of both circuits, which have one shape
+abbrev pub IsMisfitToLift : Bool → Given → Type 0
+IsMisfitToLift false given = IsMisfit given.mapped.pair.first.circuit given.mapped.pair.second.circuit given.mapped.map.circuit
+IsMisfitToLift true given = IsMisfit given.mapped.pair.second.circuit given.mapped.pair.first.circuit given.mapped.map.circuit
+
 -- r is what is lifted forth, or with true back
 abbrev pub IsLiftBy : Bool → Netlist → Netlist → Netlist → Netlist → Netlist → Type 0
 IsLiftBy false c d m w r = IsLiftOf c d m w r
@@ -62,25 +74,23 @@ IsLiftBy true c d m w r = IsBackLiftOf c d m w r
 
 -- what is made of the circuits, the map and the witness circuit that are read
 abbrev pub IsLiftedOf : Bool → Given → Made → Type 0
-IsLiftedOf back given (Circuit r) = IsMap given.map.circuit × AreLiftable back given.pair.first.circuit given.pair.second.circuit given.map.circuit
-    × IsLiftBy back given.pair.first.circuit given.pair.second.circuit given.map.circuit given.witness.circuit r
-IsLiftedOf back given ShapesDiffer = IsMap given.map.circuit × (AreLiftable back given.pair.first.circuit given.pair.second.circuit given.map.circuit → ⊥)
+IsLiftedOf back given (Circuit r) = IsMap given.mapped.map.circuit × AreLiftable back given.mapped.pair.first.circuit given.mapped.pair.second.circuit given.mapped.map.circuit
+    × IsLiftBy back given.mapped.pair.first.circuit given.mapped.pair.second.circuit given.mapped.map.circuit given.witness.circuit r
+IsLiftedOf back given ShapesDiffer = IsMap given.mapped.map.circuit × (HaveLiftableShapes back given.mapped.pair.first.circuit given.mapped.pair.second.circuit → ⊥)
 
--- Why nothing is made of them. The map isn't one, no inputs and latches of OUT are those that the
--- names say, or what would be made has too many variables. Memory may run out.
-abbrev pub IsFailureToLift : Lifting → Given → Failure → Type 0
-IsFailureToLift task given (fails.NotAMap path) = (path.now ≡ source_name task.map) × (IsMap given.map.circuit → ⊥)
-IsFailureToLift task given (fails.NoSuchLiteral path) = (path.now ≡ source_name task.witness) × ((k : Sharing) → IsSharedBy given.pair.second.circuit given.witness.circuit k → ⊥)
-IsFailureToLift task given (fails.Refused path fault) = (path.now ≡ target_name task.output) × (fault ≡ TooLarge 0)
-IsFailureToLift task given fails.Memory = Unit {0}
-IsFailureToLift task given failure = ⊥
+-- Why nothing is made of them. The map isn't one of theirs, or no inputs and latches of OUT are
+-- those that the names say. Else what would be made has too many variables, or memory runs out.
+abbrev pub IsFailureToLift : Bool → Lifting → Given → Failure → Type 0
+IsFailureToLift back task given (fails.NotAMap path) = (path.now ≡ source_name task.map) × (IsMap given.mapped.map.circuit → IsMisfitToLift back given)
+IsFailureToLift back task given (fails.NoSuchLiteral path) = (path.now ≡ source_name task.witness) × ((k : Sharing) → IsSharedBy given.mapped.pair.second.circuit given.witness.circuit k → ⊥)
+IsFailureToLift back task given (fails.Refused path fault) = (path.now ≡ target_name task.output) × (fault ≡ TooLarge 0)
+IsFailureToLift back task given fails.Memory = Unit {0}
+IsFailureToLift back task given failure = ⊥
 
--- both circuits are read, and then the map and the witness circuit
+-- both circuits and the map are read, and then the witness circuit
 pub record AreGiven (task : Lifting) (before after : Input) (given : Given) : Type 0 where
-  pub circuits : Input
   pub between : Input
-  pub pair : ArePair task.input task.retimed before circuits given.pair
-  pub mapping : IsCircuitAt task.map circuits between given.map
+  pub mapped : AreReadWithMap task.input task.retimed task.map before between given.mapped
   pub witness : IsCircuitAt task.witness between after given.witness
 
 -- what is made of the files that are read is written, in the spelling that is chosen, else in that

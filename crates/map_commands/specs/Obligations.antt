@@ -17,38 +17,38 @@ question_of (Justice place) = codes "read"
 question_of (Fairness place) = codes "read"
 
 -- of what
-abbrev pub kind_of : Obligation → List ℕ
-kind_of (ConstraintAtReset place) = codes "constraint"
-kind_of (LatchAtReset place) = codes "latch"
-kind_of (Constraint place) = codes "constraint"
-kind_of (Latch place) = codes "latch"
-kind_of (Output place) = codes "output"
-kind_of (Bad place) = codes "bad"
-kind_of (Invariant place) = codes "constraint"
-kind_of (Justice place) = codes "justice"
-kind_of (Fairness place) = codes "fairness"
+abbrev pub kind_of_obligation : Obligation → List ℕ
+kind_of_obligation (ConstraintAtReset place) = codes "constraint"
+kind_of_obligation (LatchAtReset place) = codes "latch"
+kind_of_obligation (Constraint place) = codes "constraint"
+kind_of_obligation (Latch place) = codes "latch"
+kind_of_obligation (Output place) = codes "output"
+kind_of_obligation (Bad place) = codes "bad"
+kind_of_obligation (Invariant place) = codes "constraint"
+kind_of_obligation (Justice place) = codes "justice"
+kind_of_obligation (Fairness place) = codes "fairness"
 
 -- its place among those of its kind
-abbrev pub place_of : Obligation → ℕ
-place_of (ConstraintAtReset place) = place
-place_of (LatchAtReset place) = place
-place_of (Constraint place) = place
-place_of (Latch place) = place
-place_of (Output place) = place
-place_of (Bad place) = place
-place_of (Invariant place) = place
-place_of (Justice place) = place
-place_of (Fairness place) = place
+abbrev pub place_of_obligation : Obligation → ℕ
+place_of_obligation (ConstraintAtReset place) = place
+place_of_obligation (LatchAtReset place) = place
+place_of_obligation (Constraint place) = place
+place_of_obligation (Latch place) = place
+place_of_obligation (Output place) = place
+place_of_obligation (Bad place) = place
+place_of_obligation (Invariant place) = place
+place_of_obligation (Justice place) = place
+place_of_obligation (Fairness place) = place
 
 -- the line that says which obligation is open
 unfoldable pub obligation_text : Obligation → List ℕ
 obligation_text obligation =
-    codes "not shown: " ++ (question_of obligation ++ (codes " " ++ (kind_of obligation ++ (codes " " ++ (decimal (place_of obligation) ++ 10 ∷ [])))))
+    codes "not shown: " ++ (question_of obligation ++ (codes " " ++ (kind_of_obligation obligation ++ (codes " " ++ (decimal (place_of_obligation obligation) ++ 10 ∷ [])))))
 
 -- the line of a retiming
-abbrev pub retiming_text : List ℕ
-retiming_text = codes "retiming" ++ 10 ∷ []
+abbrev pub retiming_line : List ℕ
+retiming_line = codes "retiming" ++ 10 ∷ []
 
 -- the line of circuits that are compared without a map, and are equal
-abbrev pub equal_text : List ℕ
-equal_text = codes "equal" ++ 10 ∷ []
+abbrev pub equal_line : List ℕ
+equal_line = codes "equal" ++ 10 ∷ []

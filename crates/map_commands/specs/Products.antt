@@ -1,5 +1,6 @@
 -- What `miter` makes of a map with a certificate, and what is written.
 use Rattle.std.specs.Prelude.{ℕ, ◌≡◌, List, unwrap_or, Option, Some, None}
+use Rattle.aig_graph.specs.Streams.{SameShape}
 use Rattle.map_checks.specs.Answers.{AreFitting, IsMap}
 use Rattle.map_miters.specs.declared.goals.Goal.{Goal}
 use Rattle.map_miters.specs.declared.goals.Goal.TheVariants.{Agree, Mapped as IsMapped}
@@ -23,7 +24,9 @@ use Rattle.map_commands.specs.declared.given.Mapped.{Mapped}
 use Rattle.map_commands.specs.declared.products.Machines.{Machines}
 use Rattle.map_commands.specs.declared.products.Shown.{Shown}
 use Rattle.map_commands.specs.declared.products.Shown.TheVariants as shows
-use Rattle.map_commands.specs.Asking.{AreMapped, PrintsMiter}
+use Rattle.map_commands.specs.Asking.{PrintsMiter}
+use Rattle.map_commands.specs.Fitting.{IsMisfit}
+use Rattle.map_commands.specs.Reading.{AreReadWithMap}
 
 -- both circuits side by side: as a model whose bad state says that a property differs, and as its
 -- witness circuit by the map
@@ -32,22 +35,22 @@ pub record AreMachinesOf (mapped : Mapped) (machines : Machines) : Type 0 where
   pub witness : IsProduct IsMapped mapped.pair.first.circuit mapped.pair.second.circuit mapped.map.circuit machines.witness
 
 -- what is made of the circuits and the map that are read
-abbrev pub IsShownOf : Mapped → Shown → Type 0
-IsShownOf mapped (shows.Machines machines) = IsMap mapped.map.circuit × AreFitting mapped.pair.first.circuit mapped.pair.second.circuit mapped.map.circuit × AreMachinesOf mapped machines
-IsShownOf mapped shows.ShapesDiffer = IsMap mapped.map.circuit × (AreFitting mapped.pair.first.circuit mapped.pair.second.circuit mapped.map.circuit → ⊥)
+abbrev pub AreMadeSideBySide : Mapped → Shown → Type 0
+AreMadeSideBySide mapped (shows.Machines machines) = IsMap mapped.map.circuit × AreFitting mapped.pair.first.circuit mapped.pair.second.circuit mapped.map.circuit × AreMachinesOf mapped machines
+AreMadeSideBySide mapped shows.ShapesDiffer = IsMap mapped.map.circuit × (SameShape mapped.pair.first.circuit mapped.pair.second.circuit → ⊥)
 
 -- what a machine is written to, by its goal
 abbrev pub target_for : Goal → Asking → Target → Target
 target_for Agree task certificate = task.output
 target_for IsMapped task certificate = certificate
 
--- why nothing is made: the map isn't one, or one of the machines would have too many variables;
--- memory may run out
-abbrev pub IsFailureToShow : Asking → Target → Mapped → Failure → Type 0
-IsFailureToShow task certificate mapped (fails.NotAMap path) = (path.now ≡ source_name task.map) × (IsMap mapped.map.circuit → ⊥)
-IsFailureToShow task certificate mapped (fails.Refused path fault) = ((goal : Goal) × (path.now ≡ target_name (target_for goal task certificate))) × (fault ≡ TooLarge 0)
-IsFailureToShow task certificate mapped fails.Memory = Unit {0}
-IsFailureToShow task certificate mapped failure = ⊥
+-- why nothing is made: the map isn't one of theirs, or one of the machines would have too many
+-- variables; memory may run out
+abbrev pub IsFailureToMake : Asking → Target → Mapped → Failure → Type 0
+IsFailureToMake task certificate mapped (fails.NotAMap path) = (path.now ≡ source_name task.map) × (IsMap mapped.map.circuit → IsMisfit mapped.pair.first.circuit mapped.pair.second.circuit mapped.map.circuit)
+IsFailureToMake task certificate mapped (fails.Refused path fault) = ((goal : Goal) × (path.now ≡ target_name (target_for goal task certificate))) × (fault ≡ TooLarge 0)
+IsFailureToMake task certificate mapped fails.Memory = Unit {0}
+IsFailureToMake task certificate mapped failure = ⊥
 
 -- the model is written, and then the witness circuit, by what it means that a file was given a text
 pub record EndsWritingBoth (FileGiven : List ℕ → List ℕ → Type 0) (machines : Machines) (spelling : Spelling) (output certificate : Target) (old new : Output) (ended : Outcome) : Type 0 where
@@ -65,9 +68,9 @@ EndsShowing FileGiven shows.ShapesDiffer spelling output certificate old new end
 -- of the map
 pub record PrintsProduct (FileGiven : List ℕ → List ℕ → Type 0) (certificate : Target) (task : Asking) (before after : Input) (old new : Output) (ended : Outcome) : Type 0 where
   pub mapped : Mapped
-  pub read : AreMapped task before after mapped
+  pub read : AreReadWithMap task.input task.retimed task.map before after mapped
   pub shown : Shown
-  pub is : IsShownOf mapped shown
+  pub is : AreMadeSideBySide mapped shown
   pub printed : EndsShowing FileGiven shown (unwrap_or task.spelling mapped.map.spelling) task.output certificate old new ended
 
 -- a miter of the map, and if a certificate is asked for, both circuits side by side with that

@@ -3,12 +3,13 @@ ghost use Rattle.std.specs.Prelude.{◌≡◌, Err, IfOk};
 ghost use Rattle.map_checks.specs.Answers.{IsMap};
 ghost use Rattle.circuit_files.specs.declared.outcome.Failure.TheVariants.{NotAMap};
 ghost use Rattle.command_endings.specs.Printing.{EndsPrinting, Prints, ending};
-ghost use Rattle.map_commands.specs.Checking.{IsFoundBy, IsVerdict, IsVerdictOf, IsVerdictUnder, IsVerdictWith, PrintsCheck, outcome_of_verdict, verdict_text};
+ghost use Rattle.map_commands.specs.Checking.{IsFoundBy, IsVerdict, IsVerdictOf, PrintsCheck, outcome_of_check, check_text};
 
+use crate::given::mapped_at;
 use crate::obligations::{print_equal, print_obligation, print_retiming};
 use crate::pair_check::pair_verdict_of;
 use aig_graph::Circuit;
-use circuit_files::{Failure, Outcome, circuit_at};
+use circuit_files::{Failure, Outcome};
 use command_endings::ended;
 use command_line::Checking;
 use counted_io::{CountedRead, CountedWrite, Source};
@@ -56,50 +57,7 @@ fn verdict_on<'a>(
     }
 }
 
-/// Checks the map that is read.
-fn verdict_under<'a, R: Files, I: CountedRead>(
-    rt: &R,
-    alloc: Global,
-    first: &Circuit,
-    second: &Circuit,
-    map: Source<'a>,
-    stdin: &mut I,
-) -> Result<Verdict, Failure<'a>>
-    ensures { IfOk result (IsVerdictUnder first.now second.now map.entry (I.input stdin.old)
-        (I.input stdin.new)) }
-{
-    match circuit_at(rt, alloc, map, stdin) {
-        Ok(spelt) => {
-            let found = verdict_on(alloc, first, second, &spelt.circuit, map.name());
-            drop(spelt);
-            found
-        }
-        Err(failure) => Err(failure),
-    }
-}
-
-/// Checks the first circuit with the one that is read.
-fn verdict_with<'a, R: Files, I: CountedRead>(
-    rt: &R,
-    alloc: Global,
-    first: &Circuit,
-    second: Source<'a>,
-    map: Source<'a>,
-    stdin: &mut I,
-) -> Result<Verdict, Failure<'a>>
-    ensures { IfOk result (IsVerdictWith first.now second.entry map.entry (I.input stdin.old)
-        (I.input stdin.new)) }
-{
-    match circuit_at(rt, alloc, second, stdin) {
-        Ok(second) => {
-            let found = verdict_under(rt, alloc, first, &second.circuit, map, stdin);
-            drop(second);
-            found
-        }
-        Err(failure) => Err(failure),
-    }
-}
-
+/// Checks the circuits and the map that are read.
 fn verdict_of<'a, R: Files, I: CountedRead>(
     rt: &R,
     alloc: Global,
@@ -111,10 +69,16 @@ fn verdict_of<'a, R: Files, I: CountedRead>(
     ensures { IfOk result (IsVerdictOf first.entry second.entry map.entry (I.input stdin.old)
         (I.input stdin.new)) }
 {
-    match circuit_at(rt, alloc, first, stdin) {
-        Ok(first) => {
-            let found = verdict_with(rt, alloc, &first.circuit, second, map, stdin);
-            drop(first);
+    match mapped_at(rt, alloc, first, second, map, stdin) {
+        Ok(mapped) => {
+            let found = verdict_on(
+                alloc,
+                &mapped.pair.first.circuit,
+                &mapped.pair.second.circuit,
+                &mapped.map.circuit,
+                map.name(),
+            );
+            drop(mapped);
             found
         }
         Err(failure) => Err(failure),
@@ -122,7 +86,7 @@ fn verdict_of<'a, R: Files, I: CountedRead>(
 }
 
 fn print_verdict<'a, O: CountedWrite>(verdict: Verdict, out: &mut O) -> Result<Outcome, Failure<'a>>
-    ensures { EndsPrinting (outcome_of_verdict verdict) (verdict_text verdict) (O.output out.old)
+    ensures { EndsPrinting (outcome_of_check verdict) (check_text verdict) (O.output out.old)
         (O.output out.new) result }
 {
     match verdict {

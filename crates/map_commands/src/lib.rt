@@ -4,6 +4,7 @@
 
 mod back_lift;
 mod check;
+mod fitting;
 mod given;
 mod lift;
 mod made;

@@ -1,16 +1,15 @@
 //! The command `lift`.
 ghost use Rattle.std.specs.Prelude.{◌≡◌, IfErr, IfOk, Err, false};
-ghost use Rattle.witness_circuits.specs.Parts.{IsLiftable};
 ghost use Rattle.witness_circuits.specs.Witnesses.{IsSharing};
-ghost use Rattle.witness_circuits.specs.Naming.{IsSharedBy};
 ghost use Rattle.map_checks.specs.Answers.{AreFitting, IsMap};
 ghost use Rattle.circuit_files.specs.WrittenFiles.{IsFileGiven};
 ghost use Rattle.circuit_files.specs.declared.outcome.Failure.TheVariants.{NotAMap};
 ghost use Rattle.command_endings.specs.HeldNames.{OfSource};
 ghost use Rattle.command_endings.specs.Printing.{Prints, ending};
-ghost use Rattle.map_commands.specs.Lifted.{IsFailureToLift, IsLiftOf, IsLiftedBy, IsLiftedOf, PrintsLift};
+ghost use Rattle.map_commands.specs.Lifted.{IsFailureToLift, IsLiftOf, IsLiftedBy, IsLiftedOf, IsMisfitToLift, PrintsLift};
 
 use crate::back_lift::lifted_back;
+use crate::fitting::{Fit, fit_of};
 use crate::given::{Given, given_for};
 use crate::made::{Made, write_made};
 use aig_graph::Circuit;
@@ -18,7 +17,6 @@ use circuit_files::{Failure, Outcome, OutputFiles};
 use command_line::Lifting;
 use counted_io::{CountedRead, CountedWrite};
 use file_words::ReadError;
-use map_checks::{are_fitting, is_map};
 use std::alloc::Global;
 use std::rt::Files;
 use witness_circuits::{LiftError, Sharing, SharingError, lift_law, lifted_witness, sharing_of};
@@ -31,23 +29,24 @@ fn lifted_by<'a>(
     sharing: &Sharing,
     task: &Lifting<'a>,
 ) -> Result<Circuit, Failure<'a>>
-    requires map { IsMap given.now.map.circuit }
-    requires fitting { AreFitting given.now.pair.first.circuit given.now.pair.second.circuit
-        given.now.map.circuit }
-    requires shares { IsSharing given.now.pair.second.circuit given.now.witness.circuit
+    requires map { IsMap given.now.mapped.map.circuit }
+    requires fitting { AreFitting
+        given.now.mapped.pair.first.circuit given.now.mapped.pair.second.circuit
+        given.now.mapped.map.circuit }
+    requires shares { IsSharing given.now.mapped.pair.second.circuit given.now.witness.circuit
         sharing.now }
-    ensures lifted { IfOk result (IsLiftedBy given.now.pair.first.circuit
-        given.now.pair.second.circuit given.now.map.circuit given.now.witness.circuit
+    ensures lifted { IfOk result (IsLiftedBy given.now.mapped.pair.first.circuit
+        given.now.mapped.pair.second.circuit given.now.mapped.map.circuit given.now.witness.circuit
         sharing.now) }
-    ensures failed { IfErr result (IsFailureToLift task.now given.now) }
+    ensures failed { IfErr result (IsFailureToLift false task.now given.now) }
 {
     lift_law();
-    let first = &given.pair.first.circuit;
+    let first = &given.mapped.pair.first.circuit;
     first.known();
     match lifted_witness(
         alloc,
         first,
-        &given.map.circuit,
+        &given.mapped.map.circuit,
         &given.witness.circuit,
         sharing,
     ) {
@@ -64,14 +63,20 @@ fn lifted_by<'a>(
 
 /// Returns the witness circuit for the first circuit, of circuits and a map that fit together.
 fn lifted_of<'a>(alloc: Global, given: &Given, task: &Lifting<'a>) -> Result<Circuit, Failure<'a>>
-    requires map { IsMap given.now.map.circuit }
-    requires fitting { AreFitting given.now.pair.first.circuit given.now.pair.second.circuit
-        given.now.map.circuit }
-    ensures lifted { IfOk result (IsLiftOf given.now.pair.first.circuit
-        given.now.pair.second.circuit given.now.map.circuit given.now.witness.circuit) }
-    ensures failed { IfErr result (IsFailureToLift task.now given.now) }
+    requires map { IsMap given.now.mapped.map.circuit }
+    requires fitting { AreFitting
+        given.now.mapped.pair.first.circuit given.now.mapped.pair.second.circuit
+        given.now.mapped.map.circuit }
+    ensures lifted { IfOk result (IsLiftOf given.now.mapped.pair.first.circuit
+        given.now.mapped.pair.second.circuit given.now.mapped.map.circuit
+        given.now.witness.circuit) }
+    ensures failed { IfErr result (IsFailureToLift false task.now given.now) }
 {
-    match sharing_of(alloc, &given.pair.second.circuit, &given.witness.circuit) {
+    match sharing_of(
+        alloc,
+        &given.mapped.pair.second.circuit,
+        &given.witness.circuit,
+    ) {
         Ok(sharing) => {
             let lifted = lifted_by(alloc, given, &sharing, task);
             drop(sharing);
@@ -85,34 +90,36 @@ fn lifted_of<'a>(alloc: Global, given: &Given, task: &Lifting<'a>) -> Result<Cir
 /// Returns what is made of the witness circuit that is read, by a map from the first circuit to the
 /// second.
 fn lifted_forth<'a>(alloc: Global, given: &Given, task: &Lifting<'a>) -> Result<Made, Failure<'a>>
-    requires { IsMap given.now.map.circuit }
     ensures lifted { IfOk result (IsLiftedOf false given.now) }
-    ensures failed { IfErr result (IsFailureToLift task.now given.now) }
+    ensures failed { IfErr result (IsFailureToLift false task.now given.now) }
+    ensures not_a_map { (IsMap given.now.mapped.map.circuit → ⊥) → OfSource task.now.map
+        (λ path. result ≡ Err (NotAMap path)) }
+    ensures misfit { IsMap given.now.mapped.map.circuit → IsMisfitToLift false given.now
+        → OfSource task.now.map (λ path. result ≡ Err (NotAMap path)) }
 {
-    if !are_fitting(
-        &given.pair.first.circuit,
-        &given.pair.second.circuit,
-        &given.map.circuit,
+    let pair = &given.mapped.pair;
+    match fit_of(
+        &pair.first.circuit,
+        &pair.second.circuit,
+        &given.mapped.map.circuit,
     ) {
-        return Ok(Made::ShapesDiffer);
-    }
-    match lifted_of(alloc, given, task) {
-        Ok(circuit) => Ok(Made::Circuit(circuit)),
-        Err(failure) => Err(failure),
+        Fit::Fits => match lifted_of(alloc, given, task) {
+            Ok(circuit) => Ok(Made::Circuit(circuit)),
+            Err(failure) => Err(failure),
+        },
+        Fit::ShapesDiffer => Ok(Made::ShapesDiffer),
+        Fit::NotAMap => Err(Failure::NotAMap(task.map.name())),
     }
 }
 
-/// Returns what is made of the witness circuit that is read. That the map isn't one is found first,
-/// then that it doesn't fit the circuits.
+/// Returns what is made of the witness circuit that is read. A map that isn't one of the circuits
+/// is refused.
 fn lifted_for<'a>(alloc: Global, given: &Given, task: &Lifting<'a>) -> Result<Made, Failure<'a>>
     ensures lifted { IfOk result (IsLiftedOf task.now.back given.now) }
-    ensures failed { IfErr result (IsFailureToLift task.now given.now) }
-    ensures not_a_map { (IsMap given.now.map.circuit → ⊥) → OfSource task.now.map
+    ensures failed { IfErr result (IsFailureToLift task.now.back task.now given.now) }
+    ensures not_a_map { (IsMap given.now.mapped.map.circuit → ⊥) → OfSource task.now.map
         (λ path. result ≡ Err (NotAMap path)) }
 {
-    if !is_map(&given.map.circuit) {
-        return Err(Failure::NotAMap(task.map.name()));
-    }
     if task.back {
         lifted_back(alloc, given, task)
     } else {
@@ -130,7 +137,8 @@ pub fn write_lifted<'a, R: Files + OutputFiles, I: CountedRead, O: CountedWrite>
     stdin: &mut I,
     out: &mut O,
 ) -> Result<Outcome, Failure<'a>>
-    ensures lift { IfOk result (PrintsLift (IsFileGiven R.Output.contents R.is_made R.is_let_go) task.now
+    ensures lift { IfOk result
+        (PrintsLift (IsFileGiven R.Output.contents R.is_made R.is_let_go) task.now
         (I.input stdin.old) (I.input stdin.new) (O.output out.old) (O.output out.new)) }
     ensures prints { Prints (ending result) (O.output out.old) (O.output out.new) }
 {

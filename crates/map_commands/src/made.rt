@@ -16,11 +16,11 @@ use reports::print_shapes_differ;
 pub(crate) enum Made {
     /// A circuit.
     Circuit(Circuit),
-    /// Nothing: the circuits and the map don't fit together.
+    /// Nothing: the circuits differ in their inputs or properties.
     ShapesDiffer,
 }
 
-/// Writes what is made, or prints that the circuits and the map don't fit together.
+/// Writes what is made, or prints that the shapes of the circuits differ.
 pub(crate) fn write_made<'a, R: OutputFiles, O: CountedWrite>(
     rt: &R,
     made: &Made,
@@ -28,7 +28,8 @@ pub(crate) fn write_made<'a, R: OutputFiles, O: CountedWrite>(
     output: Target<'a>,
     out: &mut O,
 ) -> Result<Outcome, Failure<'a>>
-    ensures written { IfOk result (EndsMaking (IsFileGiven R.Output.contents R.is_made R.is_let_go) made.now
+    ensures written { IfOk result
+        (EndsMaking (IsFileGiven R.Output.contents R.is_made R.is_let_go) made.now
         spelling output.entry (O.output out.old) (O.output out.new)) }
     ensures prints { Prints (ending result) (O.output out.old) (O.output out.new) }
 {

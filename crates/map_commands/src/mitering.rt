@@ -7,9 +7,11 @@ ghost use Rattle.circuit_files.specs.declared.outcome.Failure.TheVariants.{NotAM
 ghost use Rattle.command_endings.specs.HeldNames.{OfSource};
 ghost use Rattle.command_endings.specs.Printing.{Prints, ending};
 ghost use Rattle.map_commands.specs.Asking.{IsFailureToAsk, IsMadeOf, PrintsMiter};
+ghost use Rattle.map_commands.specs.Fitting.{IsMisfit};
 ghost use Rattle.map_commands.specs.Products.{PrintsAsked};
 
-use crate::given::{Mapped, mapped_for};
+use crate::fitting::{Fit, fit_of};
+use crate::given::{Mapped, mapped_at};
 use crate::made::{Made, write_made};
 use crate::products::write_product;
 use aig_graph::Circuit;
@@ -17,7 +19,6 @@ use circuit_files::{Failure, Outcome, OutputFiles};
 use command_line::Asking;
 use counted_io::{CountedRead, CountedWrite};
 use file_words::ReadError;
-use map_checks::{are_fitting, is_map};
 use map_miters::{MiterError, miter};
 use std::alloc::Global;
 use std::rt::Files;
@@ -46,24 +47,25 @@ fn miter_by<'a>(alloc: Global, mapped: &Mapped, task: &Asking<'a>) -> Result<Cir
     }
 }
 
-/// Returns what is made of the circuits and the map that are read. That the map isn't one is found
-/// first, then that it doesn't fit the circuits.
+/// Returns what is made of the circuits and the map that are read. A map that isn't one of theirs
+/// is refused.
 fn miter_for<'a>(alloc: Global, mapped: &Mapped, task: &Asking<'a>) -> Result<Made, Failure<'a>>
     ensures made { IfOk result (IsMadeOf mapped.now) }
     ensures failed { IfErr result (IsFailureToAsk task.now mapped.now) }
     ensures not_a_map { (IsMap mapped.now.map.circuit → ⊥) → OfSource task.now.map
         (λ path. result ≡ Err (NotAMap path)) }
+    ensures misfit { IsMap mapped.now.map.circuit → IsMisfit mapped.now.pair.first.circuit
+        mapped.now.pair.second.circuit mapped.now.map.circuit → OfSource task.now.map
+        (λ path. result ≡ Err (NotAMap path)) }
 {
-    let map = &mapped.map.circuit;
-    if !is_map(map) {
-        return Err(Failure::NotAMap(task.map.name()));
-    }
-    if !are_fitting(&mapped.pair.first.circuit, &mapped.pair.second.circuit, map) {
-        return Ok(Made::ShapesDiffer);
-    }
-    match miter_by(alloc, mapped, task) {
-        Ok(circuit) => Ok(Made::Circuit(circuit)),
-        Err(failure) => Err(failure),
+    let (first, second) = (&mapped.pair.first.circuit, &mapped.pair.second.circuit);
+    match fit_of(first, second, &mapped.map.circuit) {
+        Fit::Fits => match miter_by(alloc, mapped, task) {
+            Ok(circuit) => Ok(Made::Circuit(circuit)),
+            Err(failure) => Err(failure),
+        },
+        Fit::ShapesDiffer => Ok(Made::ShapesDiffer),
+        Fit::NotAMap => Err(Failure::NotAMap(task.map.name())),
     }
 }
 
@@ -77,11 +79,12 @@ fn write_questions<'a, R: Files + OutputFiles, I: CountedRead, O: CountedWrite>(
     stdin: &mut I,
     out: &mut O,
 ) -> Result<Outcome, Failure<'a>>
-    ensures miter { IfOk result (PrintsMiter (IsFileGiven R.Output.contents R.is_made R.is_let_go) task.now
+    ensures miter { IfOk result
+        (PrintsMiter (IsFileGiven R.Output.contents R.is_made R.is_let_go) task.now
         (I.input stdin.old) (I.input stdin.new) (O.output out.old) (O.output out.new)) }
     ensures prints { Prints (ending result) (O.output out.old) (O.output out.new) }
 {
-    let mapped = mapped_for(rt, alloc, task, stdin)?;
+    let mapped = mapped_at(rt, alloc, task.input, task.retimed, task.map, stdin)?;
     let spelling = task.spelling.unwrap_or(mapped.map.spelling);
     let found = miter_for(alloc, &mapped, task);
     drop(mapped);

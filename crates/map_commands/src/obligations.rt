@@ -2,7 +2,7 @@
 ghost use Rattle.std.specs.Prelude.{◌≡◌};
 ghost use Rattle.counted_io.specs.Buffered.{Puts};
 ghost use Rattle.counted_io.specs.Output.{Writes};
-ghost use Rattle.map_commands.specs.Obligations.{equal_text, obligation_text, retiming_text};
+ghost use Rattle.map_commands.specs.Obligations.{equal_line, obligation_text, retiming_line};
 ghost use Rattle.map_commands.specs.Obligations as wanted;
 
 use counted_io::{Buffered, CountedWrite, WriteError};
@@ -26,8 +26,8 @@ fn question_of(obligation: Obligation) -> &'static str
 }
 
 /// Returns the kind that it is open of.
-fn kind_of(obligation: Obligation) -> &'static str
-    ensures { result.now ≡ wanted.kind_of obligation }
+fn kind_of_obligation(obligation: Obligation) -> &'static str
+    ensures { result.now ≡ wanted.kind_of_obligation obligation }
 {
     match obligation {
         Obligation::ConstraintAtReset(_) | Obligation::Constraint(_) | Obligation::Invariant(_) =>
@@ -41,8 +41,8 @@ fn kind_of(obligation: Obligation) -> &'static str
 }
 
 /// Returns its place among those of its kind, from 0.
-fn place_of(obligation: Obligation) -> usize
-    ensures { result ≡ wanted.place_of obligation }
+fn place_of_obligation(obligation: Obligation) -> usize
+    ensures { result ≡ wanted.place_of_obligation obligation }
 {
     match obligation {
         Obligation::ConstraintAtReset(place)
@@ -63,9 +63,9 @@ fn put_obligation<W: CountedWrite>(out: &mut Buffered<'_, W>, obligation: Obliga
     out.put(b"not shown: ");
     out.put(question_of(obligation).as_bytes());
     out.put(b" ");
-    out.put(kind_of(obligation).as_bytes());
+    out.put(kind_of_obligation(obligation).as_bytes());
     out.put(b" ");
-    out.put_number(place_of(obligation) as u64);
+    out.put_number(place_of_obligation(obligation) as u64);
     out.put_byte(b'\n');
 }
 
@@ -79,7 +79,8 @@ pub(crate) fn print_obligation<W: CountedWrite>(
     obligation: Obligation,
     writer: &mut W,
 ) -> Result<(), WriteError>
-    ensures { Writes (W.output writer.old) (W.output writer.new) result (obligation_text obligation) }
+    ensures { Writes (W.output writer.old) (W.output writer.new) result
+        (obligation_text obligation) }
 {
     let mut out = Buffered::new(writer);
     put_obligation(&mut out, obligation);
@@ -93,7 +94,7 @@ pub(crate) fn print_obligation<W: CountedWrite>(
 /// `Device` if a write failed: a beginning of the text was written then, and the writer isn't
 /// called again.
 pub(crate) fn print_retiming<W: CountedWrite>(writer: &mut W) -> Result<(), WriteError>
-    ensures { Writes (W.output writer.old) (W.output writer.new) result retiming_text }
+    ensures { Writes (W.output writer.old) (W.output writer.new) result retiming_line }
 {
     let mut out = Buffered::new(writer);
     out.put(b"retiming\n");
@@ -107,7 +108,7 @@ pub(crate) fn print_retiming<W: CountedWrite>(writer: &mut W) -> Result<(), Writ
 /// `Device` if a write failed: a beginning of the text was written then, and the writer isn't
 /// called again.
 pub(crate) fn print_equal<W: CountedWrite>(writer: &mut W) -> Result<(), WriteError>
-    ensures { Writes (W.output writer.old) (W.output writer.new) result equal_text }
+    ensures { Writes (W.output writer.old) (W.output writer.new) result equal_line }
 {
     let mut out = Buffered::new(writer);
     out.put(b"equal\n");

@@ -1,18 +1,18 @@
 //! The command `check` without a map.
-ghost use Rattle.std.specs.Prelude.{◌≡◌, IfOk};
+ghost use Rattle.std.specs.Prelude.{IfOk};
 ghost use Rattle.aig_graph.specs.Streams.{AreKept};
 ghost use Rattle.simulation_commands.specs.declared.kept.Shared.TheVariants.{Each};
-ghost use Rattle.map_commands.specs.Checking.{IsPairVerdict, IsPairVerdictOf, IsPairVerdictUnder, IsPairVerdictWith, IsSharedBy, IsVerdictKept};
+ghost use Rattle.map_commands.specs.Checking.{IsPairVerdict, IsPairVerdictOf, IsPairVerdictUnder, MayShare, IsVerdictKept};
 
 use crate::check::Verdict;
 use aig_graph::Circuit;
-use circuit_files::{Failure, circuit_at};
+use circuit_files::Failure;
 use clean::all_places;
 use command_line::Checking;
 use counted_io::CountedRead;
 use file_words::ReadError;
 use pair_checks::{PairAnswer, PairError, check_pair};
-use simulation_commands::{Shared, shared_by};
+use simulation_commands::{Shared, pair_at, shared_by};
 use std::alloc::Global;
 use std::rt::Files;
 
@@ -67,7 +67,7 @@ fn verdict_by<'a>(
     name: &'a str,
     shared: &Shared,
 ) -> Result<Verdict, Failure<'a>>
-    requires { IsSharedBy shared.now first.now second.now }
+    requires { MayShare shared.now first.now second.now }
     ensures { IfOk result (IsPairVerdict shared.now first.now second.now) }
 {
     match shared {
@@ -98,27 +98,6 @@ fn pair_verdict_under<'a, R: Files, I: CountedRead>(
     }
 }
 
-/// Checks the first circuit with the one that is read.
-fn pair_verdict_with<'a, R: Files, I: CountedRead>(
-    rt: &R,
-    alloc: Global,
-    first: &Circuit,
-    task: &Checking<'a>,
-    stdin: &mut I,
-) -> Result<Verdict, Failure<'a>>
-    ensures { IfOk result (IsPairVerdictWith first.now task.now (I.input stdin.old)
-        (I.input stdin.new)) }
-{
-    match circuit_at(rt, alloc, task.retimed, stdin) {
-        Ok(second) => {
-            let found = pair_verdict_under(rt, alloc, first, &second.circuit, task, stdin);
-            drop(second);
-            found
-        }
-        Err(failure) => Err(failure),
-    }
-}
-
 /// Reads two circuits, and checks them without a map.
 pub(crate) fn pair_verdict_of<'a, R: Files, I: CountedRead>(
     rt: &R,
@@ -128,10 +107,11 @@ pub(crate) fn pair_verdict_of<'a, R: Files, I: CountedRead>(
 ) -> Result<Verdict, Failure<'a>>
     ensures { IfOk result (IsPairVerdictOf task.now (I.input stdin.old) (I.input stdin.new)) }
 {
-    match circuit_at(rt, alloc, task.input, stdin) {
-        Ok(first) => {
-            let found = pair_verdict_with(rt, alloc, &first.circuit, task, stdin);
-            drop(first);
+    match pair_at(rt, alloc, task.input, task.retimed, stdin) {
+        Ok(pair) => {
+            let (first, second) = (&pair.first.circuit, &pair.second.circuit);
+            let found = pair_verdict_under(rt, alloc, first, second, task, stdin);
+            drop(pair);
             found
         }
         Err(failure) => Err(failure),

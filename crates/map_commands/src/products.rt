@@ -7,10 +7,12 @@ ghost use Rattle.circuit_files.specs.WrittenFiles.{IsFileGiven};
 ghost use Rattle.circuit_files.specs.declared.outcome.Failure.TheVariants.{NotAMap};
 ghost use Rattle.command_endings.specs.HeldNames.{OfSource};
 ghost use Rattle.command_endings.specs.Printing.{Prints, ending};
-ghost use Rattle.map_commands.specs.Products.{AreMachinesOf, EndsShowing, EndsWritingBoth, IsFailureToShow, IsShownOf, PrintsProduct, target_for};
+ghost use Rattle.map_commands.specs.Fitting.{IsMisfit};
+ghost use Rattle.map_commands.specs.Products.{AreMachinesOf, EndsShowing, EndsWritingBoth, IsFailureToMake, AreMadeSideBySide, PrintsProduct, target_for};
 ghost use Rattle.counted_io.specs.Streams.{target_name};
 
-use crate::given::{Mapped, mapped_for};
+use crate::fitting::{Fit, fit_of};
+use crate::given::{Mapped, mapped_at};
 use aig_binary::Spelling;
 use aig_graph::Circuit;
 use circuit_files::{Failure, Outcome, OutputFiles};
@@ -18,7 +20,6 @@ use command_endings::{ended, write_circuit};
 use command_line::Asking;
 use counted_io::{CountedRead, CountedWrite, Target};
 use file_words::ReadError;
-use map_checks::{are_fitting, is_map};
 use map_miters::{Goal, MiterError, product_machine};
 use reports::print_shapes_differ;
 use std::alloc::Global;
@@ -36,7 +37,7 @@ struct Machines {
 enum Shown {
     /// These.
     Machines(Machines),
-    /// Nothing: the circuits and the map don't fit together.
+    /// Nothing: the circuits differ in their inputs or properties.
     ShapesDiffer,
 }
 
@@ -63,7 +64,7 @@ fn machine_by<'a>(
         mapped.now.map.circuit }
     ensures made { IfOk result (IsProduct goal mapped.now.pair.first.circuit
         mapped.now.pair.second.circuit mapped.now.map.circuit) }
-    ensures failed { IfErr result (IsFailureToShow task.now certificate.entry mapped.now) }
+    ensures failed { IfErr result (IsFailureToMake task.now certificate.entry mapped.now) }
 {
     let first = &mapped.pair.first.circuit;
     let second = &mapped.pair.second.circuit;
@@ -88,7 +89,7 @@ fn machines_by<'a>(
     requires fitting { AreFitting mapped.now.pair.first.circuit mapped.now.pair.second.circuit
         mapped.now.map.circuit }
     ensures made { IfOk result (AreMachinesOf mapped.now) }
-    ensures failed { IfErr result (IsFailureToShow task.now certificate.entry mapped.now) }
+    ensures failed { IfErr result (IsFailureToMake task.now certificate.entry mapped.now) }
 {
     let model = machine_by(alloc, Goal::Agree, mapped, task, certificate)?;
     match machine_by(alloc, Goal::Mapped, mapped, task, certificate) {
@@ -100,29 +101,30 @@ fn machines_by<'a>(
     }
 }
 
-/// Returns what is made of the circuits and the map that are read. That the map isn't one is found
-/// first, then that it doesn't fit the circuits.
+/// Returns what is made of the circuits and the map that are read. A map that isn't one of theirs
+/// is refused.
 fn shown_for<'a>(
     alloc: Global,
     mapped: &Mapped,
     task: &Asking<'a>,
     certificate: Target<'a>,
 ) -> Result<Shown, Failure<'a>>
-    ensures made { IfOk result (IsShownOf mapped.now) }
-    ensures failed { IfErr result (IsFailureToShow task.now certificate.entry mapped.now) }
+    ensures made { IfOk result (AreMadeSideBySide mapped.now) }
+    ensures failed { IfErr result (IsFailureToMake task.now certificate.entry mapped.now) }
     ensures not_a_map { (IsMap mapped.now.map.circuit → ⊥) → OfSource task.now.map
         (λ path. result ≡ Err (NotAMap path)) }
+    ensures misfit { IsMap mapped.now.map.circuit → IsMisfit mapped.now.pair.first.circuit
+        mapped.now.pair.second.circuit mapped.now.map.circuit → OfSource task.now.map
+        (λ path. result ≡ Err (NotAMap path)) }
 {
-    let map = &mapped.map.circuit;
-    if !is_map(map) {
-        return Err(Failure::NotAMap(task.map.name()));
-    }
-    if !are_fitting(&mapped.pair.first.circuit, &mapped.pair.second.circuit, map) {
-        return Ok(Shown::ShapesDiffer);
-    }
-    match machines_by(alloc, mapped, task, certificate) {
-        Ok(machines) => Ok(Shown::Machines(machines)),
-        Err(failure) => Err(failure),
+    let (first, second) = (&mapped.pair.first.circuit, &mapped.pair.second.circuit);
+    match fit_of(first, second, &mapped.map.circuit) {
+        Fit::Fits => match machines_by(alloc, mapped, task, certificate) {
+            Ok(machines) => Ok(Shown::Machines(machines)),
+            Err(failure) => Err(failure),
+        },
+        Fit::ShapesDiffer => Ok(Shown::ShapesDiffer),
+        Fit::NotAMap => Err(Failure::NotAMap(task.map.name())),
     }
 }
 
@@ -135,7 +137,8 @@ fn write_both<'a, R: OutputFiles, O: CountedWrite>(
     certificate: Target<'a>,
     out: &mut O,
 ) -> Result<Outcome, Failure<'a>>
-    ensures written { IfOk result (EndsWritingBoth (IsFileGiven R.Output.contents R.is_made R.is_let_go)
+    ensures written { IfOk result
+        (EndsWritingBoth (IsFileGiven R.Output.contents R.is_made R.is_let_go)
         machines.now spelling output.entry certificate.entry (O.output out.old)
         (O.output out.new)) }
     ensures prints { Prints (ending result) (O.output out.old) (O.output out.new) }
@@ -149,7 +152,7 @@ fn write_both<'a, R: OutputFiles, O: CountedWrite>(
     }
 }
 
-/// Writes what is made, or prints that the circuits and the map don't fit together.
+/// Writes what is made, or prints that the shapes of the circuits differ.
 fn write_shown<'a, R: OutputFiles, O: CountedWrite>(
     rt: &R,
     shown: &Shown,
@@ -158,7 +161,8 @@ fn write_shown<'a, R: OutputFiles, O: CountedWrite>(
     certificate: Target<'a>,
     out: &mut O,
 ) -> Result<Outcome, Failure<'a>>
-    ensures written { IfOk result (EndsShowing (IsFileGiven R.Output.contents R.is_made R.is_let_go) shown.now
+    ensures written { IfOk result
+        (EndsShowing (IsFileGiven R.Output.contents R.is_made R.is_let_go) shown.now
         spelling output.entry certificate.entry (O.output out.old) (O.output out.new)) }
     ensures prints { Prints (ending result) (O.output out.old) (O.output out.new) }
 {
@@ -181,12 +185,13 @@ pub(crate) fn write_product<'a, R: Files + OutputFiles, I: CountedRead, O: Count
     stdin: &mut I,
     out: &mut O,
 ) -> Result<Outcome, Failure<'a>>
-    ensures product { IfOk result (PrintsProduct (IsFileGiven R.Output.contents R.is_made R.is_let_go)
+    ensures product { IfOk result
+        (PrintsProduct (IsFileGiven R.Output.contents R.is_made R.is_let_go)
         certificate.entry task.now (I.input stdin.old) (I.input stdin.new) (O.output out.old)
         (O.output out.new)) }
     ensures prints { Prints (ending result) (O.output out.old) (O.output out.new) }
 {
-    let mapped = mapped_for(rt, alloc, task, stdin)?;
+    let mapped = mapped_at(rt, alloc, task.input, task.retimed, task.map, stdin)?;
     let spelling = task.spelling.unwrap_or(mapped.map.spelling);
     let found = shown_for(alloc, &mapped, task, certificate);
     drop(mapped);

@@ -1,10 +1,13 @@
 -- Readings of small circuits, and what the circuits are where latches read so.
-use Rattle.std.proofs.Common.{ℕ, ◌≡◌, List, [], ◌∷◌, map, refl}
+use Rattle.std.proofs.Common.{ℕ, ◌≡◌, List, [], ◌∷◌, Bool, true, false, not, ◌&&◌, map, refl, ap, sym, ◌∙◌}
 use Rattle.aig_graph.specs.declared.graph.Reset.TheVariants.{Zero, One}
+use Rattle.aig_graph.specs.Gates.{AreEqualIn, gates_of}
 use Rattle.aig_graph.specs.Graph.{Graph}
 use Rattle.aig_graph.specs.Tables.{table}
 use Rattle.cleaned_circuits.specs.Merged.{merge_gates, substitutes_after, replaced_graph}
-use Rattle.merged_circuits.specs.Readings.{leaves, substitutes_by, signature}
+use Rattle.merged_circuits.specs.Counts.{counts_of}
+use Rattle.merged_circuits.specs.Lines.{merged_lines}
+use Rattle.merged_circuits.specs.Readings.{leaves, own_reading, substitutes_by, signature}
 
 -- the signature of each latch by a reading
 abbrev all_signatures : Graph → List ℕ → List ℕ
@@ -91,3 +94,82 @@ one_enable = record {
 one_enable-signature : all_signatures one_enable (6 ∷ 6 ∷ []) ≡ 14 ∷ 14 ∷ []
 unfolding one_enable leaves table merge_gates substitutes_after
 one_enable-signature = refl
+
+-- a & !(a & !b), and a & b: their signatures are two gates that are always equal
+built : Graph
+built = record {
+  inputs = 2;
+  latches = record { next = 12; reset = Zero } ∷ record { next = 14; reset = Zero } ∷ [];
+  gates = record { rhs0 = 5; rhs1 = 2 } ∷ record { rhs0 = 11; rhs1 = 2 } ∷ record { rhs0 = 4; rhs1 = 2 } ∷ [];
+}
+
+built-signature : all_signatures built (6 ∷ 6 ∷ []) ≡ 12 ∷ 14 ∷ []
+unfolding built leaves table merge_gates substitutes_after
+built-signature = refl
+
+built-lines : merged_lines built (6 ∷ 6 ∷ []) ≡ record { latch = 4; reads = 6 } ∷ []
+unfolding built merged_lines table
+built-lines = refl
+
+one_conjunction : (a b : Bool) → (not (not b && a) && a) ≡ (b && a)
+one_conjunction true true = refl
+one_conjunction true false = refl
+one_conjunction false true = refl
+one_conjunction false false = refl
+
+-- so the second may read as the first
+built-alike : AreEqualIn (gates_of (merged_by built (6 ∷ 6 ∷ []))) 12 14
+unfolding built leaves table merge_gates substitutes_after replaced_graph
+built-alike values respects =
+    let inner : values 10 ≡ (not (values 4) && values 2) = respects.gates 0 (record { rhs0 = 5; rhs1 = 2 }) refl ∙ ap (λ (b : Bool). b && values 2) (respects.negation 2) in
+    respects.gates 1 (record { rhs0 = 11; rhs1 = 2 }) refl ∙ ap (λ (b : Bool). b && values 2) (respects.negation 5 ∙ ap not inner)
+    ∙ one_conjunction (values 2) (values 4) ∙ sym (respects.gates 2 (record { rhs0 = 4; rhs1 = 2 }) refl)
+
+-- the second is told the complement and starts at 1, so it reads as the complement
+opposite : Graph
+opposite = record built { latches = record { next = 12; reset = Zero } ∷ record { next = 15; reset = One } ∷ [] }
+
+opposite-signature : all_signatures opposite (6 ∷ 7 ∷ []) ≡ 12 ∷ 14 ∷ []
+unfolding opposite built leaves table merge_gates substitutes_after
+opposite-signature = refl
+
+opposite-lines : merged_lines opposite (6 ∷ 7 ∷ []) ≡ record { latch = 4; reads = 7 } ∷ []
+unfolding opposite built merged_lines table
+opposite-lines = refl
+
+-- (a & b) & (!a & c) is never 1
+never : Graph
+never = record {
+  inputs = 3;
+  latches = record { next = 14; reset = Zero } ∷ [];
+  gates = record { rhs0 = 4; rhs1 = 2 } ∷ record { rhs0 = 6; rhs1 = 3 } ∷ record { rhs0 = 12; rhs1 = 10 } ∷ [];
+}
+
+never-signature : all_signatures never (0 ∷ []) ≡ 14 ∷ []
+unfolding never leaves table merge_gates substitutes_after
+never-signature = refl
+
+-- a register that is told a if !a & b, and holds otherwise: if it reads as 0, it is told !a & a & b
+holds : Graph
+holds = record {
+  inputs = 2;
+  latches = record { next = 15; reset = Zero } ∷ [];
+  gates = record { rhs0 = 4; rhs1 = 3 } ∷ record { rhs0 = 8; rhs1 = 2 } ∷ record { rhs0 = 9; rhs1 = 6 } ∷ record { rhs0 = 13; rhs1 = 11 } ∷ [];
+}
+
+holds-signature : all_signatures holds (0 ∷ []) ≡ 10 ∷ []
+unfolding holds leaves table merge_gates substitutes_after
+holds-signature = refl
+
+holds-lines : merged_lines holds (0 ∷ []) ≡ record { latch = 3; reads = 0 } ∷ []
+unfolding holds merged_lines table
+holds-lines = refl
+
+holds-counts : counts_of (merged_lines holds (0 ∷ [])) ≡ record { merged = 1; constant = 1 }
+unfolding holds merged_lines table
+holds-counts = refl
+
+-- if each reads as itself, there is no line
+built-own : merged_lines built (own_reading built) ≡ []
+unfolding built own_reading merged_lines table
+built-own = refl

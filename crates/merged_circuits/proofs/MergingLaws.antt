@@ -10,10 +10,8 @@ use Rattle.cleaned_circuits.specs.Merged.{replaced, replaced_graph, replaced_cir
 use Rattle.cleaned_circuits.proofs.SubstituteLaws.{after-within}
 use Rattle.cleaned_circuits.proofs.MergedLaws.{SubstitutesWithin, SubstitutesRight, IsGraph-replaced, IsNetlist-replaced, replaced-properties, replaced-inputs, length-replaced_latches, replaced-free_before}
 use Rattle.merged_circuits.specs.Readings.{IsReading, leaves, substitutes_by}
-use Rattle.merged_circuits.specs.Preserved.{IsPreserved, IsMergedBy}
-use Rattle.merged_circuits.specs.Partitions.{IsMerged}
+use Rattle.merged_circuits.specs.Inductive.{IsInductive, IsMergedBy}
 use Rattle.merged_circuits.proofs.ReadingLaws.{are-leaves}
-use Rattle.merged_circuits.proofs.ShownLaws.{inductive-preserved}
 use Rattle.merged_circuits.proofs.ValueLaws.{substitutes_by-value}
 
 module _ (held reads : List ℕ) (c : Netlist) (valid : IsGraph c.aig) (reading : IsReading c.aig held reads) where
@@ -32,7 +30,7 @@ module _ (held reads : List ℕ) (c : Netlist) (valid : IsGraph c.aig) (reading 
   pub IsNetlist-kept : IsNetlist c → IsNetlist (replaced_circuit (substitutes_by c.aig reads) c)
   IsNetlist-kept netlist = IsNetlist-replaced substitutes c valid netlist kept-within
 
-module _ (held reads : List ℕ) (c : Netlist) (valid : IsGraph c.aig) (kept : IsPreserved c.aig held reads) where
+module _ (held reads : List ℕ) (c : Netlist) (valid : IsGraph c.aig) (kept : IsInductive c.aig held reads) where
   kept-right : SubstitutesRight c.aig (substitutes_by c.aig reads)
   kept-right x f t lit h = substitutes_by-value c.aig held reads valid kept x f t lit h
 
@@ -54,32 +52,16 @@ module _ (held reads : List ℕ) (c : Netlist) (valid : IsGraph c.aig) (kept : I
 pub merged_by-streams : (held reads : List ℕ) (c d : Netlist) → IsGraph c.aig → IsNetlist c → IsMergedBy held reads c d → SameStreams c d (all_free c.aig)
 merged_by-streams held reads c d valid netlist merged =
     let P : Netlist → Type 0 = λ e. SameStreams c e (all_free c.aig) in
-    subst P (sym merged.circuit) (kept-streams held reads c valid merged.preserved netlist)
+    subst P (sym merged.circuit) (kept-streams held reads c valid merged.inductive netlist)
 
 -- a merged circuit has a graph
 pub IsGraph-merged_by : (held reads : List ℕ) (c d : Netlist) → IsGraph c.aig → IsMergedBy held reads c d → IsGraph d.aig
 IsGraph-merged_by held reads c d valid merged =
     let P : Netlist → Type 0 = λ e. IsGraph e.aig in
-    subst P (sym merged.circuit) (IsGraph-kept held reads c valid merged.preserved.reading)
+    subst P (sym merged.circuit) (IsGraph-kept held reads c valid merged.inductive.reading)
 
 -- and is in order
 pub IsNetlist-merged_by : (held reads : List ℕ) (c d : Netlist) → IsGraph c.aig → IsNetlist c → IsMergedBy held reads c d → IsNetlist d
 IsNetlist-merged_by held reads c d valid netlist merged =
     let P : Netlist → Type 0 = λ e. IsNetlist e in
-    subst P (sym merged.circuit) (IsNetlist-kept held reads c valid merged.preserved.reading netlist)
-
--- steps preserve the coarsest inductive reading, by which a circuit is merged
-pub merged-by : (held : List ℕ) (c d : Netlist) → IsGraph c.aig → (merged : IsMerged held c d) → IsMergedBy held merged.reads c d
-merged-by held c d valid merged = record { preserved = inductive-preserved c.aig held merged.reads valid merged.coarsest.kept; circuit = merged.circuit }
-
--- so it has the streams of the circuit
-pub merged-streams : (held : List ℕ) (c d : Netlist) → IsGraph c.aig → IsNetlist c → IsMerged held c d → SameStreams c d (all_free c.aig)
-merged-streams held c d valid netlist merged = merged_by-streams held merged.reads c d valid netlist (merged-by held c d valid merged)
-
--- and a graph
-pub IsGraph-merged_latches : (held : List ℕ) (c d : Netlist) → IsGraph c.aig → IsMerged held c d → IsGraph d.aig
-IsGraph-merged_latches held c d valid merged = IsGraph-merged_by held merged.reads c d valid (merged-by held c d valid merged)
-
--- and is in order
-pub IsNetlist-merged_latches : (held : List ℕ) (c d : Netlist) → IsGraph c.aig → IsNetlist c → IsMerged held c d → IsNetlist d
-IsNetlist-merged_latches held c d valid netlist merged = IsNetlist-merged_by held merged.reads c d valid netlist (merged-by held c d valid merged)
+    subst P (sym merged.circuit) (IsNetlist-kept held reads c valid merged.inductive.reading netlist)

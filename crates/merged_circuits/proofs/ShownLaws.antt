@@ -14,10 +14,9 @@ use Rattle.cleaned_circuits.proofs.SubstituteLaws.{GateOf, IsRight, gates-of, le
 use Rattle.cleaned_circuits.proofs.MergedLaws.{from_gate, replaced-first_gate}
 use Rattle.merged_circuits.specs.Readings.{IsReading, leaves, signature, substitutes_by}
 use Rattle.aig_graph.specs.Gates.{Respects, gates_of}
-use Rattle.merged_circuits.specs.Preserved.{Agrees, told}
-use Rattle.merged_circuits.specs.Shown.{IsShown, merged_graph}
-use Rattle.merged_circuits.specs.Partitions.{IsInductive}
-use Rattle.merged_circuits.specs.Laws.{InductivePreserved, ShownPreserved}
+use Rattle.merged_circuits.specs.Inductive.{Agrees, told}
+use Rattle.merged_circuits.specs.Shown.{merged_graph}
+use Rattle.merged_circuits.specs.Laws.{ShownInductive}
 use Rattle.merged_circuits.proofs.ReadingLaws.{are-leaves, leaf-low, leaf-latch}
 
 module _ (g : Graph) (held reads : List ℕ) (valid : IsGraph g) (reading : IsReading g held reads) (values : ℕ → Bool) (respects : Respects (gates_of g) values) (agree : Agrees g reads values) where
@@ -82,8 +81,8 @@ module _ (g : Graph) (held reads : List ℕ) (valid : IsGraph g) (reading : IsRe
       ∙ sym (value_signed_as values respects.negation (constant_of latch.reset) latch.next)
 
 -- steps preserve a reading that is shown in the merged graph
-pub shown-preserved : (g : Graph) (held reads : List ℕ) → ShownPreserved g held reads
-shown-preserved g held reads valid shown = record {
+pub shown-inductive : (g : Graph) (held reads : List ℕ) → ShownInductive g held reads
+shown-inductive g held reads valid shown = record {
   reading = shown.reading;
   constants = λ j latch there constant values respects agree.
       sym (told-value g held reads valid shown.reading values respects agree j latch there)
@@ -93,15 +92,3 @@ shown-preserved g held reads valid shown = record {
       ∙ shown.alike j i latch first there first_there is values (merged-respects g held reads valid shown.reading values respects agree)
       ∙ told-value g held reads valid shown.reading values respects agree i first first_there;
 }
-
--- equal signatures have one value
-inductive-shown : (g : Graph) (held reads : List ℕ) → IsInductive g held reads → IsShown g held reads
-inductive-shown g held reads inductive = record {
-  reading = inductive.reading;
-  constants = λ j latch there constant values respects. ap values (inductive.constants j latch there constant);
-  alike = λ j i latch first there first_there is values respects. ap values (inductive.alike j i latch first there first_there is);
-}
-
--- and an inductive one
-pub inductive-preserved : (g : Graph) (held reads : List ℕ) → InductivePreserved g held reads
-inductive-preserved g held reads valid inductive = shown-preserved g held reads valid (inductive-shown g held reads inductive)

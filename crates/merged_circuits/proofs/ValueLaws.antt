@@ -16,7 +16,7 @@ use Rattle.cleaned_circuits.specs.Latches.{constant_of}
 use Rattle.cleaned_circuits.specs.Merged.{replaced}
 use Rattle.cleaned_circuits.proofs.LatchLaws.{constant-even}
 use Rattle.merged_circuits.specs.Readings.{own_literal, read, may_merge, from_reset, ReadsAs, as_itself, as_constant, as_first, substitutes_by}
-use Rattle.merged_circuits.specs.Preserved.{Agrees, IsPreserved, told}
+use Rattle.merged_circuits.specs.Inductive.{Agrees, IsInductive, told}
 use Rattle.merged_circuits.proofs.ShownLaws.{substitutes-value}
 
 -- a value negated if the reset is 1
@@ -39,7 +39,7 @@ opening-known Free next b known = absurd (cc)
 pub may-known : (held : List ℕ) (j : ℕ) (latch : Latch) → may_merge held j latch ≡ true → is_free latch ≡ false
 may-known held j latch may = not-true (is_free latch) (and_parts (not (is_free latch)) (not (has held j)) may).0
 
-module _ (g : Graph) (held reads : List ℕ) (valid : IsGraph g) (kept : IsPreserved g held reads) (x : Inputs) (f : Choice) where
+module _ (g : Graph) (held reads : List ℕ) (valid : IsGraph g) (kept : IsInductive g held reads) (x : Inputs) (f : Choice) where
   laws : ValueLaws g x f
   laws = value_laws g valid x f
 

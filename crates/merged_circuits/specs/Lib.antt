@@ -1,6 +1,6 @@
 pub mod Readings
-pub mod Partitions
-pub mod Preserved
+pub mod Inductive
 pub mod Shown
+pub mod Lines
 pub mod Counts
 pub mod Laws

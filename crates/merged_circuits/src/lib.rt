@@ -3,13 +3,12 @@
 //! state in which all classes agree. By induction over steps they then have one value, or opposite
 //! ones if their resets differ. How that was found is no part of it.
 //!
-//! Equal signatures in the merged graph show it. So a class stays alike if each of its latches has,
-//! by its next literal, the signature of the class's first one. There is one coarsest such
-//! partition, and it needs no solver.
+//! Signatures that are always equal in the merged graph show it. A partition is said by a line for
+//! each latch that reads as another literal, as in a file of certificates.
 #![tactic(auto)]
 
 mod counts;
 mod laws;
 
-pub use counts::MergeCounts;
+pub use counts::{MergeCounts, counts_of};
 pub use laws::merging_laws;

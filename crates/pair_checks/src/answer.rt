@@ -2,7 +2,7 @@
 use map_checks::Obligation;
 
 /// What a check of two circuits answers.
-#[derive(Clone, Copy)]
+#[derive(Clone, Copy, Debug)]
 pub enum PairAnswer {
     /// Each property of the second circuit has at each step the value of the first one's.
     Equal,

@@ -15,9 +15,13 @@ use crate::pairs::{Pair, paired};
 use crate::readings::{own_reading, widest_reading};
 use aig_graph::{Aig, Circuit, Lit, NoMemory, have_same_shape, property_literals};
 use gate_sharing::SharingError;
-use latch_classes::guess;
+use latch_classes::{Budget, guess};
 use map_checks::Obligation;
 use std::alloc::Global;
+
+/// The units of work that a guess may take: half a minute and more. A guess that takes longer shows
+/// nothing.
+const UNITS: u64 = 1 << 34;
 
 /// Returns a hint: what the latches of both circuits may read as.
 fn guessed(
@@ -31,7 +35,10 @@ fn guessed(
 {
     let widest = widest_reading(alloc, first.first_latch(), begins)?;
     match paired(alloc, first, second, own)? {
-        Some(pair) => guess(alloc, &pair.graph, widest),
+        Some(pair) => {
+            let guessed = guess(alloc, &pair.graph, widest, Budget::of(UNITS, 0, 0))?;
+            Ok(guessed.reads)
+        }
         None => Ok(widest),
     }
 }

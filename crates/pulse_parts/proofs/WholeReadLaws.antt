@@ -1,5 +1,5 @@
 -- Reads of each part are a read of the whole.
-use Rattle.std.proofs.Common.{◌≡◌, ℕ, suc, ◌+◌, ◌-◌, ◌<◌, ◌≤◌, ◌^◌, min, List, [], ◌∷◌, length, slice_index, get_or, arith, ap, sym, ◌∙◌, subst, ◌⊎◌}
+use Rattle.std.proofs.Common.{◌≡◌, ℕ, suc, ◌+◌, ◌-◌, ◌<◌, ◌≤◌, List, [], ◌∷◌, length, slice_index, get_or, arith, ap, sym, ◌∙◌, subst, ◌⊎◌}
 use Rattle.frame_net.specs.FlowNet.{FlowNet, node_count, start, row_len, IsFlowNet}
 use Rattle.pulse_parts.specs.declared.parts.PushPart.{PushPart}
 use Rattle.pulse_parts.specs.Parts.{Cells, PushPartFits, ArePushParts, rows_walked, values_of}

@@ -1,5 +1,5 @@
 //! Sets rows of pushes to 0 before the active nodes write theirs.
-ghost use Rattle.std.specs.Prelude.{◌≡◌, ◌+◌, ◌<◌, ◌≤◌, length};
+ghost use Rattle.std.specs.Prelude.{◌+◌, ◌<◌, ◌≤◌, length};
 ghost use Rattle.frame_net.specs.FlowNet.{node_count, start};
 ghost use Rattle.pulse_parts.specs.Listing.{EachListed};
 ghost use Rattle.pulse_parts.specs.Parts.{PushPartFits};

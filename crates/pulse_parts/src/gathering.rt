@@ -5,7 +5,7 @@
 //! leaves it once. The list isn't complete if its room is full before that, or a list that it is
 //! made of isn't complete. Then all nodes of the part are visited.
 ghost use Rattle.std.specs.Prelude.{◌≡◌, ◌+◌, ◌<◌, ◌≤◌, true, length};
-ghost use Rattle.frame_net.specs.FlowNet.{node_count, row_len};
+ghost use Rattle.frame_net.specs.FlowNet.{node_count};
 ghost use Rattle.pulse_parts.specs.Parts.{ArePushParts, FlowPartFits, LabelsFit, values_of};
 ghost use Rattle.pulse_parts.specs.Listing.{active_by, active_in, AreWithin, EachListed, Extends, IsListed, ListsActive};
 ghost use Rattle.pulse_parts.specs.Visiting.{AllPushesListed, HeadsListed, ListsWork, PushesListed};

@@ -42,8 +42,8 @@ fn put_merge_counts<W: CountedWrite>(out: &mut Buffered<'_, W>, merged: Option<M
 {
     match merged {
         Some(counts) => {
-            put_count(out, b"merged", u64::from(counts.merged));
-            put_count(out, b"constant", u64::from(counts.constant));
+            put_count(out, b"merged", counts.merged);
+            put_count(out, b"constant", counts.constant);
         }
         None => {}
     }

@@ -20,7 +20,7 @@ use Rattle.cleaned_circuits.specs.Cleaned.{IsPass}
 use Rattle.cleaned_circuits.proofs.HeldLaws.{still-in_range}
 use Rattle.cleaned_circuits.proofs.PassLaws.{IsCircuit, IsCircuit-pass}
 use Rattle.cleaned_circuits.proofs.TrimmedLaws.{latch_in as trimmed-latch, new-from, new-less, stays-reached}
-use Rattle.merged_circuits.specs.Preserved.{IsMergedBy}
+use Rattle.merged_circuits.specs.Inductive.{IsMergedBy}
 use Rattle.merged_circuits.specs.Readings.{substitutes_by}
 use Rattle.rebuild.specs.Moved.{is_latched, latch_from, latch_for, moved_graph, moved_position, moved_symbols}
 use Rattle.rebuild.proofs.HeldLaws.{all-stay}

@@ -14,7 +14,7 @@ use Rattle.cleaned_circuits.proofs.LatchLaws.{leaf_substitute-below}
 use Rattle.cleaned_circuits.proofs.SubstituteLaws.{AreLeaves, start-length, start-entry, substitutes-after}
 use Rattle.cleaned_circuits.proofs.MergedLaws.{from_latch}
 use Rattle.merged_circuits.specs.Readings.{leaves, substitutes_by}
-use Rattle.merged_circuits.specs.Preserved.{IsMergedBy}
+use Rattle.merged_circuits.specs.Inductive.{IsMergedBy}
 use Rattle.merged_circuits.proofs.ReadingLaws.{are-leaves}
 use Rattle.path_levels.specs.Levels.{level, levels}
 use Rattle.retimed_circuits.proofs.HighestLaws.{IsReadWithin, read-within_levels, levels-most}
@@ -55,5 +55,5 @@ merged-levels held c valid netlist = replaced-levels (substitutes_of c.aig held)
 pub merged_latches-levels : (held reads : List ℕ) (c d : Netlist) → IsGraph c.aig → IsNetlist c → IsMergedBy held reads c d → levels d ≤ levels c
 merged_latches-levels held reads c d valid netlist merged =
     let low : SubstitutesLow c.aig (substitutes_by c.aig reads) =
-    after-level c.aig (leaves c.aig reads) (are-leaves c.aig held reads merged.preserved.reading) valid in
+    after-level c.aig (leaves c.aig reads) (are-leaves c.aig held reads merged.inductive.reading) valid in
     subst (λ (e : Netlist). levels e ≤ levels c) (sym merged.circuit) (replaced-levels (substitutes_by c.aig reads) c valid netlist low)

@@ -6,7 +6,7 @@ use Rattle.aig_graph.specs.Keep.{held_of}
 use Rattle.aig_graph.specs.Move.{move_of}
 use Rattle.aig_graph.specs.declared.choice.Choice.{Choice}
 use Rattle.cleaned_circuits.proofs.PassLaws.{IsCircuit, IsCircuit-cleans}
-use Rattle.merged_circuits.proofs.MergingLaws.{IsGraph-merged_latches, IsNetlist-merged_latches, merged-by}
+use Rattle.merged_circuits.proofs.MergingLaws.{IsGraph-merged_by, IsNetlist-merged_by}
 use Rattle.path_levels.specs.Levels.{levels}
 use Rattle.retimed_circuits.specs.declared.report.FrameReport.{FrameReport}
 use Rattle.retimed_circuits.specs.declared.report.Retimed.{Retimed}
@@ -62,12 +62,12 @@ retiming-levels true (Some bound) choice c holding max_frames certify r graph ne
     let cleans : CleansTo (held_of holding c) c clean is.kept is.start_held = is.merges.cleaned in
     let first : IsCircuit clean = IsCircuit-cleans clean (held_of holding c) c is.kept cleans.cleans whole in
     let start : IsCircuit is.start = record {
-      graph = IsGraph-merged_latches is.start_held clean is.start first.graph is.merges.merged;
-      netlist = IsNetlist-merged_latches is.start_held clean is.start first.graph first.netlist is.merges.merged;
+      graph = IsGraph-merged_by is.start_held is.merges.reads clean is.start first.graph is.merges.merged;
+      netlist = IsNetlist-merged_by is.start_held is.merges.reads clean is.start first.graph first.netlist is.merges.merged;
     } in
     let s : Retimed = is.from_start in
     let cleaning : levels clean ≤ levels c = cleans-levels clean (held_of holding c) c is.kept cleans.cleans whole in
-    let merging : levels is.start ≤ levels clean = merged_latches-levels is.start_held is.merges.merged.reads clean is.start first.graph first.netlist (merged-by is.start_held clean is.start first.graph is.merges.merged) in
+    let merging : levels is.start ≤ levels clean = merged_latches-levels is.start_held is.merges.reads clean is.start first.graph first.netlist is.merges.merged in
     let ended : levels s.circuit ≤ max bound (levels is.start) =
     (frames-levels bound choice is.start_held is.start start (length s.frames) s.circuit s.kept_free is.retimed.now s.frames is.retimed.frames).kept in
     let kept : levels s.circuit ≤ max bound (levels c) = omega (arith, ended, merging, cleaning) in

@@ -10,13 +10,21 @@ use Rattle.aig_graph.specs.Graph.{Graph, IsGraph, IsGateAt, variable, first_gate
 use Rattle.aig_graph.specs.Building.{gate_of}
 use Rattle.aig_graph.specs.Value.{signed_as}
 use Rattle.aig_graph.proofs.FoldingLaws.{gate_at-before, gate_at-first_gate}
-use Rattle.cleaned_circuits.specs.Merged.{Merging, replaced, replaced_gate, replaced_graph, same_fan_ins, known_substitute, with_substitute, merge_gate, merge_gates, merging_from, substitutes_after}
+use Rattle.cleaned_circuits.specs.Merged.{Merging, replaced, replaced_gate, replaced_graph, same_fan_ins, known_substitute, substitute_or_own, with_substitute, merge_gate, merge_gates, merging_from, substitutes_after}
 use Rattle.cleaned_circuits.proofs.SubstituteLaws.{lookup_push, same_fan_ins-is, gate_substitutes, with_false, with_true, with_equal, with_opposite, with_earlier, replaced-variable, length-merge_gate, GateOf, AreLeaves, length-substitutes_after, gates-of, after-within}
 use Rattle.cleaned_circuits.proofs.MergedLaws.{IsGraph-replaced, replaced-first_gate, replaced-gate}
 use Rattle.path_levels.specs.Levels.{level}
 use Rattle.path_levels.proofs.LevelLaws.{level-no_gate, level-gate}
-use Rattle.merged_circuits.proofs.CoarserLaws.{substitutes-stay}
 use Rattle.retimed_circuits.proofs.GateLevelLaws.{gate_level, gate_level-gate_of}
+
+-- gates add entries, and change none
+substitutes-stay : (gates : List Gate) (m : Merging) (v : ℕ) → v < length m.substitutes → get_or (merge_gates gates m).substitutes v 0 ≡ get_or m.substitutes v 0
+unfolding merge_gates
+substitutes-stay [] m v h = refl
+substitutes-stay (gate ∷ gates) m v h =
+    let pair : Gate = replaced_gate m.substitutes gate in
+    substitutes-stay gates (merge_gate m gate) v (omega (arith, h, length-merge_gate m gate))
+    ∙ get_or_append_left m.substitutes (substitute_or_own (2 * length m.substitutes) (known_substitute m.kept pair) ∷ []) 0 v h
 
 -- by the levels of variables before and after, if the constant has level 0
 module _ (before after : ℕ → ℕ) (constant : after 0 ≡ 0) where

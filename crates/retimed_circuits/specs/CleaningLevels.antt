@@ -3,7 +3,7 @@ use Rattle.std.specs.Prelude.{ℕ, ◌≤◌, List}
 use Rattle.aig_graph.specs.Graph.{IsGraph}
 use Rattle.aig_graph.specs.Circuits.{Netlist, IsNetlist}
 use Rattle.cleaned_circuits.specs.Cleaned.{Cleans}
-use Rattle.merged_circuits.specs.Preserved.{IsMergedBy}
+use Rattle.merged_circuits.specs.Inductive.{IsMergedBy}
 use Rattle.path_levels.specs.Levels.{levels}
 
 -- cleaning makes no path longer

@@ -1,10 +1,10 @@
 -- Laws of frames.
-use Rattle.std.specs.Prelude.{ℕ, Bool, List, Option, length}
+use Rattle.std.specs.Prelude.{ℕ, ◌≡◌, Bool, List, Option, length}
 use Rattle.aig_graph.specs.Graph.{IsGraph}
 use Rattle.aig_graph.specs.Circuits.{Netlist, IsNetlist}
 use Rattle.aig_graph.specs.Keep.{AreLatches, Holding}
 use Rattle.aig_graph.specs.declared.choice.Choice.{Choice}
-use Rattle.merged_circuits.specs.Preserved.{IsMergedBy}
+use Rattle.merged_circuits.specs.Inductive.{IsMergedBy}
 use Rattle.retimed_circuits.specs.declared.report.FrameReport.{FrameReport}
 use Rattle.retimed_circuits.specs.declared.report.Retimed.{Retimed}
 use Rattle.retimed_circuits.specs.Names.{StayHeld}
@@ -14,10 +14,10 @@ use Rattle.retimed_circuits.specs.Retiming.{IsRetimedWith}
 
 -- What a circuit is retimed to is one, and so are its certificates but for their routes. It depends
 -- on merging, the bound, the choice, the latches that are asked to be held and the limit of frames
--- alone.
+-- alone. If latches are merged, it depends on which are, and what they read as.
 abbrev pub IsDetermined : Bool → Option ℕ → Choice → Netlist → Holding → ℕ → Type 0
 IsDetermined merge bound choice c holding max_frames = (certify other : Bool) (r s : Retimed) → IsRetimedWith merge bound choice c holding max_frames certify r
-    → IsRetimedWith merge bound choice c holding max_frames other s → IsSameRetiming certify other r s
+    → IsRetimedWith merge bound choice c holding max_frames other s → r.merged ≡ s.merged → IsSameRetiming certify other r s
 
 -- cleaning keeps the held latches
 abbrev pub CleaningKeepsHeld : List ℕ → Netlist → Type 0

@@ -5,7 +5,7 @@ use Rattle.aig_graph.specs.Keep.{Holding, held_of}
 use Rattle.aig_graph.specs.Laws.{composed}
 use Rattle.aig_graph.specs.Streams.{SameStreams}
 use Rattle.aig_graph.specs.declared.choice.Choice.{Choice}
-use Rattle.merged_circuits.specs.declared.counts.MergeCounts.{MergeCounts}
+use Rattle.certificates.specs.declared.merged.MergedLatch.{MergedLatch}
 use Rattle.retimed_circuits.specs.declared.report.Retimed.{Retimed}
 use Rattle.retimed_circuits.specs.Names.{held_latches, latches_at}
 use Rattle.retimed_circuits.specs.Certified.{AreCertified}
@@ -32,13 +32,13 @@ pub record IsRetimed (bound : Option ℕ) (choice : Choice) (c : Netlist) (holdi
   pub run : IsRetimedOver bound choice c (held_of holding c) max_frames certify r
   pub held : held_latches holding.names r.circuit ≡ held_latches holding.names c
 
--- what is told of a circuit of n latches, if this is what it was merged to retimed
-abbrev pub since_merged : ℕ → List ℕ → MergeCounts → Retimed → Retimed
-since_merged latches kept counts r = record {
+-- what is told of a circuit of n latches, if this is what it was merged to by these lines, retimed
+abbrev pub since_merged : ℕ → List ℕ → List MergedLatch → Retimed → Retimed
+since_merged latches kept lines r = record {
   circuit = r.circuit;
   kept_free = composed kept r.kept_free;
   read_latches = latches;
-  merged = Some counts;
+  merged = Some lines;
   frames = r.frames;
   certificates = r.certificates;
 }
@@ -49,11 +49,11 @@ pub record IsMergedRetimed (bound : Option ℕ) (choice : Choice) (c : Netlist) 
   pub start : Netlist
   pub kept : List ℕ
   pub start_held : List ℕ
-  pub counts : MergeCounts
-  pub merges : MergesIn (held_of holding c) c start kept start_held counts
+  pub lines : List MergedLatch
+  pub merges : MergesIn (held_of holding c) c start kept start_held lines
   pub from_start : Retimed
   pub retimed : IsRetimedOver bound choice start start_held max_frames certify from_start
-  pub whole : r ≡ since_merged (length c.aig.latches) kept counts from_start
+  pub whole : r ≡ since_merged (length c.aig.latches) kept lines from_start
   pub streams : SameStreams c r.circuit r.kept_free
   pub stay : latches_at retimed.now r.circuit ≡ latches_at (held_of holding c) c
   pub held : held_latches holding.names r.circuit ≡ held_latches holding.names c

@@ -6,8 +6,9 @@ ghost use Rattle.retimed_circuits.specs.Laws.{CleaningKeepsHeld, FramesKeepHeld,
 
 /// The retimed circuit and its reports depend on the circuit and the options alone. The options are
 /// merging, the bound on path length, the choice of least sets, held latches and the limit of
-/// frames. Certificates that are wanted change nothing else. Their number, counts and gates depend
-/// on circuit and options too; their routes may differ.
+/// frames. If latches are merged, they depend on what the merged ones read as too. Certificates
+/// that are wanted change nothing else. Their number, counts and gates depend on circuit and
+/// options too; their routes may differ.
 pub fn retiming_law()
     ensures { (merge : Bool) (bound : Option ℕ) (choice : Choice) (c : Netlist) (holding : Holding)
         (max_frames : ℕ) → IsDetermined merge bound choice c holding max_frames }

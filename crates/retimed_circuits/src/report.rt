@@ -1,6 +1,5 @@
 use aig_graph::{Circuit, Sequence};
-use certificates::Certificate;
-use merged_circuits::MergeCounts;
+use certificates::{Certificate, MergedLatch};
 
 /// A frame: a move of latches forward over a set of gates.
 #[derive(Clone, Copy, Debug, PartialEq, Eq)]
@@ -22,9 +21,9 @@ pub struct Retimed {
     pub kept_free: Sequence<u32>,
     /// How many latches the circuit that was read has.
     pub read_latches: u32,
-    /// If latches that always agree were to be merged before the first frame, the number of latches
-    /// of the cleaned circuit that were.
-    pub merged: Option<MergeCounts>,
+    /// The latches of the cleaned circuit that were merged before the first frame, in order, and
+    /// what each reads as. `None` if merging wasn't asked for.
+    pub merged: Option<Sequence<MergedLatch>>,
     /// The frames taken, in order.
     pub frames: Sequence<FrameReport>,
     /// If certificates were wanted, one of each circuit that a frame was taken of. One of the last

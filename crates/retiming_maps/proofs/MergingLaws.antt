@@ -1,6 +1,6 @@
 -- A map that follows a merging is one to what is merged, and so is one that follows a cleaning
 -- before it.
-use Rattle.std.proofs.Common.{ℕ, ◌<◌, List, length, Ok, ap, sym, ◌∙◌, subst}
+use Rattle.std.proofs.Common.{ℕ, ◌<◌, List, length, ap, sym, ◌∙◌, subst}
 use Rattle.std.specs.List.{All}
 use Rattle.std.proofs.lemmas.List.{length-map}
 use Rattle.aig_graph.specs.Circuits.{Netlist}
@@ -10,18 +10,16 @@ use Rattle.aig_graph.specs.Streams.{AreKept, SameStreams}
 use Rattle.aig_graph.proofs.StreamLaws.{composed-every}
 use Rattle.clean.specs.declared.cleaning.Cleaned.{Cleaned}
 use Rattle.cleaned_circuits.proofs.MergedLaws.{length-replaced_latches}
-use Rattle.cleaned_circuits.proofs.PassLaws.{IsCircuit, IsCircuit-cleans, cleans-streams}
+use Rattle.cleaned_circuits.proofs.PassLaws.{IsCircuit}
 use Rattle.latch_merging.specs.declared.start.MergedStart.{MergedStart}
-use Rattle.latch_merging.proofs.StartLaws.{in_range-by, merges-by, stay-by, streams-by}
-use Rattle.merged_circuits.specs.Preserved.{IsMergedBy}
+use Rattle.latch_merging.proofs.StartLaws.{start-of}
+use Rattle.merged_circuits.specs.Inductive.{IsMergedBy}
 use Rattle.merged_circuits.specs.Readings.{substitutes_by}
-use Rattle.merged_circuits.proofs.MergingLaws.{merged-streams, merged_by-streams}
+use Rattle.merged_circuits.proofs.MergingLaws.{merged_by-streams}
 use Rattle.map_circuits.specs.Constraining.{AddsSubstitutes, substitute_function}
 use Rattle.map_circuits.specs.Steps.{read_functions}
 use Rattle.map_circuits.proofs.ReadFunctionLaws.{merged-step, read-within}
 use Rattle.retimed_circuits.specs.Frames.{CleansTo}
-use Rattle.retimed_circuits.specs.Names.{StayHeld}
-use Rattle.retimed_circuits.proofs.HeldLaws.{cleaning-keeps}
 use Rattle.retiming_maps.specs.declared.parts.MapParts.{MapParts}
 use Rattle.retiming_maps.specs.Mapping.{IsCleanedAlong, IsMapBy, LeadsOn}
 use Rattle.retiming_maps.specs.Merging.{IsMergedAfter, IsStartAlong}
@@ -36,11 +34,11 @@ module _ (b d e : Netlist) (held kept reads : List ℕ) (g h : Graph) (functions
     graph = adds.extends.graph;
     inputs = adds.extends.inputs ∙ p.inputs;
     latches = adds.extends.latches ∙ p.latches;
-    functions_within = read-within d.aig held reads functions merged.preserved.reading p.many g h old new p.graph p.functions_within adds;
+    functions_within = read-within d.aig held reads functions merged.inductive.reading p.many g h old new p.graph p.functions_within adds;
     constraints_within = adds.within;
-    many = length-map reads (substitute_function (first_latch d.aig) functions) ∙ merged.preserved.reading.long ∙ sym (ap (λ (n : Netlist). length n.aig.latches) merged.circuit ∙ length-replaced_latches (substitutes_by d.aig reads) d.aig);
+    many = length-map reads (substitute_function (first_latch d.aig) functions) ∙ merged.inductive.reading.long ∙ sym (ap (λ (n : Netlist). length n.aig.latches) merged.circuit ∙ length-replaced_latches (substitutes_by d.aig reads) d.aig);
     places = subst (AreKept b e) (composed-every kept (free_latches d.aig) p.places.each) (kept-then b d e kept (all_free d.aig) p.places streams.places);
-    free = free-merged b d e held kept reads functions merged.preserved.reading merged.circuit merged.preserved.reading.long p.free;
+    free = free-merged b d e held kept reads functions merged.inductive.reading merged.circuit merged.inductive.reading.long p.free;
     maps = merged-step b d e held reads kept g h functions old new valid.graph valid.netlist merged p.graph p.functions_within p.many p.places.each p.maps adds;
   }
     where
@@ -52,16 +50,8 @@ pub started : (held : List ℕ) (c : Netlist) (d : Cleaned) (old mid new : MapPa
     → IsMergedAfter d mid new m → IsStartAlong held c old new m
 started held c d old mid new m valid in_range along after =
     let cleans : CleansTo held c d.circuit d.kept_free d.keep = record { cleans = along.cleaned; held_after = along.held_after } in
-    let whole : IsCircuit d.circuit = IsCircuit-cleans d.circuit held c d.kept_free along.cleaned valid in
-    let first : SameStreams c d.circuit d.kept_free = cleans-streams d.circuit held c d.kept_free along.cleaned valid in
-    let then : SameStreams d.circuit m.circuit (all_free d.circuit.aig) = merged-streams d.keep d.circuit m.circuit whole.graph whole.netlist after.merged in
-    let stay : StayHeld held c d.keep d.circuit = cleaning-keeps held c d.circuit d.kept_free d.keep valid in_range cleans in
     let P : List ℕ → Type 0 = λ places. LeadsOn c old m.circuit places new in
-    let E : Type 0 = Unit {0} in
     record {
-      merges = merges-by {E = E} held c d (Ok m) cleans after.merged after.counted after.keep after.kept_free;
-      streams = streams-by {E = E} held c d (Ok m) first then after.kept_free;
-      stay = stay-by {E = E} held c d (Ok m) whole.graph stay after.merged after.keep;
-      in_range = in_range-by {E = E} held c d (Ok m) along.in_range after.merged after.keep;
-      leads = subst P (sym after.kept_free) (λ b kept p. after.leads b (composed kept d.kept_free) (along.leads b kept p));
+      start = start-of held c d m valid in_range cleans along.in_range after.start;
+      leads = subst P (sym after.start.kept_free) (λ b kept p. after.leads b (composed kept d.kept_free) (along.leads b kept p));
     }

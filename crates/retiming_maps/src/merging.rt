@@ -2,7 +2,7 @@
 //! constraint, and the latch then has the function of its reading. The cleaning before it comes
 //! first, so these constraints are of the functions that the cleaned circuit's latches have.
 ghost use Rattle.std.specs.Prelude.{◌<◌, All, OnOk, IfOk, length};
-ghost use Rattle.merged_circuits.specs.Preserved.{IsPreserved};
+ghost use Rattle.merged_circuits.specs.Inductive.{IsInductive};
 ghost use Rattle.retiming_maps.specs.Mapping.{IsSomeMapTo};
 ghost use Rattle.retiming_maps.specs.Merging.{IsMergedAfter, IsMergedAlong, IsStartAlong, LeadsMerged};
 
@@ -10,7 +10,7 @@ use crate::parts::MapParts;
 use crate::passes::cleaned_along;
 use aig_graph::{Circuit, Keep, Lit};
 use clean::Cleaned;
-use latch_merging::{MergedCircuit, MergedStart, latch_reading, merged_by};
+use latch_merging::{MergedCircuit, MergedStart, merge_latches};
 use map_circuits::{LatchFunctions, MapError, add_readings, read_functions};
 use std::alloc::Global;
 
@@ -23,7 +23,7 @@ fn follow_merging(
     reads: &[Lit],
 ) -> Result<(), MapError>
     requires map { IsSomeMapTo circuit.now parts.old }
-    requires preserved { IsPreserved circuit.now.aig keep.now reads.now }
+    requires inductive { IsInductive circuit.now.aig keep.now reads.now }
     ensures { OnOk result (LeadsMerged keep.now reads.now circuit.now parts.old parts.new) }
 {
     let _keep = keep;
@@ -52,9 +52,8 @@ fn merged_along(
     requires { IsSomeMapTo circuit.now parts.old }
     ensures { IfOk result (IsMergedAlong keep.now circuit.now parts.old parts.new) }
 {
-    let reads = latch_reading(alloc, circuit, keep)?;
-    follow_merging(alloc, parts, circuit, keep, reads.as_slice())?;
-    let merged = merged_by(alloc, circuit, keep, reads)?;
+    let merged = merge_latches(alloc, circuit, keep)?;
+    follow_merging(alloc, parts, circuit, keep, merged.reads.as_slice())?;
     Ok(merged)
 }
 
@@ -73,14 +72,20 @@ fn merged_after(
         kept_free,
         ..
     } = cleaned;
-    let merged = merged_along(alloc, parts, &before, &keep);
+    let merging = merged_along(alloc, parts, &before, &keep);
     drop(before);
-    match merged {
-        Ok(MergedCircuit { circuit, counts }) => Ok(MergedStart {
+    match merging {
+        Ok(
+            MergedCircuit {
+                circuit,
+                merged,
+                ..
+            },
+        ) => Ok(MergedStart {
             circuit,
             keep,
             kept_free,
-            counts,
+            merged,
         }),
         Err(error) => Err(error),
     }

@@ -8,7 +8,7 @@ use backward_sets::Literal;
 use std::alloc::{AllocError, AllocFailed};
 
 /// Why nothing is made of a draft.
-#[derive(Clone, Copy)]
+#[derive(Clone, Copy, Debug)]
 pub enum SealError {
     NoMemory,
     /// A number isn't that of something that is there.

@@ -1,17 +1,12 @@
 -- What is printed of two circuits that were compared, by how the run ends.
-use Rattle.std.proofs.Common.{◌≡◌, Bool, true, false, IfOk, inl, inr, Result, Ok, Err, sym, subst}
-use Rattle.aig_graph.specs.Circuits.{Netlist}
-use Rattle.aig_binary.specs.declared.reading.SpeltCircuit.{SpeltCircuit}
-use Rattle.counted_io.specs.Input.{Input}
+use Rattle.std.proofs.Common.{◌≡◌, Bool, true, false, IfOk, inl, inr, Result, sym, subst}
 use Rattle.counted_io.specs.Output.{Output, WritesAll}
 use Rattle.json_reports.specs.Lines.{json_line}
-use Rattle.command_line.specs.declared.task.Comparison.{Comparison}
 use Rattle.circuit_files.specs.declared.outcome.Outcome.{Outcome}
 use Rattle.circuit_files.specs.declared.outcome.Failure.{Failure}
 use Rattle.command_endings.specs.Objects.{EndsPrintingObject}
-use Rattle.simulation_commands.specs.Comparing.{IsFindingOf, IsFindingUnder, IsFindingWith, finding_object, finding_text, outcome_of_finding, printed_finding}
+use Rattle.simulation_commands.specs.Comparing.{finding_object, finding_text, outcome_of_finding, printed_finding}
 use Rattle.command_endings.specs.Printing.{EndsPrinting, EndsWith, Prints, ending}
-use Rattle.command_endings.specs.Sources.{IsCircuitAt}
 use Rattle.simulation_commands.specs.declared.comparison.Finding.{Finding}
 use Rattle.simulation_commands.specs.declared.comparison.Finding.TheVariants.{Same, Differ, ShapesDiffer}
 use Rattle.command_endings.proofs.PrintingLaws.{ends_with_line, ends_with_object_line, lines_print, object_prints}
@@ -51,17 +46,3 @@ pub line_of_finding : (json : Bool) (f : Finding) (old new : Output) (result : R
     → json ≡ false → EndsPrinting (outcome_of_finding f) (finding_text f) old new result → EndsWithFinding json f old new result
 line_of_finding json f old new result unasked p =
     subst (λ (j : Bool). EndsWithFinding j f old new result) (sym unasked) (ends_with_line (outcome_of_finding f) (finding_text f) old new result p)
-
--- what is found of a circuit and the second one, once that is read
-pub of_second : (c d : Netlist) (task : Comparison) (spelt : SpeltCircuit) (before between after : Input) (result : Result Finding Failure)
-    → d ≡ spelt.circuit → IsCircuitAt task.second before between spelt → IfOk result (IsFindingUnder c d task between after) → IfOk result (IsFindingWith c task before after)
-of_second c d task spelt before between after (Ok finding) is read found =
-    record { spelt = spelt; between = between; read = read; found = subst (λ (n : Netlist). IsFindingUnder c n task between after finding) is found }
-of_second c d task spelt before between after (Err failure) is read found = tt
-
--- and of the first
-pub of_first : (c : Netlist) (task : Comparison) (spelt : SpeltCircuit) (before between after : Input) (result : Result Finding Failure)
-    → c ≡ spelt.circuit → IsCircuitAt task.first before between spelt → IfOk result (IsFindingWith c task between after) → IfOk result (IsFindingOf task before after)
-of_first c task spelt before between after (Ok finding) is read found =
-    record { spelt = spelt; between = between; read = read; found = subst (λ (n : Netlist). IsFindingWith n task between after finding) is found }
-of_first c task spelt before between after (Err failure) is read found = tt

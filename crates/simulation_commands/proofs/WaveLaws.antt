@@ -1,6 +1,5 @@
 -- What is printed of a trace and of waves, by how the run ends.
 use Rattle.std.proofs.Common.{ℕ, ◌≡◌, true, false, List, Some, IfOk, OnOk, Result, Ok, Err, refl, sym, subst}
-use Rattle.std.proofs.lemmas.Result.{IfOk-weaker}
 use Rattle.aig_graph.specs.Circuits.{Netlist}
 use Rattle.aig_binary.specs.declared.reading.SpeltCircuit.{SpeltCircuit}
 use Rattle.counted_io.specs.Input.{Input}
@@ -18,7 +17,7 @@ use Rattle.command_endings.specs.Printing.{EndsPrinting, EndsWith, Prints, endin
 use Rattle.command_endings.specs.Sources.{IsCircuitAt}
 use Rattle.command_endings.proofs.PrintingLaws.{of_device}
 use Rattle.simulation_commands.specs.Dumping.{dump_of}
-use Rattle.simulation_commands.specs.Simulating.{IsCaseOf, IsCaseWith, IsDumped, PrintsTrace, lines_of, printed}
+use Rattle.simulation_commands.specs.Simulating.{IsCaseOf, IsCaseWith, IsDumped, PrintsTrace, case_text, printed}
 use Rattle.simulation_commands.specs.declared.simulation.Case.{Case}
 
 -- the lines come after the dump, if that went to standard output, and else alone
@@ -45,7 +44,7 @@ dumped_to FileGiven target dump old mid (Err failure) given = tt
 
 -- of what is read, that is what was printed
 pub prints_trace : (FileGiven : List ℕ → List ℕ → Type 0) (task : Simulation) (given : Case) (before after : Input) (old new : Output) (result : Result Outcome Failure)
-    → IsCaseOf task before after given → OnOk result (IsDumped FileGiven task.waves (dump_of given)) → IfOk result (EndsWith Done (printed task.waves (dump_of given) (lines_of given)) old new)
+    → IsCaseOf task before after given → OnOk result (IsDumped FileGiven task.waves (dump_of given)) → IfOk result (EndsWith Done (printed task.waves (dump_of given) (case_text given)) old new)
     → IfOk result (PrintsTrace FileGiven task before after old new)
 prints_trace FileGiven task given before after old new (Ok ended) is dumped prints = record { given = given; is = is; dumped = dumped; prints = prints }
 prints_trace FileGiven task given before after old new (Err failure) is dumped prints = tt

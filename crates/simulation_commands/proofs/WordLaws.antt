@@ -4,7 +4,7 @@ use Rattle.std.proofs.lemmas.List.FromFn.{map-range_with_len_more}
 use Rattle.std.proofs.lemmas.Nat.Bits.{shr_and_one}
 use Rattle.rand_xoshiro.specs.SplitMix64.{mix_u64}
 use Rattle.lane_sim.specs.declared.stimulus.InputSequence.{InputSequence}
-use Rattle.simulation_commands.specs.Random.{digit, digits, random_sequence, random_steps, random_stimulus, state_after, word}
+use Rattle.simulation_commands.specs.Random.{random_digit, digits, random_sequence, random_steps, random_stimulus, state_after, word}
 
 state-start : (seed : ℕ) → state_after seed 0 ≡ seed
 unfolding state_after
@@ -71,9 +71,9 @@ drawn-more seed place state held h =
 pub digits-more : (seed place held : ℕ) (old new : List Bool) → held ≡ word seed (place / 64) → old ≡ digits seed place
     → new ≡ old ++ nat_eq (bit_and (held / 2 ^ (place % 64)) 1) 1 ∷ [] → new ≡ digits seed (place + 1)
 digits-more seed place held old new at before pushed =
-    let bit : nat_eq (bit_and (held / 2 ^ (place % 64)) 1) 1 ≡ digit seed place =
+    let bit : nat_eq (bit_and (held / 2 ^ (place % 64)) 1) 1 ≡ random_digit seed place =
     ap (λ x. nat_eq x 1) (shr_and_one held (place % 64)) ∙ ap (λ (w : ℕ). nat_eq (w / 2 ^ (place % 64) % 2) 1) at in
-    pushed ∙ ap₂ (λ (xs : List Bool) (x : Bool). xs ++ x ∷ []) before bit ∙ sym (map-range_with_len_more (digit seed) 0 place place (omega arith))
+    pushed ∙ ap₂ (λ (xs : List Bool) (x : Bool). xs ++ x ∷ []) before bit ∙ sym (map-range_with_len_more (random_digit seed) 0 place place (omega arith))
 
 -- ---- steps and sequences
 

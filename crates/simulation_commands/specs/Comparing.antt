@@ -1,7 +1,6 @@
 -- What comparing two circuits finds, and what is printed of it.
 use Rattle.std.specs.Prelude.{ℕ, ◌≡◌, Bool, true, false, List, Some, None}
 use Rattle.aig_graph.specs.Circuits.{Netlist}
-use Rattle.aig_binary.specs.declared.reading.SpeltCircuit.{SpeltCircuit}
 use Rattle.lane_sim.specs.Traces.{trace}
 use Rattle.lane_sim.specs.Differences.{IsFirstDifference}
 use Rattle.lane_sim.specs.declared.stimulus.InputSequence.{InputSequence}
@@ -16,10 +15,11 @@ use Rattle.command_line.specs.declared.task.Stimuli.{Stimuli}
 use Rattle.circuit_files.specs.declared.outcome.Outcome.{Outcome}
 use Rattle.circuit_files.specs.declared.outcome.Outcome.TheVariants as ends
 use Rattle.command_endings.specs.Printing.{EndsWith}
-use Rattle.command_endings.specs.Sources.{IsCircuitAt}
 use Rattle.simulation_commands.specs.Keeping.{AreSharedAt, HaveShape, sequences_for}
+use Rattle.simulation_commands.specs.Reading.{ArePair}
 use Rattle.simulation_commands.specs.Stimulating.{AreStimuliAt}
 use Rattle.simulation_commands.specs.declared.kept.Shared.{Shared}
+use Rattle.simulation_commands.specs.declared.reading.Pair.{Pair}
 use Rattle.simulation_commands.specs.declared.comparison.Finding.{Finding}
 use Rattle.simulation_commands.specs.declared.comparison.Finding.TheVariants.{Same, Differ, ShapesDiffer}
 
@@ -64,20 +64,12 @@ pub record IsFindingUnder (c d : Netlist) (task : Comparison) (before after : In
   pub are : AreSharedAt task.kept c d before between shared
   pub found : IsFindingBy shared c d task.stimuli between after finding
 
--- what is found of a circuit and the second one of the task, which is read, under what the task
--- asks for
-pub record IsFindingWith (c : Netlist) (task : Comparison) (before after : Input) (finding : Finding) : Type 0 where
-  pub spelt : SpeltCircuit
-  pub between : Input
-  pub read : IsCircuitAt task.second before between spelt
-  pub found : IsFindingUnder c spelt.circuit task between after finding
-
 -- what is found of the circuits of the task, which are read in their order, under what it asks for
 pub record IsFindingOf (task : Comparison) (before after : Input) (finding : Finding) : Type 0 where
-  pub spelt : SpeltCircuit
+  pub pair : Pair
   pub between : Input
-  pub read : IsCircuitAt task.first before between spelt
-  pub found : IsFindingWith spelt.circuit task between after finding
+  pub read : ArePair task.first task.second before between pair
+  pub found : IsFindingUnder pair.first.circuit pair.second.circuit task between after finding
 
 -- that was printed as the task asks, and the run ends by it
 pub record PrintsFinding (task : Comparison) (before after : Input) (old new : Output) (ended : Outcome) : Type 0 where

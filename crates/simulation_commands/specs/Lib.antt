@@ -1,6 +1,7 @@
 pub mod Comparing
 pub mod Dumping
 pub mod Keeping
+pub mod Reading
 pub mod Simulating
 pub mod Stimulating
 pub mod Random

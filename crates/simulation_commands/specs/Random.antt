@@ -15,12 +15,12 @@ unfoldable pub word : ℕ → ℕ → ℕ
 word seed k = (mix_u64 (state_after seed k)).0
 
 -- the bits of the words of a seed, word by word, the lowest of each first
-abbrev pub digit : ℕ → ℕ → Bool
-digit seed i = bit_at (word seed (i / 64)) (i % 64) == 1
+abbrev pub random_digit : ℕ → ℕ → Bool
+random_digit seed i = bit_at (word seed (i / 64)) (i % 64) == 1
 
 -- the first n bits of the words of a seed, the lowest of each first
 abbrev pub digits : ℕ → ℕ → List Bool
-digits seed n = map (digit seed) (range_with_len 0 n)
+digits seed n = map (random_digit seed) (range_with_len 0 n)
 
 -- the steps of a sequence with this seed: each has a word as the seed of its digits, from the
 -- second one on

@@ -34,8 +34,8 @@ pub record IsCaseOf (task : Simulation) (before after : Input) (given : Case) : 
   pub is : IsCaseWith spelt.circuit task.stimuli between after given
 
 -- the lines of its trace
-abbrev pub lines_of : Case → List ℕ
-lines_of given = trace_text (trace given.circuit given.stimulus)
+abbrev pub case_text : Case → List ℕ
+case_text given = trace_text (trace given.circuit given.stimulus)
 
 -- its trace, or room for simulating it
 abbrev pub AreLinesFor : Case → Lines → Type 0
@@ -60,4 +60,4 @@ pub record PrintsTrace (FileGiven : List ℕ → List ℕ → Type 0) (task : Si
   pub given : Case
   pub is : IsCaseOf task before after given
   pub dumped : IsDumped FileGiven task.waves (dump_of given)
-  pub prints : EndsWith Done (printed task.waves (dump_of given) (lines_of given)) old new ended
+  pub prints : EndsWith Done (printed task.waves (dump_of given) (case_text given)) old new ended

@@ -1,12 +1,12 @@
 //! The command `same`.
-ghost use Rattle.std.specs.Prelude.{◌≡◌, IfOk};
+ghost use Rattle.std.specs.Prelude.{IfOk};
 ghost use Rattle.command_endings.specs.Objects.{EndsPrintingObject};
-ghost use Rattle.simulation_commands.specs.Comparing.{IsFinding, IsFindingBy, IsFindingOf, IsFindingUnder, IsFindingWith, PrintsFinding, finding_object, finding_text, outcome_of_finding, printed_finding};
+ghost use Rattle.simulation_commands.specs.Comparing.{IsFinding, IsFindingBy, IsFindingOf, IsFindingUnder, PrintsFinding, finding_object, finding_text, outcome_of_finding, printed_finding};
 ghost use Rattle.simulation_commands.specs.declared.kept.Shared.TheVariants.{Each, Kept};
 ghost use Rattle.command_endings.specs.Printing.{EndsPrinting, EndsWith, Prints, ending};
 
 use crate::kept::{Shared, shared_by};
-use crate::reading::read_circuit;
+use crate::reading::pair_at;
 use crate::stimuli::stimuli_for;
 use aig_graph::{Circuit, Sequence};
 use circuit_files::{Failure, Outcome};
@@ -127,27 +127,6 @@ fn compared_under<'a, R: Files + Threads + Sync, I: CountedRead>(
     }
 }
 
-/// Compares the first circuit with the one that is read.
-fn compared_with<'a, R: Files + Threads + Sync, I: CountedRead>(
-    rt: &R,
-    alloc: Global,
-    first: &Circuit,
-    task: &Comparison<'a>,
-    stdin: &mut I,
-) -> Result<Finding, Failure<'a>>
-    ensures { IfOk result (IsFindingWith first.now task.now (I.input stdin.old)
-        (I.input stdin.new)) }
-{
-    match read_circuit(rt, alloc, task.second, stdin) {
-        Ok(second) => {
-            let found = compared_under(rt, alloc, first, &second, task, stdin);
-            drop(second);
-            found
-        }
-        Err(failure) => Err(failure),
-    }
-}
-
 fn compared<'a, R: Files + Threads + Sync, I: CountedRead>(
     rt: &R,
     alloc: Global,
@@ -156,10 +135,17 @@ fn compared<'a, R: Files + Threads + Sync, I: CountedRead>(
 ) -> Result<Finding, Failure<'a>>
     ensures { IfOk result (IsFindingOf task.now (I.input stdin.old) (I.input stdin.new)) }
 {
-    match read_circuit(rt, alloc, task.first, stdin) {
-        Ok(first) => {
-            let found = compared_with(rt, alloc, &first, task, stdin);
-            drop(first);
+    match pair_at(rt, alloc, task.first, task.second, stdin) {
+        Ok(pair) => {
+            let found = compared_under(
+                rt,
+                alloc,
+                &pair.first.circuit,
+                &pair.second.circuit,
+                task,
+                stdin,
+            );
+            drop(pair);
             found
         }
         Err(failure) => Err(failure),

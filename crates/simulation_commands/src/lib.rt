@@ -24,6 +24,7 @@ mod witness;
 pub use comparison::print_comparison;
 pub use generating::random_stimulus;
 pub use kept::{Shared, shared_by};
+pub use reading::{Pair, pair_at};
 pub use room::is_too_long;
 pub use simulation::print_simulation;
 pub use witness::print_witness_back;

@@ -4,7 +4,7 @@ ghost use Rattle.std.specs.Prelude.{◌≡◌, ◌-◌, ◌*◌, ◌<◌, ◌^�
 ghost use Rattle.aig_graph.specs.Streams.{property_literals};
 ghost use Rattle.simulation_commands.specs.Room as wanted;
 
-use aig_graph::{Circuit, Lit, Props, Sequence};
+use aig_graph::{Circuit, Props};
 use lane_sim::{InputSequence, Stimulus};
 
 /// The most bytes of steps, and of choices.

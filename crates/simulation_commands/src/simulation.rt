@@ -7,7 +7,7 @@ ghost use Rattle.circuit_files.specs.declared.outcome.Outcome.TheVariants.{Done}
 ghost use Rattle.circuit_files.specs.declared.outcome.Failure.TheVariants.{Memory};
 ghost use Rattle.command_endings.specs.Printing.{EndsPrinting, EndsWith, Prints, ending};
 ghost use Rattle.simulation_commands.specs.Dumping.{AreWavesOf, dump_of};
-ghost use Rattle.simulation_commands.specs.Simulating.{AreLinesFor, IsCaseOf, IsCaseWith, IsDumped, PrintsTrace, lines_of, printed};
+ghost use Rattle.simulation_commands.specs.Simulating.{AreLinesFor, IsCaseOf, IsCaseWith, IsDumped, PrintsTrace, case_text, printed};
 
 use crate::dumping::{Waves, waves_of, write_dump};
 use crate::reading::read_circuit;
@@ -113,7 +113,7 @@ fn print_stepped<'a, O: CountedWrite>(
     out: &mut O,
 ) -> Result<Outcome, Failure<'a>>
     requires { IsRoomFor given.now.circuit room }
-    ensures { EndsPrinting Done (lines_of given.now) (O.output out.old) (O.output out.new) result }
+    ensures { EndsPrinting Done (case_text given.now) (O.output out.old) (O.output out.new) result }
 {
     let mut room = room;
     let printed = print_simulated(&given.circuit, &given.stimulus, &mut room, out);
@@ -127,7 +127,7 @@ fn print_lines<'a, O: CountedWrite>(
     out: &mut O,
 ) -> Result<Outcome, Failure<'a>>
     requires { AreLinesFor given.now lines }
-    ensures { EndsPrinting Done (lines_of given.now) (O.output out.old) (O.output out.new) result }
+    ensures { EndsPrinting Done (case_text given.now) (O.output out.old) (O.output out.new) result }
 {
     match lines {
         Lines::Whole(trace) => print_whole(trace, out),
@@ -142,7 +142,7 @@ fn print_trace_of<'a, R: Threads + Sync, O: CountedWrite>(
     given: &Case,
     out: &mut O,
 ) -> Result<Outcome, Failure<'a>>
-    ensures printed { IfOk result (EndsWith Done (lines_of given.now) (O.output out.old)
+    ensures printed { IfOk result (EndsWith Done (case_text given.now) (O.output out.old)
         (O.output out.new)) }
     ensures prints { Prints (ending result) (O.output out.old) (O.output out.new) }
 {
@@ -165,7 +165,7 @@ fn print_with_waves<'a, R: OutputFiles + Threads + Sync, O: CountedWrite>(
     ensures dumped { OnOk result (IsDumped (IsFileGiven R.Output.contents R.is_made R.is_let_go)
         (Some target.entry) (dump_of given.now)) }
     ensures printed { IfOk result (EndsWith Done (printed (Some target.entry) (dump_of given.now)
-        (lines_of given.now)) (O.output out.old) (O.output out.new)) }
+        (case_text given.now)) (O.output out.old) (O.output out.new)) }
     ensures prints { Prints (ending result) (O.output out.old) (O.output out.new) }
 {
     match lines_for(rt, alloc, given) {
@@ -193,7 +193,7 @@ fn print_with<'a, R: OutputFiles + Threads + Sync, O: CountedWrite>(
     ensures dumped { OnOk result (IsDumped (IsFileGiven R.Output.contents R.is_made R.is_let_go)
         (Some target.entry) (dump_of given.now)) }
     ensures printed { IfOk result (EndsWith Done (printed (Some target.entry) (dump_of given.now)
-        (lines_of given.now)) (O.output out.old) (O.output out.new)) }
+        (case_text given.now)) (O.output out.old) (O.output out.new)) }
     ensures prints { Prints (ending result) (O.output out.old) (O.output out.new) }
 {
     match waves_of(alloc, given, task) {
@@ -218,7 +218,7 @@ fn print_case<'a, R: OutputFiles + Threads + Sync, O: CountedWrite>(
     ensures dumped { OnOk result (IsDumped (IsFileGiven R.Output.contents R.is_made R.is_let_go)
         task.now.waves (dump_of given.now)) }
     ensures printed { IfOk result (EndsWith Done (printed task.now.waves (dump_of given.now)
-        (lines_of given.now)) (O.output out.old) (O.output out.new)) }
+        (case_text given.now)) (O.output out.old) (O.output out.new)) }
     ensures prints { Prints (ending result) (O.output out.old) (O.output out.new) }
 {
     match task.waves {

@@ -13,7 +13,7 @@ use circuit_files::{Failure, Outcome, witness_at};
 use clean::{Cleaned, all_places, clean};
 use command_endings::ended;
 use command_line::Carrying;
-use counted_io::{CountedRead, CountedWrite, Source};
+use counted_io::{CountedRead, CountedWrite};
 use frames::{Options, Retimed, retime};
 use pulse::{Crew, OpenGate};
 use reports::print_shapes_differ;
@@ -292,8 +292,8 @@ fn print_verdict<'a, O: CountedWrite>(
     verdict: &Verdict,
     out: &mut O,
 ) -> Result<Outcome, Failure<'a>>
-    ensures { EndsPrinting (outcome_of_verdict verdict.now) (verdict_text verdict.now) (O.output out.old)
-        (O.output out.new) result }
+    ensures { EndsPrinting (outcome_of_verdict verdict.now) (verdict_text verdict.now)
+        (O.output out.old) (O.output out.new) result }
 {
     match verdict {
         Verdict::Confirmed(confirmed) => print_confirmed(confirmed, out),

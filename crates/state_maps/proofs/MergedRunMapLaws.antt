@@ -10,8 +10,8 @@ use Rattle.aig_graph.specs.Streams.{AreKept, SameStreams}
 use Rattle.aig_graph.specs.declared.choice.Choice.{Choice}
 use Rattle.aig_graph.proofs.StreamLaws.{composed-every}
 use Rattle.cleaned_circuits.proofs.PassLaws.{IsCircuit, IsCircuit-cleans, cleans-streams}
-use Rattle.merged_circuits.specs.Preserved.{IsMergedBy}
-use Rattle.merged_circuits.proofs.MergingLaws.{IsGraph-merged_by, IsNetlist-merged_by, merged-by, merged_by-streams}
+use Rattle.merged_circuits.specs.Inductive.{IsMergedBy}
+use Rattle.merged_circuits.proofs.MergingLaws.{IsGraph-merged_by, IsNetlist-merged_by, merged_by-streams}
 use Rattle.retimed_circuits.specs.declared.report.Retimed.{Retimed}
 use Rattle.retimed_circuits.specs.Frames.{CleansTo}
 use Rattle.retimed_circuits.proofs.CircuitLaws.{after-circuit}
@@ -38,8 +38,8 @@ merged-retiming_maps bound choice holding c max_frames certify r valid netlist r
     let held : List ℕ = run.start_held in
     let cleans : CleansTo (held_of holding c) c clean run.kept held = run.merges.cleaned in
     let clean_whole : IsCircuit clean = IsCircuit-cleans clean (held_of holding c) c run.kept cleans.cleans whole in
-    let reads : List ℕ = run.merges.merged.reads in
-    let merged : IsMergedBy held reads clean run.start = merged-by held clean run.start clean_whole.graph run.merges.merged in
+    let reads : List ℕ = run.merges.reads in
+    let merged : IsMergedBy held reads clean run.start = run.merges.merged in
     let start_whole : IsCircuit run.start = record {
       graph = IsGraph-merged_by held reads clean run.start clean_whole.graph merged;
       netlist = IsNetlist-merged_by held reads clean run.start clean_whole.graph clean_whole.netlist merged;

@@ -18,7 +18,7 @@ use Rattle.cleaned_circuits.specs.Merged.{replaced, replaced_gate, replaced_latc
 use Rattle.cleaned_circuits.proofs.SubstituteLaws.{after-within}
 use Rattle.cleaned_circuits.proofs.MergedLaws.{IsGraph-replaced, SubstitutesWithin, length-replaced_latches, replaced-inputs, replaced-first_latch, replaced-first_gate, replaced-latch, replaced-gate, replaced-free_before}
 use Rattle.merged_circuits.specs.Readings.{leaves, substitutes_by}
-use Rattle.merged_circuits.specs.Preserved.{IsPreserved}
+use Rattle.merged_circuits.specs.Inductive.{IsInductive}
 use Rattle.merged_circuits.proofs.ReadingLaws.{are-leaves}
 use Rattle.state_maps.specs.States.{Digits, IsStateMap, State, after_step, opening_state}
 use Rattle.state_maps.specs.RetimedStates.{HasStateMap}
@@ -30,7 +30,7 @@ use Rattle.state_maps.specs.MergingLaws.{HasMergingMap, MergingMaps}
 use Rattle.state_maps.proofs.ReadsHoldLaws.{holds-test, reads-first, reads-keep, substitutes-value, test-holds}
 use Rattle.aig_graph.proofs.StreamLaws.{funext}
 
-module _ (g : Graph) (held reads : List ℕ) (valid : IsGraph g) (kept : IsPreserved g held reads) where
+module _ (g : Graph) (held reads : List ℕ) (valid : IsGraph g) (kept : IsInductive g held reads) where
   within-each : SubstitutesWithin g (substitutes_by g reads)
   within-each = after-within g (leaves g reads) (are-leaves g held reads kept.reading) valid
 
@@ -125,7 +125,7 @@ chosen-all : (n : ℕ) (f : Choice) (j : ℕ) → j < n → f j ≡ chosen (rang
 chosen-all n f j h = ap f (sym (get_or-range_with_len 0 n j 0 h ∙ zero-add j))
 
 -- merging maps each state to itself
-module _ (held reads : List ℕ) (c : Netlist) (valid : IsGraph c.aig) (netlist : IsNetlist c) (kept : IsPreserved c.aig held reads) where
+module _ (held reads : List ℕ) (c : Netlist) (valid : IsGraph c.aig) (netlist : IsNetlist c) (kept : IsInductive c.aig held reads) where
   replaced-maps : IsStateMap c (replaced_circuit (substitutes_by c.aig reads) c) (all_free c.aig) (ReadsHold c.aig reads) (λ s. s)
   replaced-maps =
       let d : Netlist = replaced_circuit (substitutes_by c.aig reads) c in
@@ -154,10 +154,10 @@ module _ (held reads : List ℕ) (c : Netlist) (valid : IsGraph c.aig) (netlist 
 pub merging-maps : (held reads : List ℕ) (c d : Netlist) → MergingMaps held reads c d
 merging-maps held reads c d valid netlist merged =
     let P : Netlist → Type 0 = λ e. IsStateMap c e (all_free c.aig) (ReadsHold c.aig reads) (λ s. s) in
-    subst P (sym merged.circuit) (replaced-maps held reads c valid netlist merged.preserved)
+    subst P (sym merged.circuit) (replaced-maps held reads c valid netlist merged.inductive)
 
 -- a merging has a state map that rests on a test
 pub has-merging_map : (held reads : List ℕ) (c d : Netlist) → HasMergingMap held reads c d
 has-merging_map held reads c d valid netlist merged =
     let P : Netlist → Type 0 = λ e. HasStateMap c e (all_free c.aig) in
-    subst P (sym merged.circuit) (replaced-has held reads c valid netlist merged.preserved)
+    subst P (sym merged.circuit) (replaced-has held reads c valid netlist merged.inductive)

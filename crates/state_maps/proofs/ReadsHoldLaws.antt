@@ -13,7 +13,7 @@ use Rattle.cleaned_circuits.specs.Latches.{constant_of}
 use Rattle.cleaned_circuits.specs.Merged.{replaced}
 use Rattle.cleaned_circuits.proofs.LatchLaws.{constant-even}
 use Rattle.merged_circuits.specs.Readings.{own_literal, read, from_reset, ReadsAs, as_itself, as_constant, as_first, substitutes_by}
-use Rattle.merged_circuits.specs.Preserved.{Agrees, IsPreserved, told}
+use Rattle.merged_circuits.specs.Inductive.{Agrees, IsInductive, told}
 use Rattle.merged_circuits.proofs.ShownLaws.{substitutes-value as values-by}
 use Rattle.merged_circuits.proofs.ValueLaws.{may-known, flipped, flipped-twice, opening-known}
 use Rattle.state_maps.specs.States.{Digits, State, after_step, opening_state}
@@ -44,7 +44,7 @@ module _ (g : Graph) (valid : IsGraph g) (x : Digits) (s : State) where
       ap vals e ∙ from_reset-value latch.reset (from_reset first.reset (own_literal g i))
       ∙ ap (flipped latch.reset) (from_reset-value first.reset (own_literal g i) ∙ ap (flipped first.reset) (laws.latch i first there))
 
-module _ (g : Graph) (held reads : List ℕ) (valid : IsGraph g) (kept : IsPreserved g held reads) where
+module _ (g : Graph) (held reads : List ℕ) (valid : IsGraph g) (kept : IsInductive g held reads) where
   -- if each latch holds what it reads as, what merging makes of a literal has its value
   module _ (x : Digits) (s : State) (holds : ReadsHold g reads s) where
     respects : Respects (gates_of g) (vals g valid x s)

@@ -5,7 +5,7 @@ use Rattle.aig_graph.specs.Circuits.{Netlist, IsNetlist}
 use Rattle.aig_graph.specs.Keep.{Holding}
 use Rattle.aig_graph.specs.Laws.{all_free}
 use Rattle.aig_graph.specs.declared.choice.Choice.{Choice}
-use Rattle.merged_circuits.specs.Preserved.{IsMergedBy}
+use Rattle.merged_circuits.specs.Inductive.{IsMergedBy}
 use Rattle.retimed_circuits.specs.declared.report.Retimed.{Retimed}
 use Rattle.retimed_circuits.specs.Retiming.{IsMergedRetimed}
 use Rattle.state_maps.specs.States.{IsStateMap}

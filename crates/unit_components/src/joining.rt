@@ -10,7 +10,7 @@ use aig_graph::Memory;
 use std::alloc::{AllocError, Global};
 use std::thread::Threads;
 use std::{mem, thread};
-use unit_starts::{Region, narrow};
+use unit_starts::{Region, entry_or, narrow, put_if_there};
 
 /// Two places that are connected.
 #[derive(Clone, Copy)]
@@ -23,15 +23,13 @@ struct Pair {
 /// outside of it points to itself.
 fn above(forest: &[u32], first: u32, place: u32) -> u32 {
     let at = place.wrapping_sub(first) as usize;
-    if at < forest.len() { forest[at] } else { place }
+    entry_or(forest, at, place)
 }
 
 /// Lets `place` point to `above`, if it is in the part of the forest.
 fn point(forest: &mut [u32], first: u32, place: u32, above: u32) {
     let at = place.wrapping_sub(first) as usize;
-    if at < forest.len() {
-        forest[at] = above;
-    }
+    put_if_there(forest, at, above);
 }
 
 /// Returns the root of the tree of `place`. On the way there every second place is made to point to

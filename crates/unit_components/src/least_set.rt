@@ -8,7 +8,7 @@ use crate::cut::Cut;
 use crate::parts::Parts;
 use crate::shares::CutFlow;
 use crate::sizes::Sizes;
-use aig_graph::{Choice, Circuit, ClosedSet, Keep, Memory, NoMemory};
+use aig_graph::{Choice, ClosedSet, Memory, NoMemory};
 use pulse::{Crew, PhaseGate};
 use std::alloc::Global;
 use std::thread::Threads;
@@ -131,10 +131,10 @@ pub fn chosen_by_sizes<R: Threads + Sync, G: PhaseGate>(
     }
 }
 
-/// Returns the chosen least set of a circuit, whose held latches stay, if a flow of units shows it.
-/// That flow is a start along `flow`, or what pulses make of such a start. `flow` is what the last
-/// flow did at the circuit's gates, or nothing; afterwards it is the flow that was found. Flows are
-/// hints: they decide if there is a set, and never which.
+/// Returns the chosen least set of a frame, if a flow of units shows it. That flow is a start along
+/// `flow`, or what pulses make of such a start. `flow` is what the last flow did at the circuit's
+/// gates, or nothing; afterwards it is the flow that was found. Flows are hints: they decide if
+/// there is a set, and never which.
 ///
 /// A circuit of at least 2^19 latches and gates is cut if no flow of it is known and the crew has
 /// several workers. Its network's components, which share no arc, are gathered into parts of 2^13
@@ -147,19 +147,16 @@ pub fn chosen_by_sizes<R: Threads + Sync, G: PhaseGate>(
 ///
 /// `NoMemory` if a table or a thread's memory is refused. Then `flow` is the flow of before, one of
 /// this run, or none.
-pub fn chosen_least_in_parts<G: PhaseGate>(
-    rt: &(impl Threads + Sync),
+pub fn chosen_least_in_parts<R: Threads + Sync, G: PhaseGate>(
+    rt: &R,
     alloc: Global,
-    circuit: &Circuit,
-    keep: &Keep,
+    frame: &Frame,
     choice: Choice,
     crew: &Crew<G>,
     flow: &mut UnitFlow,
 ) -> Result<Option<ClosedSet>, NoMemory>
-    ensures { IfOk result (λ shown. IfSome shown (IsChosen choice circuit.now keep.now)) }
+    ensures { IfOk result (λ shown. IfSome shown (IsChosen choice frame.now.circuit.now
+        frame.now.keep.now)) }
 {
-    let frame = Frame::new(alloc, circuit, keep)?;
-    let shown = chosen_by_sizes(rt, alloc, &frame, choice, crew, Sizes::OF_RUN, flow);
-    drop(frame);
-    shown
+    chosen_by_sizes(rt, alloc, frame, choice, crew, Sizes::OF_RUN, flow)
 }

@@ -53,6 +53,23 @@ impl<'a> Frame<'a> {
         })
     }
 
+    /// Returns the passable gates.
+    pub fn passable(&self) -> &PassSet
+        ensures { IsPassSet self.now.circuit.now.aig self.now.keep.now result.now }
+    {
+        &self.pass
+    }
+
+    /// Returns the marks, from the first latch on, of what is held or read from outside of the
+    /// passable gates.
+    pub fn leaving_marks(&self) -> &[bool]
+        ensures { result.now ≡ table (first_latch self.now.circuit.now.aig)
+            (latches_and_gates self.now.circuit.now.aig) (is_observed self.now.circuit.now.aig
+            self.now.circuit.now.props self.now.keep.now) }
+    {
+        self.leaving.as_slice()
+    }
+
     /// Returns by gate number if each gate is passable.
     pub(crate) fn passing_gates(&self) -> &[bool]
         ensures len { length result.now ≡ length self.now.circuit.now.aig.gates }

@@ -2,17 +2,21 @@
 
 /// The units of a flow at a gate. For each fan-in, `up` is true if one came from its output. One
 /// may have gone through the gate. `down` is the number that went on to before a fan-in that is a
-/// gate. The first fan-in is the one of the smaller variable.
+/// gate, at most [`GateFlow::MOST_DOWN`]. The first fan-in is the one of the smaller variable.
 #[derive(Clone, Copy, PartialEq, Eq)]
 pub struct GateFlow {
     pub first_up: bool,
     pub second_up: bool,
     pub through: bool,
-    pub first_down: u32,
-    pub second_down: u32,
+    pub first_down: u8,
+    pub second_down: u8,
 }
 
 impl GateFlow {
+    /// The most units that a flow can send on from before a gate to before a fan-in. An arc of the
+    /// network carries any number. A frame whose least set needs more is left to the network.
+    pub const MOST_DOWN: u32 = u8::MAX as u32;
+
     /// Returns the flow in which no unit comes or goes.
     pub fn none() -> GateFlow {
         GateFlow {
@@ -45,10 +49,16 @@ impl GateFlow {
     /// first.
     pub fn down(&self, second: bool) -> u32 {
         if second {
-            self.second_down
+            u32::from(self.second_down)
         } else {
-            self.first_down
+            u32::from(self.first_down)
         }
+    }
+
+    /// Returns true if more units could go on to before the second fan-in, if `second`, else to
+    /// before the first.
+    pub fn has_room(&self, second: bool) -> bool {
+        self.down(second) < GateFlow::MOST_DOWN
     }
 
     /// Notes that a unit came from the output of the second fan-in, if `second`, else of the first.
@@ -70,8 +80,10 @@ impl GateFlow {
     }
 
     /// Notes that `units` units went on to before the second fan-in, if `second`, else to before
-    /// the first.
+    /// the first. More than [`GateFlow::MOST_DOWN`] are noted as
+    /// that number.
     pub fn note_down(&mut self, second: bool, units: u32) {
+        let units = units.min(GateFlow::MOST_DOWN) as u8;
         if second {
             self.second_down = units;
         } else {

@@ -85,8 +85,8 @@ fn add_downs(came: &mut [u32], first: u32, gate: &Gate, flow: &GateFlow) -> bool
     ensures sum { IsTrue result → (weight : ℕ → ℕ) → weigh first came.new weight
         ≡ weigh first came.old weight + downs weight gate.now flow.now }
 {
-    add_units(came, first, gate.rhs1.var(), flow.first_down)
-        && add_units(came, first, gate.rhs0.var(), flow.second_down)
+    add_units(came, first, gate.rhs1.var(), u32::from(flow.first_down))
+        && add_units(came, first, gate.rhs0.var(), u32::from(flow.second_down))
 }
 
 /// Adds up the units of all gates in tables of zeros. Returns false if units go from or to a

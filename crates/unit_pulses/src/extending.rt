@@ -5,7 +5,7 @@
 use aig_graph::{Gate, NoMemory};
 use std::alloc::Global;
 use unit_flows::GateFlow;
-use unit_starts::{Region, narrow};
+use unit_starts::{Region, narrow, put_if_there};
 
 /// Returns true if a unit came to `place`.
 fn came(region: &Region, flows: &[GateFlow], place: usize) -> bool {
@@ -89,9 +89,7 @@ fn take(
     flow.through = true;
     let place = place as usize;
     let leaves = region.leaves(place);
-    if place < waits.len() {
-        waits[place] = !leaves;
-    }
+    put_if_there(waits, place, !leaves);
     extension.count(leaves);
 }
 

@@ -21,9 +21,16 @@ fn lower(known: &mut u32, label: u32) -> bool {
     is_first
 }
 
-/// Returns the label before a gate, by those of the nodes to which an arc leads from there.
+/// Returns the label before a gate, by those of the nodes to which an arc leads from there that has
+/// room.
 fn found_before(own: Labels, smaller: Labels, larger: Labels, flow: &GateFlow) -> u32 {
-    let mut least = smaller.before.min(larger.before);
+    let mut least = FAR;
+    if flow.has_room(false) {
+        least = smaller.before;
+    }
+    if flow.has_room(true) {
+        least = least.min(larger.before);
+    }
     if !flow.through {
         least = least.min(own.after);
     }

@@ -7,6 +7,7 @@ use crate::nodes::Nodes;
 use crate::parts::{Arc, Kept, Part, Push};
 use crate::search::{Before, Search};
 use crate::spots::{label_after, label_before, labels_at, spot_at};
+use unit_flows::GateFlow;
 
 /// The way of a unit after a place: on to before a gate, or none, and a new label of the node.
 enum Way {
@@ -77,7 +78,7 @@ impl<'a> Search<'a> {
             second,
             tail: node.place,
             head,
-            units: self.most.saturating_sub(node.flow.down(second)),
+            units: GateFlow::MOST_DOWN.saturating_sub(node.flow.down(second)),
         };
         let mut left = units;
         if at.before == node.below {

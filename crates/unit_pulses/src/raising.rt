@@ -25,7 +25,7 @@ impl<'a> Search<'a> {
     /// Returns the least label to which an arc leads from before a gate at one fan-in.
     fn least_of_fan_in(&self, node: &Before, second: bool) -> u32 {
         let labels = labels_at(self.labels.as_slice(), node.fan_ins.at(second));
-        let has_room = node.flow.down(second) < self.most;
+        let has_room = node.flow.has_room(second);
         let came = node.flow.up(second);
         near(labels.before, node.below, has_room).min(near(labels.after, node.below, came))
     }

@@ -22,8 +22,6 @@ pub(crate) struct Search<'a> {
     pub region: Region<'a>,
     /// The number of latches, which is the place of the first gate.
     pub latches: u32,
-    /// The most units that an arc without a bound carries.
-    pub most: u32,
     pub readers: Readers,
     pub labels: Vec<Labels>,
     pub spots: Vec<Spot>,
@@ -36,7 +34,6 @@ impl<'a> Drop for Search<'a> {
         let Search {
             region: _region,
             latches: _latches,
-            most: _most,
             readers: _readers,
             labels: _labels,
             spots: _spots,
@@ -60,7 +57,6 @@ impl<'a> Search<'a> {
         Search {
             region: *region,
             latches: narrow(region.latches.len()),
-            most: narrow(region.known_latches()).saturating_add(1),
             readers: Readers::none(memory),
             labels: memory.table(Labels::NONE, region.places()),
             spots,
@@ -79,7 +75,6 @@ impl<'a> Search<'a> {
         let Search {
             region: _region,
             latches: _latches,
-            most: _most,
             readers: _readers,
             labels: _labels,
             spots: _spots,
@@ -182,8 +177,8 @@ fn note_fan_in(spots: &mut [Spot], place: u32, fan_in: u32, came: bool, went: u3
 /// Notes the units that go on from before a gate. All that came there have to be noted before.
 fn note_going(spots: &mut [Spot], place: u32, flow: &GateFlow) {
     let goes = u32::from(flow.through)
-        .saturating_add(flow.first_down)
-        .saturating_add(flow.second_down);
+        .saturating_add(flow.down(false))
+        .saturating_add(flow.down(true));
     let place = place as usize;
     if place < spots.len() {
         spots[place].excess = spots[place].excess.saturating_sub(goes);
@@ -202,8 +197,8 @@ fn note(spots: &mut [Spot], place: u32, gate: &Gate, first: u32, flow: &GateFlow
         return;
     }
     let FanIns { smaller, larger } = FanIns::of(gate, first);
-    note_fan_in(spots, place, smaller, flow.first_up, flow.first_down);
-    note_fan_in(spots, place, larger, flow.second_up, flow.second_down);
+    note_fan_in(spots, place, smaller, flow.first_up, flow.down(false));
+    note_fan_in(spots, place, larger, flow.second_up, flow.down(true));
     note_going(spots, place, flow);
 }
 

@@ -1,19 +1,14 @@
 //! The certificate of a set, claimed by the routes of units and judged.
 ghost use Rattle.std.specs.Prelude.{◌≡◌, IfOk, IfSome};
-ghost use Rattle.aig_graph.specs.Tables.{table};
-ghost use Rattle.aig_graph.specs.Graph.{first_latch, latches_and_gates};
 ghost use Rattle.aig_graph.specs.Closed.{IsClosedSet};
-ghost use Rattle.frame_net.specs.Passable.{IsPassSet};
-ghost use Rattle.frame_net.specs.Capacity.{is_observed};
 ghost use Rattle.certificates.specs.Verdicts.{IsVerdict};
 ghost use Rattle.certificates.specs.declared.verdict.Verdict.TheVariants.{Yes};
 
 use crate::following::routes_of_units;
-use aig_graph::{Circuit, ClosedSet, Keep, NoMemory, Sequence};
+use aig_graph::{Circuit, ClosedSet, NoMemory, Sequence};
 use certificates::{Certificate, Verdict, check_closed};
-use frame_net::{PassSet, leaving_marks, passable};
 use std::alloc::Global;
-use unit_flows::GateFlow;
+use unit_flows::{Frame, GateFlow};
 
 /// Returns the members of a set.
 fn members(alloc: Global, set: &ClosedSet) -> Result<Sequence<u32>, NoMemory>
@@ -50,38 +45,8 @@ fn claim(
     }
 }
 
-/// Returns the certificate of a closed set by the routes of the units of `flows`, if it passes all
-/// tests.
-///
-/// `pass` has the circuit's passable gates, and `leaving` marks what is read from outside them.
-fn judged(
-    alloc: Global,
-    circuit: &Circuit,
-    keep: &Keep,
-    pass: &PassSet,
-    leaving: &[bool],
-    set: &ClosedSet,
-    flows: &[GateFlow],
-) -> Result<Option<Certificate>, NoMemory>
-    requires pass { IsPassSet circuit.now.aig keep.now pass.now }
-    requires leaving { leaving.now ≡ table (first_latch circuit.now.aig)
-        (latches_and_gates circuit.now.aig) (is_observed circuit.now.aig circuit.now.props
-        keep.now) }
-    requires closed { IsClosedSet circuit.now.aig keep.now set.now }
-    ensures gates { IfOk result (λ found. IfSome found (λ cert. cert.gates ≡ set.now)) }
-    ensures passes { IfOk result (λ found.
-        IfSome found (λ cert. IsVerdict circuit.now keep.now cert Yes)) }
-{
-    let certificate = claim(alloc, circuit, leaving, set, flows)?;
-    match check_closed(alloc, circuit, keep, pass, leaving, set, &certificate) {
-        Ok(Verdict::Yes) => Ok(Some(certificate)),
-        Ok(Verdict::No(_)) => Ok(None),
-        Err(error) => Err(error),
-    }
-}
-
-/// Returns the certificate of a closed set by the routes of the units of `flows`, if it passes all
-/// tests of `certificates::check`.
+/// Returns the certificate of a closed set of a frame. Its routes are those of the units of
+/// `flows`. There is none if it doesn't pass all tests of `certificates::check`.
 ///
 /// `flows` are hints: any may be given.
 ///
@@ -90,18 +55,21 @@ fn judged(
 /// `NoMemory` if a table or a route is refused.
 pub fn certificate_by_units(
     alloc: Global,
-    circuit: &Circuit,
-    keep: &Keep,
+    frame: &Frame,
     set: &ClosedSet,
     flows: &[GateFlow],
 ) -> Result<Option<Certificate>, NoMemory>
-    requires { IsClosedSet circuit.now.aig keep.now set.now }
+    requires { IsClosedSet frame.now.circuit.now.aig frame.now.keep.now set.now }
     ensures gates { IfOk result (λ found. IfSome found (λ cert. cert.gates ≡ set.now)) }
-    ensures passes { IfOk result (λ found.
-        IfSome found (λ cert. IsVerdict circuit.now keep.now cert Yes)) }
+    ensures passes { IfOk result (λ found. IfSome found (λ cert. IsVerdict
+        frame.now.circuit.now frame.now.keep.now cert Yes)) }
 {
-    let aig = circuit.aig();
-    let pass = passable(alloc, aig, keep)?;
-    let leaving = leaving_marks(alloc, aig, circuit.props(), &pass, keep)?;
-    judged(alloc, circuit, keep, &pass, leaving.as_slice(), set, flows)
+    let (circuit, keep) = (frame.circuit, frame.keep);
+    let (pass, leaving) = (frame.passable(), frame.leaving_marks());
+    let certificate = claim(alloc, circuit, leaving, set, flows)?;
+    match check_closed(alloc, circuit, keep, pass, leaving, set, &certificate) {
+        Ok(Verdict::Yes) => Ok(Some(certificate)),
+        Ok(Verdict::No(_)) => Ok(None),
+        Err(error) => Err(error),
+    }
 }

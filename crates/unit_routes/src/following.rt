@@ -204,9 +204,9 @@ fn step_by(gate: &Gate, flow: &GateFlow, number: u32) -> Step {
         return Step::Through;
     }
     let below = number.saturating_sub(u32::from(flow.through));
-    if below < flow.first_down {
+    if below < flow.down(false) {
         Step::Down(gate.rhs1.var())
-    } else if below < flow.first_down.saturating_add(flow.second_down) {
+    } else if below < flow.down(false).saturating_add(flow.down(true)) {
         Step::Down(gate.rhs0.var())
     } else {
         Step::Left

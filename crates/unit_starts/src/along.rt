@@ -4,6 +4,7 @@
 
 use crate::left_units::LeftUnits;
 use crate::region::{Region, narrow};
+use crate::tables::entry_or;
 use aig_graph::{Gate, NoMemory};
 use std::alloc::Global;
 use std::mem;
@@ -47,11 +48,7 @@ fn takers_in(memory: Vec<u32>, region: &Region, known: &[GateFlow]) -> Result<Ve
 
 /// Returns the known flow at `gate`, nothing past the end.
 fn known_at(known: &[GateFlow], gate: usize) -> GateFlow {
-    if gate < known.len() {
-        known[gate]
-    } else {
-        GateFlow::none()
-    }
+    entry_or(known, gate, GateFlow::none())
 }
 
 /// Sends a unit on from before a gate to before a fan-in, if fewer go there than is known. Returns
@@ -99,12 +96,7 @@ fn goes_through(
 
 /// Returns the number of the gate that takes the unit after `place`.
 fn taker_of(takers: &[u32], place: usize) -> usize {
-    let taker = if place < takers.len() {
-        takers[place]
-    } else {
-        NOBODY
-    };
-    taker as usize
+    entry_or(takers, place, NOBODY) as usize
 }
 
 /// Lets gate `taker` take the unit after `place`. Returns none if there is no such gate, else true

@@ -131,30 +131,28 @@ fn put(flows: &mut Vec<GateFlow>, takes: &[Option<FanIn>]) -> Result<(), NoMemor
     if refused { Err(NoMemory) } else { Ok(()) }
 }
 
-/// The number of units that a start brings to the sink, and the places at which it leaves the
-/// others.
+/// The start up the gates, and the places at which it leaves units. Its tables serve the start from
+/// the sink down.
 #[derive(Drop)]
 pub(crate) struct FirstStart {
-    pub arrived: usize,
+    start: Start,
     pub left: LeftUnits,
 }
 
-/// Replaces a flow by that of a start. Returns the number of units that it brings, and the places
-/// at which it leaves the others.
+/// Replaces a flow by that of a start. Returns the start, and the places at which it leaves units.
 fn put_first(
     alloc: Global,
     flows: &mut Vec<GateFlow>,
-    start: &Start,
+    start: Start,
 ) -> Result<FirstStart, NoMemory> {
-    if put(flows, start.takes.as_slice()).is_err() {
-        return Err(NoMemory);
-    }
-    match start.left(alloc) {
-        Ok(left) => Ok(FirstStart {
-            arrived: start.arrived,
-            left,
-        }),
-        Err(error) => Err(error),
+    let is_put = put(flows, start.takes.as_slice());
+    let left = start.left(alloc);
+    match (is_put, left) {
+        (Ok(()), Ok(left)) => Ok(FirstStart { start, left }),
+        _ => {
+            drop(start);
+            Err(NoMemory)
+        }
     }
 }
 
@@ -182,24 +180,24 @@ pub(crate) fn put_start_up(
 ) -> Result<FirstStart, NoMemory> {
     let mut start = Start::new(alloc, region)?;
     take_all_waiting(region, &mut start, FanIn::Larger, FanIn::Smaller);
-    let first = put_first(alloc, flows, &start);
-    drop(start);
-    first
+    put_first(alloc, flows, start)
 }
 
-/// Replaces a flow by that of the start from the sink down, if it brings more than `arrived` units
-/// to the sink. Returns true if it does.
+/// Replaces a flow by that of the start from the sink down, if it brings more units to the sink
+/// than the first start. Returns true if it does.
 ///
 /// # Errors
 ///
 /// `NoMemory` if a table is refused.
 pub(crate) fn put_start_down(
-    alloc: Global,
     region: &Region,
     flows: &mut Vec<GateFlow>,
-    arrived: usize,
+    first: FirstStart,
 ) -> Result<bool, NoMemory> {
-    let mut start = Start::new(alloc, region)?;
+    let FirstStart { start, left } = first;
+    drop(left);
+    let arrived = start.arrived;
+    let mut start = start.again(region);
     ask_and_take(region, &mut start);
     take_all_waiting(region, &mut start, FanIn::Smaller, FanIn::Larger);
     let is_put = put_better(flows, &start, arrived);

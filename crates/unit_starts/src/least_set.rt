@@ -5,7 +5,7 @@ ghost use Rattle.aig_graph.specs.Border.{IsGreatestLeast};
 ghost use Rattle.aig_graph.specs.Chosen.{IsChosen};
 
 use crate::along::put_along;
-use crate::first_start::{put_start_down, put_start_up};
+use crate::first_start::{FirstStart, put_start_down, put_start_up};
 use crate::left_units::LeftUnits;
 use crate::region::Region;
 use aig_graph::{Choice, ClosedSet, NoMemory};
@@ -96,33 +96,33 @@ fn start_first(
 {
     let region = Region::of(frame);
     let first = put_start_up(alloc, &region, &mut flow.gates)?;
-    let arrived = first.arrived;
-    let judged = judged(alloc, frame, choice, &mut *flow, &first.left);
-    drop(first);
-    match judged {
+    match judged(alloc, frame, choice, &mut *flow, &first.left) {
         Ok(started) => {
             if started.set.is_some() {
+                drop(first);
                 return Ok(started);
             }
-            started_down(alloc, &region, &mut flow.gates, arrived, started)
+            started_down(&region, &mut flow.gates, first, started)
         }
-        Err(error) => Err(error),
+        Err(error) => {
+            drop(first);
+            Err(error)
+        }
     }
 }
 
-/// Replaces a start that shows no set by the start from the sink down, if that brings more than
-/// `arrived` units. If it doesn't, returns `up`, the result of the first start.
+/// Replaces a start that shows no set by the start from the sink down, if that brings more units
+/// than `first`. If it doesn't, returns `up`, the result of the first start.
 fn started_down(
-    alloc: Global,
     region: &Region,
     flows: &mut Vec<GateFlow>,
-    arrived: usize,
+    first: FirstStart,
     up: Started,
 ) -> Result<Started, NoMemory>
     requires { up.set ≡ None }
     ensures { IfOk result (λ started. started.set ≡ None) }
 {
-    match put_start_down(alloc, region, flows, arrived) {
+    match put_start_down(region, flows, first) {
         Ok(false) => Ok(up),
         Ok(true) => {
             drop(up);
@@ -175,12 +175,11 @@ pub fn start_in(
     flows: &mut Vec<GateFlow>,
 ) -> Result<bool, NoMemory> {
     let first = put_start_up(alloc, region, flows)?;
-    let (arrived, is_all) = (first.arrived, first.left.is_empty());
-    drop(first);
-    if is_all {
+    if first.left.is_empty() {
+        drop(first);
         return Ok(false);
     }
-    match put_start_down(alloc, region, flows, arrived) {
+    match put_start_down(region, flows, first) {
         Ok(_) => Ok(true),
         Err(error) => Err(error),
     }

@@ -62,17 +62,6 @@ impl<'a> Region<'a> {
         place < self.latches.len() && self.latches[place].reset != Reset::Free
     }
 
-    /// Returns the number of known latches.
-    pub fn known_latches(&self) -> usize {
-        let mut known = 0usize;
-        for place in 0..self.latches.len() {
-            if self.is_known_latch(place) {
-                known = known.wrapping_add(1);
-            }
-        }
-        known
-    }
-
     /// Returns true if a passable gate is at `place`.
     pub fn is_passable(&self, place: usize) -> bool {
         place < self.passes.len() && self.passes[place]

@@ -2,6 +2,7 @@
 
 use crate::left_units::LeftUnits;
 use crate::region::Region;
+use crate::tables::{entry_or, put_if_there};
 use aig_graph::NoMemory;
 use std::alloc::Global;
 
@@ -54,6 +55,13 @@ fn put_after(spots: &mut [Spot], place: usize, arrived: usize) -> usize {
     arrived.saturating_add(u32::from(leaves) as usize)
 }
 
+/// Lets no gate take a unit.
+fn clear_taken(takes: &mut [Option<FanIn>]) {
+    for gate in 0..takes.len() {
+        takes[gate] = None;
+    }
+}
+
 /// Lists the places at which units wait.
 fn list_waiting(spots: &[Spot], left: &mut LeftUnits) {
     for place in 0..spots.len() {
@@ -98,6 +106,14 @@ impl Start {
         }
     }
 
+    /// Begins anew over the region, in the tables of this start over it.
+    pub(crate) fn again(self, region: &Region) -> Start {
+        let Start { takes, spots, .. } = self;
+        let mut takes = takes;
+        clear_taken(takes.as_mut_slice());
+        Start::begin(region, takes, spots)
+    }
+
     /// Returns the places at which units wait.
     ///
     /// # Errors
@@ -130,20 +146,12 @@ impl Start {
 
     /// Notes the fan-in from which a gate takes its unit.
     pub(crate) fn note(&mut self, gate: usize, taken: Option<FanIn>) {
-        let takes = self.takes.as_mut_slice();
-        if gate < takes.len() {
-            takes[gate] = taken;
-        }
+        put_if_there(self.takes.as_mut_slice(), gate, taken);
     }
 
     /// Returns the fan-in from which a gate takes its unit.
     pub(crate) fn taken(&self, gate: usize) -> Option<FanIn> {
-        let takes = self.takes.as_slice();
-        if gate < takes.len() {
-            takes[gate]
-        } else {
-            None
-        }
+        entry_or(self.takes.as_slice(), gate, None)
     }
 
     /// Asks for the unit after `place`. Returns true if nobody has asked for it before.

@@ -16,7 +16,7 @@ use aig_graph::{Circuit, NoMemory, Sequence};
 use std::alloc::Global;
 
 /// Why a witness of a retimed circuit isn't confirmed.
-#[derive(Clone, Copy)]
+#[derive(Clone, Copy, Debug)]
 pub enum Objection {
     /// A justice property, which no finite number of steps shows to fail.
     Unchecked(Property),

@@ -10,7 +10,7 @@ pub enum Digit {
 }
 
 /// A property of a circuit, by its number of its kind, from 0.
-#[derive(Clone, Copy)]
+#[derive(Clone, Copy, Debug)]
 pub enum Property {
     /// A bad state; in a circuit without bad states, an output.
     Bad(usize),

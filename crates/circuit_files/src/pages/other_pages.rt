@@ -49,9 +49,10 @@ pub const TOO_MANY_NODES: Page = Page {
 };
 
 pub const NOT_A_MAP: Page = Page {
-    meaning: "The circuit of a map of states has more than gates, outputs and constraints.",
-    rule: "A map has no latch, bad state, justice property or fairness constraint. Its
-inputs are the latches of IN, its outputs those of OUT.",
+    meaning: "A circuit isn't a map of states, or its latches aren't those of IN and OUT.",
+    rule: "A map has no latch, bad state, justice property or fairness constraint. It has
+an input for each latch of IN and an output for each latch of OUT, for
+'lift --back' the other way round.",
     advice: "See that IN, OUT and MAP are given in this order: 'fretime retime IN OUT --map
 MAP' writes MAP.",
 };
@@ -73,13 +74,12 @@ property, or with --vcd for each wave, and each step, for 256 sequences at least
 };
 
 pub const SHAPES_DIFFER: Page = Page {
-    meaning: "Two circuits, or a map and its circuits, don't fit together.",
+    meaning: "Two circuits differ in their inputs, properties or free latches.",
     rule: "Both circuits have as many inputs, and as many outputs, bad states, constraints,
 justice properties of the same sizes and fairness literals; for 'same' as many
-free latches too. A map has an input for each latch of IN and an output for each
-latch of OUT, for 'lift --back' the other way round; IN has no free latch there.",
-    advice: "Compare what 'fretime stat' prints of both circuits and of MAP, and see that all
-are of one run and in the order of the command. Where 'retime' left free latches
+free latches too. With 'lift --back' IN has no free latch.",
+    advice: "Compare what 'fretime stat' prints of both circuits, and see that both are of
+one run and in the order of the command. Where 'retime' left free latches
 out, 'same' takes --kept LIST.",
 };
 

@@ -1,4 +1,4 @@
-use Rattle.certificates.proofs.RoundTripLaws.{the_round_trip_law}
+use Rattle.certificates.proofs.FileTripLaws.{the_round_trip_law}
 use Rattle.certificates.proofs.laws.round_trip_law.Goals as goal
 
 pub returns : goal.returns

@@ -1,8 +1,7 @@
-use Rattle.std.specs.Prelude.{codes}
 use Rattle.counted_io.proofs.BufferedLaws.{puts-then}
 use Rattle.certificates.specs.Texts.{file_text}
 use Rattle.certificates.proofs.writing.put_file.Goals as goal
 
 pub returns : goal.returns
 unfolding file_text
-returns g c = rw c.as_slice.ensures at (puts-then {xs = codes "fretime-cert 2\n"} c.put.ensures (puts-then c.put_choice.ensures c.put_blocks.ensures))
+returns g c = rw c.as_slice.ensures at (puts-then c.put_head.ensures c.put_blocks.ensures)

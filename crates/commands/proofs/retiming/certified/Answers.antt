@@ -11,7 +11,7 @@ returns-in-Ok-write_beside-clause-reported g c =
     let reported = c.with_times in
     report_of _ c.args.task.now (g.I.CountedRead.input c.args.streams.now.stdin) (g.O.CountedWrite.output c.args.streams.now.out) (g.O.CountedWrite.output c.retimed-ended.new.out)
     (g.O.CountedWrite.output c.write_beside.new.out) c.in-Ok.answer c.write_beside.new.answer reported.result.retimed reported.result.keep reported.result.levels reported.result.map
-    reported.ensures.keep beside.keep reported.ensures.levels beside.levels reported.ensures.retimed beside.frames reported.ensures.map beside.map c.in-Ok.ensures.answer beside.written
+    reported.ensures.keep beside.keep reported.ensures.levels beside.levels reported.ensures.retimed beside.retimed reported.ensures.map beside.map c.in-Ok.ensures.answer beside.written
 
 pub returns-in-Err-write_beside-clause-prints : goal.returns-in-Err-write_beside-clause-prints
 returns-in-Err-write_beside-clause-prints g c =

@@ -15,4 +15,4 @@ returns-in-Ok c =
     let read = c.args.read in
     let kept : c.from_vec.result ≡ composed read.kept_free r.kept_free = c.from_vec.ensures ∙ c.in-Ok.ensures
     ∙ ap (λ (xs : List ℕ). composed xs c.as_slice-2.result.now) c.as_slice.ensures ∙ ap (composed read.kept_free) c.as_slice-2.ensures in
-    λ i. record { circuit = r.circuit; kept_free = kept i; read_latches = read.latches; merged = Some read.counts; frames = r.frames; certificates = r.certificates }
+    λ i. record { circuit = r.circuit; kept_free = kept i; read_latches = read.latches; merged = Some read.merged; frames = r.frames; certificates = r.certificates }

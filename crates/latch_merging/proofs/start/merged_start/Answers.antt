@@ -1,6 +1,7 @@
-use Rattle.cleaned_circuits.proofs.PassLaws.{IsCircuit, IsCircuit-cleans}
-use Rattle.retimed_circuits.proofs.HeldLaws.{cleaning-keeps}
-use Rattle.latch_merging.proofs.StartLaws.{in_range-by, merges-by, stay-by, streams-by}
+use Rattle.std.proofs.lemmas.Result.{IfOk-weaker}
+use Rattle.cleaned_circuits.proofs.PassLaws.{IsCircuit}
+use Rattle.retimed_circuits.specs.Frames.{CleansTo}
+use Rattle.latch_merging.proofs.StartLaws.{start-of}
 use Rattle.latch_merging.proofs.start.merged_start.Goals as goal
 
 pub clean-requires : goal.clean-requires
@@ -8,26 +9,32 @@ clean-requires c = c.requires
 
 pub returns-clause-merges : goal.returns-clause-merges
 returns-clause-merges c =
-    merges-by c.args.keep.now c.args.circuit.now c.in_ok-cleaned.cleaned c.start_of.result
-    (record { cleans = c.in_ok-cleaned.ensures.cleaned; held_after = c.in_ok-cleaned.ensures.held })
-    c.start_of.ensures.merged c.start_of.ensures.counted c.start_of.ensures.keep c.start_of.ensures.kept_free
+    let before = c.args.circuit.now in
+    let cleaned = c.in_ok-cleaned.cleaned in
+    let valid : IsCircuit before = record { graph = c.known.ensures.graph; netlist = c.known.ensures.netlist } in
+    let cleans : CleansTo c.args.keep.now before cleaned.circuit cleaned.kept_free cleaned.keep = record { cleans = c.in_ok-cleaned.ensures.cleaned; held_after = c.in_ok-cleaned.ensures.held } in
+    IfOk-weaker c.start_of.result _ _ (λ m start. (start-of c.args.keep.now before cleaned m valid c.requires.in_range cleans c.in_ok-cleaned.ensures.in_range start).merges) c.start_of.ensures
 
 pub returns-clause-streams : goal.returns-clause-streams
 returns-clause-streams c =
-    streams-by c.args.keep.now c.args.circuit.now c.in_ok-cleaned.cleaned c.start_of.result c.in_ok-cleaned.ensures.streams
-    c.start_of.ensures.streams c.start_of.ensures.kept_free
+    let before = c.args.circuit.now in
+    let cleaned = c.in_ok-cleaned.cleaned in
+    let valid : IsCircuit before = record { graph = c.known.ensures.graph; netlist = c.known.ensures.netlist } in
+    let cleans : CleansTo c.args.keep.now before cleaned.circuit cleaned.kept_free cleaned.keep = record { cleans = c.in_ok-cleaned.ensures.cleaned; held_after = c.in_ok-cleaned.ensures.held } in
+    IfOk-weaker c.start_of.result _ _ (λ m start. (start-of c.args.keep.now before cleaned m valid c.requires.in_range cleans c.in_ok-cleaned.ensures.in_range start).streams) c.start_of.ensures
 
 pub returns-clause-stay : goal.returns-clause-stay
 returns-clause-stay c =
+    let before = c.args.circuit.now in
     let cleaned = c.in_ok-cleaned.cleaned in
-    let whole : IsCircuit c.args.circuit.now = record { graph = c.known.ensures.graph; netlist = c.known.ensures.netlist } in
-    stay-by c.args.keep.now c.args.circuit.now cleaned c.start_of.result
-    (IsCircuit-cleans cleaned.circuit c.args.keep.now c.args.circuit.now cleaned.kept_free c.in_ok-cleaned.ensures.cleaned whole).graph
-    (cleaning-keeps c.args.keep.now c.args.circuit.now cleaned.circuit cleaned.kept_free cleaned.keep whole c.requires.in_range
-    (record { cleans = c.in_ok-cleaned.ensures.cleaned; held_after = c.in_ok-cleaned.ensures.held }))
-    c.start_of.ensures.merged c.start_of.ensures.keep
+    let valid : IsCircuit before = record { graph = c.known.ensures.graph; netlist = c.known.ensures.netlist } in
+    let cleans : CleansTo c.args.keep.now before cleaned.circuit cleaned.kept_free cleaned.keep = record { cleans = c.in_ok-cleaned.ensures.cleaned; held_after = c.in_ok-cleaned.ensures.held } in
+    IfOk-weaker c.start_of.result _ _ (λ m start. (start-of c.args.keep.now before cleaned m valid c.requires.in_range cleans c.in_ok-cleaned.ensures.in_range start).stay) c.start_of.ensures
 
 pub returns-clause-in_range : goal.returns-clause-in_range
 returns-clause-in_range c =
-    in_range-by c.args.keep.now c.args.circuit.now c.in_ok-cleaned.cleaned c.start_of.result
-    c.in_ok-cleaned.ensures.in_range c.start_of.ensures.merged c.start_of.ensures.keep
+    let before = c.args.circuit.now in
+    let cleaned = c.in_ok-cleaned.cleaned in
+    let valid : IsCircuit before = record { graph = c.known.ensures.graph; netlist = c.known.ensures.netlist } in
+    let cleans : CleansTo c.args.keep.now before cleaned.circuit cleaned.kept_free cleaned.keep = record { cleans = c.in_ok-cleaned.ensures.cleaned; held_after = c.in_ok-cleaned.ensures.held } in
+    IfOk-weaker c.start_of.result _ _ (λ m start. (start-of c.args.keep.now before cleaned m valid c.requires.in_range cleans c.in_ok-cleaned.ensures.in_range start).in_range) c.start_of.ensures

@@ -12,4 +12,4 @@ returns-in-None c =
     let reads : List ℕ = c.args.reads.now in
     let same : c.aig-aig.result.now ≡ merged_graph g reads = c.aig-aig.ensures.value ∙ ap (λ (d : Netlist). d.aig) c.in_ok-merged.ensures in
     let alike : AreAlike (merged_graph g reads) reads = subst (λ (h : Graph). AreAlike h reads) same (none-open c.in_ok-open.open c.in-None.is c.in_ok-open.ensures) in
-    record { preserved = judges-right g c.args.keep.now reads c.known.ensures.graph c.requires alike; circuit = c.in_ok-merged.ensures }
+    record { inductive = judges-right g c.args.keep.now reads c.known.ensures.graph c.requires alike; circuit = c.in_ok-merged.ensures }

@@ -5,11 +5,11 @@ use Rattle.map_commands.proofs.back_lift.lifted_back_by.Goals as goal
 pub witness_lifted_back-requires-clause-turnable : goal.witness_lifted_back-requires-clause-turnable
 witness_lifted_back-requires-clause-turnable c =
     let given : Given = c.args.given.now in
-    turnable given.pair.first.circuit given.pair.second.circuit given.map.circuit c.requires.map c.requires.fitting
+    turnable given.mapped.pair.first.circuit given.mapped.pair.second.circuit given.mapped.map.circuit c.requires.map c.requires.fitting
 
 pub returns-in-Ok-clause-lifted : goal.returns-in-Ok-clause-lifted
 returns-in-Ok-clause-lifted c =
     let given : Given = c.args.given.now in
-    lifted-back-by given.pair.first.circuit given.pair.second.circuit given.map.circuit given.witness.circuit c.args.sharing.now c.in-Ok.lifted
-    (λ kept. c.back_lift_law.ensures given.pair.first.circuit given.pair.second.circuit kept given.map.circuit given.witness.circuit c.args.sharing.now c.in-Ok.lifted)
+    lifted-back-by given.mapped.pair.first.circuit given.mapped.pair.second.circuit given.mapped.map.circuit given.witness.circuit c.args.sharing.now c.in-Ok.lifted
+    (λ kept. c.back_lift_law.ensures given.mapped.pair.first.circuit given.mapped.pair.second.circuit kept given.mapped.map.circuit given.witness.circuit c.args.sharing.now c.in-Ok.lifted)
     c.known.ensures.graph c.known.ensures.netlist c.known-2.ensures.graph c.requires.known c.requires.shares c.in-Ok.ensures.lifted

@@ -23,7 +23,7 @@ add_readings-requires-clause-many c =
 
 pub add_readings-requires-clause-reading : goal.add_readings-requires-clause-reading
 add_readings-requires-clause-reading c =
-    subst (λ (g : Graph). IsSomeReading g c.args.reads.now) (sym c.aig-aig.ensures.value) (c.args.keep.now, c.requires.preserved.reading)
+    subst (λ (g : Graph). IsSomeReading g c.args.reads.now) (sym c.aig-aig.ensures.value) (c.args.keep.now, c.requires.inductive.reading)
 
 pub read_functions-requires-clause-many : goal.read_functions-requires-clause-many
 read_functions-requires-clause-many c =
@@ -31,7 +31,7 @@ read_functions-requires-clause-many c =
 
 pub read_functions-requires-clause-reading : goal.read_functions-requires-clause-reading
 read_functions-requires-clause-reading c =
-    subst (λ (g : Graph). IsSomeReading g c.args.reads.now) (sym c.aig-aig.ensures.value) (c.args.keep.now, c.requires.preserved.reading)
+    subst (λ (g : Graph). IsSomeReading g c.args.reads.now) (sym c.aig-aig.ensures.value) (c.args.keep.now, c.requires.inductive.reading)
 
 pub returns : goal.returns
 returns c =

@@ -1,17 +1,16 @@
 use Rattle.std.proofs.Common.{ℕ, List, subst, sym}
-use Rattle.merged_circuits.specs.Preserved.{IsPreserved}
+use Rattle.merged_circuits.specs.Inductive.{IsInductive}
 use Rattle.retiming_maps.specs.Merging.{LeadsMerged}
 use Rattle.retiming_maps.proofs.merging.merged_along.Goals as goal
 
-pub follow_merging-requires-clause-preserved : goal.follow_merging-requires-clause-preserved
-follow_merging-requires-clause-preserved c =
-    subst (λ (reads : List ℕ). IsPreserved c.args.circuit.now.aig c.args.keep.now reads) (sym c.as_slice.ensures.value) c.in_ok-reads.ensures.preserved
+pub follow_merging-requires-clause-inductive : goal.follow_merging-requires-clause-inductive
+follow_merging-requires-clause-inductive c =
+    subst (λ (reads : List ℕ). IsInductive c.args.circuit.now.aig c.args.keep.now reads) (sym c.as_slice.ensures.value) c.in_ok-merged.ensures.merged.inductive
 
 pub returns : goal.returns
 returns c =
     let P : List ℕ → Type 0 = λ reads. LeadsMerged c.args.keep.now reads c.args.circuit.now c.args.parts.now c.follow_merging.new.parts in
     record {
-      merged = c.in_ok-merged.ensures.merged;
-      counted = c.in_ok-merged.ensures.counted;
-      leads = subst P c.as_slice.ensures.value c.in_ok-follow_merging.ensures c.in_ok-merged.merged.circuit c.in_ok-merged.ensures.by;
+      merged = c.in_ok-merged.ensures;
+      leads = subst P c.as_slice.ensures.value c.in_ok-follow_merging.ensures c.in_ok-merged.merged.circuit c.in_ok-merged.ensures.merged;
     }

@@ -1,8 +1,0 @@
-use Rattle.map_commands.proofs.given.pair_at.Goals as goal
-
-pub returns-in-Ok : goal.returns-in-Ok
-returns-in-Ok g c = record {
-  between = g.I.CountedRead.input c.circuit_at.new.stdin;
-  first = record { stdin = c.in_ok-first.ensures.stdin; file = c.in_ok-first.ensures.file };
-  second = record { stdin = c.in-Ok.ensures.stdin; file = c.in-Ok.ensures.file };
-}

@@ -1,0 +1,22 @@
+//! Reads and writes of a table behind a look at its length. Nothing stands past the end: a read
+//! there gives a stand-in, and a write does nothing.
+//!
+//! Memory that was refused leaves an empty table, and what is made of it is thrown away in the end.
+//! With ample memory each write finds its entry. No clause says so, so `tests/outside/within` has a
+//! program run that stops at one that doesn't. The writes of hints have this one home for it.
+
+/// Returns the entry at `place`, or `missing` past the end.
+pub fn entry_or<T: Copy>(table: &[T], place: usize, missing: T) -> T {
+    if place < table.len() {
+        table[place]
+    } else {
+        missing
+    }
+}
+
+/// Puts an entry at `place`, if the table has that place.
+pub fn put_if_there<T: Copy>(table: &mut [T], place: usize, entry: T) {
+    if place < table.len() {
+        table[place] = entry;
+    }
+}
