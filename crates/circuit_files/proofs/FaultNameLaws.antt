@@ -5,7 +5,7 @@ use Rattle.std.proofs.lemmas.Bool.{false≢true, or_cases}
 use Rattle.std.specs.Str.{bytes_eq}
 use Rattle.std.proofs.lemmas.Slice.Eq.{bytes_eq-Decides}
 use Rattle.circuit_files.specs.declared.pages.named_fault.Fault.{Fault}
-use Rattle.circuit_files.specs.declared.pages.named_fault.Fault.TheVariants.{BadHeader, TooLarge, MaxIndex, BadLine, BadLiteral, DefinedTwice, Undefined, Cycle, BadReset, BadDelta, Truncated, BadSymbol, Trailing, Width, TooMany, NoSuchName, NoSuchLatch, NoSuchProperty, TooManyNodes, TooManySteps, NotAMap, NoSuchLiteral, ShapesDiffer, NotClosed, BadRoute, UsedTwice, CountDiffers, TooLong, NoMemory, Device}
+use Rattle.circuit_files.specs.declared.pages.named_fault.Fault.TheVariants.{BadHeader, TooLarge, MaxIndex, BadLine, BadLiteral, DefinedTwice, Undefined, Cycle, BadReset, BadDelta, Truncated, BadSymbol, Trailing, Width, TooMany, NoSuchName, NoSuchLatch, NoSuchProperty, TooManyNodes, TooManySteps, NotAMap, NoSuchLiteral, ShapesDiffer, NotClosed, BadRoute, UsedTwice, CountDiffers, TooLong, Misread, NotShown, NoMemory, Device}
 use Rattle.circuit_files.specs.pages.Faults.{all_faults, name_of, said_of, has_name, HaveOtherNames, IsCalled, IsNoName}
 
 stands : (fault : Fault) → (k : ℕ) × (k < length all_faults) × (get_or all_faults k BadHeader ≡ fault)
@@ -38,8 +38,10 @@ stands BadRoute = (24, omega arith, refl)
 stands UsedTwice = (25, omega arith, refl)
 stands CountDiffers = (26, omega arith, refl)
 stands TooLong = (27, omega arith, refl)
-stands NoMemory = (28, omega arith, refl)
-stands Device = (29, omega arith, refl)
+stands Misread = (28, omega arith, refl)
+stands NotShown = (29, omega arith, refl)
+stands NoMemory = (30, omega arith, refl)
+stands Device = (31, omega arith, refl)
 
 not_both : (test : Bool) → test ≡ true → test ≡ false → ⊥
 not_both true yes_it_is no_it_is = cc

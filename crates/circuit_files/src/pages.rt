@@ -73,6 +73,8 @@ fn page_of(fault: Fault) -> &'static Page
         Fault::UsedTwice => &others::USED_TWICE,
         Fault::CountDiffers => &others::COUNT_DIFFERS,
         Fault::TooLong => &others::TOO_LONG,
+        Fault::Misread => &others::MISREAD,
+        Fault::NotShown => &others::NOT_SHOWN,
         Fault::NoMemory => &others::NO_MEMORY,
         Fault::Device => &others::DEVICE,
     }

@@ -474,9 +474,9 @@ BadDelta, Truncated, BadSymbol, Trailing. Of a stimulus or a witness: Width,
 TooMany, NoSuchProperty. Of random sequences: TooManySteps. Of names and
 pictures: NoSuchName, NoSuchLatch, TooManyNodes. Of maps and witness circuits:
 NotAMap, NoSuchLiteral. Of two circuits: ShapesDiffer. Of certificates:
-NotClosed, BadRoute, UsedTwice, CountDiffers, TooLong. Of a run: NoMemory,
-Device. What a message says stands for a name too: 'shapes differ', 'out of
-memory', 'device'.
+NotClosed, BadRoute, UsedTwice, CountDiffers, TooLong, Misread, NotShown. Of a
+run: NoMemory, Device. What a message says stands for a name too: 'shapes
+differ', 'out of memory', 'device'.
 
 Exit status: 0 done, 2 command line, or there is no such fault, 3 device, 4 out
 of memory.";

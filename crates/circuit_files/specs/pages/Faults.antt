@@ -2,14 +2,14 @@
 use Rattle.std.specs.Prelude.{ℕ, ◌≡◌, ◌⊎◌, ◌||◌, ◌<◌, Bool, false, List, [], ◌∷◌, length, get_or, codes}
 use Rattle.std.specs.Str.{bytes_eq}
 use Rattle.circuit_files.specs.declared.pages.named_fault.Fault.{Fault}
-use Rattle.circuit_files.specs.declared.pages.named_fault.Fault.TheVariants.{BadHeader, TooLarge, MaxIndex, BadLine, BadLiteral, DefinedTwice, Undefined, Cycle, BadReset, BadDelta, Truncated, BadSymbol, Trailing, Width, TooMany, NoSuchName, NoSuchLatch, NoSuchProperty, TooManyNodes, TooManySteps, NotAMap, NoSuchLiteral, ShapesDiffer, NotClosed, BadRoute, UsedTwice, CountDiffers, TooLong, NoMemory, Device}
+use Rattle.circuit_files.specs.declared.pages.named_fault.Fault.TheVariants.{BadHeader, TooLarge, MaxIndex, BadLine, BadLiteral, DefinedTwice, Undefined, Cycle, BadReset, BadDelta, Truncated, BadSymbol, Trailing, Width, TooMany, NoSuchName, NoSuchLatch, NoSuchProperty, TooManyNodes, TooManySteps, NotAMap, NoSuchLiteral, ShapesDiffer, NotClosed, BadRoute, UsedTwice, CountDiffers, TooLong, Misread, NotShown, NoMemory, Device}
 
 -- the faults that the program names
 unfoldable pub all_faults : List Fault
 all_faults =
     BadHeader ∷ TooLarge ∷ MaxIndex ∷ BadLine ∷ BadLiteral ∷ DefinedTwice ∷ Undefined ∷ Cycle ∷ BadReset ∷ BadDelta ∷ Truncated
     ∷ BadSymbol ∷ Trailing ∷ Width ∷ TooMany ∷ NoSuchName ∷ NoSuchLatch ∷ NoSuchProperty ∷ TooManyNodes ∷ TooManySteps ∷ NotAMap ∷ NoSuchLiteral ∷ ShapesDiffer ∷ NotClosed ∷ BadRoute ∷ UsedTwice
-    ∷ CountDiffers ∷ TooLong ∷ NoMemory ∷ Device ∷ []
+    ∷ CountDiffers ∷ TooLong ∷ Misread ∷ NotShown ∷ NoMemory ∷ Device ∷ []
 
 -- the name of a fault
 abbrev pub name_of : Fault → List ℕ
@@ -41,6 +41,8 @@ name_of BadRoute = codes "BadRoute"
 name_of UsedTwice = codes "UsedTwice"
 name_of CountDiffers = codes "CountDiffers"
 name_of TooLong = codes "TooLong"
+name_of Misread = codes "Misread"
+name_of NotShown = codes "NotShown"
 name_of NoMemory = codes "NoMemory"
 name_of Device = codes "Device"
 

@@ -1,7 +1,7 @@
 -- The texts of the page of each fault.
 use Rattle.std.specs.Prelude.{ℕ, List, codes}
 use Rattle.circuit_files.specs.declared.pages.named_fault.Fault.{Fault}
-use Rattle.circuit_files.specs.declared.pages.named_fault.Fault.TheVariants.{BadHeader, TooLarge, MaxIndex, BadLine, BadLiteral, DefinedTwice, Undefined, Cycle, BadReset, BadDelta, Truncated, BadSymbol, Trailing, Width, TooMany, NoSuchName, NoSuchLatch, NoSuchProperty, TooManyNodes, TooManySteps, NotAMap, NoSuchLiteral, ShapesDiffer, NotClosed, BadRoute, UsedTwice, CountDiffers, TooLong, NoMemory, Device}
+use Rattle.circuit_files.specs.declared.pages.named_fault.Fault.TheVariants.{BadHeader, TooLarge, MaxIndex, BadLine, BadLiteral, DefinedTwice, Undefined, Cycle, BadReset, BadDelta, Truncated, BadSymbol, Trailing, Width, TooMany, NoSuchName, NoSuchLatch, NoSuchProperty, TooManyNodes, TooManySteps, NotAMap, NoSuchLiteral, ShapesDiffer, NotClosed, BadRoute, UsedTwice, CountDiffers, TooLong, Misread, NotShown, NoMemory, Device}
 
 -- what the fault is
 abbrev pub meaning_of : Fault → List ℕ
@@ -33,6 +33,8 @@ meaning_of BadRoute = codes "A list of points of a certificate is no route."
 meaning_of UsedTwice = codes "Two routes of a certificate pass one variable."
 meaning_of CountDiffers = codes "The numbers of a certificate differ."
 meaning_of TooLong = codes "A move makes a path longer than the bound on levels."
+meaning_of Misread = codes "A line of merged latches of a certificate names what no latch reads as."
+meaning_of NotShown = codes "A merged latch of a certificate isn't shown to agree with what it reads as."
 meaning_of NoMemory = codes "Memory was refused."
 meaning_of Device = codes "A file or a standard stream can't be opened, created, read or written."
 
@@ -66,6 +68,8 @@ rule_of BadRoute = codes "A route goes from a known latch through gates that lat
 rule_of UsedTwice = codes "Over all routes no point v+ stands twice."
 rule_of CountDiffers = codes "The count that it states, the size of the border of its set and the number of\nits routes are one number."
 rule_of TooLong = codes "By the move over the set of a certificate no path gets more gates than --levels\nnames, or than the longest path of IN has. Its set is least all the same."
+rule_of Misread = codes "Latches of the lines rise, and none is free or held. Each reads as its reset, or\nas an earlier such latch that no line has, so that their resets agree."
+rule_of NotShown = codes "In each state in which all merged latches agree with what they read as, unit\npropagation shows that they agree after the next step."
 rule_of NoMemory = codes "A run asks for memory as its circuit grows, and for none by a number of the\nheader alone. A refused request ends it with status 4, 'out of memory'. Files\nare as they were, but for the circuits of a batch that were done, and where\n'retime --json' lacked memory for its object alone, which is made last."
 rule_of Device = codes "The message names the path, or 'stdin' or 'stdout'. There is no such file or\nfolder, it may not be read or written by this user, it is a folder, the disk is\nfull, or nobody reads the pipe any more."
 
@@ -99,5 +103,7 @@ advice_of BadRoute = codes "See that the certificates are of this IN, and give w
 advice_of UsedTwice = codes "See that the certificates are of this IN, and give what 'retime' got: --keep,\n--keep-latch, --merge. Else they are wrong: 'fretime retime IN OUT --cert FILE'\nwrites others."
 advice_of CountDiffers = codes "See that the certificates are of this IN, and give what 'retime' got: --keep,\n--keep-latch, --merge. Else they are wrong: 'fretime retime IN OUT --cert FILE'\nwrites others."
 advice_of TooLong = codes "Give the bound that 'retime' got, or none. Certificates of a run that keeps it:\n'fretime retime IN OUT --no-longer --cert FILE', or with --levels."
+advice_of Misread = codes "See that the certificates are of this IN, and give what 'retime' got: --keep,\n--keep-latch, --merge. Else they are wrong: 'fretime retime IN OUT --cert FILE'\nwrites others."
+advice_of NotShown = codes "See that the certificates are of this IN, and give what 'retime' got: --keep,\n--keep-latch, --merge. Else they are wrong: 'fretime retime IN OUT --cert FILE'\nwrites others."
 advice_of NoMemory = codes "See the limits of the shell: 'ulimit -v'. 'batch' with fewer --workers has fewer\ncircuits in memory at once."
 advice_of Device = codes "Look at the path: 'ls -l PATH', and at the room on its disk: 'df PATH'. An OUT\nthat was begun may have a part of the circuit: run again."

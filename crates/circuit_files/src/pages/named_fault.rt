@@ -35,11 +35,13 @@ pub enum Fault {
     UsedTwice,
     CountDiffers,
     TooLong,
+    Misread,
+    NotShown,
     NoMemory,
     Device,
 }
 
-const FAULTS: [Fault; 30] = [
+const FAULTS: [Fault; 32] = [
     Fault::BadHeader,
     Fault::TooLarge,
     Fault::MaxIndex,
@@ -68,6 +70,8 @@ const FAULTS: [Fault; 30] = [
     Fault::UsedTwice,
     Fault::CountDiffers,
     Fault::TooLong,
+    Fault::Misread,
+    Fault::NotShown,
     Fault::NoMemory,
     Fault::Device,
 ];
@@ -114,6 +118,8 @@ impl Fault {
             Fault::UsedTwice => "UsedTwice",
             Fault::CountDiffers => "CountDiffers",
             Fault::TooLong => "TooLong",
+            Fault::Misread => "Misread",
+            Fault::NotShown => "NotShown",
             Fault::NoMemory => "NoMemory",
             Fault::Device => "Device",
         }

@@ -124,6 +124,20 @@ names, or than the longest path of IN has. Its set is least all the same.",
 'fretime retime IN OUT --no-longer --cert FILE', or with --levels.",
 };
 
+pub const MISREAD: Page = Page {
+    meaning: "A line of merged latches of a certificate names what no latch reads as.",
+    rule: "Latches of the lines rise, and none is free or held. Each reads as its reset, or
+as an earlier such latch that no line has, so that their resets agree.",
+    advice: CHECK_AGAIN,
+};
+
+pub const NOT_SHOWN: Page = Page {
+    meaning: "A merged latch of a certificate isn't shown to agree with what it reads as.",
+    rule: "In each state in which all merged latches agree with what they read as, unit
+propagation shows that they agree after the next step.",
+    advice: CHECK_AGAIN,
+};
+
 pub const NO_MEMORY: Page = Page {
     meaning: "Memory was refused.",
     rule: "A run asks for memory as its circuit grows, and for none by a number of the

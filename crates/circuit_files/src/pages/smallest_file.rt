@@ -38,6 +38,8 @@ impl Fault {
             | Fault::UsedTwice
             | Fault::CountDiffers
             | Fault::TooLong
+            | Fault::Misread
+            | Fault::NotShown
             | Fault::NoMemory
             | Fault::Device => None,
         }

@@ -86,6 +86,12 @@ returns-in-CountDiffers c = record { meaning = sym (ap meaning_of c.in-CountDiff
 pub returns-in-TooLong : goal.returns-in-TooLong
 returns-in-TooLong c = record { meaning = sym (ap meaning_of c.in-TooLong.is); rule = sym (ap rule_of c.in-TooLong.is); advice = sym (ap advice_of c.in-TooLong.is) }
 
+pub returns-in-Misread : goal.returns-in-Misread
+returns-in-Misread c = record { meaning = sym (ap meaning_of c.in-Misread.is); rule = sym (ap rule_of c.in-Misread.is); advice = sym (ap advice_of c.in-Misread.is) }
+
+pub returns-in-NotShown : goal.returns-in-NotShown
+returns-in-NotShown c = record { meaning = sym (ap meaning_of c.in-NotShown.is); rule = sym (ap rule_of c.in-NotShown.is); advice = sym (ap advice_of c.in-NotShown.is) }
+
 pub returns-in-NoMemory : goal.returns-in-NoMemory
 returns-in-NoMemory c = record { meaning = sym (ap meaning_of c.in-NoMemory.is); rule = sym (ap rule_of c.in-NoMemory.is); advice = sym (ap advice_of c.in-NoMemory.is) }
 
