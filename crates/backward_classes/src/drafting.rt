@@ -213,10 +213,57 @@ impl Drafting {
     }
 }
 
+/// Returns the draft with classes that goes on from plain frames, if there are some.
+fn drafted_from(
+    memory: &mut Memory,
+    circuit: &Circuit,
+    keep: &Keep,
+    plain: Option<&Drafted>,
+    options: &MoveOptions,
+    masks_first: bool,
+) -> Option<ReturnedDraft> {
+    let mut drafting = Drafting::new(memory, circuit, keep, plain, options, masks_first);
+    if drafting.run(memory, circuit, keep) {
+        drafting.finished(memory, circuit)
+    } else {
+        drop(drafting);
+        None
+    }
+}
+
+/// Returns the number of latches with a known reset that a draft leaves, or `most` without one.
+fn left_by(drafted: &Option<ReturnedDraft>, most: u32) -> u32 {
+    match drafted {
+        Some(drafted) => drafted.after.aig().known_latches(),
+        None => most,
+    }
+}
+
+/// Returns the draft after plain frames, or one that begins with masks, if that leaves fewer
+/// latches: plain frames move a reset with the latches that it masks, and make latches of it.
+fn fewest(
+    memory: &mut Memory,
+    circuit: &Circuit,
+    keep: &Keep,
+    plain: &Drafted,
+    options: &MoveOptions,
+) -> Option<ReturnedDraft> {
+    let after_plain = drafted_from(memory, circuit, keep, Some(plain), options, true);
+    let most = left_by(&after_plain, plain.known_latches());
+    let anew = drafted_from(memory, circuit, keep, None, options, true);
+    if left_by(&anew, most) < most {
+        drop(after_plain);
+        anew
+    } else {
+        drop(anew);
+        after_plain
+    }
+}
+
 /// Drafts a circuit in which latches moved backward, within classes of latches that hold their
 /// values, or get constants, together. Goes on from a draft of plain frames, if there is one.
-/// Masks are taken off by the first plans, or by the last ones. Returns nothing if classes don't
-/// leave fewer latches.
+/// Masks are taken off by the first plans, then also before any plain frame if that leaves fewer
+/// latches; or they are by the last ones. Returns nothing if classes don't leave fewer latches.
 ///
 /// Each opening costs some runs of plain frames, and time linear in the circuit.
 ///
@@ -232,12 +279,9 @@ pub fn draft_returned(
     masks_first: bool,
 ) -> Result<Option<ReturnedDraft>, NoMemory> {
     let mut memory = Memory::of(alloc);
-    let mut drafting = Drafting::new(&mut memory, circuit, keep, plain, options, masks_first);
-    let drafted = if drafting.run(&mut memory, circuit, keep) {
-        drafting.finished(&mut memory, circuit)
-    } else {
-        drop(drafting);
-        None
+    let drafted = match plain {
+        Some(plain) if masks_first => fewest(&mut memory, circuit, keep, plain, options),
+        _ => drafted_from(&mut memory, circuit, keep, plain, options, masks_first),
     };
     if memory.is_refused() {
         drop(drafted);

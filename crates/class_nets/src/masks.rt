@@ -2,10 +2,11 @@
 //! factor of the load. While a mask of readers is 0, all gates that read the latch see its reset;
 //! it is a factor of each. Masks are taken off, and are part of the class, as the hold is. A
 //! constant that isn't the reset is no mask's, so what is constant or equal without masks stays so.
+//! If nothing but masked loads reads a latch, it goes with the others of its class.
 
 use crate::nets::{literal_at, set_literal};
 use aig_graph::{Memory, Reset};
-use backward_sets::{Literal, Pair, entry, has_mark, number};
+use backward_sets::{Literal, Pair, entry, has_mark, number, set_mark};
 use hold_drafts::{OpenLatch, Opening, PLAIN, STAYS, TRUE, classes_of};
 
 /// Codes, rising, and how often each was put.
@@ -142,6 +143,38 @@ fn note_all(readers: &mut [Literal], opening: &Opening) {
     note_alone(readers, opening, opening.holds.as_slice());
 }
 
+/// Marks the variables of literals, from the first latch on.
+fn mark_all(read: &mut [bool], opening: &Opening, lits: &[Literal]) {
+    for lit in lits {
+        set_mark(read, opening.place(lit.var()), true);
+    }
+}
+
+/// Marks by variable, from the first latch on, what isn't read by masked loads alone.
+fn mark_read(read: &mut [bool], opening: &Opening, loads: &[Literal]) {
+    for place in 0..opening.many_latches() {
+        if literal_at(loads, place as usize) == TRUE {
+            mark_all(read, opening, &[opening.latch(place).load]);
+        }
+    }
+    mark_all(read, opening, opening.observed.as_slice());
+    mark_all(read, opening, opening.holds.as_slice());
+    for var in opening.first_gate()..opening.end() {
+        let pair = opening.gate(var);
+        mark_all(read, opening, &[pair.larger, pair.smaller]);
+    }
+}
+
+/// Marks the latches that such gates read.
+fn mark_latches(latches: &mut [bool], opening: &Opening, read: &[bool]) {
+    for var in opening.first_gate()..opening.end() {
+        if has_mark(read, opening.place(var)) {
+            let pair = opening.gate(var);
+            mark_all(latches, opening, &[pair.larger, pair.smaller]);
+        }
+    }
+}
+
 impl<'a> Search<'a> {
     fn new(memory: &mut Memory, opening: &'a Opening, only: Option<&'a [bool]>) -> Search<'a> {
         Search {
@@ -232,12 +265,23 @@ impl<'a> Search<'a> {
         is_input | (is_latch & stays & bare & alone)
     }
 
-    /// Counts the masks of readers that are steady.
+    /// Returns by latch if a gate reads it that isn't the load of masked latches alone.
+    fn latches_read(&self, memory: &mut Memory, loads: &[Literal]) -> Vec<bool> {
+        let mut read = memory.table(false, self.opening.size());
+        let mut latches = memory.table(false, self.opening.latches.len());
+        mark_read(read.as_mut_slice(), self.opening, loads);
+        mark_latches(latches.as_mut_slice(), self.opening, read.as_slice());
+        latches
+    }
+
+    /// Counts the masks of readers that are steady, of latches that more than masked loads read.
     fn tally_readers(&self, memory: &mut Memory, loads: &[Literal], readers: &[Literal]) -> Tally {
+        let read = self.latches_read(memory, loads);
         let mut codes = memory.nothing();
         for place in 0..self.opening.many_latches() {
             let mask = literal_at(readers, place as usize);
-            if self.may_have(&self.opening.latch(place)) & self.is_steady(loads, readers, mask) {
+            let may = self.may_have(&self.opening.latch(place)) & has_mark(read.as_slice(), place);
+            if may & self.is_steady(loads, readers, mask) {
                 memory.push(&mut codes, mask.code);
             }
         }
