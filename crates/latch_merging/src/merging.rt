@@ -1,7 +1,8 @@
 //! Merging by a reading that is guessed and then judged.
 //!
-//! A guess that the judge doesn't confirm loses the class of the latch that stays open, and is
-//! judged again. At last each latch reads as itself, which needs no question.
+//! A latch that the judge doesn't confirm leaves its class, and the rest is judged again. If that
+//! goes on, hashing parts the classes that are left. So no latch reads as itself that hashing
+//! merges with another. At last each latch reads as itself, which needs no question.
 ghost use Rattle.std.specs.Prelude.{◌≡◌, IfOk};
 ghost use Rattle.merged_circuits.specs.Inductive.{IsMergedBy};
 ghost use Rattle.merged_circuits.specs.Lines.{merged_lines};
@@ -11,10 +12,12 @@ use aig_graph::{Aig, Circuit, Keep, Lit, NoMemory, Sequence};
 use certificates::MergedLatch;
 use clean::own_literal;
 use gate_sharing::SharingError;
-use latch_readings::{Judgement, circuit_by, guessed_reading, judge, merged_lines, own_reading};
+use latch_readings::{
+    Judgement, circuit_by, guessed_reading, hashed, judge, merged_lines, own_reading,
+};
 use std::alloc::Global;
 
-/// How often a guess is judged at most.
+/// How many latches leave their classes at most before hashing parts the rest.
 const MOST_ROUNDS: u32 = 16;
 
 /// A circuit that was merged, and how.
@@ -33,7 +36,7 @@ pub struct MergedCircuit {
 enum Round {
     /// The judge's circuit.
     Merged(MergedCircuit),
-    /// A reading with a class less.
+    /// A reading in which a latch more reads as itself.
     Parted(Vec<Lit>),
 }
 
@@ -58,24 +61,18 @@ pub(crate) fn merged_with(
     })
 }
 
-/// Lets the latches that read as the latch at a place does read as themselves.
-fn without_class(aig: &Aig, reads: Vec<Lit>, place: usize) -> Vec<Lit> {
+/// Lets the latch at a place read as itself.
+fn without_latch(aig: &Aig, reads: Vec<Lit>, place: usize) -> Vec<Lit> {
     let mut reads = reads;
-    let class = match reads.get(place) {
-        Some(lit) => lit.var(),
-        None => 0,
-    };
-    for at in 0..aig.latches().len() {
-        if let Some(lit) = reads.get_mut(at) {
-            if lit.var() == class {
-                *lit = own_literal(aig, at);
-            }
+    if place < aig.latches().len() {
+        if let Some(lit) = reads.get_mut(place) {
+            *lit = own_literal(aig, place);
         }
     }
     reads
 }
 
-/// Judges a reading. If it isn't shown, the class of the latch at which the judge stopped goes.
+/// Judges a reading. If it isn't shown, the latch at which the judge stopped leaves its class.
 fn judged_round(
     alloc: Global,
     circuit: &Circuit,
@@ -90,7 +87,7 @@ fn judged_round(
             Ok(Round::Merged(merged))
         }
         Judgement::Misread(place) | Judgement::Open(place) => {
-            Ok(Round::Parted(without_class(circuit.aig(), reads, place)))
+            Ok(Round::Parted(without_latch(circuit.aig(), reads, place)))
         }
     }
 }
@@ -104,12 +101,36 @@ fn unmerged(alloc: Global, circuit: &Circuit, keep: &Keep) -> Result<MergedCircu
     merged_with(alloc, circuit, keep, merged, reads)
 }
 
-/// Guesses a reading. If there are too many gates for a guess, each latch reads as itself.
-fn first_guess(alloc: Global, circuit: &Circuit, keep: &Keep) -> Result<Vec<Lit>, NoMemory> {
-    match guessed_reading(alloc, circuit, keep) {
+/// Returns a guess. If there are too many gates for it, each latch reads as itself.
+fn guess_or_own(
+    alloc: Global,
+    aig: &Aig,
+    guess: Result<Vec<Lit>, SharingError>,
+) -> Result<Vec<Lit>, NoMemory> {
+    match guess {
         Ok(reads) => Ok(reads),
         Err(SharingError::NoMemory) => Err(NoMemory),
-        Err(SharingError::TooLarge) => own_reading(alloc, circuit.aig()),
+        Err(SharingError::TooLarge) => own_reading(alloc, aig),
+    }
+}
+
+/// Merges by what hashing shows of a reading, or if that isn't shown, no latch.
+fn merge_by_hashing(
+    alloc: Global,
+    circuit: &Circuit,
+    keep: &Keep,
+    reads: Vec<Lit>,
+) -> Result<MergedCircuit, NoMemory>
+    ensures { IfOk result (IsMergedCircuit keep.now circuit.now) }
+{
+    let parted = hashed(alloc, circuit.aig(), reads);
+    let reads = guess_or_own(alloc, circuit.aig(), parted)?;
+    match judged_round(alloc, circuit, keep, reads)? {
+        Round::Merged(merged) => Ok(merged),
+        Round::Parted(reads) => {
+            drop(reads);
+            unmerged(alloc, circuit, keep)
+        }
     }
 }
 
@@ -126,13 +147,13 @@ pub fn merge_latches(
 ) -> Result<MergedCircuit, NoMemory>
     ensures { IfOk result (IsMergedCircuit keep.now circuit.now) }
 {
-    let mut reads = first_guess(alloc, circuit, keep)?;
+    let guessed = guessed_reading(alloc, circuit, keep);
+    let mut reads = guess_or_own(alloc, circuit.aig(), guessed)?;
     for _ in 0..MOST_ROUNDS {
         match judged_round(alloc, circuit, keep, reads)? {
             Round::Merged(merged) => return Ok(merged),
             Round::Parted(finer) => reads = finer,
         }
     }
-    drop(reads);
-    unmerged(alloc, circuit, keep)
+    merge_by_hashing(alloc, circuit, keep, reads)
 }

@@ -15,4 +15,5 @@ mod substitutes;
 pub use guessing::guessed_reading;
 pub use judging::{Judgement, judge};
 pub use lines::{LineReading, merged_lines, own_reading, reading_of};
+pub use reading_splits::hashed;
 pub use substitutes::circuit_by;
