@@ -157,5 +157,5 @@ complete -c fretime -n '__fish_seen_subcommand_from retime backward enables dot 
 complete -c fretime -n '__fish_seen_subcommand_from dot' -x -l around -a '(__fretime_names ilobcjf)' \
     -d 'Draw the neighbourhood of what has this name alone'
 
-complete -c fretime -n '__fish_seen_subcommand_from explain' -f -a 'BadHeader TooLarge MaxIndex BadLine BadLiteral DefinedTwice Undefined Cycle BadReset BadDelta Truncated BadSymbol Trailing Width TooMany NoSuchProperty TooManySteps NoSuchName NoSuchLatch TooManyNodes NotAMap NoSuchLiteral ShapesDiffer NotClosed BadRoute UsedTwice CountDiffers TooLong NoMemory Device'
+complete -c fretime -n '__fish_seen_subcommand_from explain' -f -a 'BadHeader TooLarge MaxIndex BadLine BadLiteral DefinedTwice Undefined Cycle BadReset BadDelta Truncated BadSymbol Trailing Width TooMany NoSuchProperty TooManySteps NoSuchName NoSuchLatch TooManyNodes NotAMap NoSuchLiteral ShapesDiffer NotClosed BadRoute UsedTwice CountDiffers TooLong NotShown NoMemory Device'
 # end of commands and options
