@@ -2,7 +2,7 @@
 
 # made by docs/make: names
 _fretime_commands='retime backward enables batch convert stat sim same dot explain verify check miter product lift witness help'
-_fretime_faults='BadHeader TooLarge MaxIndex BadLine BadLiteral DefinedTwice Undefined Cycle BadReset BadDelta Truncated BadSymbol Trailing Width TooMany NoSuchProperty TooManySteps NoSuchName NoSuchLatch TooManyNodes NotAMap NoSuchLiteral ShapesDiffer NotClosed BadRoute UsedTwice CountDiffers TooLong NoMemory Device'
+_fretime_faults='BadHeader TooLarge MaxIndex BadLine BadLiteral DefinedTwice Undefined Cycle BadReset BadDelta Truncated BadSymbol Trailing Width TooMany NoSuchProperty TooManySteps NoSuchName NoSuchLatch TooManyNodes NotAMap NoSuchLiteral ShapesDiffer NotClosed BadRoute UsedTwice CountDiffers TooLong NotShown NoMemory Device'
 # end of names
 
 # Reads the line up to the cursor, of which nothing is run or expanded but a home folder. Sets `words` to its words without their
