@@ -32,6 +32,7 @@ fn retiming<'a>(alloc: Global, matches: &ArgMatches<'a>) -> Result<Option<Task<'
         output,
         options: options(alloc, matches)?,
         workers: workers(matches),
+        classes: source_if_given(matches, "classes"),
         certificates: target(matches, "cert"),
         map: target(matches, "map"),
         json: json(matches),

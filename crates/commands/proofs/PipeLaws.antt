@@ -13,7 +13,7 @@ use Rattle.counted_io.specs.Output.{Output, WritesAll}
 use Rattle.retimed_circuits.specs.declared.report.Retimed.{Retimed}
 use Rattle.frames.specs.declared.errors.BytesError.{BytesError}
 use Rattle.frames.specs.declared.errors.BytesError.TheVariants.{Read, Retime, Write}
-use Rattle.frames.specs.declared.errors.RetimeError.TheVariants.{NoMemory, NoSuchLatch, NoSuchName}
+use Rattle.frames.specs.declared.errors.RetimeError.TheVariants.{Misread, NoMemory, NoSuchLatch, NoSuchName, NotShown}
 use Rattle.frames.specs.declared.options.Options.{Options}
 use Rattle.frames.specs.Answering.{IsAnswer, IsStop, IsWritten, ReadsBack, text_for}
 use Rattle.frames.specs.Retiming.{IsRetimedHeld}
@@ -48,6 +48,8 @@ stopped task options spelt before after (Read e) f is p = absurd p
 stopped task options spelt before after (Retime NoMemory) f is p = failing_after f before after p
 stopped task options spelt before after (Retime (NoSuchName place)) f is p = failing_after f before after p.0
 stopped task options spelt before after (Retime (NoSuchLatch number)) f is p = failing_after f before after p.0
+stopped task options spelt before after (Retime (Misread latch)) f is p = failing_after f before after p
+stopped task options spelt before after (Retime (NotShown latch)) f is p = failing_after f before after p
 stopped task options spelt before after (Write e) f is p = subst (λ (g : Failure). Prints (outcome_of g) before after) (sym is.2) tt
 
 -- so if a map is made

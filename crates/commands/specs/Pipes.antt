@@ -27,6 +27,7 @@ use Rattle.circuit_files.specs.WrittenFiles.{IsTargetGiven}
 use Rattle.circuit_files.specs.declared.outcome.Outcome.{Outcome}
 use Rattle.circuit_files.specs.declared.outcome.Failure.{Failure}
 use Rattle.commands.specs.CertFiles.{file_of}
+use Rattle.commands.specs.Classes.{AreClassesAt}
 use Rattle.commands.specs.RetimingTasks.{AreOptionsFor, EndsPrintingFrames, SaysFrames, counts_of, levels_reported}
 use Rattle.commands.specs.declared.answer.Answer.{Answer}
 
@@ -64,13 +65,17 @@ pub record IsAnswerAt (FileGiven : List ℕ → List ℕ → Type 0) (task : Ret
   pub of : IsAnswerOf task options spelt answer
   pub writes : IsTargetGiven FileGiven task.output old new (text_for options spelt answer.retimed)
 
--- so was the answer, by the options of the task, of what it reads: of standard input, of the bytes
--- that were left
+-- So was the answer, by the options of the task, of what it reads: of standard input, of the bytes
+-- that were left. Merged latches that are given are read after the circuit.
 pub record WritesAnswer (FileGiven : List ℕ → List ℕ → Type 0) (task : Retiming) (input : Input) (old new : Output) (answer : Answer) : Type 0 where
   pub options : Options
   pub are_options : AreOptionsFor task options
   pub spelt : SpeltCircuit
   pub read : is_stdin task.input ≡ true → Spells input spelt
+  pub between : Input
+  pub still : is_stdin task.input ≡ false → between ≡ input
+  pub left : Input
+  pub classes_are : AreClassesAt task.classes between left options.classes
   pub at : IsAnswerAt FileGiven task options spelt old new answer
 
 -- a map was written to this, if that is asked for

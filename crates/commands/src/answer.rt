@@ -12,6 +12,7 @@ ghost use Rattle.circuit_files.specs.WrittenFiles.{IsFileGiven, IsTargetGiven};
 ghost use Rattle.command_line.specs.StreamUses.{writes_stdout};
 ghost use Rattle.command_endings.specs.Printing.{Prints};
 ghost use Rattle.commands.specs.Pipes.{IsAnswerTo, WritesMap};
+ghost use Rattle.commands.specs.RetimingTasks as wanted;
 ghost use Rattle.commands.specs.RetimingTasks.{AreOptionsFor, HasFailed, IsFailureOf, IsFailureOfRun, IsMapFailureOf, counts_of, levels_reported};
 
 use aig_binary::{Spelling, SpeltCircuit};
@@ -51,19 +52,33 @@ fn crew(task: &Retiming<'_>) -> Crew<OpenGate>
     Crew::new(task.workers.clamp(1, MOST_WORKERS), OpenGate)
 }
 
-/// Returns the failure for an error of a run, with the name that it is about.
+/// Returns the failure for an error of a run, with the name that it is about. `classes` is what the
+/// merged latches were read of, if they were given.
 pub(crate) fn failure_of_run<'a>(
     error: RetimeError,
     input: Source<'a>,
+    classes: Source<'a>,
     options: &RetimingOptions<'a>,
 ) -> Failure<'a>
-    ensures { IsFailureOfRun input.entry options.now error result }
+    ensures { IsFailureOfRun input.entry classes.entry options.now error result }
 {
     let (names, positions) = (options.keep.as_slice(), options.keep_latches.as_slice());
     match error {
         RetimeError::NoMemory => Failure::Memory,
         RetimeError::NoSuchName(place) => missing_name(input.name(), names, place),
         RetimeError::NoSuchLatch(number) => missing_latch(input.name(), positions, number),
+        RetimeError::Misread(latch) => Failure::Misread(classes.name(), latch),
+        RetimeError::NotShown(latch) => Failure::NotShown(classes.name(), latch),
+    }
+}
+
+/// Returns what the merged latches are read of, if they are given, else the circuit.
+fn classes_source<'a>(task: &Retiming<'a>) -> Source<'a>
+    ensures { result ≡ wanted.classes_source task.now }
+{
+    match task.classes {
+        Some(classes) => classes,
+        None => task.input,
     }
 }
 
@@ -73,7 +88,9 @@ fn failure_of<'a>(error: BytesError, task: &Retiming<'a>) -> Failure<'a>
 {
     match error {
         BytesError::Read(error) => Failure::of_reading(error, task.input.name()),
-        BytesError::Retime(error) => failure_of_run(error, task.input, &task.options),
+        BytesError::Retime(error) => {
+            failure_of_run(error, task.input, classes_source(task), &task.options)
+        }
         BytesError::Write(_) => Failure::Device(task.output.name()),
     }
 }

@@ -13,6 +13,7 @@ ghost use Rattle.commands.specs.RetimingTasks.{AreOptionsFor, EndsPrintingFrames
 ghost use Rattle.command_line.specs.declared.task.Shown.TheVariants.{Nothing};
 
 use crate::answer::{Answer, map_counts, map_written, retime_to};
+use crate::classes::{classes_at, with_classes};
 use aig_binary::{Spelling, SpeltCircuit};
 use aig_graph::{Keep, NoMemory, Sequence};
 use certificates::{CertFile, Choice, write_cert};
@@ -58,7 +59,8 @@ fn retime_by<'a, R: OutputFiles + Threads + Sync, O: CountedWrite, V: FrameWatch
     }
 }
 
-/// Reads the circuit of the task, retimes it, and writes it to the target of the task.
+/// Reads the circuit of the task and the merged latches that are given. Retimes the circuit by
+/// `options` with these, and writes it to the target of the task.
 fn retime_read<
     'a,
     R: Files + OutputFiles + Threads + Sync,
@@ -69,12 +71,12 @@ fn retime_read<
     rt: &R,
     alloc: Global,
     task: &Retiming<'a>,
-    options: &Options,
+    options: Options,
     stdin: &mut I,
     out: &mut O,
     watcher: &mut V,
 ) -> Result<Answer, Failure<'a>>
-    requires { AreOptionsFor task.now options.now }
+    requires { AreOptionsFor task.now options }
     ensures answer { IfOk result (WritesAnswer (IsFileGiven R.Output.contents R.is_made R.is_let_go) task.now
         (I.input stdin.old) (O.output out.old) (O.output out.new)) }
     ensures file { is_stdout task.now.output ≡ false → O.output out.new ≡ O.output out.old }
@@ -82,7 +84,16 @@ fn retime_read<
         (O.output out.new)) }
 {
     match circuit_at(rt, alloc, task.input, stdin) {
-        Ok(spelt) => retime_by(rt, alloc, task, options, spelt, out, watcher),
+        Ok(spelt) => match classes_at(rt, alloc, task, stdin) {
+            Ok(classes) => {
+                let options = with_classes(options, classes);
+                retime_by(rt, alloc, task, &options, spelt, out, watcher)
+            }
+            Err(failure) => {
+                drop(spelt);
+                Err(failure)
+            }
+        },
         Err(failure) => Err(failure),
     }
 }
@@ -109,7 +120,7 @@ fn retimed<
 {
     let asked = &task.options;
     match run_options(alloc, asked, asked.frames, task.certificates.is_some()) {
-        Ok(options) => retime_read(rt, alloc, task, &options, stdin, out, watcher),
+        Ok(options) => retime_read(rt, alloc, task, options, stdin, out, watcher),
         Err(_) => Err(Failure::Memory),
     }
 }

@@ -157,7 +157,7 @@ fn begun_merged<F: RunFollower + Drop>(
     circuit.known();
     let latches = circuit.aig().latches().len() as u32;
     let mut follower = follower;
-    match follower.clean_and_merge(alloc, circuit, keep) {
+    match follower.clean_and_merge(alloc, circuit, keep, options) {
         Ok(start) => merged_run(alloc, follower, start, latches, bound, options),
         Err(error) => {
             drop(follower);

@@ -30,7 +30,7 @@ pub use beginning::begin;
 pub use bound::PathBound;
 pub use bytes::{retime_bytes, retime_bytes_watched, retime_spelt, run_spelt};
 pub use certificates::{Certificate, MergedLatch};
-pub use errors::{BytesError, RetimeError};
+pub use errors::{BytesError, RetimeError, RunError};
 pub use finishing::finish;
 pub use follower::{NoFollower, RunFollower};
 pub use laws::answer_law;

@@ -10,13 +10,13 @@ ghost use Rattle.retimed_circuits.specs.RetimingLevels.{KeepsLevels};
 ghost use Rattle.frames.specs.declared.errors.RetimeError.TheVariants.{NoSuchLatch, NoSuchName};
 
 use crate::beginning::begin;
-use crate::errors::RetimeError;
+use crate::errors::{RetimeError, RunError};
 use crate::finishing::finish;
 use crate::follower::{NoFollower, RunFollower};
 use crate::options::Options;
 use crate::run::{Begun, Run};
 use crate::watcher::{FrameWatcher, NoWatcher, Stage};
-use aig_graph::{Circuit, Keep, NoMemory, hold};
+use aig_graph::{Circuit, Keep, hold};
 use pulse::{Crew, PhaseGate};
 use retimed_circuits::Retimed;
 use std::alloc::Global;
@@ -73,7 +73,7 @@ fn finish_plain<G: PhaseGate, V: FrameWatcher>(
     options: &Options,
     crew: &Crew<G>,
     watcher: &mut V,
-) -> Result<Run<NoFollower>, NoMemory>
+) -> Result<Run<NoFollower>, RunError>
     requires { (c : Netlist) × IsRunBegun ⟦<NoFollower as RunFollower>⟧.has_come options.now
         begun.run.bound c begun.read begun.run.retimed begun.run.keep begun.run.follower }
     ensures retimed { IfOk result (λ run. (c : Netlist)

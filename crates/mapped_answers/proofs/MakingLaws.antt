@@ -1,18 +1,17 @@
 -- Why there is no retiming with a map.
-use Rattle.std.proofs.Common.{ℕ, ◌≡◌, ◌∙◌, ◌++◌, ◌∷◌, [], List, inl, inr, refl, sym, subst, Result, Ok, Err}
-use Rattle.std.specs.Result.{IfOk}
+use Rattle.std.proofs.Common.{ℕ, ◌≡◌, ◌∙◌, ◌++◌, ◌∷◌, [], List, refl, sym, subst}
 use Rattle.aig_graph.specs.Circuits.{Netlist}
 use Rattle.counted_io.specs.Output.{Output, WritesAll, WritesPart}
 use Rattle.aig_binary.specs.declared.reading.SpeltCircuit.{SpeltCircuit}
 use Rattle.frames.specs.declared.errors.BytesError.TheVariants.{Read, Retime, Write}
 use Rattle.frames.specs.declared.errors.RetimeError.{RetimeError}
-use Rattle.frames.specs.declared.errors.RetimeError.TheVariants.{NoMemory, NoSuchLatch, NoSuchName}
+use Rattle.frames.specs.declared.errors.RetimeError.TheVariants.{Misread, NoMemory, NoSuchLatch, NoSuchName, NotShown}
 use Rattle.frames.specs.declared.options.Options.{Options}
 use Rattle.frames.specs.Answering.{IsWritten}
 use Rattle.frames.specs.Bounds.{bound_in}
 use Rattle.frames.specs.Named.{AreLatchesBy, IsFirstMissingBy, IsFirstNoLatchBy, NoneMissingBy, holding_in}
 use Rattle.frames.specs.Retiming.{IsRetimedHeld}
-use Rattle.frames.specs.Stages.{Notifies, Notification, Writing, looks_of, stages_of}
+use Rattle.frames.specs.Stages.{Notifies, Notification, Writing, stages_of}
 use Rattle.frames.proofs.StageLaws.{notifies-then}
 use Rattle.std.specs.Option.{unwrap_or}
 use Rattle.file_words.specs.declared.spelling.Spelling.{Spelling}
@@ -30,8 +29,14 @@ use Rattle.mapped_answers.specs.Mapping.{IsMade, IsMadeCutOff, IsMadeWritten, Is
 
 -- no map
 pub unmapped : (options : Options) (c : Netlist) (e : AnswerError) → IsMapError e → IsMakingError options c e
-unmapped options c e (inl memory) = subst (IsMakingError options c) (sym memory) tt
-unmapped options c e (inr large) = subst (IsMakingError options c) (sym large) tt
+unmapped options c MapTooLarge is = tt
+unmapped options c (Bytes (Read e)) is = absurd is
+unmapped options c (Bytes (Retime NoMemory)) is = tt
+unmapped options c (Bytes (Retime (NoSuchName place))) is = absurd is
+unmapped options c (Bytes (Retime (NoSuchLatch place))) is = absurd is
+unmapped options c (Bytes (Retime (Misread latch))) is = tt
+unmapped options c (Bytes (Retime (NotShown latch))) is = tt
+unmapped options c (Bytes (Write e)) is = absurd is
 
 -- a name or a position that no latch has
 pub unheld : (options : Options) (c : Netlist) (e : RetimeError) → ((place : ℕ) → e ≡ NoSuchName place → IsFirstMissingBy options c place) → ((place : ℕ) → e ≡ NoSuchLatch place → IsFirstNoLatchBy options c place)
@@ -39,16 +44,12 @@ pub unheld : (options : Options) (c : Netlist) (e : RetimeError) → ((place : �
 unheld options c NoMemory missing no_latch = tt
 unheld options c (NoSuchName place) missing no_latch = missing place refl
 unheld options c (NoSuchLatch place) missing no_latch = no_latch place refl
+unheld options c (Misread latch) missing no_latch = tt
+unheld options c (NotShown latch) missing no_latch = tt
 
 -- what was made of a circuit that has latches of all names and positions is what is asked for
 pub is-made : (options : Options) (c : Netlist) (m : Made) → AreLatchesBy options c → NoneMissingBy options c → IsRetimedMapped options c m → IsMade options c m
 is-made options c m latches none is = record { latches = latches; names = none; held = is.held; map = is.map; free = is.free }
-
--- one retiming gives one list of notified stages
-pub same-notified : {W E : Type 0} (was_notified : W → List Notification → Type 0) (limit : ℕ) (a b : W) (r : Retimed) (result : Result Made E) → Notifies was_notified a b (looks_of limit r)
-    → IfOk result (λ made. made.retimed ≡ r) → IfOk result (λ made. Notifies was_notified a b (looks_of limit made.retimed))
-same-notified was_notified limit a b r (Ok made) notified same = subst (λ (x : Retimed). Notifies was_notified a b (looks_of limit x)) (sym same) notified
-same-notified was_notified limit a b r (Err e) notified same = tt
 
 -- nothing is written then
 pub makes-nothing : (options : Options) (spelt : SpeltCircuit) (out : Output) (e : AnswerError) → IsMakingError options spelt.circuit e → IsMappingStop options spelt out out e
@@ -57,6 +58,8 @@ makes-nothing options spelt out (Bytes (Read e)) is = absurd is
 makes-nothing options spelt out (Bytes (Retime NoMemory)) is = refl
 makes-nothing options spelt out (Bytes (Retime (NoSuchName place))) is = (refl, is)
 makes-nothing options spelt out (Bytes (Retime (NoSuchLatch place))) is = (refl, is)
+makes-nothing options spelt out (Bytes (Retime (Misread latch))) is = refl
+makes-nothing options spelt out (Bytes (Retime (NotShown latch))) is = refl
 makes-nothing options spelt out (Bytes (Write e)) is = absurd is
 
 -- what was made is written as the answer

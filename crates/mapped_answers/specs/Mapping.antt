@@ -1,6 +1,6 @@
 -- What becomes of a circuit that was read if a map is wanted: the answer, and the map from it to
 -- the written circuit.
-use Rattle.std.specs.Prelude.{◌≡◌, ◌⊎◌, unwrap_or}
+use Rattle.std.specs.Prelude.{◌≡◌, unwrap_or}
 use Rattle.counted_io.specs.Output.{Output, WritesAll, WritesPart}
 use Rattle.file_words.specs.declared.spelling.Spelling.{Spelling}
 use Rattle.aig_graph.specs.Circuits.{IsNetlist, Netlist}
@@ -12,7 +12,7 @@ use Rattle.frames.specs.Answering.{IsStop, IsWritten}
 use Rattle.frames.specs.Named.{AreLatchesBy, IsFirstMissingBy, IsFirstNoLatchBy, NoneMissingBy}
 use Rattle.frames.specs.Retiming.{IsRetimedHeld}
 use Rattle.frames.specs.declared.errors.BytesError.TheVariants.{Read, Retime, Write}
-use Rattle.frames.specs.declared.errors.RetimeError.TheVariants.{NoMemory, NoSuchLatch, NoSuchName}
+use Rattle.frames.specs.declared.errors.RetimeError.TheVariants.{Misread, NoMemory, NoSuchLatch, NoSuchName, NotShown}
 use Rattle.frames.specs.declared.options.Options.{Options}
 use Rattle.mapped_answers.specs.declared.making.Made.{Made}
 use Rattle.mapped_answers.specs.declared.mapped.Mapped.{Mapped}
@@ -34,9 +34,16 @@ pub record IsRetimedMapped (options : Options) (c : Netlist) (m : Made) : Type 0
   pub map : IsMapCircuit c m.retimed.circuit m.retimed.kept_free m.map
   pub free : FreeStay c m.retimed.circuit m.map
 
--- why there is no map of a retiming
+-- why there is no map of a retiming, once its latches are held
 abbrev pub IsMapError : AnswerError → Type 0
-IsMapError e = (e ≡ Bytes (Retime NoMemory)) ⊎ (e ≡ MapTooLarge)
+IsMapError MapTooLarge = Unit {0}
+IsMapError (Bytes (Read e)) = ⊥
+IsMapError (Bytes (Retime NoMemory)) = Unit {0}
+IsMapError (Bytes (Retime (NoSuchName place))) = ⊥
+IsMapError (Bytes (Retime (NoSuchLatch place))) = ⊥
+IsMapError (Bytes (Retime (Misread latch))) = Unit {0}
+IsMapError (Bytes (Retime (NotShown latch))) = Unit {0}
+IsMapError (Bytes (Write e)) = ⊥
 
 -- why there is no retiming with a map
 abbrev pub IsMakingError : Options → Netlist → AnswerError → Type 0
@@ -45,6 +52,8 @@ IsMakingError options c (Bytes (Read e)) = ⊥
 IsMakingError options c (Bytes (Retime NoMemory)) = Unit {0}
 IsMakingError options c (Bytes (Retime (NoSuchName place))) = IsFirstMissingBy options c place
 IsMakingError options c (Bytes (Retime (NoSuchLatch place))) = IsFirstNoLatchBy options c place
+IsMakingError options c (Bytes (Retime (Misread latch))) = Unit {0}
+IsMakingError options c (Bytes (Retime (NotShown latch))) = Unit {0}
 IsMakingError options c (Bytes (Write e)) = ⊥
 
 -- what was made is written, and its map is in that spelling

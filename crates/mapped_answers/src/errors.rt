@@ -1,5 +1,9 @@
 //! The errors of an answer with a map.
+ghost use Rattle.std.specs.Prelude.{◌≡◌};
+
+use aig_graph::NoMemory;
 use frames::BytesError;
+use retiming_maps::MapError;
 use thiserror::Error;
 
 /// Why a circuit that was read wasn't retimed and written, or has no map.
@@ -11,4 +15,31 @@ pub enum AnswerError {
     /// The map would have more variables than a circuit may have.
     #[error("the map has too many variables")]
     MapTooLarge,
+}
+
+/// Why a map doesn't follow a run any further.
+#[derive(Clone, Copy)]
+pub(crate) enum FollowError {
+    /// There is no memory for it, or it would be too large.
+    Map(MapError),
+    /// As `frames::RetimeError::Misread`.
+    Misread(u32),
+    /// As `frames::RetimeError::NotShown`.
+    NotShown(u32),
+}
+
+impl From<MapError> for FollowError {
+    ghost use Rattle.mapped_answers.specs.declared.errors.FollowError.TheVariants.{Map};
+
+    ghost from_gives = { λ error e. e ≡ Map error };
+
+    fn from(error: MapError) -> FollowError {
+        FollowError::Map(error)
+    }
+}
+
+impl From<NoMemory> for FollowError {
+    fn from(_error: NoMemory) -> FollowError {
+        FollowError::Map(MapError::NoMemory)
+    }
 }

@@ -7,7 +7,7 @@ ghost use Rattle.frames.specs.declared.errors.BytesError.TheVariants.{Retime};
 ghost use Rattle.mapped_answers.specs.Mapping.{IsMade, IsMakingError, IsMapError, IsRetimedMapped};
 ghost use Rattle.mapped_answers.specs.declared.errors.AnswerError.TheVariants.{Bytes};
 
-use crate::errors::AnswerError;
+use crate::errors::{AnswerError, FollowError};
 use crate::following::GrowingMap;
 use crate::mapped::map_error;
 use aig_graph::{Circuit, Keep, NoMemory};
@@ -66,7 +66,7 @@ fn made_kept<G: PhaseGate, V: FrameWatcher>(
     options: &Options,
     crew: &Crew<G>,
     watcher: &mut V,
-) -> Result<Made, MapError>
+) -> Result<Made, FollowError>
     requires { keep.now ≡ kept_by options.now circuit.now }
     ensures made { IfOk result (IsRetimedMapped options.now circuit.now) }
     ensures notified { IfOk result (λ made. Notifies V.was_notified watcher.old watcher.new
@@ -77,7 +77,8 @@ fn made_kept<G: PhaseGate, V: FrameWatcher>(
     };
     let begun = begin(alloc, circuit, keep, options, map)?;
     let end = finish(rt, alloc, begun, options, crew, watcher)?;
-    with_map(alloc, circuit, end, options)
+    let made = with_map(alloc, circuit, end, options)?;
+    Ok(made)
 }
 
 /// Runs [`made_kept`], with the errors of an answer.

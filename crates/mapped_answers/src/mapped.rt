@@ -1,6 +1,6 @@
 ghost use Rattle.mapped_answers.specs.Mapping.{IsMapError};
 
-use crate::errors::AnswerError;
+use crate::errors::{AnswerError, FollowError};
 use aig_binary::Spelling;
 use aig_graph::Keep;
 use frames::{BytesError, RetimeError, Retimed};
@@ -24,12 +24,20 @@ pub struct Mapped {
     pub map: SpeltMap,
 }
 
-/// Returns the error of an answer for one of making a map.
-pub(crate) fn map_error(error: MapError) -> AnswerError
+/// Returns the error of an answer for one of a run that a map follows.
+pub(crate) fn map_error(error: FollowError) -> AnswerError
     ensures { IsMapError result }
 {
     match error {
-        MapError::NoMemory => AnswerError::Bytes(BytesError::Retime(RetimeError::NoMemory)),
-        MapError::TooLarge => AnswerError::MapTooLarge,
+        FollowError::Map(MapError::NoMemory) => {
+            AnswerError::Bytes(BytesError::Retime(RetimeError::NoMemory))
+        }
+        FollowError::Map(MapError::TooLarge) => AnswerError::MapTooLarge,
+        FollowError::Misread(latch) => {
+            AnswerError::Bytes(BytesError::Retime(RetimeError::Misread(latch)))
+        }
+        FollowError::NotShown(latch) => {
+            AnswerError::Bytes(BytesError::Retime(RetimeError::NotShown(latch)))
+        }
     }
 }
