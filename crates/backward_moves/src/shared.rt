@@ -3,6 +3,7 @@
 
 use aig_graph::Memory;
 use backward_sets::{Literal, Pair, entry, number, set_entry};
+use checked_tables::{entry_or, put_if_there};
 
 /// The smallest table.
 const SMALLEST: usize = 16;
@@ -62,20 +63,12 @@ fn size_for(gates: usize) -> usize {
 
 /// Returns the gate at `place`.
 pub(crate) fn pair_at(pairs: &[Pair], place: u32) -> Pair {
-    let place = place as usize;
-    if place < pairs.len() {
-        pairs[place]
-    } else {
-        Pair::NONE
-    }
+    entry_or(pairs, place as usize, Pair::NONE)
 }
 
 /// Puts a gate at `place`, if the table has it.
 pub(crate) fn set_pair(pairs: &mut [Pair], place: u32, pair: Pair) {
-    let place = place as usize;
-    if place < pairs.len() {
-        pairs[place] = pair;
-    }
+    put_if_there(pairs, place as usize, pair);
 }
 
 impl Shared {

@@ -6,6 +6,7 @@
 use crate::nets::{literal_at, set_literal};
 use aig_graph::{Memory, Reset};
 use backward_sets::{Literal, Pair, entry, has_mark, number};
+use checked_tables::entry_or;
 use hold_drafts::{OpenLatch, Opening, PLAIN, STAYS, TRUE, classes_of};
 
 /// Codes, rising, and how often each was put.
@@ -45,12 +46,7 @@ impl Tally {
 
 /// Returns the class at `place`, or that of an input past the end.
 fn class_at(classes: &[u32], place: u32) -> u32 {
-    let place = place as usize;
-    if place < classes.len() {
-        classes[place]
-    } else {
-        STAYS
-    }
+    entry_or(classes, place as usize, STAYS)
 }
 
 /// The masks of latches, by latch, and the constant true for none.

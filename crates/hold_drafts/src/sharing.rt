@@ -4,6 +4,7 @@
 use crate::literals::{TRUE, opposite};
 use aig_graph::Memory;
 use backward_sets::{Literal, Pair, entry, number, set_entry};
+use checked_tables::entry_or;
 
 /// The smallest table.
 const SMALLEST: usize = 16;
@@ -100,12 +101,11 @@ impl Sharing {
 
     /// Returns the gate at a variable, or one of constants if there is none.
     pub fn gate(&self, var: u32) -> Pair {
-        let place = var.wrapping_sub(self.first) as usize;
-        if place < self.gates.len() {
-            self.gates[place]
-        } else {
-            Pair::NONE
-        }
+        entry_or(
+            self.gates.as_slice(),
+            var.wrapping_sub(self.first) as usize,
+            Pair::NONE,
+        )
     }
 
     /// Returns the literal of the gate that has an entry.

@@ -5,6 +5,7 @@ use crate::cone::Cone;
 use crate::random::{Density, Random};
 use crate::words::{Words, ZERO};
 use aig_graph::{Aig, Lit, NoMemory};
+use checked_tables::put_if_there;
 use reading_splits::{Leaving, part, reads_another};
 use std::alloc::Global;
 use std::mem;
@@ -67,9 +68,7 @@ fn words_of(words: &[Words], lit: Lit) -> Words {
 
 /// Sets the words at a place, if there are any.
 fn set_words(words: &mut [Words], place: usize, value: Words) {
-    if place < words.len() {
-        words[place] = value;
-    }
+    put_if_there(words, place, value);
 }
 
 /// Returns words in which a literal is 1. In two of them an eighth of some lanes is turned round:

@@ -1,9 +1,10 @@
-//! Reads and writes of a table behind a look at its length. Nothing stands past the end: a read
-//! there gives a stand-in, and a write does nothing.
+//! Tables of hints, read and written behind a look at their length. Nothing stands past the end: a
+//! read there gives a stand-in, and a write does nothing.
 //!
 //! Memory that was refused leaves an empty table, and what is made of it is thrown away in the end.
 //! With ample memory each write finds its entry. No clause says so, so `tests/outside/within` has a
 //! program run that stops at one that doesn't. The writes of hints have this one home for it.
+#![tactic(auto)]
 
 /// Returns the entry at `place`, or `missing` past the end.
 pub fn entry_or<T: Copy>(table: &[T], place: usize, missing: T) -> T {
