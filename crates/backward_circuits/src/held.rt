@@ -1,6 +1,6 @@
 //! Held latches, which have to stay: each is a latch of the new circuit, with its reset and its
 //! name.
-ghost use Rattle.std.specs.Prelude.{ℕ, ◌≡◌, ◌+◌, ◌*◌, IfSome, IsTrue, Contains, All, Some, slice_get};
+ghost use Rattle.std.specs.Prelude.{◌≡◌, ◌+◌, ◌*◌, IfSome, IsTrue, Contains, All, Some, slice_get};
 ghost use Rattle.backward_circuits.specs.MovedBack.{AreHeldBack, IsHeldAt, IsHeldBackIn, IsNamedBack};
 
 use crate::names::name_at;

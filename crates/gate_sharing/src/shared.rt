@@ -6,7 +6,7 @@
 ghost use Rattle.std.specs.Prelude.{ℕ, ◌≡◌, ◌+◌, ◌≤◌, ◌<◌, [], IfOk, IfSome, OnOk, Some, length, slice_get};
 ghost use Rattle.aig_graph.specs.declared.literal.TheConstants.{MAX_VARIABLES};
 ghost use Rattle.aig_graph.specs.declared.graph.Latch.{Latch};
-ghost use Rattle.aig_graph.specs.Graph.{IsGateAt, variable};
+ghost use Rattle.aig_graph.specs.Graph.{IsGateAt};
 ghost use Rattle.aig_graph.specs.Gates.{Grows, gates_end};
 ghost use Rattle.gate_sharing.specs.Shared.{IsBoth, IsFolded, IsSharedLiteral};
 

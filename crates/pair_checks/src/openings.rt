@@ -1,8 +1,8 @@
 //! How the latches of both circuits begin: a known one as its reset, and a free one as a variable
 //! of its own. It shares that with the free latch of the other circuit that it stands for.
-ghost use Rattle.std.specs.Prelude.{ℕ, ◌≡◌, ◌<◌, ◌-◌, ◌^◌, All, IfOk, length, slice_get};
+ghost use Rattle.std.specs.Prelude.{◌≡◌, ◌<◌, ◌-◌, ◌^◌, All, IfOk};
 ghost use Rattle.std.specs.List.{slice_index_or};
-ghost use Rattle.aig_graph.specs.Graph.{free_before, free_latches};
+ghost use Rattle.aig_graph.specs.Graph.{free_latches};
 ghost use Rattle.aig_graph.specs.Value.{opening_literal};
 ghost use Rattle.pair_checks.specs.Openings as wanted;
 

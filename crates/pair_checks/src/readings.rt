@@ -1,5 +1,5 @@
 //! What the latches of both circuits read as: a literal each, by its place in the list of them all.
-ghost use Rattle.std.specs.Prelude.{ℕ, ◌≡◌, Bool, true};
+ghost use Rattle.std.specs.Prelude.{◌≡◌, true};
 ghost use Rattle.pair_checks.specs.Openings.{BeginAlike, BeginsAs};
 
 use aig_graph::{Lit, NoMemory};
