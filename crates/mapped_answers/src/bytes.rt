@@ -64,7 +64,11 @@ pub fn retime_spelt_mapped<W: CountedWrite, G: PhaseGate, V: FrameWatcher>(
     let SpeltCircuit { circuit, spelling } = spelt;
     let made = made_over(rt, alloc, circuit, options, crew, watcher)?;
     watcher.enter(Stage::Writing);
-    match write_in(&made.retimed.circuit, options.spelling.unwrap_or(spelling), writer) {
+    match write_in(
+        &made.retimed.circuit,
+        options.spelling.unwrap_or(spelling),
+        writer,
+    ) {
         Ok(()) => Ok(made),
         Err(error) => {
             drop(made);

@@ -12,3 +12,4 @@ pub use bytes::retime_spelt_mapped;
 pub use errors::AnswerError;
 pub use making::{Made, made_over};
 pub use map_text::write_state_map;
+pub use retiming_maps::StateMap;

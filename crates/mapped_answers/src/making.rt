@@ -8,9 +8,7 @@ ghost use Rattle.mapped_answers.specs.Mapping.{IsMade, IsMakingError, IsRetimedM
 use crate::errors::AnswerError;
 use crate::following::GrowingMap;
 use aig_graph::{Circuit, Keep, NoMemory};
-use frames::{
-    FrameWatcher, Options, Retimed, Run, RunFollower, Stage, begin, finish, hold_by,
-};
+use frames::{FrameWatcher, Options, Retimed, Run, RunFollower, Stage, begin, finish, hold_by};
 use pulse::{Crew, PhaseGate};
 use retiming_maps::{MapError, StateMap, identity, state_map};
 use std::alloc::Global;
