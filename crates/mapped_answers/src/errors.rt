@@ -1,5 +1,8 @@
 //! The errors of an answer with a map.
-use frames::BytesError;
+ghost use Rattle.std.specs.Prelude.{◌≡◌};
+
+use frames::{BytesError, RetimeError};
+use retiming_maps::MapError;
 use thiserror::Error;
 
 /// Why a circuit that was read wasn't retimed and written, or has no map.
@@ -11,4 +14,28 @@ pub enum AnswerError {
     /// The map would have more variables than a circuit may have.
     #[error("the map has too many variables")]
     MapTooLarge,
+}
+
+impl From<RetimeError> for AnswerError {
+    ghost use Rattle.frames.specs.declared.errors.BytesError.TheVariants.{Retime};
+    ghost use Rattle.mapped_answers.specs.declared.errors.AnswerError.TheVariants.{Bytes};
+
+    ghost from_gives = { λ error e. e ≡ Bytes (Retime error) };
+
+    fn from(error: RetimeError) -> AnswerError {
+        AnswerError::Bytes(BytesError::Retime(error))
+    }
+}
+
+impl From<MapError> for AnswerError {
+    ghost use Rattle.mapped_answers.specs.Mapping.{of_map_error};
+
+    ghost from_gives = { λ error e. e ≡ of_map_error error };
+
+    fn from(error: MapError) -> AnswerError {
+        match error {
+            MapError::NoMemory => AnswerError::Bytes(BytesError::Retime(RetimeError::NoMemory)),
+            MapError::TooLarge => AnswerError::MapTooLarge,
+        }
+    }
 }
