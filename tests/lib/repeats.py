@@ -25,7 +25,7 @@ WORD = re.compile(r"[\w`'-]*\w[\w`'-]*")
 END = re.compile(r'(?<=[.?!])\s+|(?<=:)\s+(?=[A-Z`\[(])')
 END_OF_PART = re.compile(r'\n\s*\n|\n(?=[-*] |# )')
 # How a comment begins that names no verb.
-NO_VERB = re.compile(r'/// (?:What|Whether|How|Which|Where|Why)\b')
+NO_VERB = re.compile(r'/// (?:What|Whether|How|Which|Where|Why|The|An?|Th[eo]se|Each|All|Both|Of|For|By)\b')
 FUNCTION = re.compile(r'(?m)^ *(?:pub(?:\([a-z]+\))? )?(?:const )?fn (\w+)')
 
 
@@ -62,14 +62,19 @@ def long_sentences(text, mark):
     return sum(len(WORD.findall(sentence)) > MOST_WORDS for lines in lines_of_comments(text, mark) for sentence in sentences(lines))
 
 
+def is_law(lines):
+    """Whether the function that these lines begin with has no body: then its comment is the law."""
+    return next((line for line in lines if line.rstrip().endswith(('{', '{}'))), '').strip() == '{}'
+
+
 def without_verb(text):
-    """How many functions of a source have a comment that begins with no verb."""
-    count, first = 0, ''
-    for line in text.splitlines():
+    """How many functions of a source have a comment that begins with no verb, laws aside."""
+    count, first, lines = 0, '', text.splitlines()
+    for number, line in enumerate(lines):
         if line.lstrip().startswith('///'):
             first = first or line.lstrip()
         elif not line.lstrip().startswith('#['):
-            count += bool(NO_VERB.match(first) and FUNCTION.match(line))
+            count += bool(NO_VERB.match(first) and FUNCTION.match(line) and not is_law(lines[number:]))
             first = ''
     return count
 
