@@ -158,7 +158,8 @@ impl SharedGates {
         }
     }
 
-    /// Links the gate that is put next, so that it is found. Returns the link that leads on from it.
+    /// Links the gate that is put next, so that it is found. Returns the link that leads on from
+    /// it.
     fn linked(&mut self, gate: &Gate) -> Result<u32, SharingError>
         requires { gates_end self.old < MAX_VARIABLES }
         ensures { OnOk result (self.new ≡ self.old) }
