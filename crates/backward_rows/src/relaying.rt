@@ -76,8 +76,8 @@ fn place_of(key: u64) -> u32 {
 }
 
 impl Relaying {
-    /// Returns what becomes of the variables of a draft if its latches stand by their keys, with
-    /// those of `back`, and without those that `hides` marks.
+    /// Returns what becomes of the variables of a draft if its latches stand by their keys. Those
+    /// of `back` come, and those that `hides` marks go.
     fn of(memory: &mut Memory, draft: &Draft, back: &[DraftLatch], hides: &[bool]) -> Relaying {
         let keys = keys_of(memory, draft, back, hides);
         let all = draft.latches.len().saturating_add(back.len());

@@ -1,3 +1,4 @@
+//! The page of each fault, and what a user is told of it: what it means, its rule, and what to do.
 ghost use Rattle.std.specs.Prelude.{◌≡◌};
 ghost use Rattle.circuit_files.specs.pages.Pages.{meaning_of, rule_of, advice_of};
 

@@ -6,7 +6,7 @@
 use crate::nets::{literal_at, set_literal};
 use aig_graph::{Memory, Reset};
 use backward_sets::{Literal, Pair, entry, has_mark, number};
-use checked_tables::entry_or;
+use checked_tables::{entry_or, put_if_covered};
 use hold_drafts::{OpenLatch, Opening, PLAIN, STAYS, TRUE, classes_of};
 
 /// Codes, rising, and how often each was put.
@@ -113,14 +113,14 @@ fn note(readers: &mut [Literal], opening: &Opening, lit: Literal, mask: Literal)
     if (known == UNREAD) & sees_reset {
         set_literal(readers, place, mask);
     } else if (known != mask) | !sees_reset {
-        set_literal(readers, place, MIXED);
+        put_if_covered(readers, place as usize, MIXED);
     }
 }
 
 /// Notes that latches are read without a gate.
 fn note_alone(readers: &mut [Literal], opening: &Opening, lits: &[Literal]) {
     for lit in lits {
-        set_literal(readers, opening.place(lit.var()), MIXED);
+        put_if_covered(readers, opening.place(lit.var()) as usize, MIXED);
     }
 }
 

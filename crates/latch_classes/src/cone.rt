@@ -105,7 +105,7 @@ fn marked(
     Ok(places)
 }
 
-/// The literal of a literal, by those of the gates.
+/// Returns what a literal is, by what the gates are from the variable `first` on.
 fn renumbered(numbers: &[Lit], first: u32, lit: Lit) -> Lit {
     if lit.var() < first {
         return lit;

@@ -56,7 +56,7 @@ impl Drop for Steps {
     }
 }
 
-/// The words of a literal.
+/// Returns the words of a literal.
 fn words_of(words: &[Words], lit: Lit) -> Words {
     let var = lit.var() as usize;
     if var < words.len() {
@@ -66,7 +66,7 @@ fn words_of(words: &[Words], lit: Lit) -> Words {
     }
 }
 
-/// Sets the words at a place, if there are any.
+/// Puts the words at a place, if there is one.
 fn set_words(words: &mut [Words], place: usize, value: Words) {
     put_if_there(words, place, value);
 }
@@ -92,7 +92,7 @@ pub(crate) fn cost(aig: &Aig) -> u64 {
 }
 
 impl Steps {
-    /// For steps of a circuit whose latches read so at first.
+    /// Returns the steps of a circuit whose latches read as `reads` at first.
     pub(crate) fn of(
         alloc: Global,
         aig: &Aig,

@@ -11,7 +11,7 @@ use clean::all_places;
 use map_checks::free_places;
 use std::alloc::Global;
 
-/// The entry of a list at a place, and 0 past its end.
+/// Returns the entry of a list at a place, and 0 past its end.
 fn entry_at(list: &[u32], place: usize) -> u32
     ensures value { result ≡ slice_index_or list.now place 0 }
     ensures small { All (λ entry. entry < 2 ^ 28 - 1) list.now → result < 2 ^ 28 - 1 }

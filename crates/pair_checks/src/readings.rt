@@ -36,7 +36,7 @@ pub(crate) fn begin_alike(first: u32, begins: &[Lit], reads: &[Lit]) -> bool
     true
 }
 
-/// The literal of a latch, by its place in the list.
+/// Returns the literal of a latch, by its place in the list.
 fn own_literal(first: u32, place: usize) -> Lit {
     let room = (1 << 28) - 1 - place.min((1 << 28) - 1);
     if (first as usize) < room {
@@ -46,7 +46,7 @@ fn own_literal(first: u32, place: usize) -> Lit {
     }
 }
 
-/// Each latch read as itself.
+/// Returns the reading in which each latch reads as itself.
 pub(crate) fn own_reading(alloc: Global, first: u32, count: usize) -> Result<Vec<Lit>, NoMemory> {
     let mut reads = Vec::new(alloc);
     for place in 0..count {
