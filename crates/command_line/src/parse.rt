@@ -205,7 +205,7 @@ fn witness<'a>(matches: &ArgMatches<'a>) -> Option<Task<'a>>
     }))
 }
 
-/// Two circuits and the map of the states of the one to those of the other.
+/// Returns two circuits and the map of the states of the one to those of the other.
 fn mapped<'a>(matches: &ArgMatches<'a>) -> Option<(Source<'a>, Source<'a>, Source<'a>)>
     ensures { IfSome result (AreMapped matches.now) }
 {

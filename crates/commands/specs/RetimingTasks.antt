@@ -1,5 +1,5 @@
 -- What the task of a retiming makes of its options, of an error, and of a retiming.
-use Rattle.std.specs.Prelude.{ℕ, ◌≡◌, ◌||◌, Bool, true, false, List, Option, Some, None, Result, is_some, map, length, nat_lt, slice_get, unwrap_or, if◌then◌else◌}
+use Rattle.std.specs.Prelude.{ℕ, ◌≡◌, ◌||◌, Bool, true, false, List, Option, Some, None, Result, is_some, option_map, map, length, nat_lt, slice_get, unwrap_or, if◌then◌else◌}
 use Rattle.std.specs.Borrow.{Bor}
 use Rattle.aig_graph.specs.Circuits.{Netlist}
 use Rattle.counted_io.specs.Streams.{target_name}
@@ -34,6 +34,7 @@ use Rattle.command_endings.specs.RunOptions.{AreOptionsOf}
 use Rattle.command_endings.specs.Printing.{EndsPrinting}
 use Rattle.frames.specs.Bounds.{bound_for}
 use Rattle.frames.specs.declared.options.Options.{Options}
+use Rattle.commands.specs.declared.answer.Answer.{Answer}
 
 -- the options of a run are the task's, which makes certificates if they are asked for
 abbrev pub AreOptionsFor : Retiming → Options → Type 0
@@ -81,12 +82,12 @@ levels_reported task c = record { counted = if task.json then Some (levels c) el
 abbrev pub counts_of : Netlist → MapCounts
 counts_of m = record { gates = length m.aig.gates; constraints = length m.props.constraints }
 
--- how printing a retiming ends, as an object of JSON if that is asked for, else in lines
-abbrev pub EndsPrintingFrames : Bool → Retiming → Retimed → List ℕ → ReadLevels → Option Times → Option MapCounts → Output → Output → Result Outcome Failure → Type 0
-EndsPrintingFrames true task r held levels times mapped old new result = EndsPrintingObject Done (retiming_data r levels (remaining_of task levels.bound r held) times mapped) old new result
-EndsPrintingFrames false task r held levels times mapped old new result = EndsPrinting Done (retiming_text r) old new result
+-- how printing an answer ends, as an object of JSON if that is asked for, else in lines
+abbrev pub EndsPrintingFrames : Bool → Retiming → Answer → Option Times → Output → Output → Result Outcome Failure → Type 0
+EndsPrintingFrames true task a times old new result = EndsPrintingObject Done (retiming_data a.retimed a.levels (remaining_of task a.levels.bound a.retimed a.keep) times (option_map counts_of a.map)) old new result
+EndsPrintingFrames false task a times old new result = EndsPrinting Done (retiming_text a.retimed) old new result
 
 -- it was printed so, and nobody asks how that ended
-pub record SaysFrames (task : Retiming) (r : Retimed) (held : List ℕ) (levels : ReadLevels) (times : Option Times) (mapped : Option MapCounts) (old new : Output) : Type 0 where
+pub record SaysFrames (task : Retiming) (a : Answer) (times : Option Times) (old new : Output) : Type 0 where
   pub ended : Result Outcome Failure
-  pub prints : EndsPrintingFrames task.json task r held levels times mapped old new ended
+  pub prints : EndsPrintingFrames task.json task a times old new ended

@@ -2,7 +2,7 @@
 ghost use Rattle.std.specs.Prelude.{◌≡◌};
 
 use aig_graph::NoMemory;
-use frames::BytesError;
+use frames::{BytesError, RetimeError};
 use retiming_maps::MapError;
 use thiserror::Error;
 
@@ -15,6 +15,17 @@ pub enum AnswerError {
     /// The map would have more variables than a circuit may have.
     #[error("the map has too many variables")]
     MapTooLarge,
+}
+
+impl From<RetimeError> for AnswerError {
+    ghost use Rattle.frames.specs.declared.errors.BytesError.TheVariants.{Retime};
+    ghost use Rattle.mapped_answers.specs.declared.errors.AnswerError.TheVariants.{Bytes};
+
+    ghost from_gives = { λ error e. e ≡ Bytes (Retime error) };
+
+    fn from(error: RetimeError) -> AnswerError {
+        AnswerError::Bytes(BytesError::Retime(error))
+    }
 }
 
 /// Why a map doesn't follow a run any further.
@@ -41,5 +52,26 @@ impl From<MapError> for FollowError {
 impl From<NoMemory> for FollowError {
     fn from(_error: NoMemory) -> FollowError {
         FollowError::Map(MapError::NoMemory)
+    }
+}
+
+impl From<FollowError> for AnswerError {
+    ghost use Rattle.mapped_answers.specs.Mapping.{of_follow_error};
+
+    ghost from_gives = { λ error e. e ≡ of_follow_error error };
+
+    fn from(error: FollowError) -> AnswerError {
+        match error {
+            FollowError::Map(MapError::NoMemory) => {
+                AnswerError::Bytes(BytesError::Retime(RetimeError::NoMemory))
+            }
+            FollowError::Map(MapError::TooLarge) => AnswerError::MapTooLarge,
+            FollowError::Misread(latch) => {
+                AnswerError::Bytes(BytesError::Retime(RetimeError::Misread(latch)))
+            }
+            FollowError::NotShown(latch) => {
+                AnswerError::Bytes(BytesError::Retime(RetimeError::NotShown(latch)))
+            }
+        }
     }
 }
