@@ -15,7 +15,6 @@ use Rattle.std.specs.Option.{unwrap_or}
 use Rattle.file_words.specs.declared.spelling.Spelling.{Spelling}
 use Rattle.aig_binary.specs.Spellings.{text_in}
 use Rattle.aig_binary.proofs.SpellingLaws.{the_spelling_law}
-use Rattle.retimed_circuits.specs.declared.report.Retimed.{Retimed}
 use Rattle.frames.proofs.LimitLaws.{stays-within}
 use Rattle.map_circuits.specs.declared.errors.MapError.TheVariants as maps
 use Rattle.mapped_answers.specs.declared.making.Made.{Made}
