@@ -240,7 +240,7 @@ fn left_by(drafted: &Option<ReturnedDraft>, most: u32) -> u32 {
 }
 
 /// Returns the draft after plain frames, or one that begins with masks, if that leaves fewer
-/// latches: plain frames move a reset with the latches that it masks, and make latches of it.
+/// latches. Plain frames move a reset with the latches that it masks, and make latches of it.
 fn fewest(
     memory: &mut Memory,
     circuit: &Circuit,
@@ -262,8 +262,8 @@ fn fewest(
 
 /// Drafts a circuit in which latches moved backward, within classes of latches that hold their
 /// values, or get constants, together. Goes on from a draft of plain frames, if there is one.
-/// Masks are taken off by the first plans, then also before any plain frame if that leaves fewer
-/// latches; or they are by the last ones. Returns nothing if classes don't leave fewer latches.
+/// Masks are taken off by the first plans, or by the last ones. If it is by the first ones, that is
+/// tried before any plain frame, too. Returns nothing if classes don't leave fewer latches.
 ///
 /// Each opening costs some runs of plain frames, and time linear in the circuit.
 ///
