@@ -20,7 +20,7 @@ ghost use Rattle.retimed_circuits.specs.Names.{StayHeld};
 ghost use Rattle.frames.specs.Following.{ComesOn, ComesWhole, HasComeTo};
 
 use aig_graph::{Circuit, ClosedSet, Keep, NoMemory};
-use clean::{Cleaned, clean};
+use clean::{Cleaned, clean, clean_over};
 use latch_merging::{MergedStart, merged_start};
 use rebuild::MoveMarks;
 use std::alloc::Global;
@@ -46,6 +46,21 @@ pub trait RunFollower {
         ensures cleaned { IfOk result (λ d. Cleans d.circuit keep.now circuit.now d.kept_free) }
         ensures held { IfOk result (λ d. HeldAfter d.circuit d.keep keep.now circuit.now) }
         ensures comes { IfOk result (λ d. ComesOn has_come self.old self.new circuit.now d.circuit
+            d.kept_free) };
+
+    /// Cleans the circuit that the run has come to as [`clean`](RunFollower::clean) does, and drops
+    /// it, or cleans it in its own tables.
+    fn clean_over(
+        &mut self,
+        alloc: Global,
+        circuit: Circuit,
+        keep: &Keep,
+    ) -> Result<Cleaned, Self::Stop>
+        requires there { HasComeTo has_come self.old circuit }
+        requires in_range { All (λ j. j < length circuit.aig.latches) keep.now }
+        ensures cleaned { IfOk result (λ d. Cleans d.circuit keep.now circuit d.kept_free) }
+        ensures held { IfOk result (λ d. HeldAfter d.circuit d.keep keep.now circuit) }
+        ensures comes { IfOk result (λ d. ComesOn has_come self.old self.new circuit d.circuit
             d.kept_free) };
 
     /// Cleans the circuit that was read and merges its latches that always agree, as
@@ -99,6 +114,15 @@ impl RunFollower for NoFollower {
         keep: &Keep,
     ) -> Result<Cleaned, NoMemory> {
         clean(alloc, circuit, keep)
+    }
+
+    fn clean_over(
+        &mut self,
+        alloc: Global,
+        circuit: Circuit,
+        keep: &Keep,
+    ) -> Result<Cleaned, NoMemory> {
+        clean_over(alloc, circuit, keep)
     }
 
     fn clean_and_merge(

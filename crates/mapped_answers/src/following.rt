@@ -29,6 +29,17 @@ impl RunFollower for GrowingMap {
         cleaned_along(alloc, &mut self.parts, circuit, keep)
     }
 
+    fn clean_over(
+        &mut self,
+        alloc: Global,
+        circuit: Circuit,
+        keep: &Keep,
+    ) -> Result<Cleaned, MapError> {
+        let cleaned = cleaned_along(alloc, &mut self.parts, &circuit, keep);
+        drop(circuit);
+        cleaned
+    }
+
     fn clean_and_merge(
         &mut self,
         alloc: Global,
