@@ -1,0 +1,35 @@
+use Rattle.std.proofs.Common.{ℕ, ◌≡◌, ◌<◌, ◌≤◌, ◌+◌, ◌∙◌, [], List, arith, ap, sym, subst, length, slice_get, Some, get_or, map}
+use Rattle.aig_graph.specs.declared.graph.Gate.{Gate}
+use Rattle.aig_graph.specs.declared.graph.Latch.{Latch}
+use Rattle.aig_graph.specs.Graph.{Graph, IsGraph, IsGateAt, IsLiteralOf, first_gate, first_latch, variable, variables_end}
+use Rattle.aig_graph.specs.Tables.{table}
+use Rattle.aig_graph.proofs.TableLaws.{length-table}
+use Rattle.cleaned_circuits.specs.Latches.{leaf_substitute}
+use Rattle.cleaned_circuits.specs.Merged.{Merging, merge_gates, replaced_gate, replaced_graph, replaced_latch, substitutes_of}
+use Rattle.cleaned_circuits.proofs.MergedLaws.{IsGraph-merged}
+use Rattle.clean.proofs.MappingLaws.{latch-there, replaced-is, substitutes-long}
+use Rattle.clean.proofs.substitutes.merged_over.Goals as goal
+
+pub merged_gates-requires-clause-first : goal.merged_gates-requires-clause-first
+merged_gates-requires-clause-first c =
+    let g : Graph = c.args.aig in
+    omega (arith, c.first_latch-first.ensures.value, ap (λ (xs : List ℕ). length xs) c.requires, length-table 0 (first_gate g) (leaf_substitute g c.args.held.now))
+
+pub merged_gates-requires-clause-few : goal.merged_gates-requires-clause-few
+merged_gates-requires-clause-few c =
+    let g : Graph = c.args.aig in
+    omega (
+      arith,
+      c.first_latch-first.ensures.graph.small,
+      ap (λ (xs : List ℕ). length xs) c.requires,
+      length-table 0 (first_gate g) (leaf_substitute g c.args.held.now),
+      ap (λ (xs : List Gate). length xs) c.into_parts.ensures.gates,
+    )
+
+pub merged_gates-requires-clause-graph : goal.merged_gates-requires-clause-graph
+merged_gates-requires-clause-graph c k gate there =
+    let g : Graph = c.args.aig in
+    let long : length c.args.tables.now.literals ≡ first_gate g = ap (λ (xs : List ℕ). length xs) c.requires ∙ length-table 0 (first_gate g) (leaf_substitute g c.args.held.now) in
+    subst (λ (v : ℕ). IsGateAt (v + k) gate) (sym long)
+    (c.first_latch-first.ensures.graph.gates k gate (ap (λ (xs : List Gate). slice_get xs k) (sym c.into_parts.ensures.gates) ∙ there))
+
