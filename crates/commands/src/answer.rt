@@ -1,6 +1,6 @@
 //! The answer of `retime`: the circuit that is read, retimed and written, with a map of states if
 //! one is asked for.
-ghost use Rattle.std.specs.Prelude.{◌≡◌, ◌<◌, ◌≤◌, true, false, IfErr, IfOk, None, OnOk, Some, option_map};
+ghost use Rattle.std.specs.Prelude.{◌≡◌, ◌<◌, ◌≤◌, false, IfErr, IfOk, None, OnOk, Some, option_map};
 ghost use Rattle.aig_binary.specs.Spellings.{text_in};
 ghost use Rattle.counted_io.specs.Streams.{is_stdout, target_name};
 ghost use Rattle.counted_io.specs.declared.target.Target.{Target};

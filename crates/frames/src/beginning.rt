@@ -2,7 +2,7 @@
 //! merged and cleaned again.
 //!
 //! After that nobody needs the circuit that was read, so a caller that owns it may drop it.
-ghost use Rattle.std.specs.Prelude.{ℕ, ◌≡◌, ◌<◌, false, All, IfOk, [], List, None, length, true};
+ghost use Rattle.std.specs.Prelude.{◌≡◌, ◌<◌, false, All, IfOk, [], None, length, true};
 ghost use Rattle.aig_graph.specs.Laws.{all_free};
 ghost use Rattle.frames.specs.Beginning.{IsRunBegun, IsCleanedRun, IsMergedFrom};
 ghost use Rattle.frames.specs.Bounds.{bound_in};

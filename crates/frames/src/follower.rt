@@ -5,7 +5,7 @@
 //!
 //! Each follower chooses the relation that says what it has followed so far. The answer of the run
 //! doesn't depend on it.
-ghost use Rattle.std.specs.Prelude.{ℕ, ◌≡◌, ◌<◌, ◌≤◌, ⊤, All, IfOk, List, OnOk, length};
+ghost use Rattle.std.specs.Prelude.{ℕ, ◌<◌, ◌≤◌, ⊤, All, IfOk, List, OnOk, length};
 ghost use Rattle.aig_graph.specs.Circuits.{Netlist};
 ghost use Rattle.aig_graph.specs.Closed.{IsClosedSet};
 ghost use Rattle.aig_graph.specs.Move.{move_of};

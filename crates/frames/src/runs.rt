@@ -1,5 +1,5 @@
 //! Whole runs without a follower.
-ghost use Rattle.std.specs.Prelude.{ℕ, ◌≡◌, ◌<◌, All, IfOk, List, OnOk, IsErrOf, length};
+ghost use Rattle.std.specs.Prelude.{ℕ, ◌≡◌, ◌<◌, IfOk, OnOk, IsErrOf};
 ghost use Rattle.aig_graph.specs.Circuits.{Netlist};
 ghost use Rattle.frames.specs.Beginning.{IsRunBegun};
 ghost use Rattle.frames.specs.Bounds.{bound_in};
