@@ -1,10 +1,10 @@
 -- Why latches can't be held, through the steps that hand on an error.
-use Rattle.std.proofs.Common.{ℕ, ◌≡◌, ◌∙◌, Result, Ok, Err, refl, sym}
+use Rattle.std.proofs.Common.{ℕ, ◌≡◌, ◌∙◌, Result, Ok, Err, sym}
 use Rattle.std.specs.Result.{IsErrAnd}
 use Rattle.aig_graph.specs.declared.holding.HoldError.{HoldError}
 use Rattle.aig_graph.specs.declared.holding.HoldError.TheVariants as holding
 use Rattle.frames.specs.declared.errors.RetimeError.{RetimeError}
-use Rattle.frames.specs.declared.errors.RetimeError.TheVariants.{NoMemory, NoSuchLatch, NoSuchName}
+use Rattle.frames.specs.declared.errors.RetimeError.TheVariants.{NoSuchLatch, NoSuchName}
 use Rattle.frames.specs.declared.errors.RunError.{RunError}
 use Rattle.frames.specs.declared.errors.RunError.TheVariants as runs
 use Rattle.frames.specs.Codes.{of_hold_error, of_run_error}

@@ -14,8 +14,8 @@ returns-in_err-keep-clause-no_latch c =
 
 pub returns-in_err-begun-clause-no_latch : goal.returns-in_err-begun-clause-no_latch
 returns-in_err-begun-clause-no_latch c =
-    never-latch c.from_residual.result c.in_err-begun.field-0.0 (IsFirstNoLatchBy c.args.options.now c.args.circuit.now) c.from_residual.ensures.1
+    never-latch c.from_residual-in_err-begun.result c.in_err-begun.field-0.0 (IsFirstNoLatchBy c.args.options.now c.args.circuit.now) c.from_residual-in_err-begun.ensures.1
 
 pub returns-in_err-begun-clause-missing : goal.returns-in_err-begun-clause-missing
 returns-in_err-begun-clause-missing c =
-    never-name c.from_residual.result c.in_err-begun.field-0.0 (IsFirstMissingBy c.args.options.now c.args.circuit.now) c.from_residual.ensures.1
+    never-name c.from_residual-in_err-begun.result c.in_err-begun.field-0.0 (IsFirstMissingBy c.args.options.now c.args.circuit.now) c.from_residual-in_err-begun.ensures.1

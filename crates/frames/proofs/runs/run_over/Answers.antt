@@ -39,8 +39,8 @@ returns-in_err-begun-clause-no_latch g c =
 
 pub returns-in_err-run-clause-no_latch : goal.returns-in_err-run-clause-no_latch
 returns-in_err-run-clause-no_latch g c =
-    never-latch c.from_residual.result c.in_err-run.field-0.0 (IsFirstNoLatchBy c.args.options.now c.args.circuit) c.from_residual.ensures.1
+    never-latch c.from_residual-in_err-run.result c.in_err-run.field-0.0 (IsFirstNoLatchBy c.args.options.now c.args.circuit) c.from_residual-in_err-run.ensures.1
 
 pub returns-in_err-run-clause-missing : goal.returns-in_err-run-clause-missing
 returns-in_err-run-clause-missing g c =
-    never-name c.from_residual.result c.in_err-run.field-0.0 (IsFirstMissingBy c.args.options.now c.args.circuit) c.from_residual.ensures.1
+    never-name c.from_residual-in_err-run.result c.in_err-run.field-0.0 (IsFirstMissingBy c.args.options.now c.args.circuit) c.from_residual-in_err-run.ensures.1

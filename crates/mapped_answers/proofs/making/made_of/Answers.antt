@@ -33,4 +33,4 @@ returns-in_err-made-clause-err g c =
     let options = c.args.options.now in
     let circuit = c.args.circuit.now in
     let e = c.in_err-made.field-0.0 in
-    at-error c.from_residual.result (of_follow_error e) (IsMakingError options circuit) c.from_residual.ensures.1 (unmapped options circuit e)
+    at-error c.from_residual-in_err-made.result (of_follow_error e) (IsMakingError options circuit) c.from_residual-in_err-made.ensures.1 (unmapped options circuit e)
