@@ -53,7 +53,7 @@ module _ (literals : List ℕ) (p : ℕ → Bool) (first : ℕ) (read : List Gat
   }
 
   module _ (now : List Gate) (kept n : ℕ) (closing : IsClosing literals p first read now kept n) (within : n < length read) (gate : Gate) (is : gate ≡ get_or now n gate) where
-    read-at : gate ≡ get_or read n gate
+    pub read-at : gate ≡ get_or read n gate
     read-at =
         let inside : n < length now = omega (arith, closing.long, within) in
         is ∙ sym (get_or_default now n no_gate gate inside) ∙ closing.left n (omega arith) ∙ get_or_default read n no_gate gate within

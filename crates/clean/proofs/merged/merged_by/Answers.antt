@@ -11,4 +11,4 @@ mapped-requires c =
     let g : Graph = c.args.aig in
     let substitutes : List ℕ = c.merged_graph.new.tables.literals in
     let long : length substitutes ≡ variables_end g = substitutes-long g c.args.held.now substitutes c.in_ok-aig.ensures.substitutes in
-    props-within g c.args.props.now (length substitutes) c.requires long
+    props-within g c.args.props.now (length substitutes) c.requires.props long

@@ -40,26 +40,26 @@ pub trimmed-requires-clause-graph : goal.trimmed-requires-clause-graph
 trimmed-requires-clause-graph c =
     let n : Netlist = record { aig = c.args.aig; props = c.args.props.now; symbols = c.args.symbols.now } in
     pass-graph n c.args.held.now c.known.ensures c.requires.netlist c.in_ok-merged.merged.aig c.in_ok-merged.merged.props c.in_ok-merged.ensures.aig c.in_ok-merged.ensures.props
-    (is_marked c.in_ok-reach_everything.reached) c.in_ok-reach_everything.ensures.reached
+    (is_marked c.in-Ok.reached) c.in-Ok.ensures.reached
 
 pub trimmed-requires-clause-netlist : goal.trimmed-requires-clause-netlist
 trimmed-requires-clause-netlist c =
     let n : Netlist = record { aig = c.args.aig; props = c.args.props.now; symbols = c.args.symbols.now } in
     pass-netlist n c.args.held.now c.known.ensures c.requires.netlist c.in_ok-merged.merged.aig c.in_ok-merged.merged.props c.in_ok-merged.ensures.aig c.in_ok-merged.ensures.props
-    (is_marked c.in_ok-reach_everything.reached) c.in_ok-reach_everything.ensures.reached
+    (is_marked c.in-Ok.reached) c.in-Ok.ensures.reached
 
-pub returns : goal.returns
-returns c =
+pub returns-in-Ok : goal.returns-in-Ok
+returns-in-Ok c =
     let held : List ℕ = c.args.held.now in
     let n : Netlist = record { aig = c.args.aig; props = c.args.props.now; symbols = c.args.symbols.now } in
     let m : Netlist = record { aig = c.in_ok-merged.merged.aig; props = c.in_ok-merged.merged.props; symbols = c.args.symbols.now } in
-    let s : ℕ → Bool = is_marked c.in_ok-reach_everything.reached in
+    let s : ℕ → Bool = is_marked c.in-Ok.reached in
     let P : Pass → Type 0 = λ pass. IsTrimOf held m pass.circuit pass.kept_free.items pass.held.items s in
     let Q : Pass → Type 0 = λ pass. IsPass held n pass.circuit pass.kept_free.items pass.held.items in
     IfOk-weaker c.trimmed.result P Q
     (λ pass is. record {
       reached = s;
-      are_reached = pass-reached n held c.known.ensures c.requires.netlist c.in_ok-merged.merged.aig c.in_ok-merged.merged.props c.in_ok-merged.ensures.aig c.in_ok-merged.ensures.props s c.in_ok-reach_everything.ensures.reached;
+      are_reached = pass-reached n held c.known.ensures c.requires.netlist c.in_ok-merged.merged.aig c.in_ok-merged.merged.props c.in_ok-merged.ensures.aig c.in_ok-merged.ensures.props s c.in-Ok.ensures.reached;
       circuit = is.circuit ∙ ap (λ (d : Netlist). trimmed_of d s) (whole n held c.known.ensures c.requires.netlist c.in_ok-merged.merged.aig c.in_ok-merged.merged.props c.in_ok-merged.ensures.aig c.in_ok-merged.ensures.props);
       free = is.free ∙ ap (λ (g : Graph). kept_free g s) c.in_ok-merged.ensures.aig;
       positions = is.positions ∙ ap (λ (g : Graph). map (new_position g s) held) c.in_ok-merged.ensures.aig;

@@ -10,16 +10,16 @@ use Rattle.clean.specs.declared.pass.Pass.{Pass}
 use Rattle.clean.proofs.PassStepLaws.{of-parts}
 use Rattle.clean.proofs.pass.run_pass_over.Goals as goal
 
-pub pass_of-requires-clause-netlist : goal.pass_of-requires-clause-netlist
-pass_of-requires-clause-netlist c =
-    subst IsNetlist (sym (of-parts c.args.circuit c.into_parts.result.0 c.into_parts.result.1 c.into_parts.result.2 c.into_parts.ensures.aig c.into_parts.ensures.props c.into_parts.ensures.symbols)) c.known.ensures.netlist
+pub pass_of-pass-requires-clause-netlist : goal.pass_of-pass-requires-clause-netlist
+pass_of-pass-requires-clause-netlist c =
+    subst IsNetlist (sym (of-parts c.args.circuit c.into_parts-aig.result.0 c.into_parts-aig.result.1 c.into_parts-aig.result.2 c.into_parts-aig.ensures.aig c.into_parts-aig.ensures.props c.into_parts-aig.ensures.symbols)) c.known.ensures.netlist
 
 pub returns-clause-pass : goal.returns-clause-pass
 returns-clause-pass c =
     let held : List ℕ = c.args.held.now in
-    let n : Netlist = record { aig = c.into_parts.result.0; props = c.into_parts.result.1; symbols = c.into_parts.result.2 } in
+    let n : Netlist = record { aig = c.into_parts-aig.result.0; props = c.into_parts-aig.result.1; symbols = c.into_parts-aig.result.2 } in
     let same : n ≡ c.args.circuit =
-    of-parts c.args.circuit c.into_parts.result.0 c.into_parts.result.1 c.into_parts.result.2 c.into_parts.ensures.aig c.into_parts.ensures.props c.into_parts.ensures.symbols in
+    of-parts c.args.circuit c.into_parts-aig.result.0 c.into_parts-aig.result.1 c.into_parts-aig.result.2 c.into_parts-aig.ensures.aig c.into_parts-aig.ensures.props c.into_parts-aig.ensures.symbols in
     let P : Pass → Type 0 = λ pass. IsPass held n pass.circuit pass.kept_free.items pass.held.items in
     let Q : Pass → Type 0 = λ pass. IsPass held c.args.circuit pass.circuit pass.kept_free.items pass.held.items in
     IfOk-weaker c.pass_of-pass.result P Q (λ pass is. subst (λ (m : Netlist). IsPass held m pass.circuit pass.kept_free.items pass.held.items) same is) c.pass_of-pass.ensures
@@ -27,9 +27,9 @@ returns-clause-pass c =
 pub returns-clause-streams : goal.returns-clause-streams
 returns-clause-streams c =
     let held : List ℕ = c.args.held.now in
-    let n : Netlist = record { aig = c.into_parts.result.0; props = c.into_parts.result.1; symbols = c.into_parts.result.2 } in
+    let n : Netlist = record { aig = c.into_parts-aig.result.0; props = c.into_parts-aig.result.1; symbols = c.into_parts-aig.result.2 } in
     let same : n ≡ c.args.circuit =
-    of-parts c.args.circuit c.into_parts.result.0 c.into_parts.result.1 c.into_parts.result.2 c.into_parts.ensures.aig c.into_parts.ensures.props c.into_parts.ensures.symbols in
+    of-parts c.args.circuit c.into_parts-aig.result.0 c.into_parts-aig.result.1 c.into_parts-aig.result.2 c.into_parts-aig.ensures.aig c.into_parts-aig.ensures.props c.into_parts-aig.ensures.symbols in
     let valid : IsCircuit c.args.circuit = record { graph = c.known.ensures.graph; netlist = c.known.ensures.netlist } in
     let P : Pass → Type 0 = λ pass. IsPass held n pass.circuit pass.kept_free.items pass.held.items in
     let Q : Pass → Type 0 = λ pass. SameStreams c.args.circuit pass.circuit pass.kept_free.items in

@@ -1,4 +1,5 @@
 use Rattle.std.proofs.Common.{ℕ, ◌≡◌, ◌<◌, ◌≤◌, ◌+◌, ◌∙◌, [], List, arith, ap, sym, subst, length, slice_get, Some, get_or, map}
+use Rattle.std.proofs.lemmas.List.{get_or_default}
 use Rattle.aig_graph.specs.declared.graph.Gate.{Gate}
 use Rattle.aig_graph.specs.declared.graph.Latch.{Latch}
 use Rattle.aig_graph.specs.Graph.{Graph, IsGraph, IsGateAt, IsLiteralOf, first_gate, first_latch, variable, variables_end}
@@ -13,7 +14,7 @@ use Rattle.clean.proofs.substitutes.merged_over.Goals as goal
 pub merged_gates-requires-clause-first : goal.merged_gates-requires-clause-first
 merged_gates-requires-clause-first c =
     let g : Graph = c.args.aig in
-    omega (arith, c.first_latch-first.ensures.value, ap (λ (xs : List ℕ). length xs) c.requires, length-table 0 (first_gate g) (leaf_substitute g c.args.held.now))
+    omega (arith, c.first_latch-first.ensures.value, ap (λ (xs : List ℕ). length xs) c.requires.leaves, length-table 0 (first_gate g) (leaf_substitute g c.args.held.now))
 
 pub merged_gates-requires-clause-few : goal.merged_gates-requires-clause-few
 merged_gates-requires-clause-few c =
@@ -21,15 +22,30 @@ merged_gates-requires-clause-few c =
     omega (
       arith,
       c.first_latch-first.ensures.graph.small,
-      ap (λ (xs : List ℕ). length xs) c.requires,
+      ap (λ (xs : List ℕ). length xs) c.requires.leaves,
       length-table 0 (first_gate g) (leaf_substitute g c.args.held.now),
-      ap (λ (xs : List Gate). length xs) c.into_parts.ensures.gates,
+      ap (λ (xs : List Gate). length xs) c.into_parts-inputs.ensures.gates,
     )
 
 pub merged_gates-requires-clause-graph : goal.merged_gates-requires-clause-graph
 merged_gates-requires-clause-graph c k gate there =
     let g : Graph = c.args.aig in
-    let long : length c.args.tables.now.literals ≡ first_gate g = ap (λ (xs : List ℕ). length xs) c.requires ∙ length-table 0 (first_gate g) (leaf_substitute g c.args.held.now) in
+    let long : length c.args.tables.now.literals ≡ first_gate g = ap (λ (xs : List ℕ). length xs) c.requires.leaves ∙ length-table 0 (first_gate g) (leaf_substitute g c.args.held.now) in
     subst (λ (v : ℕ). IsGateAt (v + k) gate) (sym long)
-    (c.first_latch-first.ensures.graph.gates k gate (ap (λ (xs : List Gate). slice_get xs k) (sym c.into_parts.ensures.gates) ∙ there))
+    (c.first_latch-first.ensures.graph.gates k gate (ap (λ (xs : List Gate). slice_get xs k) (sym c.into_parts-inputs.ensures.gates) ∙ there))
 
+
+pub replaced_latches-requires : goal.replaced_latches-requires
+replaced_latches-requires c = λ k d h.
+    let g : Graph = c.args.aig in
+    let items : List Latch = c.as_slice.result.now in
+    let same : items ≡ g.latches = c.as_slice.ensures.value ∙ c.into_parts-inputs.ensures.latches in
+    let there = latch-there g items k (get_or items k d) same h (get_or_default items k d (get_or items k d) h) in
+    let within : IsLiteralOf g (get_or items k d).next = c.first_latch-first.ensures.graph.latches k (get_or items k d) there in
+    let table_is = c.in_ok-gates.ensures.substitutes ∙ ap (λ (gs : List Gate). (merge_gates gs (record { substitutes = c.args.tables.now.literals; kept = [] })).substitutes) c.into_parts-inputs.ensures.gates
+        ∙ ap (λ (xs : List ℕ). (merge_gates g.gates (record { substitutes = xs; kept = [] })).substitutes) c.requires.leaves in
+    omega (arith, within, substitutes-long g c.args.held.now c.merged_gates.new.substitutes (is-table g c.args.held.now c.merged_gates.new.substitutes table_is))
+  where
+    is-table : (g : Graph) (held xs : List ℕ) → xs ≡ (merge_gates g.gates (record { substitutes = table 0 (first_gate g) (leaf_substitute g held); kept = [] })).substitutes → xs ≡ substitutes_of g held
+    unfolding substitutes_of
+    is-table g held xs e = e

@@ -50,7 +50,8 @@ loop-place-preserved c =
           let Q : List Gate → Type 0 = λ xs. IsClosing c.args.literals.now s c.args.first read xs c.loop-place.kept (place + 1) in
           subst P (sym w.kept-is)
           (subst Q (sym w.gates-is)
-          (closing-left c.args.literals.now s c.args.first read c.loop-place.gates c.loop-place.kept place c.loop-place.invariant within (get_or c.loop-place.gates place no_gate) _ (sym c.has.ensures ∙ w.if-has.false))))
+          (closing-left c.args.literals.now s c.args.first read c.loop-place.gates c.loop-place.kept place c.loop-place.invariant within (get_or c.loop-place.gates place no_gate)
+          (get_or_default c.loop-place.gates place no_gate (get_or c.loop-place.gates place no_gate) (omega (arith, within, c.loop-place.invariant.long))) (sym c.has.ensures ∙ w.if-has.false))))
     ]
 
 pub returns-clause-gates : goal.returns-clause-gates
