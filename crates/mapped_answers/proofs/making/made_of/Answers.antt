@@ -9,8 +9,8 @@ use Rattle.mapped_answers.specs.Mapping.{IsMakingError, of_map_error}
 use Rattle.mapped_answers.proofs.MakingLaws.{unheld, unmapped}
 use Rattle.mapped_answers.proofs.making.made_of.Goals as goal
 
-pub made_kept-requires : goal.made_kept-requires
-made_kept-requires g c = c.in_ok-keep.ensures.keep
+pub made_kept-requires-after_bounds : goal.made_kept-requires-after_bounds
+made_kept-requires-after_bounds g c κs within = c.in_ok-keep.ensures.keep
 
 pub returns-clause-ok : goal.returns-clause-ok
 returns-clause-ok g c = record { latches = c.in_ok-keep.ensures.latches; names = c.in_ok-keep.ensures.none_missing; mapped = c.in_ok-made.ensures.made }
@@ -33,4 +33,4 @@ returns-in_err-made-clause-err g c =
     let options = c.args.options.now in
     let circuit = c.args.circuit.now in
     let e = c.in_err-made.field-0.0 in
-    at-error c.from_residual.result (of_map_error e) (IsMakingError options circuit) c.from_residual.ensures.1 (unmapped options circuit e)
+    at-error c.from_residual-in_err-made.result (of_map_error e) (IsMakingError options circuit) c.from_residual-in_err-made.ensures.1 (unmapped options circuit e)
