@@ -1,7 +1,8 @@
 -- What frames start from.
-use Rattle.std.specs.Prelude.{ℕ, ◌≡◌, true, false, List, Option, Some, None}
+use Rattle.std.specs.Prelude.{ℕ, ◌≡◌, true, false, List, Option, Some, None, length}
 use Rattle.aig_graph.specs.Circuits.{Netlist}
-use Rattle.aig_graph.specs.Laws.{all_free}
+use Rattle.aig_graph.specs.Graph.{free_latches}
+use Rattle.aig_graph.specs.Laws.{composed}
 use Rattle.latch_merging.specs.declared.start.MergedStart.{MergedStart}
 use Rattle.retimed_circuits.specs.declared.report.Retimed.{Retimed}
 use Rattle.retimed_circuits.specs.Names.{Covers}
@@ -30,30 +31,33 @@ pub record IsMergedFrom {F : Type 0} (has_come : F → Netlist → Netlist → L
   pub cleaned : IsCleanedRun has_come options bound m.circuit m.keep old new r now
   pub reported : read ≡ Some (read_before m latches)
 
--- what c is cleaned and merged to, cleaned again, and the follower has come there from c
-pub record IsMergedReady {F : Type 0} (has_come : F → Netlist → Netlist → List ℕ → Type 0) (options : Options) (bound : Option ℕ) (c : Netlist) (read : ReadCircuit) (r : Retimed)
-    (now : List ℕ) (f : F) : Type 0 where
+-- What c is cleaned and merged to, cleaned again. The follower had come to c from b, whose places
+-- of free latches are given, and has come on.
+pub record IsMergedReady {F : Type 0} (has_come : F → Netlist → Netlist → List ℕ → Type 0) (options : Options) (bound : Option ℕ) (b : Netlist) (before : List ℕ) (c : Netlist)
+    (read : ReadCircuit) (r : Retimed) (now : List ℕ) (f : F) : Type 0 where
   pub asked : options.merge ≡ true
   pub start : Netlist
   pub held : List ℕ
   pub is : IsRunStart options c start held read
-  pub followed : IsFollowed has_come options bound c start held read.kept_free 0 r now f
+  pub followed : IsFollowed has_come options bound b start held (composed before read.kept_free) 0 r now f
 
--- c cleaned, and the follower has come there from c
-pub record IsPlainReady {F : Type 0} (has_come : F → Netlist → Netlist → List ℕ → Type 0) (options : Options) (bound : Option ℕ) (c : Netlist) (r : Retimed) (now : List ℕ) (f : F) : Type 0 where
+-- c cleaned, and the follower has come on so
+pub record IsPlainReady {F : Type 0} (has_come : F → Netlist → Netlist → List ℕ → Type 0) (options : Options) (bound : Option ℕ) (b : Netlist) (before : List ℕ) (c : Netlist) (r : Retimed)
+    (now : List ℕ) (f : F) : Type 0 where
   pub unasked : options.merge ≡ false
-  pub followed : IsFollowed has_come options bound c c (kept_by options c) (all_free c.aig) 0 r now f
+  pub followed : IsFollowed has_come options bound b c (kept_by options c) before 0 r now f
 
 -- what frames of c start from, with merging if the options ask for it, as what is reported of c
 -- tells
-abbrev pub StartsFrom : {F : Type 0} → (F → Netlist → Netlist → List ℕ → Type 0) → Options → Option ℕ → Netlist → Option ReadCircuit → Retimed → List ℕ → F → Type 0
-StartsFrom has_come options bound c None r now f = IsPlainReady has_come options bound c r now f
-StartsFrom has_come options bound c (Some read) r now f = IsMergedReady has_come options bound c read r now f
+abbrev pub StartsFrom : {F : Type 0} → (F → Netlist → Netlist → List ℕ → Type 0) → Options → Option ℕ → Netlist → List ℕ → Netlist → Option ReadCircuit → Retimed → List ℕ → F → Type 0
+StartsFrom has_come options bound b before c None r now f = IsPlainReady has_come options bound b before c r now f
+StartsFrom has_come options bound b before c (Some read) r now f = IsMergedReady has_come options bound b before c read r now f
 
 -- c before its first frame, under the bound that the options have for it. Its held latches are
--- those that the options hold, with all of their names.
-pub record IsRunBegun {F : Type 0} (has_come : F → Netlist → Netlist → List ℕ → Type 0) (options : Options) (bound : Option ℕ) (c : Netlist) (read : Option ReadCircuit) (r : Retimed)
-    (now : List ℕ) (f : F) : Type 0 where
+-- those that the options hold, with all of their names. The follower had come to c from b.
+pub record IsRunBegun {F : Type 0} (has_come : F → Netlist → Netlist → List ℕ → Type 0) (options : Options) (bound : Option ℕ) (b : Netlist) (before : List ℕ) (c : Netlist)
+    (read : Option ReadCircuit) (r : Retimed) (now : List ℕ) (f : F) : Type 0 where
   pub names : Covers (names_in options) (kept_by options c) c
   pub bound_is : bound ≡ bound_in options c
-  pub starts : StartsFrom has_come options bound c read r now f
+  pub places : length before ≡ free_latches c.aig
+  pub starts : StartsFrom has_come options bound b before c read r now f

@@ -19,6 +19,11 @@ use Rattle.frames.specs.Underway.{IsWholeRun, IsUnderway}
 abbrev pub HasComeTo : {F : Type 0} → (F → Netlist → Netlist → List ℕ → Type 0) → F → Netlist → Type 0
 HasComeTo has_come f d = (c : Netlist) × (kept : List ℕ) × has_come f c d kept
 
+-- it has come to d from c, at whose places d has free latches, one a place
+pub record HasComeFrom {F : Type 0} (has_come : F → Netlist → Netlist → List ℕ → Type 0) (f : F) (c : Netlist) (kept : List ℕ) (d : Netlist) : Type 0 where
+  pub places : length kept ≡ free_latches d.aig
+  pub come : has_come f c d kept
+
 -- from d, wherever it had come from, it has come to e, which has the free latches of d at these
 -- places
 abbrev pub ComesOn : {F : Type 0} → (F → Netlist → Netlist → List ℕ → Type 0) → F → F → Netlist → Netlist → List ℕ → Type 0
@@ -72,7 +77,9 @@ pub record IsRetimedFrom {F : Type 0} (has_come : F → Netlist → Netlist → 
   pub stays : StayHeld held d now r.circuit
   pub come : has_come f c r.circuit (composed kept r.kept_free)
 
--- c retimed by the options, whose held latches stand at now, and the follower has come there from c
-pub record IsRetimedFollowed {F : Type 0} (has_come : F → Netlist → Netlist → List ℕ → Type 0) (options : Options) (c : Netlist) (r : Retimed) (now : List ℕ) (f : F) : Type 0 where
+-- c retimed by the options, whose held latches stand at now. The follower had come to c from b, with
+-- the free latches at these places of b, and has come on.
+pub record IsRetimedFollowed {F : Type 0} (has_come : F → Netlist → Netlist → List ℕ → Type 0) (options : Options) (b : Netlist) (before : List ℕ) (c : Netlist) (r : Retimed) (now : List ℕ)
+    (f : F) : Type 0 where
   pub held : IsRetimedHeld options c r now
-  pub come : has_come f c r.circuit r.kept_free
+  pub come : has_come f b r.circuit (composed before r.kept_free)

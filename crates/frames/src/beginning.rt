@@ -2,11 +2,11 @@
 //! merged and cleaned again.
 //!
 //! After that nobody needs the circuit that was read, so a caller that owns it may drop it.
-ghost use Rattle.std.specs.Prelude.{◌≡◌, ◌<◌, false, All, IfOk, [], None, length, true};
-ghost use Rattle.aig_graph.specs.Laws.{all_free};
+ghost use Rattle.std.specs.Prelude.{ℕ, ◌≡◌, ◌<◌, false, All, IfOk, [], List, None, length, true};
+ghost use Rattle.aig_graph.specs.Circuits.{Netlist};
 ghost use Rattle.frames.specs.Beginning.{IsRunBegun, IsCleanedRun, IsMergedFrom};
 ghost use Rattle.frames.specs.Bounds.{bound_in};
-ghost use Rattle.frames.specs.Following.{HasComeTo};
+ghost use Rattle.frames.specs.Following.{HasComeFrom, HasComeTo};
 ghost use Rattle.frames.specs.Named.{kept_by};
 
 use crate::follower::RunFollower;
@@ -93,12 +93,15 @@ fn begun_as_is<F: RunFollower + Drop>(
     bound: Option<u32>,
     options: &Options,
 ) -> Result<Begun<F>, F::Stop>
-    requires there { F.has_come follower circuit.now circuit.now (all_free circuit.now.aig) }
+    requires there { (b : Netlist) × (before : List ℕ)
+        × HasComeFrom F.has_come follower b before circuit.now }
     requires keep { keep.now ≡ kept_by options.now circuit.now }
     requires bound { bound ≡ bound_in options.now circuit.now }
     requires merge { options.now.merge ≡ false }
-    ensures { IfOk result (λ begun. IsRunBegun F.has_come options.now begun.run.bound circuit.now
-        begun.read begun.run.retimed begun.run.keep begun.run.follower) }
+    ensures { IfOk result (λ begun. (b : Netlist) (before : List ℕ)
+        → HasComeFrom F.has_come follower b before circuit.now
+        → IsRunBegun F.has_come options.now begun.run.bound b before circuit.now begun.read
+        begun.run.retimed begun.run.keep begun.run.follower) }
 {
     circuit.known();
     let run = cleaned_run(alloc, follower, circuit, keep, bound, options)?;
@@ -147,12 +150,15 @@ fn begun_merged<F: RunFollower + Drop>(
     bound: Option<u32>,
     options: &Options,
 ) -> Result<Begun<F>, F::Stop>
-    requires there { F.has_come follower circuit.now circuit.now (all_free circuit.now.aig) }
+    requires there { (b : Netlist) × (before : List ℕ)
+        × HasComeFrom F.has_come follower b before circuit.now }
     requires keep { keep.now ≡ kept_by options.now circuit.now }
     requires bound { bound ≡ bound_in options.now circuit.now }
     requires merge { options.now.merge ≡ true }
-    ensures { IfOk result (λ begun. IsRunBegun F.has_come options.now begun.run.bound circuit.now
-        begun.read begun.run.retimed begun.run.keep begun.run.follower) }
+    ensures { IfOk result (λ begun. (b : Netlist) (before : List ℕ)
+        → HasComeFrom F.has_come follower b before circuit.now
+        → IsRunBegun F.has_come options.now begun.run.bound b before circuit.now begun.read
+        begun.run.retimed begun.run.keep begun.run.follower) }
 {
     circuit.known();
     let latches = circuit.aig().latches().len() as u32;
@@ -175,11 +181,14 @@ fn begun_under<F: RunFollower + Drop>(
     bound: Option<u32>,
     options: &Options,
 ) -> Result<Begun<F>, F::Stop>
-    requires there { F.has_come follower circuit.now circuit.now (all_free circuit.now.aig) }
+    requires there { (b : Netlist) × (before : List ℕ)
+        × HasComeFrom F.has_come follower b before circuit.now }
     requires keep { keep.now ≡ kept_by options.now circuit.now }
     requires bound { bound ≡ bound_in options.now circuit.now }
-    ensures { IfOk result (λ begun. IsRunBegun F.has_come options.now begun.run.bound circuit.now
-        begun.read begun.run.retimed begun.run.keep begun.run.follower) }
+    ensures { IfOk result (λ begun. (b : Netlist) (before : List ℕ)
+        → HasComeFrom F.has_come follower b before circuit.now
+        → IsRunBegun F.has_come options.now begun.run.bound b before circuit.now begun.read
+        begun.run.retimed begun.run.keep begun.run.follower) }
 {
     if options.merge {
         begun_merged(alloc, follower, circuit, keep, bound, options)
@@ -190,8 +199,8 @@ fn begun_under<F: RunFollower + Drop>(
 
 /// Begins a run of `circuit`, up to its first frame. [`finish`](crate::finish) takes the frames.
 ///
-/// `follower` has come to `circuit`, and `keep` has the latches that the options hold
-/// ([`hold_by`](crate::hold_by)).
+/// `follower` has come to `circuit`, from there or from another one. `keep` has the latches that the
+/// options hold ([`hold_by`](crate::hold_by)).
 ///
 /// # Errors
 ///
@@ -203,10 +212,13 @@ pub fn begin<F: RunFollower + Drop>(
     options: &Options,
     follower: F,
 ) -> Result<Begun<F>, F::Stop>
-    requires there { F.has_come follower circuit.now circuit.now (all_free circuit.now.aig) }
+    requires there { (b : Netlist) × (before : List ℕ)
+        × HasComeFrom F.has_come follower b before circuit.now }
     requires keep { keep.now ≡ kept_by options.now circuit.now }
-    ensures { IfOk result (λ begun. IsRunBegun F.has_come options.now begun.run.bound circuit.now
-        begun.read begun.run.retimed begun.run.keep begun.run.follower) }
+    ensures { IfOk result (λ begun. (b : Netlist) (before : List ℕ)
+        → HasComeFrom F.has_come follower b before circuit.now
+        → IsRunBegun F.has_come options.now begun.run.bound b before circuit.now begun.read
+        begun.run.retimed begun.run.keep begun.run.follower) }
 {
     match options.bound.for_circuit(alloc, circuit) {
         Ok(bound) => begun_under(alloc, follower, circuit, keep, bound, options),

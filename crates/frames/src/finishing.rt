@@ -1,5 +1,5 @@
 //! A run to its end. If latches were merged, its report is made one of the circuit that was read.
-ghost use Rattle.std.specs.Prelude.{◌≡◌, ◌<◌, length, All, IfOk};
+ghost use Rattle.std.specs.Prelude.{ℕ, ◌≡◌, ◌<◌, List, length, All, IfOk};
 ghost use Rattle.aig_graph.specs.Circuits.{Netlist};
 ghost use Rattle.frames.specs.Beginning.{IsRunBegun};
 ghost use Rattle.frames.specs.Following.{IsRetimedFollowed};
@@ -99,12 +99,14 @@ pub fn finish<F: RunFollower + Drop, G: PhaseGate, V: FrameWatcher>(
     crew: &Crew<G>,
     watcher: &mut V,
 ) -> Result<Run<F>, F::Stop>
-    requires { (c : Netlist) × IsRunBegun F.has_come options.now begun.run.bound c begun.read
+    requires { (b : Netlist) × (before : List ℕ) × (c : Netlist)
+        × IsRunBegun F.has_come options.now begun.run.bound b before c begun.read
         begun.run.retimed begun.run.keep begun.run.follower }
-    ensures retimed { IfOk result (λ end. (c : Netlist)
-        → IsRunBegun F.has_come options.now begun.run.bound c begun.read begun.run.retimed
-        begun.run.keep begun.run.follower
-        → IsRetimedFollowed F.has_come options.now c end.retimed end.keep end.follower) }
+    ensures retimed { IfOk result (λ end. (b : Netlist) (before : List ℕ) (c : Netlist)
+        → IsRunBegun F.has_come options.now begun.run.bound b before c begun.read
+        begun.run.retimed begun.run.keep begun.run.follower
+        → IsRetimedFollowed F.has_come options.now b before c end.retimed end.keep
+        end.follower) }
     ensures notified { IfOk result (λ end. Notifies V.was_notified watcher.old watcher.new
         (looks_of options.now.max_frames end.retimed)) }
 {

@@ -1,6 +1,7 @@
 //! Whole runs without a follower.
 ghost use Rattle.std.specs.Prelude.{ℕ, ◌≡◌, ◌<◌, IfOk, OnOk, IsErrOf};
 ghost use Rattle.aig_graph.specs.Circuits.{Netlist};
+ghost use Rattle.aig_graph.specs.Laws.{all_free};
 ghost use Rattle.frames.specs.Beginning.{IsRunBegun};
 ghost use Rattle.frames.specs.Bounds.{bound_in};
 ghost use Rattle.frames.specs.Named.{AreLatchesBy, IsFirstMissingBy, IsFirstNoLatchBy, NoneMissingBy, kept_by};
@@ -51,8 +52,8 @@ fn begin_plain(
     options: &Options,
 ) -> Result<Begun<NoFollower>, RetimeError>
     ensures begun { IfOk result (λ begun. IsRunBegun ⟦<NoFollower as RunFollower>⟧.has_come options.now
-        begun.run.bound circuit.now begun.read begun.run.retimed begun.run.keep
-        begun.run.follower) }
+        begun.run.bound circuit.now (all_free circuit.now.aig) circuit.now begun.read
+        begun.run.retimed begun.run.keep begun.run.follower) }
     ensures latches { OnOk result (AreLatchesBy options.now circuit.now) }
     ensures none_missing { OnOk result (NoneMissingBy options.now circuit.now) }
     ensures no_latch { (place : ℕ) → IsErrOf result (NoSuchLatch place)
@@ -75,10 +76,12 @@ fn finish_plain<G: PhaseGate, V: FrameWatcher>(
     watcher: &mut V,
 ) -> Result<Run<NoFollower>, RunError>
     requires { (c : Netlist) × IsRunBegun ⟦<NoFollower as RunFollower>⟧.has_come options.now
-        begun.run.bound c begun.read begun.run.retimed begun.run.keep begun.run.follower }
+        begun.run.bound c (all_free c.aig) c begun.read begun.run.retimed begun.run.keep
+        begun.run.follower }
     ensures retimed { IfOk result (λ run. (c : Netlist)
         → IsRunBegun ⟦<NoFollower as RunFollower>⟧.has_come options.now
-        begun.run.bound c begun.read begun.run.retimed begun.run.keep begun.run.follower
+        begun.run.bound c (all_free c.aig) c begun.read begun.run.retimed begun.run.keep
+        begun.run.follower
         → IsRetimedHeld options.now c run.retimed run.keep) }
     ensures notified { IfOk result (λ run. Notifies V.was_notified watcher.old watcher.new
         (looks_of options.now.max_frames run.retimed)) }

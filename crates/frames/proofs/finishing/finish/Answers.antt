@@ -8,29 +8,31 @@ use Rattle.frames.proofs.finishing.finish.Goals as goal
 pub run_to_end-requires-after_bounds : goal.run_to_end-requires-after_bounds
 run_to_end-requires-after_bounds g c κs within =
     let begun = c.args.begun in
-    (c.requires.0, begun-ready g.F.RunFollower.has_come c.args.options.now begun.run.bound c.requires.0 begun.read begun.run.retimed begun.run.keep begun.run.follower c.requires.1)
+    let is = c.requires in
+    (is.0, begun-ready g.F.RunFollower.has_come c.args.options.now begun.run.bound is.0 is.1 is.2 begun.read begun.run.retimed begun.run.keep begun.run.follower is.3)
 
 pub run_of_read-requires : goal.run_of_read-requires
 run_of_read-requires g c =
     let begun = c.args.begun in
     let end = c.in_ok-end.end in
-    merged-below g.F.RunFollower.has_come c.args.options.now begun.run.bound c.requires.0 begun.read c.in-Some.read begun.run.retimed end.retimed begun.run.keep end.keep begun.run.follower end.follower c.in-Some.is
-    (c.in_ok-end.ensures.retimed c.requires.0) c.requires.1
+    let is = c.requires in
+    merged-below g.F.RunFollower.has_come c.args.options.now begun.run.bound is.0 is.1 is.2 begun.read c.in-Some.read begun.run.retimed end.retimed begun.run.keep end.keep begun.run.follower end.follower c.in-Some.is
+    (c.in_ok-end.ensures.retimed is.0) is.3
 
 pub returns-in-None-clause-retimed : goal.returns-in-None-clause-retimed
-returns-in-None-clause-retimed g c = λ d.
+returns-in-None-clause-retimed g c = λ b before d.
     let begun = c.args.begun in
     let end = c.in_ok-end.end in
-    plain-finished g.F.RunFollower.has_come c.args.options.now begun.run.bound d begun.read begun.run.retimed end.retimed begun.run.keep end.keep begun.run.follower end.follower c.in-None.is
-    (c.in_ok-end.ensures.retimed d)
+    plain-finished g.F.RunFollower.has_come c.args.options.now begun.run.bound b before d begun.read begun.run.retimed end.retimed begun.run.keep end.keep begun.run.follower end.follower c.in-None.is
+    (c.in_ok-end.ensures.retimed b)
 
 pub returns-in-Some-clause-retimed : goal.returns-in-Some-clause-retimed
 returns-in-Some-clause-retimed g c =
     let begun = c.args.begun in
     let end = c.in_ok-end.end in
     IfOk-weaker c.run_of_read.result _ _
-    (λ whole same. λ d. merged-finished g.F.RunFollower.has_come c.args.options.now begun.run.bound d begun.read c.in-Some.read begun.run.retimed end.retimed whole.retimed
-    begun.run.keep end.keep whole.keep begun.run.follower end.follower whole.follower c.in-Some.is (c.in_ok-end.ensures.retimed d) same.0 same.1 same.2) c.run_of_read.ensures
+    (λ whole same. λ b before d. merged-finished g.F.RunFollower.has_come c.args.options.now begun.run.bound b before d begun.read c.in-Some.read begun.run.retimed end.retimed whole.retimed
+    begun.run.keep end.keep whole.keep begun.run.follower end.follower whole.follower c.in-Some.is (c.in_ok-end.ensures.retimed b) same.0 same.1 same.2) c.run_of_read.ensures
 
 pub returns-in-Some-clause-notified : goal.returns-in-Some-clause-notified
 returns-in-Some-clause-notified g c =
