@@ -10,12 +10,12 @@ use Rattle.mapped_answers.proofs.bytes.retime_spelt_mapped.Goals as goal
 pub returns-in-Ok-clause-ok : goal.returns-in-Ok-clause-ok
 returns-in-Ok-clause-ok g c =
     written-answer c.args.options.now c.args.spelt c.in_ok-made.made c.unwrap_or.result (g.W.CountedWrite.output c.args.writer.now) (g.W.CountedWrite.output c.write_in.new.writer)
-    c.unwrap_or.ensures c.in_ok-made.ensures.ok c.write_in.ensures.graph c.write_in.ensures.netlist c.in-Ok.ensures.writes
+    c.unwrap_or.ensures c.in_ok-made.ensures.ok c.write_in.ensures.graph c.write_in.ensures.netlist c.in-Ok.ensures.writes.ok
 
 pub returns-in-Err-clause-err : goal.returns-in-Err-clause-err
 returns-in-Err-clause-err g c =
     cut_off-answer c.args.options.now c.args.spelt c.in_ok-made.made c.unwrap_or.result (g.W.CountedWrite.output c.args.writer.now) (g.W.CountedWrite.output c.write_in.new.writer)
-    c.unwrap_or.ensures c.in_ok-made.ensures.ok c.in-Err.ensures.writes
+    c.unwrap_or.ensures c.in_ok-made.ensures.ok c.in-Err.ensures.writes.err
 
 pub returns-in_err-made-clause-err : goal.returns-in_err-made-clause-err
 returns-in_err-made-clause-err g c =

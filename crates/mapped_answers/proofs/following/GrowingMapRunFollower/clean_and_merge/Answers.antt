@@ -35,7 +35,7 @@ returns-in-None-clause-comes c = IfOk-weaker c.started.result _ _ (λ m is. λ b
 
 pub returns-in-Some-clause-given : goal.returns-in-Some-clause-given
 returns-in-Some-clause-given c =
-    IfOk-weaker c.started_by.result _ _ (λ m same. given-some c.args.options.now c.in-Some.lines.now m.merged c.in-Some.is (same ∙ c.as_slice.ensures)) c.started_by.ensures.given
+    IfOk-weaker c.started_by.result _ _ (λ m same. given-some c.args.options.now c.in-Some.lines m.merged c.in-Some.is (same ∙ c.as_slice.ensures)) c.started_by.ensures.given
 
 pub returns-in-None-clause-given : goal.returns-in-None-clause-given
 returns-in-None-clause-given c = IfOk-weaker c.started.result _ _ (λ m is. given-none c.args.options.now m.merged c.in-None.is) c.started.ensures
