@@ -9,8 +9,8 @@ use Rattle.mapped_answers.specs.Mapping.{IsMakingError, of_follow_error}
 use Rattle.mapped_answers.proofs.MakingLaws.{unheld, unmapped}
 use Rattle.mapped_answers.proofs.making.made_of.Goals as goal
 
-pub made_kept-requires : goal.made_kept-requires
-made_kept-requires g c = c.in_ok-keep.ensures.keep
+pub made_kept-requires-after_bounds : goal.made_kept-requires-after_bounds
+made_kept-requires-after_bounds g c κs within = c.in_ok-keep.ensures.keep
 
 pub returns-clause-ok : goal.returns-clause-ok
 returns-clause-ok g c = record { latches = c.in_ok-keep.ensures.latches; names = c.in_ok-keep.ensures.none_missing; mapped = c.in_ok-made.ensures.made }
