@@ -1,5 +1,5 @@
 -- Rounds under way, and what goes with them: a follower, and a watcher.
-use Rattle.std.specs.Prelude.{ℕ, ◌-◌, List, [], ◌∷◌, ◌++◌, Option, length}
+use Rattle.std.specs.Prelude.{ℕ, ◌-◌, ◌≡◌, List, [], ◌∷◌, ◌++◌, Option, length}
 use Rattle.aig_graph.specs.Circuits.{IsNetlist, Netlist}
 use Rattle.aig_graph.specs.Graph.{IsGraph}
 use Rattle.aig_graph.specs.Laws.{all_free}
@@ -56,7 +56,7 @@ pub record EndInRounds {F W : Type 0} (has_come : F → Netlist → Netlist → 
 pub record AreRoundsBegun {F : Type 0} (has_come : F → Netlist → Netlist → List ℕ → Type 0) (options : Options) (c : Netlist) (begun : Begun F) : Type 0 where
   pub graph : IsGraph c.aig
   pub netlist : IsNetlist c
-  pub begun : IsRunBegun has_come options begun.run.bound c (all_free c.aig) c begun.read begun.run.retimed begun.run.keep begun.run.follower
+  pub starts : IsRunBegun has_come options begun.run.bound c (all_free c.aig) c begun.read begun.run.retimed begun.run.keep begun.run.follower
 
 -- a run of c that ended, and the follower has come with it from c
 pub record IsFirstRun {F : Type 0} (has_come : F → Netlist → Netlist → List ℕ → Type 0) (options : Options) (bound : Option ℕ) (c : Netlist) (run : Run F) : Type 0 where

@@ -5,14 +5,14 @@ use Rattle.merging_rounds.proofs.StageLaws.{notified-all}
 use Rattle.merging_rounds.proofs.running.finish_rounds.Goals as goal
 
 pub finish-requires-after_bounds : goal.finish-requires-after_bounds
-finish-requires-after_bounds g c κs within = let is = c.requires in (is.0, all_free is.0.aig, is.0, is.1.begun)
+finish-requires-after_bounds g c κs within = let is = c.requires in (is.0, all_free is.0.aig, is.0, is.1.starts)
 
 pub further_rounds-requires-after_bounds : goal.further_rounds-requires-after_bounds
 further_rounds-requires-after_bounds g c κs within =
     let is = c.requires in
     let read = is.0 in
     let run = c.in_ok-run.run' in
-    let begun = is.1.begun in (
+    let begun = is.1.starts in (
       read,
       run.retimed ∷ [],
       c.in_ok-first.ensures read (record {
