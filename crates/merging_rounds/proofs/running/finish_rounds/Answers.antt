@@ -22,3 +22,21 @@ further_rounds-requires-after_bounds g c κs within =
         followed = c.in_ok-run.ensures.retimed read (all_free read.aig) read begun;
       }),
     )
+
+pub returns : goal.returns
+returns g c =
+    let run = c.in_ok-run.run' in
+    IfOk-weaker c.further_rounds.result _ _ (λ end more. λ read is.
+    let begun = is.starts in
+    let all = more read (run.retimed ∷ []) (c.in_ok-first.ensures read (record {
+      graph = is.graph;
+      netlist = is.netlist;
+      bound_is = begun.bound_is;
+      followed = c.in_ok-run.ensures.retimed read (all_free read.aig) read begun;
+    })) in
+    record {
+      runs = run.retimed ∷ all.more;
+      followed = all.followed;
+      notified = notified-all g.V.FrameWatcher.was_notified c.args.watcher.now c.finish.new.watcher c.further_rounds.new.watcher c.args.options.now.max_frames run.retimed all.more
+          c.in_ok-run.ensures.notified all.notified;
+    }) c.further_rounds.ensures

@@ -22,3 +22,16 @@ taken-requires-clause-rounds g c κs within =
     let is = c.requires in
     let so_far = c.loop.invariant is.0 is.1 is.2 in
     (is.0, is.1 ++ so_far.more, so_far.followed)
+
+pub loop-preserved : goal.loop-preserved
+loop-preserved g c = λ d runs is.
+    let has_come = g.F.RunFollower.has_come in
+    let before = c.loop.invariant d runs is in
+    let state = c.in_ok-state-in-Ok-true.state in
+    let next = c.in_ok-state-in-Ok-true.ensures d (runs ++ before.more) before.followed in
+    let P : List Retimed → Type 0 = λ xs. AreRoundsFollowed has_come c.args.options.now c.args.bound d xs state.rounds state.keep state.follower in
+    record {
+      more = before.more ++ next.run ∷ [];
+      followed = subst P (append_assoc runs before.more (next.run ∷ [])) next.followed;
+      notified = notified-more g.V.FrameWatcher.was_notified c.args.watcher.now c.loop.watcher c.taken.new.watcher c.args.options.now.max_frames runs before.more next.run before.notified next.notified;
+    }

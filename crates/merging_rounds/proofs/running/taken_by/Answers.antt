@@ -29,7 +29,7 @@ finished-requires-after_bounds g c κs within =
     let begun = c.in-Ok.begun in
     let there = come-there has_come is.0 is.1 is.2 is.3 state.rounds state.keep state.follower is.4.followed in
     let P : List ℕ → Type 0 = λ places. IsRunBegun has_come c.args.asked.now begun.run.bound is.2 places state.rounds.circuit begun.read begun.run.retimed begun.run.keep begun.run.follower in
-    (is.2, state.rounds.circuit, subst P (sym c.report_of.ensures.kept_free) (c.in-Ok.ensures is.2 state.rounds.kept_free there))
+    (is.2, state.rounds.circuit, subst P (sym c.report_of-report.ensures.kept_free) (c.in-Ok.ensures is.2 state.rounds.kept_free there))
 
 pub returns-in-Ok : goal.returns-in-Ok
 returns-in-Ok g c =
@@ -39,8 +39,8 @@ returns-in-Ok g c =
     let r = state.rounds in
     let asked = c.args.asked.now in
     let begun = c.in-Ok.begun in
-    let report = c.report_of.result in
-    let of = c.report_of.ensures in
+    let report = c.report_of-report.result in
+    let of = c.report_of-report.ensures in
     IfOk-weaker c.finished.result _ _ (λ next ends. λ options bound d runs is.
     let there = come-there has_come options bound d runs r state.keep state.follower is.followed in
     let P : List ℕ → Type 0 = λ places. IsRunBegun has_come asked begun.run.bound d places r.circuit begun.read begun.run.retimed begun.run.keep begun.run.follower in
