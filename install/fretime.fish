@@ -13,7 +13,7 @@ function __fretime_names
         if test $is_value = yes
             set is_value no
         # made by docs/make: options with a value
-        else if string match -qr '^--(workers|frames|levels|cert|map|keep|keep-from|keep-latch|random|steps|seed|vcd|kept|around|depth|out)$' -- $word
+        else if string match -qr '^--(workers|frames|classes|levels|cert|map|keep|keep-from|keep-latch|random|steps|seed|vcd|kept|around|depth|out)$' -- $word
         # end of options with a value
             set is_value yes
         else if not string match -q -- '--*' $word
@@ -54,6 +54,7 @@ complete -c fretime -n '__fish_seen_subcommand_from retime' -x -l workers -d 'Th
 complete -c fretime -n '__fish_seen_subcommand_from retime' -x -l frames -d 'The most frames to take'
 complete -c fretime -n '__fish_seen_subcommand_from retime' -l near -d 'Move latches as few gates as a least count allows'
 complete -c fretime -n '__fish_seen_subcommand_from retime' -l merge -d 'Merge latches that always agree, before any frame'
+complete -c fretime -n '__fish_seen_subcommand_from retime' -r -l classes -d 'Merge the latches that the certificates in FILE list'
 complete -c fretime -n '__fish_seen_subcommand_from retime' -x -l levels -d 'Let no path get more gates than n or the longest of IN'
 complete -c fretime -n '__fish_seen_subcommand_from retime' -l no-longer -d 'Let no path get longer than the longest of IN'
 complete -c fretime -n '__fish_seen_subcommand_from retime' -r -l cert -d 'Write a certificate of each frame to FILE'

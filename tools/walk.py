@@ -32,7 +32,7 @@ OF_STD = set("""len push pop get new iter next clone as_slice as_mut_slice is_em
     reverse last first fill truncate clear reserve position any all sum count rev zip enumerate filter find entry as_ref as_mut
     as_str as_bytes lines split trim parse join load store write_str run""".split())
 # The library's calls that read a circuit.
-READING = ('retime_bytes_watched', 'circuit_at')
+READING = ('read_and_write', 'circuit_at')
 
 TURBOFISH = r'(?:::<[^()]*?>)?'
 PATH = re.compile(rf'(?:(\w+){TURBOFISH}::)?\b([a-z_]\w*){TURBOFISH}\s*(?=\()')

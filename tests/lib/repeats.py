@@ -25,7 +25,10 @@ WORD = re.compile(r"[\w`'-]*\w[\w`'-]*")
 END = re.compile(r'(?<=[.?!])\s+|(?<=:)\s+(?=[A-Z`\[(])')
 END_OF_PART = re.compile(r'\n\s*\n|\n(?=[-*] |# )')
 # How a comment begins that names no verb.
-NO_VERB = re.compile(r'/// (?:What|Whether|How|Which|Where|Why)\b')
+NO_VERB = re.compile(r'/// (?:What|Whether|How|Which|Where|Why|The|An?|Th[eo]se|Each|All|Both|Of|For|By)\b')
+# Imports, and those of words of definitions.
+IMPORT = re.compile(r'(?m)^ *(?:pub(?:\([a-z]+\))? )?(?:ghost )?use [^;]+;')
+GHOST_IMPORT = re.compile(r'(?m)^ *ghost use ([^;]+);')
 FUNCTION = re.compile(r'(?m)^ *(?:pub(?:\([a-z]+\))? )?(?:const )?fn (\w+)')
 
 
@@ -62,14 +65,19 @@ def long_sentences(text, mark):
     return sum(len(WORD.findall(sentence)) > MOST_WORDS for lines in lines_of_comments(text, mark) for sentence in sentences(lines))
 
 
+def is_law(lines):
+    """Whether the function that these lines begin with has no body: then its comment is the law."""
+    return next((line for line in lines if line.rstrip().endswith(('{', '{}'))), '').strip() == '{}'
+
+
 def without_verb(text):
-    """How many functions of a source have a comment that begins with no verb."""
-    count, first = 0, ''
-    for line in text.splitlines():
+    """How many functions of a source have a comment that begins with no verb, laws aside."""
+    count, first, lines = 0, '', text.splitlines()
+    for number, line in enumerate(lines):
         if line.lstrip().startswith('///'):
             first = first or line.lstrip()
         elif not line.lstrip().startswith('#['):
-            count += bool(NO_VERB.match(first) and FUNCTION.match(line))
+            count += bool(NO_VERB.match(first) and FUNCTION.match(line) and not is_law(lines[number:]))
             first = ''
     return count
 
@@ -79,6 +87,22 @@ def long_lines(texts):
     long = [line for text in texts for line in text.splitlines() if len(line) > COLUMNS]
     of_comments = sum(bool(COMMENT.match(line)) for line in long)
     return of_comments, len(long) - of_comments - sum(bool(re.match(r' *(pub )?(ghost )?use ', line)) for line in long)
+
+
+def is_named(name, text):
+    """Whether a text has a word of definitions; of an operator it has what stands between the places."""
+    parts = [part for part in name.split('◌') if part]
+    return all(part in text for part in parts) if '◌' in name else bool(re.search(rf"(?<![\w']){re.escape(name)}(?![\w'])", text))
+
+
+def unused_imports(text):
+    """The words of definitions that a source imports and doesn't name, comments aside."""
+    code = re.sub(r'//.*', '', text)
+    rest = IMPORT.sub('', code)
+    for path in GHOST_IMPORT.findall(code):
+        listed = re.sub(r'(?s).*\.\{|\}$', '', path).split(',') if path.endswith('}') else [re.sub(r'.*\.', '', path)]
+        names = [re.sub(r'.* as ', '', each).strip() for each in listed]
+        yield from (name for name in names if not is_named(name, rest))
 
 
 def heads(text):
@@ -163,6 +187,7 @@ def counts():
         f'clauses of over {LONGEST} characters': sum(len(clause) > LONGEST for clause in all_clauses),
         'statements of lemmas that stand in two crates': in_two_crates(statements),
         'words of definitions that two crates have': in_two_crates(words),
+        'words of definitions that a source imports and does not name': sum(len(list(unused_imports(text))) for text in every_text),
         f'lines of comments over {COLUMNS} columns': long_comments,
         f'lines of code over {COLUMNS} columns': long_code,
         f'lines of comments of laws over {COLUMNS} columns': sum(

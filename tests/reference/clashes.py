@@ -23,7 +23,7 @@ PATHS = {
     'witness': (('IN', READ), ('OUT', READ), ('WITNESS', READ)),
 }
 BESIDE = ('--map', '--cert', '--vcd', '--certificate')
-READ_BESIDE = ('--kept', '--out', '--keep-from')
+READ_BESIDE = ('--kept', '--out', '--classes', '--keep-from')
 PRINTING = {'batch', 'stat', 'sim', 'same', 'verify', 'check', 'witness'}
 IS_WRITTEN = {REMADE, WRITTEN, LINES, INSTEAD}
 # two that are written and may stand in one file

@@ -2,9 +2,10 @@
 import os
 import sys
 
-from reference.certificates import audit, certificates, first_difference, read_certificates, written
+from reference.certificates import audit, certificates, first_difference, objection_to_merged, read_certificates, written
 from reference.checks import are_alike, are_fitting, checked, is_map
 from reference.circuit import text
+from reference.cleaning import cleaned
 from reference.back_lifts import lifted_back
 from reference.clashes import clash, clash_of_list
 from reference.lifts import NoSuchLiteral, lifted
@@ -21,7 +22,7 @@ from reference.witnesses import carried_text
 
 PATHS = {'retime': 2, 'batch': 1, 'stat': 1, 'convert': 2, 'sim': 2, 'same': 3, 'verify': 2, 'check': 3, 'miter': 4, 'product': 5, 'lift': 5, 'dot': 2,
          'witness': 3}
-OPTIONS = {'retime': {'--ascii', '--binary', '--workers', '--frames', '--near', '--merge', '--levels', '--no-longer', '--keep', '--keep-from', '--keep-latch', '--cert', '--map',
+OPTIONS = {'retime': {'--ascii', '--binary', '--workers', '--frames', '--near', '--merge', '--classes', '--levels', '--no-longer', '--keep', '--keep-from', '--keep-latch', '--cert', '--map',
                       '--progress', '--quiet'},
            'verify': {'--keep', '--keep-from', '--keep-latch', '--merge', '--levels', '--no-longer', '--out'},
            'dot': {'--frame', '--merge', '--levels', '--no-longer', '--keep', '--keep-from', '--keep-latch', '--around', '--depth'},
@@ -32,10 +33,10 @@ OPTIONS = {'retime': {'--ascii', '--binary', '--workers', '--frames', '--near', 
 WRITING = {'retime': 1, 'convert': 1, 'dot': 1, 'miter': 1, 'product': 2, 'lift': 1}
 GREATEST = {'--workers': 64, '--frames': 2**28, '--keep-latch': 2**28 - 1, '--depth': 100, '--random': 2**20, '--steps': 2**22, '--seed': 2**32 - 1, '--levels': 2**32 - 1}
 LEAST = {'--seed': 0, '--keep-latch': 0, '--levels': 0}
-VALUED = {'--workers', '--frames', '--levels', '--keep', '--keep-from', '--keep-latch', '--cert', '--map', '--out', '--certificate', '--around', '--depth', '--random',
+VALUED = {'--workers', '--frames', '--levels', '--keep', '--keep-from', '--keep-latch', '--classes', '--cert', '--map', '--out', '--certificate', '--around', '--depth', '--random',
           '--steps', '--seed', '--kept', '--vcd'}
 EXCLUSIVE = (('--ascii', '--binary'), ('--progress', '--quiet'), ('--levels', '--no-longer'))
-READING = ('--kept', '--out', '--keep-from')
+READING = ('--kept', '--out', '--classes', '--keep-from')
 BESIDE = ('--map', '--cert', '--certificate', '--vcd')
 LINES = 2**20
 
@@ -99,6 +100,8 @@ def arguments(words):
         raise Ends(2, 'error: a depth of no neighbourhood')
     if command == 'dot' and {'--merge', '--levels', '--no-longer'} & set(options) and '--frame' not in options:
         raise Ends(2, 'error: --merge or a bound without --frame')
+    if '--classes' in options and '--merge' not in options:
+        raise Ends(2, 'error: --classes without --merge')
     outputs = paths[len(paths) - WRITING.get(command, 0):]
     read = paths[:len(paths) - len(outputs)] + [path for option in READING for path in options.get(option, [])]
     if read.count('-') > 1:
@@ -225,11 +228,34 @@ def merge_of(options):
     return True if lines == [''] else lines
 
 
+def classes_of(options):
+    """What latches are merged by the options: as `merge_of` says, or by the lines that are given."""
+    if '--classes' not in options:
+        return merge_of(options)
+    path = options['--classes'][0]
+    try:
+        lines, _ = read_certificates(bytes_of(path))
+    except Fault as fault:
+        raise Ends(1, f'{source_name(path)}: {fault}') from fault
+    if lines is None:
+        raise Ends(1, f'{source_name(path)}: BadHeader at 0')
+    return lines
+
+
+def judge(c, options, lines):
+    """Ends the run if lines that are given don't hold in the cleaned circuit."""
+    said = objection_to_merged(*cleaned(c, held_latches(c, held_by(options))), lines)
+    if said:
+        raise Ends(1, f'{source_name(options["--classes"][0])}: {said}')
+
+
 def retime(paths, options):
     c, letters = circuit_of(paths[0])
     most = int(options['--frames'][0]) if '--frames' in options else None
-    run = most, held_by(options), '--near' in options, merge_of(options), bound_of(options, c)
+    run = most, held_by(options), '--near' in options, classes_of(options), bound_of(options, c)
     try:
+        if '--classes' in options:
+            judge(c, options, run[3])
         d, frames = retimed(c, *run)
     except NoSuchName as missing:
         raise no_such_name(paths[0], c, missing.args[0]) from missing

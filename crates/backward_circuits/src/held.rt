@@ -1,6 +1,6 @@
 //! Held latches, which have to stay: each is a latch of the new circuit, with its reset and its
 //! name.
-ghost use Rattle.std.specs.Prelude.{ℕ, ◌≡◌, ◌+◌, ◌*◌, IfSome, IsTrue, Contains, All, Some, slice_get};
+ghost use Rattle.std.specs.Prelude.{◌≡◌, ◌+◌, ◌*◌, IfSome, IsTrue, Contains, All, Some, slice_get};
 ghost use Rattle.backward_circuits.specs.MovedBack.{AreHeldBack, IsHeldAt, IsHeldBackIn, IsNamedBack};
 
 use crate::names::name_at;
@@ -71,7 +71,7 @@ pub fn is_named_at(circuit: &Circuit, place: u32, symbol: &Symbol) -> bool
     }
 }
 
-/// Whether the output of the map at the position of a name is a latch with that name.
+/// Returns true if the output of the map at the position of a name is a latch with that name.
 fn is_named_back(after: &Circuit, map: &Circuit, symbol: &Symbol) -> bool
     ensures { IsTrue result → IsNamedBack after.now map.now symbol.now }
 {

@@ -4,7 +4,8 @@
 use crate::moving::{MovedClass, frames_of, held_at, map_of, move_class};
 use aig_graph::{Circuit, Keep, Memory};
 use backward_moves::{Drafted, MoveOptions};
-use backward_sets::{DraftLatch, Literal, entry, has_mark, number, set_entry, set_mark};
+use backward_sets::{DraftLatch, Literal, entry, has_mark, number, set_mark};
+use checked_tables::put_if_covered;
 use class_nets::{
     Closure, Net, NumberMap, Plan, Scene, held_positions, needed, sealed, set_literal,
 };
@@ -57,7 +58,7 @@ fn note(owners: &mut [u32], place: u32, class: u32) {
     } else {
         0
     };
-    set_entry(owners, place, own);
+    put_if_covered(owners, place as usize, own);
 }
 
 /// Returns by variable, from the first latch on, the class of all latches that read it, over gates
@@ -65,7 +66,7 @@ fn note(owners: &mut [u32], place: u32, class: u32) {
 fn owners_of(memory: &mut Memory, net: &Net) -> Vec<u32> {
     let mut owners = memory.table(UNREAD, net.size());
     for lit in &net.observed {
-        set_entry(owners.as_mut_slice(), net.place(lit.var()), 0);
+        put_if_covered(owners.as_mut_slice(), net.place(lit.var()) as usize, 0);
     }
     for latch in &net.latches {
         note(

@@ -3,7 +3,7 @@
 use crate::attempts::{Attempt, Stand, attempted, drawn};
 use aig_graph::{Circuit, Keep, Memory, NoMemory};
 use backward_moves::{Drafted, MoveOptions};
-use backward_sets::{Literal, Pair, number};
+use backward_sets::number;
 use class_nets::{GrowingMap, NumberMap, PLANS, Plan, Scene, plan_of, sealed};
 use sealed_drafts::drawn_map;
 use std::alloc::Global;

@@ -3,6 +3,7 @@
 use aig_graph::{Circuit, Keep, Memory, Reset, hold};
 use backward_moves::{Drafted, MoveOptions, MoveStage, MoveWatcher, Moves, draft_moves};
 use backward_sets::{DraftLatch, DraftReset, Literal, has_mark, number, set_mark};
+use checked_tables::put_if_covered;
 use class_nets::{ClassLatch, Net, NumberMap, draft_latch, literal_at, sealed};
 use sealed_drafts::drawn_outputs;
 
@@ -106,7 +107,7 @@ fn mark_made(map: &NumberMap, stays: &[bool], made: &mut [bool]) {
     for place in 0..number(map.outputs.len()) {
         if !has_mark(stays, place) {
             let own = literal_at(map.outputs.as_slice(), place as usize);
-            set_mark(made, own.var(), true);
+            put_if_covered(made, own.var() as usize, true);
         }
     }
 }

@@ -4,7 +4,7 @@
 
 use crate::copies::{VERSIONS, Version, copy_of};
 use aig_graph::Memory;
-use backward_sets::{Draft, Literal, count_marks, entry, has_mark, number, set_mark};
+use backward_sets::{Literal, count_marks, entry, has_mark, number, set_mark};
 
 /// Marks of the copies of the gates that were moved last, by variable, and the number of latches
 /// that this saved.
@@ -29,43 +29,35 @@ impl Again {
     }
 }
 
-/// Marks the new number of a copy, if it is a gate. `first` is the variable of the first gate.
-fn mark_copy(marks: &mut [bool], numbers: &[u32], first: u32, lit: Literal) {
-    let number = entry(numbers, lit.var());
-    if number >= first {
-        set_mark(marks, number, true);
-    }
+/// Where the copies of variables stand in a draft.
+#[derive(Clone, Copy)]
+pub(crate) struct Copies<'a> {
+    /// The variable of the draft's first gate.
+    pub first: u32,
+    /// The copies, as they were numbered when they were made.
+    pub copies: &'a [Literal],
+    /// By that number the one in the draft.
+    pub numbers: &'a [u32],
 }
 
-/// Marks the copies of the gates of the set `inside`.
-fn mark_copies(
-    marks: &mut [bool],
-    numbers: &[u32],
-    first: u32,
-    inside: &[bool],
-    copies: &[Literal],
-) {
-    for var in 0..number(inside.len()) {
-        if has_mark(inside, var) {
-            for place in 0..VERSIONS {
-                let lit = copy_of(copies, var, Version::of(place));
-                mark_copy(marks, numbers, first, lit);
+impl Copies<'_> {
+    /// Marks the copy of a variable in a version, if it is a gate.
+    fn mark(&self, var: u32, version: Version, marks: &mut [bool]) {
+        let made = copy_of(self.copies, var, version);
+        let number = entry(self.numbers, made.var());
+        if number >= self.first {
+            set_mark(marks, number, true);
+        }
+    }
+
+    /// Marks the copies of the gates of the set `inside`.
+    pub fn mark_all(&self, inside: &[bool], marks: &mut [bool]) {
+        for var in 0..number(inside.len()) {
+            if has_mark(inside, var) {
+                for place in 0..VERSIONS {
+                    self.mark(var, Version::of(place), marks);
+                }
             }
         }
     }
-}
-
-/// Returns by variable of a draft if it is the copy of a gate of the set `inside`. `numbers` has
-/// the new numbers of copies.
-pub(crate) fn marks_of(
-    memory: &mut Memory,
-    draft: &Draft,
-    inside: &[bool],
-    copies: &[Literal],
-    numbers: &[u32],
-) -> Vec<bool> {
-    let mut marks = memory.table(false, draft.size());
-    let first = draft.first_gate();
-    mark_copies(marks.as_mut_slice(), numbers, first, inside, copies);
-    marks
 }

@@ -2,6 +2,7 @@
 //! wished at step 0. At later steps all copies have one value.
 
 use backward_sets::{DraftLatch, Literal, Wish};
+use checked_tables::{entry_or, put_if_there};
 
 /// A copy of a variable. It is the one with the value 0 at step 0, the one with 1, or the only one
 /// if neither is wished.
@@ -65,20 +66,12 @@ pub(crate) fn need_of(latch: &DraftLatch) -> Wish {
 
 /// Returns the literal at `place`, or none past the end.
 pub(crate) fn literal_at(literals: &[Literal], place: u32) -> Literal {
-    let place = place as usize;
-    if place < literals.len() {
-        literals[place]
-    } else {
-        Literal::NONE
-    }
+    entry_or(literals, place as usize, Literal::NONE)
 }
 
 /// Puts a literal at `place`, if the table has it.
 pub(crate) fn set_literal(literals: &mut [Literal], place: u32, lit: Literal) {
-    let place = place as usize;
-    if place < literals.len() {
-        literals[place] = lit;
-    }
+    put_if_there(literals, place as usize, lit);
 }
 
 /// Returns the place of a copy in a table with an entry for each version of each variable.

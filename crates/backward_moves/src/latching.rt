@@ -7,6 +7,7 @@ use aig_graph::Memory;
 use backward_sets::{
     Bordered, Draft, DraftLatch, DraftReset, Literal, Wish, entry, set_entry, wish_of,
 };
+use checked_tables::put_if_there;
 
 /// The fate of a latch that doesn't take part. One that becomes the latch of a copy of the variable
 /// that it reads has the number of that version.
@@ -70,10 +71,7 @@ fn new_latch(var: u32, name: u32) -> DraftLatch {
 
 /// Puts a latch at `place`.
 fn set_latch(latches: &mut [DraftLatch], place: u32, latch: DraftLatch) {
-    let place = place as usize;
-    if place < latches.len() {
-        latches[place] = latch;
-    }
+    put_if_there(latches, place as usize, latch);
 }
 
 impl Latching {

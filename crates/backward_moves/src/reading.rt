@@ -1,9 +1,10 @@
 //! A circuit as a draft. Inputs that nothing reads are left out, since a file of thirty bytes can
 //! have hundreds of millions of them.
 
-use crate::copies::{literal_at, set_literal};
+use crate::copies::literal_at;
 use aig_graph::{Aig, Circuit, Gate, Keep, Latch, Lit, Memory, Reset};
 use backward_sets::{Draft, DraftLatch, DraftReset, Literal, Pair, entry, number, set_entry};
+use checked_tables::put_if_covered;
 
 /// The inputs that something reads, rising.
 #[derive(Drop)]
@@ -211,7 +212,7 @@ fn put_stands(stands: &mut [Literal], first: u32, properties: &[Lit], observed: 
     for place in 0..properties.len() {
         let lit = properties[place];
         let own = literal_at(observed, number(place)).negated_if(lit.is_negated());
-        set_literal(stands, lit.var().wrapping_sub(first), own);
+        put_if_covered(stands, lit.var().wrapping_sub(first) as usize, own);
     }
 }
 

@@ -2,7 +2,7 @@
 //! copies of the set's gates, which read the latches. In the map stand these copies too, with names
 //! as variables. A reader of a latch then reads the copy of the variable that the latch read.
 
-use crate::again::marks_of;
+use crate::again::Copies;
 use crate::composing::{FrameMap, Gone};
 use crate::copies::{
     VERSIONS, Version, copy_of, literal_at, need_of, set_copy, set_literal, standing,
@@ -37,8 +37,14 @@ impl Rebuilt {
     /// Drops gates that nothing reads. Returns by variable if it is the copy of a gate of the set.
     pub fn sweep(&mut self, memory: &mut Memory, inside: &[bool]) -> Vec<bool> {
         let numbers = sweep(memory, &mut self.draft);
-        let copies = self.copies.as_slice();
-        marks_of(memory, &self.draft, inside, copies, numbers.as_slice())
+        let mut marks = memory.table(false, self.draft.size());
+        let copies = Copies {
+            first: self.draft.first_gate(),
+            copies: self.copies.as_slice(),
+            numbers: numbers.as_slice(),
+        };
+        copies.mark_all(inside, marks.as_mut_slice());
+        marks
     }
 }
 

@@ -2,13 +2,8 @@
 //! has the places of the gates.
 
 use aig_graph::Memory;
-use backward_sets::{Literal, Pair, entry, number, set_entry};
-
-/// The smallest table.
-const SMALLEST: usize = 16;
-
-/// The most entries that a table has from the start.
-const LARGEST: usize = 1 << 31;
+use backward_sets::{Literal, Pair, entry, number, set_entry, table_size};
+use checked_tables::{entry_or, put_if_there};
 
 /// Gates from a first variable on, and a table by fan-ins: one more than the place of each gate, 0
 /// if there is none.
@@ -22,60 +17,14 @@ pub(crate) struct Shared {
     table: Vec<u32>,
 }
 
-/// Returns true if a gate is false for any values of its fan-ins.
-fn is_false(pair: &Pair) -> bool {
-    (pair.smaller.code == 0) | (pair.larger.code == pair.smaller.code ^ 1)
-}
-
-/// Returns true if a gate equals its larger fan-in.
-fn is_larger(pair: &Pair) -> bool {
-    (pair.smaller.code == 1) | (pair.larger.code == pair.smaller.code)
-}
-
-/// Returns both literals, the larger first.
-fn ordered(a: Literal, b: Literal) -> Pair {
-    let (larger, smaller) = if a.code < b.code { (b, a) } else { (a, b) };
-    Pair { larger, smaller }
-}
-
-/// Returns the slot at which a gate's entry is looked for first, in a table whose size is one more
-/// than `mask`.
-fn slot(pair: &Pair, mask: usize) -> usize {
-    let key = u64::from(pair.larger.code)
-        .wrapping_mul(0x9e37_79b9_7f4a_7c15)
-        .wrapping_add(u64::from(pair.smaller.code))
-        .wrapping_mul(0xd6e8_feb8_6659_fd93);
-    (key >> 32) as usize & mask
-}
-
-/// Returns the size of a table that `gates` gates fill by half at most.
-fn size_for(gates: usize) -> usize {
-    let mut size = SMALLEST;
-    for _ in 0..usize::BITS {
-        if (size / 2 > gates) | (size >= LARGEST) {
-            return size;
-        }
-        size = size.saturating_mul(2);
-    }
-    size
-}
-
 /// Returns the gate at `place`.
 pub(crate) fn pair_at(pairs: &[Pair], place: u32) -> Pair {
-    let place = place as usize;
-    if place < pairs.len() {
-        pairs[place]
-    } else {
-        Pair::NONE
-    }
+    entry_or(pairs, place as usize, Pair::NONE)
 }
 
 /// Puts a gate at `place`, if the table has it.
 pub(crate) fn set_pair(pairs: &mut [Pair], place: u32, pair: Pair) {
-    let place = place as usize;
-    if place < pairs.len() {
-        pairs[place] = pair;
-    }
+    put_if_there(pairs, place as usize, pair);
 }
 
 impl Shared {
@@ -83,7 +32,7 @@ impl Shared {
     /// more.
     pub fn after(memory: &mut Memory, first: u32, room: usize) -> Shared {
         let gates = memory.table(Pair::NONE, room);
-        let table = memory.table(0u32, size_for(room));
+        let table = memory.table(0u32, table_size(room));
         Shared {
             first,
             gates,
@@ -95,14 +44,13 @@ impl Shared {
     /// Returns true if an entry is empty, or that of this gate.
     fn fits(&self, known: u32, pair: &Pair) -> bool {
         let own = self.gate(known.wrapping_sub(1));
-        (known == 0)
-            | ((own.larger.code == pair.larger.code) & (own.smaller.code == pair.smaller.code))
+        (known == 0) | own.equals(pair)
     }
 
     /// Returns the slot of a gate, or the empty one at which it would stand.
     fn find(&self, pair: &Pair) -> u32 {
         let mask = self.table.len().saturating_sub(1);
-        let mut at = slot(pair, mask);
+        let mut at = pair.slot(mask);
         for _ in 0..self.table.len() {
             let known = entry(self.table.as_slice(), number(at));
             if self.fits(known, pair) {
@@ -115,11 +63,11 @@ impl Shared {
 
     /// Returns the literal of the conjunction of two literals.
     pub fn and(&mut self, a: Literal, b: Literal) -> Literal {
-        let pair = ordered(a, b);
-        if is_false(&pair) {
+        let pair = Pair::of(a, b);
+        if pair.is_false() {
             return Literal::FALSE;
         }
-        if is_larger(&pair) {
+        if pair.is_larger() {
             return pair.larger;
         }
         self.put(pair)

@@ -2,7 +2,8 @@
 //! part.
 
 use aig_graph::Memory;
-use backward_sets::{Draft, Literal, entry, has_mark, number, set_entry, set_mark};
+use backward_sets::{Draft, Literal, entry, has_mark, number, set_mark};
+use checked_tables::put_if_covered;
 
 /// What stands for a latch that nothing reads.
 const UNREAD: u32 = 0;
@@ -32,12 +33,12 @@ impl Links {
         links
     }
 
-    /// Notes that something reads a literal.
+    /// Notes that something reads a literal, if that is a latch's.
     fn note(&mut self, draft: &Draft, lit: Literal, reader: u32) {
         let place = lit.var().wrapping_sub(draft.first_latch());
         let known = entry(self.readers.as_slice(), place);
         let reader = if known == UNREAD { reader } else { ELSEWHERE };
-        set_entry(self.readers.as_mut_slice(), place, reader);
+        put_if_covered(self.readers.as_mut_slice(), place as usize, reader);
     }
 
     /// Notes what properties, latches and gates read.

@@ -20,6 +20,8 @@ struct Relaying {
     end: u32,
     /// By latch, those that come last, its new place.
     places: Vec<u32>,
+    /// The keys of the latches that there are, rising.
+    keys: Vec<u64>,
 }
 
 /// Returns a number by which latches are put in order: the name, and then the place.
@@ -74,9 +76,11 @@ fn place_of(key: u64) -> u32 {
 }
 
 impl Relaying {
-    /// Returns what becomes of the variables of a draft if its latches stand by these keys.
-    fn of(memory: &mut Memory, draft: &Draft, back: usize, keys: &[u64]) -> Relaying {
-        let all = draft.latches.len().saturating_add(back);
+    /// Returns what becomes of the variables of a draft if its latches stand by their keys. Those
+    /// of `back` come, and those that `hides` marks go.
+    fn of(memory: &mut Memory, draft: &Draft, back: &[DraftLatch], hides: &[bool]) -> Relaying {
+        let keys = keys_of(memory, draft, back, hides);
+        let all = draft.latches.len().saturating_add(back.len());
         let mut places = memory.table(0u32, all);
         for place in 0..keys.len() {
             set_entry(places.as_mut_slice(), place_of(keys[place]), number(place));
@@ -87,6 +91,7 @@ impl Relaying {
             after: number(keys.len()),
             end: draft.end(),
             places,
+            keys,
         }
     }
 
@@ -128,23 +133,15 @@ impl Relaying {
         }
     }
 
-    /// Puts latches in their order, which read what becomes of what they read.
-    fn put_latches(
-        &self,
-        draft: &Draft,
-        back: &[DraftLatch],
-        keys: &[u64],
-        latches: &mut [DraftLatch],
-    ) {
-        for place in 0..latches.len() {
-            if place < keys.len() {
-                let latch = latch_at(draft, back, place_of(keys[place]));
-                latches[place] = DraftLatch {
-                    next: self.literal(latch.next),
-                    ..latch
-                };
-            }
+    /// Returns the latches in their order, which read what becomes of what they read.
+    fn latches(&self, memory: &mut Memory, draft: &Draft, back: &[DraftLatch]) -> Vec<DraftLatch> {
+        let mut latches = memory.list(self.keys.len());
+        for key in self.keys.as_slice() {
+            let latch = latch_at(draft, back, place_of(*key));
+            let next = self.literal(latch.next);
+            memory.push(&mut latches, DraftLatch { next, ..latch });
         }
+        latches
     }
 
     /// Puts the marks of what gates become.
@@ -164,10 +161,8 @@ pub(crate) fn relay(
     back: &[DraftLatch],
     hides: &[bool],
 ) {
-    let keys = keys_of(memory, draft, back, hides);
-    let relaying = Relaying::of(memory, draft, back.len(), keys.as_slice());
-    let mut latches = memory.table(DraftLatch::NONE, keys.len());
-    relaying.put_latches(draft, back, keys.as_slice(), latches.as_mut_slice());
+    let relaying = Relaying::of(memory, draft, back, hides);
+    let latches = relaying.latches(memory, draft, back);
     drop(mem::replace(&mut draft.latches, latches));
     relaying.put_gates(draft.gates.as_mut_slice());
     relaying.put_literals(draft.observed.as_mut_slice());

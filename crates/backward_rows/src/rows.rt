@@ -6,6 +6,7 @@ use crate::links::Links;
 use crate::relaying::relay;
 use aig_graph::Memory;
 use backward_sets::{Draft, DraftLatch, Literal, number, set_mark};
+use checked_tables::{entry_or, put_if_there};
 use std::mem;
 
 /// How many latches stay at either end of a row of which some are left out.
@@ -22,6 +23,14 @@ const MOST: u32 = 48;
 struct Hidden {
     latch: DraftLatch,
     after: u32,
+}
+
+impl Hidden {
+    /// None.
+    const NONE: Hidden = Hidden {
+        latch: DraftLatch::NONE,
+        after: 0,
+    };
 }
 
 /// The latches that are left out before another one, in their order. It has the numbers of the
@@ -57,27 +66,24 @@ pub struct Rows {
 
 /// Puts a latch at a place.
 fn set_latch(latches: &mut [DraftLatch], place: u32, latch: DraftLatch) {
-    let place = place as usize;
-    if place < latches.len() {
-        latches[place] = latch;
-    }
+    put_if_there(latches, place as usize, latch);
+}
+
+/// Returns the hidden latch with a number from 1 on.
+fn hidden_at(hidden: &[Hidden], number: u32) -> Hidden {
+    entry_or(hidden, number.wrapping_sub(1) as usize, Hidden::NONE)
 }
 
 /// Sets what follows a hidden latch in its list.
 fn set_after(hidden: &mut [Hidden], number: u32, after: u32) {
+    let Hidden { latch, .. } = hidden_at(hidden, number);
     let place = number.wrapping_sub(1) as usize;
-    if place < hidden.len() {
-        let latch = hidden[place].latch;
-        hidden[place] = Hidden { latch, after };
-    }
+    put_if_there(hidden, place, Hidden { latch, after });
 }
 
 /// Puts a list.
 fn set_list(lists: &mut [List], number: u32, list: List) {
-    let place = number.wrapping_sub(1) as usize;
-    if place < lists.len() {
-        lists[place] = list;
-    }
+    put_if_there(lists, number.wrapping_sub(1) as usize, list);
 }
 
 impl Rows {
@@ -100,24 +106,7 @@ impl Rows {
     /// Returns the list with a number from 1 on, and none at 0.
     fn list_at(&self, number: u32) -> List {
         let place = number.wrapping_sub(1) as usize;
-        if place < self.lists.len() {
-            self.lists[place]
-        } else {
-            List::NONE
-        }
-    }
-
-    /// Returns the hidden latch with a number from 1 on.
-    fn hidden_at(&self, number: u32) -> Hidden {
-        let place = number.wrapping_sub(1) as usize;
-        if place < self.hidden.len() {
-            self.hidden[place]
-        } else {
-            Hidden {
-                latch: DraftLatch::NONE,
-                after: 0,
-            }
-        }
+        entry_or(self.lists.as_slice(), place, List::NONE)
     }
 
     /// Returns a list with those of another one after it.
@@ -201,7 +190,7 @@ impl Rows {
         let mut list = self.list_at(latch.list);
         let mut from = latch.next.var();
         for _ in 0..most.min(list.many) {
-            let Hidden { latch: own, after } = self.hidden_at(list.front);
+            let Hidden { latch: own, after } = hidden_at(self.hidden.as_slice(), list.front);
             let next = Literal::of(from).signed_as(own.next);
             from = draft.end().wrapping_add(number(self.back.len()));
             memory.push(

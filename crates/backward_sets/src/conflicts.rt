@@ -8,6 +8,7 @@ use crate::starts::{Wish, wish_of};
 use crate::tables::{has_mark, set_mark};
 use crate::wishes::Wishes;
 use aig_graph::Memory;
+use checked_tables::{entry_or, put_if_there};
 
 /// The weight of a latch's wish, which is more than that of all gates.
 const LATCH_WEIGHT: u32 = 1 << 20;
@@ -31,29 +32,22 @@ fn zero_by(wishes: &Wishes, var: u32, pair: &Pair) -> Literal {
 
 /// Returns the votes on a variable.
 fn votes_on(votes: &[Votes], var: u32) -> Votes {
-    let place = var as usize;
-    if place < votes.len() {
-        votes[place]
-    } else {
-        Votes { zero: 0, one: 0 }
-    }
+    entry_or(votes, var as usize, Votes { zero: 0, one: 0 })
 }
 
 /// Adds a vote of weight `weight` that `lit` is 1.
 fn vote(votes: &mut [Votes], lit: Literal, weight: u32) {
     let old = votes_on(votes, lit.var());
-    let place = lit.var() as usize;
     let (zero, one) = if lit.is_negated() {
         (weight, 0u32)
     } else {
         (0, weight)
     };
-    if place < votes.len() {
-        votes[place] = Votes {
-            zero: old.zero.saturating_add(zero),
-            one: old.one.saturating_add(one),
-        };
-    }
+    let new = Votes {
+        zero: old.zero.saturating_add(zero),
+        one: old.one.saturating_add(one),
+    };
+    put_if_there(votes, lit.var() as usize, new);
 }
 
 /// Adds the votes of latches, and of the set's gates.

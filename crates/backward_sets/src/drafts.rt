@@ -3,6 +3,7 @@
 
 use crate::literals::Literal;
 use crate::tables::number;
+use checked_tables::entry_or;
 
 /// The value of a latch at step 0.
 #[derive(Clone, Copy, PartialEq, Eq)]
@@ -153,32 +154,21 @@ impl Draft {
 
     /// Returns the latch with number `place`, from 0, or one that takes no part if there is none.
     pub fn latch(&self, place: u32) -> DraftLatch {
-        let place = place as usize;
-        if place < self.latches.len() {
-            self.latches[place]
-        } else {
-            DraftLatch::NONE
-        }
+        entry_or(self.latches.as_slice(), place as usize, DraftLatch::NONE)
     }
 
     /// Returns the gate at a variable, or one of constants if there is none.
     pub fn gate(&self, var: u32) -> Pair {
-        let place = var.wrapping_sub(self.first_gate()) as usize;
-        if place < self.gates.len() {
-            self.gates[place]
-        } else {
-            Pair::NONE
-        }
+        entry_or(
+            self.gates.as_slice(),
+            var.wrapping_sub(self.first_gate()) as usize,
+            Pair::NONE,
+        )
     }
 
     /// Returns the literal of the property with number `place`, from 0.
     pub fn observed(&self, place: u32) -> Literal {
-        let place = place as usize;
-        if place < self.observed.len() {
-            self.observed[place]
-        } else {
-            Literal::FALSE
-        }
+        entry_or(self.observed.as_slice(), place as usize, Literal::FALSE)
     }
 
     /// Returns the number of latches that take part.

@@ -7,6 +7,7 @@ use crate::drafts::Draft;
 use crate::literals::Literal;
 use crate::tables::{number, set_mark};
 use aig_graph::Memory;
+use checked_tables::{entry_or, put_if_there};
 
 /// The number of steps that are made.
 const STEPS: u32 = 4;
@@ -23,12 +24,7 @@ struct Lanes {
 
 /// Returns the row of a variable.
 fn row(values: &[u64], var: u32) -> u64 {
-    let place = var as usize;
-    if place < values.len() {
-        values[place]
-    } else {
-        0
-    }
+    entry_or(values, var as usize, 0)
 }
 
 /// Returns the row of a literal.
@@ -39,10 +35,7 @@ fn literal_row(values: &[u64], lit: Literal) -> u64 {
 
 /// Puts the row of a variable.
 fn set_row(values: &mut [u64], var: u32, row: u64) {
-    let place = var as usize;
-    if place < values.len() {
-        values[place] = row;
-    }
+    put_if_there(values, var as usize, row);
 }
 
 /// Puts the state in which latches have their resets, into one that is 0. A reset that isn't known

@@ -10,6 +10,7 @@ use crate::starts::Wish;
 use crate::tables::has_mark;
 use crate::values::Values;
 use aig_graph::Memory;
+use checked_tables::{entry_or, put_if_there};
 
 /// The most times that the search goes back.
 const MOST_BACK: u32 = 1000;
@@ -47,20 +48,12 @@ struct Search<'a> {
 
 /// Returns the decision at `place`.
 fn decision_at(decisions: &[Decision], place: u32) -> Decision {
-    let place = place as usize;
-    if place < decisions.len() {
-        decisions[place]
-    } else {
-        Decision::NONE
-    }
+    entry_or(decisions, place as usize, Decision::NONE)
 }
 
 /// Puts a decision at `place`.
 fn set_decision(decisions: &mut [Decision], place: u32, decision: Decision) {
-    let place = place as usize;
-    if place < decisions.len() {
-        decisions[place] = decision;
-    }
+    put_if_there(decisions, place as usize, decision);
 }
 
 /// Returns true if a literal is 0 in a guide.

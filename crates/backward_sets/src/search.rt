@@ -8,6 +8,7 @@ use crate::drafts::Draft;
 use crate::flow::{Flow, SINK, before};
 use crate::tables::number;
 use aig_graph::Memory;
+use checked_tables::{entry_or, put_if_there};
 
 /// What is known of a node.
 #[derive(Clone, Copy, PartialEq, Eq)]
@@ -56,20 +57,12 @@ pub struct Search {
 
 /// Returns what is known of a node.
 fn sight_of(sights: &[Sight], node: u32) -> Sight {
-    let place = node as usize;
-    if place < sights.len() {
-        sights[place]
-    } else {
-        Sight::Dead
-    }
+    entry_or(sights, node as usize, Sight::Dead)
 }
 
 /// Sets what is known of a node.
 fn set_sight(sights: &mut [Sight], node: u32, sight: Sight) {
-    let place = node as usize;
-    if place < sights.len() {
-        sights[place] = sight;
-    }
+    put_if_there(sights, node as usize, sight);
 }
 
 /// Sets what is known of the nodes of a list from `first` on.

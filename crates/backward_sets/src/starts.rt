@@ -3,6 +3,7 @@
 use crate::drafts::Draft;
 use crate::literals::Literal;
 use aig_graph::Memory;
+use checked_tables::{entry_or, put_if_there};
 
 /// The values that are wished of a variable: none, one of them, or both.
 #[derive(Clone, Copy)]
@@ -47,20 +48,12 @@ impl Wish {
 
 /// Returns the wishes of a variable.
 pub fn wish_of(wishes: &[Wish], var: u32) -> Wish {
-    let place = var as usize;
-    if place < wishes.len() {
-        wishes[place]
-    } else {
-        Wish::NONE
-    }
+    entry_or(wishes, var as usize, Wish::NONE)
 }
 
 /// Sets the wishes of a variable.
 pub fn set_wish(wishes: &mut [Wish], var: u32, wish: Wish) {
-    let place = var as usize;
-    if place < wishes.len() {
-        wishes[place] = wish;
-    }
+    put_if_there(wishes, var as usize, wish);
 }
 
 /// Adds the wish that `lit` has `value`.

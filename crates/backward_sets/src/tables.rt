@@ -1,7 +1,6 @@
 //! Tables by variable. Nothing stands past the end of a table.
-//!
-//! They are read and written by index behind a look at their length. That is far cheaper to prove
-//! than a match on a result of `get`.
+
+use checked_tables::{entry_or, put_if_there};
 
 /// Returns a number of entries in 32 bits, in which it fits: a graph has fewer.
 pub fn number(many: usize) -> u32 {
@@ -10,16 +9,12 @@ pub fn number(many: usize) -> u32 {
 
 /// Returns true if a variable has a mark.
 pub fn has_mark(marks: &[bool], var: u32) -> bool {
-    let place = var as usize;
-    place < marks.len() && marks[place]
+    entry_or(marks, var as usize, false)
 }
 
 /// Marks a variable, or takes its mark away if `mark` is false.
 pub fn set_mark(marks: &mut [bool], var: u32, mark: bool) {
-    let place = var as usize;
-    if place < marks.len() {
-        marks[place] = mark;
-    }
+    put_if_there(marks, var as usize, mark);
 }
 
 /// Returns the number of marks that are set.
@@ -33,18 +28,10 @@ pub fn count_marks(marks: &[bool]) -> u32 {
 
 /// Returns the number at `place`, or 0 past the end.
 pub fn entry(numbers: &[u32], place: u32) -> u32 {
-    let place = place as usize;
-    if place < numbers.len() {
-        numbers[place]
-    } else {
-        0
-    }
+    entry_or(numbers, place as usize, 0)
 }
 
 /// Puts a number at `place`, if the table has it.
 pub fn set_entry(numbers: &mut [u32], place: u32, number: u32) {
-    let place = place as usize;
-    if place < numbers.len() {
-        numbers[place] = number;
-    }
+    put_if_there(numbers, place as usize, number);
 }

@@ -36,6 +36,8 @@ no_answer bytes options (Read fault) old new before after known why = refuses by
 no_answer bytes options (Retime retiming.NoMemory) old new before after known why = tt
 no_answer bytes options (Retime (retiming.NoSuchName place)) old new before after known why = record { circuit = why.spelt.circuit; read = why.spells.circuit.bytes bytes known; missing = why.stop.1 }
 no_answer bytes options (Retime (retiming.NoSuchLatch place)) old new before after known why = record { circuit = why.spelt.circuit; read = why.spells.circuit.bytes bytes known; no_latch = why.stop.1 }
+no_answer bytes options (Retime (retiming.Misread latch)) old new before after known why = record { circuit = why.spelt.circuit; read = why.spells.circuit.bytes bytes known }
+no_answer bytes options (Retime (retiming.NotShown latch)) old new before after known why = record { circuit = why.spelt.circuit; read = why.spells.circuit.bytes bytes known }
 no_answer bytes options (Write e) old new before after known why = tt
 
 -- a text that was written if there was none is the text of the answer

@@ -11,7 +11,7 @@ use Rattle.frames.specs.Named.{IsFirstMissingBy, IsFirstNoLatchBy}
 use Rattle.frames.specs.Answering.{IsAnswer, ReadsBack, text_for}
 use Rattle.batch_pool.specs.declared.job.Job.{Job}
 use Rattle.batch_pool.specs.declared.job.Outcome.{Outcome}
-use Rattle.batch_pool.specs.declared.job.Outcome.TheVariants.{Done, Refused, NoMemory, NoSuchLatch, NoSuchName}
+use Rattle.batch_pool.specs.declared.job.Outcome.TheVariants.{Done, Misread, NoMemory, NoSuchLatch, NoSuchName, NotShown, Refused}
 
 -- the bytes are those of a circuit in a spelling, and this is its text retimed, which is read as
 -- the retimed circuit
@@ -46,6 +46,11 @@ pub record IsUnplaced (bytes : List ℕ) (options : Options) (place : ℕ) : Typ
   pub read : read_any bytes ≡ Ok circuit
   pub no_latch : IsFirstNoLatchBy options circuit place
 
+-- the bytes are those of a circuit; that latches aren't merged by given classes says no more of it
+pub record IsUnmerged (bytes : List ℕ) : Type 0 where
+  pub circuit : Netlist
+  pub read : read_any bytes ≡ Ok circuit
+
 -- what becomes of the bytes of a file; want of memory says nothing of them
 abbrev pub IsOutcome : List ℕ → Options → Outcome → Type 0
 IsOutcome bytes options (Done text before after frames) = IsDone bytes options text.items before after frames
@@ -53,6 +58,8 @@ IsOutcome bytes options (Refused fault) = IsRefused bytes fault
 IsOutcome bytes options NoMemory = ⊤
 IsOutcome bytes options (NoSuchName place) = IsUnnamed bytes options place
 IsOutcome bytes options (NoSuchLatch place) = IsUnplaced bytes options place
+IsOutcome bytes options (Misread latch) = IsUnmerged bytes
+IsOutcome bytes options (NotShown latch) = IsUnmerged bytes
 
 -- what becomes of each job, in their order
 pub record AreOutcomes (options : Options) (jobs : List Job) (outcomes : List Outcome) : Type 0 where

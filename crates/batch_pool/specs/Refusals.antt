@@ -6,7 +6,7 @@ use Rattle.frames.specs.declared.errors.BytesError.{BytesError}
 use Rattle.frames.specs.declared.errors.BytesError.TheVariants.{Read, Retime, Write}
 use Rattle.frames.specs.declared.errors.RetimeError.TheVariants as retiming
 use Rattle.batch_pool.specs.declared.job.Outcome.{Outcome}
-use Rattle.batch_pool.specs.declared.job.Outcome.TheVariants.{Refused, NoMemory, NoSuchLatch, NoSuchName}
+use Rattle.batch_pool.specs.declared.job.Outcome.TheVariants.{Misread, NoMemory, NoSuchLatch, NoSuchName, NotShown, Refused}
 
 -- a fault of the bytes refuses them; else memory was wanting
 abbrev pub of_fault : ReadError → Outcome
@@ -18,4 +18,6 @@ of_error (Read fault) = of_fault fault
 of_error (Retime retiming.NoMemory) = NoMemory
 of_error (Retime (retiming.NoSuchName place)) = NoSuchName place
 of_error (Retime (retiming.NoSuchLatch place)) = NoSuchLatch place
+of_error (Retime (retiming.Misread latch)) = Misread latch
+of_error (Retime (retiming.NotShown latch)) = NotShown latch
 of_error (Write e) = NoMemory

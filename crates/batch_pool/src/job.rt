@@ -42,6 +42,10 @@ pub enum Outcome {
     /// Latches are to be held by position, and the one at this place, from 0, is the first that no
     /// latch has.
     NoSuchLatch(usize),
+    /// Latches are to be merged by given classes, and no reading has the line of this latch.
+    Misread(u32),
+    /// Latches are to be merged by given classes, and this one isn't shown to agree with its first.
+    NotShown(u32),
 }
 
 /// Returns the outcome of a circuit that was retimed, and its text.
@@ -83,6 +87,8 @@ fn of_error(error: BytesError) -> Outcome
         BytesError::Retime(RetimeError::NoMemory) => Outcome::NoMemory,
         BytesError::Retime(RetimeError::NoSuchName(place)) => Outcome::NoSuchName(place),
         BytesError::Retime(RetimeError::NoSuchLatch(place)) => Outcome::NoSuchLatch(place),
+        BytesError::Retime(RetimeError::Misread(latch)) => Outcome::Misread(latch),
+        BytesError::Retime(RetimeError::NotShown(latch)) => Outcome::NotShown(latch),
         BytesError::Write(_) => Outcome::NoMemory,
     }
 }

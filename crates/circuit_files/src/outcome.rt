@@ -69,6 +69,10 @@ pub enum Failure<'a> {
     NoSuchName(&'a str, &'a str),
     /// The circuit has no latch at the place.
     NoSuchLatch(&'a str, u32),
+    /// No reading of the circuit has the file's line of this latch.
+    Misread(&'a str, u32),
+    /// This latch of the file isn't shown to agree with what its line says.
+    NotShown(&'a str, u32),
     /// The circuit has too many nodes for a picture.
     TooManyNodes(&'a str),
     /// Random sequences of the circuit would take too much memory.
@@ -158,6 +162,8 @@ impl<'a> Failure<'a> {
             | Failure::RefusedWitness(_, _)
             | Failure::NoSuchName(_, _)
             | Failure::NoSuchLatch(_, _)
+            | Failure::Misread(_, _)
+            | Failure::NotShown(_, _)
             | Failure::TooManyNodes(_)
             | Failure::TooManySteps(_)
             | Failure::NotAMap(_)
@@ -179,6 +185,8 @@ impl<'a> Failure<'a> {
             | Failure::RefusedWitness(path, _)
             | Failure::NoSuchName(path, _)
             | Failure::NoSuchLatch(path, _)
+            | Failure::Misread(path, _)
+            | Failure::NotShown(path, _)
             | Failure::TooManyNodes(path)
             | Failure::TooManySteps(path)
             | Failure::NotAMap(path)
@@ -193,6 +201,8 @@ impl<'a> Failure<'a> {
         match self {
             Failure::NoSuchName(_, _) => "NoSuchName ",
             Failure::NoSuchLatch(_, _) => "NoSuchLatch ",
+            Failure::Misread(_, _) => "Misread ",
+            Failure::NotShown(_, _) => "NotShown ",
             Failure::TooManyNodes(_) => {
                 "TooManyNodes, over 2000: --around NAME draws a neighbourhood"
             }
@@ -221,6 +231,8 @@ impl Display for Failure<'_> {
             Failure::RefusedWitness(_, fault) => fault.fmt(f),
             Failure::NoSuchName(_, name) => f.write_str(name),
             Failure::NoSuchLatch(_, position) => position.fmt(f),
+            Failure::Misread(_, latch) => latch.fmt(f),
+            Failure::NotShown(_, latch) => latch.fmt(f),
             _ => Ok(()),
         }
     }

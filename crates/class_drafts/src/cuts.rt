@@ -5,6 +5,7 @@
 
 use aig_graph::{Circuit, Memory};
 use backward_sets::{DraftLatch, Literal, Pair, entry, has_mark, number, set_entry, set_mark};
+use checked_tables::put_if_covered;
 use class_nets::{Net, draft_latch};
 use sealed_drafts::{SealError, drawn_outputs};
 use std::alloc::Global;
@@ -35,6 +36,11 @@ impl Drop for Cut {
     }
 }
 
+/// Marks the latch or gate of a literal, if it is of one.
+fn mark(net: &Net, lit: Literal, inner: &mut [bool]) {
+    put_if_covered(inner, net.place(lit.var()) as usize, true);
+}
+
 /// Marks the latches of a class, and no others.
 fn mark_latches(net: &Net, class: u32, inner: &mut [bool]) {
     for place in 0..net.many_latches() {
@@ -58,14 +64,14 @@ fn mark_gates_before(net: &Net, class: u32, inner: &mut [bool]) {
     let latches = net.many_latches();
     for place in 0..latches {
         if net.latch(place).class == class {
-            set_mark(inner, net.place(net.latch(place).next.var()), true);
+            mark(net, net.latch(place).next, inner);
         }
     }
     for place in (0..net.many_gates()).rev() {
         if has_mark(inner, latches.wrapping_add(place)) {
             let pair = net.gate(place);
-            set_mark(inner, net.place(pair.larger.var()), true);
-            set_mark(inner, net.place(pair.smaller.var()), true);
+            mark(net, pair.larger, inner);
+            mark(net, pair.smaller, inner);
         }
     }
 }

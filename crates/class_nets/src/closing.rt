@@ -4,6 +4,7 @@
 use crate::nets::{ClassLatch, Net, literal_at, set_literal};
 use aig_graph::{Lit, Memory, Reset};
 use backward_sets::{DraftLatch, DraftReset, Literal, Pair, entry, set_entry};
+use checked_tables::put_if_covered;
 use hold_drafts::{Sharing, TRUE};
 
 /// A circuit that is closed, as numbers.
@@ -206,7 +207,8 @@ impl<'a> Closing<'a> {
             let lit = properties[place];
             let own = self.literal(literal_at(self.net.observed.as_slice(), place));
             let own = own.negated_if(lit.is_negated());
-            set_literal(stands.as_mut_slice(), lit.var().wrapping_sub(first), own);
+            let place = lit.var().wrapping_sub(first) as usize;
+            put_if_covered(stands.as_mut_slice(), place, own);
         }
         stands
     }

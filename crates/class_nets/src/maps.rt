@@ -3,7 +3,8 @@
 
 use crate::nets::{literal_at, set_literal};
 use aig_graph::{Lit, Memory};
-use backward_sets::{Literal, Pair, number, set_mark};
+use backward_sets::{Literal, Pair, number};
+use checked_tables::put_if_covered;
 use hold_drafts::{Sharing, TRUE};
 use retiming_maps::StateMap;
 
@@ -133,8 +134,8 @@ impl NumberMap {
     /// Marks the inputs that a gate reads.
     pub fn mark_read(&self, read: &mut [bool]) {
         for pair in &self.gates {
-            set_mark(read, pair.larger.var(), true);
-            set_mark(read, pair.smaller.var(), true);
+            put_if_covered(read, pair.larger.var() as usize, true);
+            put_if_covered(read, pair.smaller.var() as usize, true);
         }
     }
 }

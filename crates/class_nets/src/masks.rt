@@ -6,7 +6,8 @@
 
 use crate::nets::{literal_at, set_literal};
 use aig_graph::{Memory, Reset};
-use backward_sets::{Literal, Pair, entry, has_mark, number, set_mark};
+use backward_sets::{Literal, Pair, entry, has_mark, number};
+use checked_tables::{entry_or, put_if_covered};
 use hold_drafts::{OpenLatch, Opening, PLAIN, STAYS, TRUE, classes_of};
 
 /// Codes, rising, and how often each was put.
@@ -46,12 +47,7 @@ impl Tally {
 
 /// Returns the class at `place`, or that of an input past the end.
 fn class_at(classes: &[u32], place: u32) -> u32 {
-    let place = place as usize;
-    if place < classes.len() {
-        classes[place]
-    } else {
-        STAYS
-    }
+    entry_or(classes, place as usize, STAYS)
 }
 
 /// The masks of latches, by latch, and the constant true for none.
@@ -118,14 +114,14 @@ fn note(readers: &mut [Literal], opening: &Opening, lit: Literal, mask: Literal)
     if (known == UNREAD) & sees_reset {
         set_literal(readers, place, mask);
     } else if (known != mask) | !sees_reset {
-        set_literal(readers, place, MIXED);
+        put_if_covered(readers, place as usize, MIXED);
     }
 }
 
 /// Notes that latches are read without a gate.
 fn note_alone(readers: &mut [Literal], opening: &Opening, lits: &[Literal]) {
     for lit in lits {
-        set_literal(readers, opening.place(lit.var()), MIXED);
+        put_if_covered(readers, opening.place(lit.var()) as usize, MIXED);
     }
 }
 
@@ -146,7 +142,7 @@ fn note_all(readers: &mut [Literal], opening: &Opening) {
 /// Marks the variables of literals, from the first latch on.
 fn mark_all(read: &mut [bool], opening: &Opening, lits: &[Literal]) {
     for lit in lits {
-        set_mark(read, opening.place(lit.var()), true);
+        put_if_covered(read, opening.place(lit.var()) as usize, true);
     }
 }
 

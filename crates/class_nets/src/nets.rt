@@ -3,6 +3,7 @@
 
 use aig_graph::{Memory, Reset};
 use backward_sets::{Literal, Pair, number, set_mark};
+use checked_tables::{entry_or, put_if_there};
 use hold_drafts::TRUE;
 
 /// The number of literals that say what a class is.
@@ -85,28 +86,17 @@ impl Drop for Net {
 
 /// Returns the literal at `place`, or the constant false past the end.
 pub fn literal_at(literals: &[Literal], place: usize) -> Literal {
-    if place < literals.len() {
-        literals[place]
-    } else {
-        Literal::FALSE
-    }
+    entry_or(literals, place, Literal::FALSE)
 }
 
 /// Puts a literal at `place`, if the table has it.
 pub fn set_literal(literals: &mut [Literal], place: u32, lit: Literal) {
-    let place = place as usize;
-    if place < literals.len() {
-        literals[place] = lit;
-    }
+    put_if_there(literals, place as usize, lit);
 }
 
 /// Returns the gate at `place`, or one of constants past the end.
 pub fn pair_at(pairs: &[Pair], place: usize) -> Pair {
-    if place < pairs.len() {
-        pairs[place]
-    } else {
-        Pair::NONE
-    }
+    entry_or(pairs, place, Pair::NONE)
 }
 
 impl Net {
@@ -143,12 +133,7 @@ impl Net {
 
     /// Returns the latch with number `place`, or one that stays if there is none.
     pub fn latch(&self, place: u32) -> ClassLatch {
-        let place = place as usize;
-        if place < self.latches.len() {
-            self.latches[place]
-        } else {
-            ClassLatch::NONE
-        }
+        entry_or(self.latches.as_slice(), place as usize, ClassLatch::NONE)
     }
 
     /// Returns the gate with number `place`, or one of constants if there is none.

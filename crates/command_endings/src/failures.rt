@@ -23,6 +23,8 @@ pub fn fault_of(failure: Failure<'_>) -> Fault
         Failure::RefusedWitness(_, fault) => Fault::Witness(fault),
         Failure::NoSuchName(_, _) => Fault::NoSuchName,
         Failure::NoSuchLatch(_, _) => Fault::NoSuchLatch,
+        Failure::Misread(_, _) => Fault::Misread,
+        Failure::NotShown(_, _) => Fault::NotShown,
         Failure::TooManyNodes(_) => Fault::TooManyNodes,
         Failure::TooManySteps(_) => Fault::TooManySteps,
         Failure::NotAMap(_) => Fault::NotAMap,

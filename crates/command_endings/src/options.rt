@@ -26,6 +26,7 @@ pub fn run_options(
         keep,
         keep_latches,
         merge: asked.merge,
+        classes: None,
         bound: asked.bound,
     })
 }

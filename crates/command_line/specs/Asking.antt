@@ -142,6 +142,7 @@ pub record IsRetiming (matches : ArgMatches) (retiming : Retiming) : Type 0 wher
   pub output : IsTarget matches (codes "OUT") retiming.output
   pub options : AreOptions matches retiming.options
   pub workers : IsNumber matches (codes "workers") 1 retiming.workers
+  pub classes : IsSomeSource matches (codes "classes") retiming.classes
   pub certificates : IsSomeTarget matches (codes "cert") retiming.certificates
   pub mapping : IsSomeTarget matches (codes "map") retiming.map
   pub shown : IsShown matches retiming.shown

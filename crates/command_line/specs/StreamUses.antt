@@ -40,6 +40,10 @@ sources_of_checking checking = checking.input ∷ checking.retimed ∷ with_sour
 abbrev pub sources_of_verification : Verification → List Source
 sources_of_verification verification = verification.input ∷ verification.certificates ∷ with_source verification.retimed []
 
+-- the circuit of a retiming, and the merged latches that are given
+abbrev pub sources_of_retiming : Retiming → List Source
+sources_of_retiming retiming = retiming.input ∷ with_source retiming.classes []
+
 abbrev pub sources_of_asking : Asking → List Source
 sources_of_asking asking = asking.input ∷ asking.retimed ∷ asking.map ∷ []
 
@@ -56,7 +60,7 @@ name_files _ = []
 
 -- what a task reads beside them
 abbrev pub other_sources : Task → List Source
-other_sources (Retime retiming) = retiming.input ∷ []
+other_sources (Retime retiming) = sources_of_retiming retiming
 other_sources (Move moving) = moving.input ∷ []
 other_sources (Batch batch) = batch.list ∷ []
 other_sources (Stat counting) = counting.input ∷ []

@@ -32,6 +32,7 @@ fn retiming<'a>(alloc: Global, matches: &ArgMatches<'a>) -> Result<Option<Task<'
         output,
         options: options(alloc, matches)?,
         workers: workers(matches),
+        classes: source_if_given(matches, "classes"),
         certificates: target(matches, "cert"),
         map: target(matches, "map"),
         json: json(matches),
@@ -204,7 +205,7 @@ fn witness<'a>(matches: &ArgMatches<'a>) -> Option<Task<'a>>
     }))
 }
 
-/// Two circuits and the map of the states of the one to those of the other.
+/// Returns two circuits and the map of the states of the one to those of the other.
 fn mapped<'a>(matches: &ArgMatches<'a>) -> Option<(Source<'a>, Source<'a>, Source<'a>)>
     ensures { IfSome result (AreMapped matches.now) }
 {

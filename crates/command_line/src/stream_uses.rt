@@ -2,7 +2,7 @@
 ghost use Rattle.std.specs.Prelude.{◌≡◌, ◌≤◌, IfNone};
 ghost use Rattle.std.specs.List.{count_by};
 ghost use Rattle.counted_io.specs.Streams.{is_stdin, is_stdout};
-ghost use Rattle.command_line.specs.StreamUses.{UsesStreamsOnce, asking_targets, moving_targets, other_sources, retiming_targets, simulation_targets, sources_of, sources_of_checking, sources_of_comparison, sources_of_lifting, sources_of_simulation, sources_of_verification, targets_of};
+ghost use Rattle.command_line.specs.StreamUses.{UsesStreamsOnce, asking_targets, moving_targets, other_sources, retiming_targets, simulation_targets, sources_of, sources_of_checking, sources_of_comparison, sources_of_lifting, sources_of_retiming, sources_of_simulation, sources_of_verification, targets_of};
 ghost use Rattle.command_line.specs.StreamUses as wanted;
 
 use crate::task::{
@@ -70,6 +70,16 @@ fn stdin_uses_of_verification(verification: &Verification<'_>) -> usize
     }
 }
 
+/// Counts which of the circuit and the merged latches that are given are standard input.
+fn stdin_uses_of_retiming(retiming: &Retiming<'_>) -> usize
+    ensures { result ≡ count_by is_stdin (sources_of_retiming retiming.now) }
+{
+    match retiming.classes {
+        Some(classes) => stdin_count(&[retiming.input, classes]),
+        None => stdin_count(&[retiming.input]),
+    }
+}
+
 /// Counts which of the circuits, the map and the witness circuit are standard input.
 fn stdin_uses_of_lifting(lifting: &Lifting<'_>) -> usize
     ensures { result ≡ count_by is_stdin (sources_of_lifting lifting.now) }
@@ -82,7 +92,7 @@ fn other_stdin_uses(task: &Task<'_>) -> usize
     ensures { result ≡ count_by is_stdin (other_sources task.now) }
 {
     match task {
-        Task::Retime(retiming) => stdin_count(&[retiming.input]),
+        Task::Retime(retiming) => stdin_uses_of_retiming(retiming),
         Task::Move(moving) => stdin_count(&[moving.input]),
         Task::Batch(batch) => stdin_count(&[batch.list]),
         Task::Stat(counting) => stdin_count(&[counting.input]),

@@ -30,6 +30,9 @@ pub struct Retiming<'a> {
     pub options: RetimingOptions<'a>,
     /// The number of workers of the flow, from 1 to 64.
     pub workers: u32,
+    /// The certificates whose merged latches are merged, if the options merge any; `None` has them
+    /// found.
+    pub classes: Option<Source<'a>>,
     /// What the certificates are written to; `None` asks for none.
     pub certificates: Option<Target<'a>>,
     /// What the map of states is written to; `None` asks for none.

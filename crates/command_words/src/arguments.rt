@@ -135,6 +135,12 @@ pub(crate) const RETIME: &[Argument] = &[
     FRAMES,
     NEAR,
     MERGE_FIRST,
+    Argument(
+        "classes",
+        Text("FILE"),
+        With("merge"),
+        "Merge the latches that the certificates in FILE list",
+    ),
     LEVELS,
     NO_LONGER,
     Argument(

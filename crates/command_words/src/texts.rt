@@ -40,6 +40,11 @@ before the first frame: it finds logic that is there twice, also if it was built
 differently, and features that are tied off. What a bounded search doesn't show
 stays. A merged latch has more readers, so here and there fewer can move.
 
+With --classes the latches that are merged are those that FILE lists before its
+first frame, and no others: certificates as --cert writes them, of this IN, from
+an earlier run, another tool or a script. They are judged as 'verify' judges
+them. What isn't shown to agree is refused, and nothing is written.
+
 A move makes paths longer: gates from behind a row of latches then stand in
 front of it. With --no-longer no path of OUT has more gates than the longest one
 of IN; with --levels no path gets more than n gates, or than the longest one of

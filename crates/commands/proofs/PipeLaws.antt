@@ -1,11 +1,13 @@
 -- What a retiming gives standard output, where that is what it writes to.
 use Rattle.std.proofs.Common.{ℕ, ◌≡◌, ◌||◌, ◌⊎◌, inl, inr, Bool, List, true, false, Option, Some, None, Result, Ok, Err, sym, ap, ◌∙◌, subst}
-use Rattle.std.specs.Prelude.{is_some, option_map}
+use Rattle.std.specs.Prelude.{is_some, unwrap_or}
 use Rattle.std.specs.Borrow.{Bor}
 use Rattle.std.specs.Result.{IfOk}
 use Rattle.std.proofs.Math.Bool.{true-or}
 use Rattle.std.proofs.lemmas.Bool.{or_parts}
+use Rattle.aig_graph.specs.Circuits.{Netlist}
 use Rattle.counted_io.specs.Input.{Input}
+use Rattle.file_words.specs.declared.spelling.Spelling.{Spelling}
 use Rattle.aig_binary.specs.Spellings.{text_in}
 use Rattle.aig_binary.specs.declared.reading.SpeltCircuit.{SpeltCircuit}
 use Rattle.aig_binary.proofs.LimitLaws.{reads-within}
@@ -13,13 +15,12 @@ use Rattle.counted_io.specs.Output.{Output, WritesAll}
 use Rattle.retimed_circuits.specs.declared.report.Retimed.{Retimed}
 use Rattle.frames.specs.declared.errors.BytesError.{BytesError}
 use Rattle.frames.specs.declared.errors.BytesError.TheVariants.{Read, Retime, Write}
-use Rattle.frames.specs.declared.errors.RetimeError.TheVariants.{NoMemory, NoSuchLatch, NoSuchName}
+use Rattle.frames.specs.declared.errors.RetimeError.TheVariants.{Misread, NoMemory, NoSuchLatch, NoSuchName, NotShown}
 use Rattle.frames.specs.declared.options.Options.{Options}
 use Rattle.frames.specs.Answering.{IsAnswer, IsStop, IsWritten, ReadsBack, text_for}
 use Rattle.frames.specs.Retiming.{IsRetimedHeld}
 use Rattle.mapped_answers.specs.Mapping.{IsMappedOf, IsMappingStop}
-use Rattle.mapped_answers.specs.declared.mapped.Mapped.{Mapped}
-use Rattle.mapped_answers.specs.declared.mapped.SpeltMap.{SpeltMap}
+use Rattle.mapped_answers.specs.declared.making.Made.{Made}
 use Rattle.mapped_answers.specs.declared.errors.AnswerError.{AnswerError}
 use Rattle.mapped_answers.specs.declared.errors.AnswerError.TheVariants.{Bytes, MapTooLarge}
 use Rattle.counted_io.specs.Streams.{is_stdout}
@@ -33,12 +34,11 @@ use Rattle.circuit_files.specs.declared.outcome.Outcome.TheVariants.{Device, Don
 use Rattle.circuit_files.specs.declared.outcome.Failure.{Failure}
 use Rattle.circuit_files.specs.declared.outcome.Failure.TheVariants as fails
 use Rattle.json_reports.specs.declared.times.Times.{Times}
-use Rattle.json_reports.specs.declared.counts.MapCounts.{MapCounts}
 use Rattle.json_reports.specs.declared.counts.ReadLevels.{ReadLevels}
 use Rattle.commands.specs.declared.answer.Answer.{Answer as Answered}
-use Rattle.commands.specs.Pipes.{AnswersPipe, IsAnswerTo, IsMapOf, IsPipe, IsReportOf, PrintsRetiming, WritesAnswer, WritesBeside, WritesCertificates, WritesMap, WritesPipe, WritesRetiming, blocks_text}
+use Rattle.commands.specs.Pipes.{AnswersPipe, IsAnswerTo, IsMapOf, IsPipe, PrintsRetiming, WritesAnswer, WritesBeside, WritesCertificates, WritesMap, WritesPipe, WritesRetiming, blocks_text}
 use Rattle.command_endings.specs.Printing.{EndsAside, Prints, ending}
-use Rattle.commands.specs.RetimingTasks.{EndsPrintingFrames, HasFailed, IsFailureOf, IsMapFailureOf, SaysFrames, counts_of, levels_reported}
+use Rattle.commands.specs.RetimingTasks.{EndsPrintingFrames, HasFailed, IsFailureOf, IsMapFailureOf, SaysFrames, levels_reported}
 use Rattle.command_endings.proofs.PrintingLaws.{failing_after, by_stream}
 
 -- why there is no whole answer of what was read, as the failure of the task
@@ -48,6 +48,8 @@ stopped task options spelt before after (Read e) f is p = absurd p
 stopped task options spelt before after (Retime NoMemory) f is p = failing_after f before after p
 stopped task options spelt before after (Retime (NoSuchName place)) f is p = failing_after f before after p.0
 stopped task options spelt before after (Retime (NoSuchLatch number)) f is p = failing_after f before after p.0
+stopped task options spelt before after (Retime (Misread latch)) f is p = failing_after f before after p
+stopped task options spelt before after (Retime (NotShown latch)) f is p = failing_after f before after p
 stopped task options spelt before after (Write e) f is p = subst (λ (g : Failure). Prints (outcome_of g) before after) (sym is.2) tt
 
 -- so if a map is made
@@ -58,32 +60,35 @@ stopped_mapped task options spelt before after MapTooLarge f is p = failing_afte
 
 -- an answer is that of the run, with its held latches
 pub is_answer : (task : Retiming) (options : Options) (spelt : SpeltCircuit) (old new : Output) (r : Retimed) (keep : List ℕ) (answer : Answered) → answer.retimed ≡ r → answer.keep ≡ keep
-    → answer.levels ≡ levels_reported task spelt.circuit → IsMapOf options spelt r answer.map → is_some answer.map ≡ is_some task.map → IsRetimedHeld options spelt.circuit r keep
-    → IsWritten options spelt old new r → IsAnswerTo task options spelt old new answer
-is_answer task options spelt old new r keep answer retimed same levels map has_map held w = record {
+    → answer.levels ≡ levels_reported task spelt.circuit → answer.spelling ≡ unwrap_or options.spelling spelt.spelling → IsMapOf spelt.circuit r answer.map → is_some answer.map ≡ is_some task.map
+    → IsRetimedHeld options spelt.circuit r keep → IsWritten options spelt old new r → IsAnswerTo task options spelt old new answer
+is_answer task options spelt old new r keep answer retimed same levels spelling map has_map held w = record {
   of = record {
     is = subst (IsAnswer options spelt) (sym retimed) w.answer;
     held = subst (λ (x : Retimed). IsRetimedHeld options spelt.circuit x answer.keep) (sym retimed) (subst (IsRetimedHeld options spelt.circuit r) (sym same) held);
     reads_back = λ within. subst (ReadsBack options spelt) (sym retimed) (w.reads_back within);
     levels_are = levels;
-    map_is = subst (λ (x : Retimed). IsMapOf options spelt x answer.map) (sym retimed) map;
+    spelling_is = spelling;
+    map_is = subst (λ (x : Retimed). IsMapOf spelt.circuit x answer.map) (sym retimed) map;
     has_map = has_map;
   };
   writes = subst (λ (x : Retimed). WritesAll old new (text_for options spelt x)) (sym retimed) w.writes;
 }
 
 -- an answer with its map is the answer of the run
-pub mapped_answer : (task : Retiming) (options : Options) (spelt : SpeltCircuit) (old new : Output) (mapped : Mapped) (answer : Answered) → answer.retimed ≡ mapped.retimed → answer.keep ≡ mapped.keep
-    → answer.levels ≡ levels_reported task spelt.circuit → answer.map ≡ Some mapped.map → is_some task.map ≡ true → IsMappedOf options spelt old new mapped → IsAnswerTo task options spelt old new answer
-mapped_answer task options spelt old new mapped answer retimed same levels made asked is =
-    let map = subst (λ (m : Option SpeltMap). IsMapOf options spelt mapped.retimed m) (sym made) (is.map, is.free, is.spelling) in
-    is_answer task options spelt old new mapped.retimed mapped.keep answer retimed same levels map (ap is_some made ∙ sym asked) is.held is.written
+pub mapped_answer : (task : Retiming) (options : Options) (spelt : SpeltCircuit) (old new : Output) (made : Made) (answer : Answered) → answer.retimed ≡ made.retimed → answer.keep ≡ made.keep
+    → answer.levels ≡ levels_reported task spelt.circuit → answer.spelling ≡ unwrap_or options.spelling spelt.spelling → answer.map ≡ Some made.map → is_some task.map ≡ true
+    → IsMappedOf options spelt old new made → IsAnswerTo task options spelt old new answer
+mapped_answer task options spelt old new made answer retimed same levels spelling map asked is =
+    let map_is = subst (λ (m : Option Netlist). IsMapOf spelt.circuit made.retimed m) (sym map) (is.mapped.map, is.mapped.free) in
+    is_answer task options spelt old new made.retimed made.keep answer retimed same levels spelling map_is (ap is_some map ∙ sym asked) is.mapped.held is.written
 
 -- what goes to no standard output leaves it as it was
-map_aside : (FileGiven : List ℕ → List ℕ → Type 0) (target : Option Target) (made : Option SpeltMap) (old new : Output) → writes_stdout target ≡ false → WritesMap FileGiven target made old new → new ≡ old
-map_aside FileGiven None made old new aside same = same
-map_aside FileGiven (Some target) None old new aside same = same
-map_aside FileGiven (Some target) (Some m) old new aside written = of_file FileGiven target old new (text_in m.spelling m.circuit) aside written
+map_aside : (FileGiven : List ℕ → List ℕ → Type 0) (target : Option Target) (spelling : Spelling) (made : Option Netlist) (old new : Output) → writes_stdout target ≡ false
+    → WritesMap FileGiven target spelling made old new → new ≡ old
+map_aside FileGiven None spelling made old new aside same = same
+map_aside FileGiven (Some target) spelling None old new aside same = same
+map_aside FileGiven (Some target) spelling (Some m) old new aside written = of_file FileGiven target old new (text_in spelling m) aside written
 
 certificates_aside : (FileGiven : List ℕ → List ℕ → Type 0) (target : Option Target) (text : List ℕ) (old new : Output) → writes_stdout target ≡ false → WritesCertificates FileGiven target text old new → new ≡ old
 certificates_aside FileGiven None text old new aside same = same
@@ -98,7 +103,7 @@ answers_pipe FileGiven task input old new answer pipe all =
     let beside = all.beside in
     let spells = made.read pipe.stdin in
     let same : new ≡ all.between = certificates_aside FileGiven task.certificates (blocks_text task answer.retimed) beside.between new pipe.alone beside.certificates_go
-    ∙ map_aside FileGiven task.map answer.map all.between beside.between pipe.map_aside beside.map_goes in
+    ∙ map_aside FileGiven task.map answer.spelling answer.map all.between beside.between pipe.map_aside beside.map_goes in
     subst (λ (s : Output). AnswersPipe task input old s answer.retimed answer.levels) (sym same) (record {
       options = made.options;
       are_options = made.are_options;
@@ -115,19 +120,11 @@ answers_pipe FileGiven task input old new answer pipe all =
       levels_are = at.of.levels_are;
     })
 
--- what is written beside the answer changes nothing of what is reported of it
-pub report_of : (FileGiven : List ℕ → List ℕ → Type 0) (task : Retiming) (input : Input) (old mid new : Output) (answer after : Answered) (r : Retimed) (held : List ℕ) (levels : ReadLevels) (counts : Option MapCounts)
-    → held ≡ after.keep → after.keep ≡ answer.keep → levels ≡ after.levels → after.levels ≡ answer.levels → r ≡ after.retimed → after.retimed ≡ answer.retimed
-    → counts ≡ option_map (λ (m : SpeltMap). counts_of m.circuit) after.map → after.map ≡ answer.map
-    → WritesAnswer FileGiven task input old mid answer → WritesBeside FileGiven task answer mid new → IsReportOf FileGiven task input old new r held levels counts
-report_of FileGiven task input old mid new answer after r held levels counts stand stood reported leveled same stays counted mapped circuit beside = record {
-  answer = answer;
-  retimed_is = same ∙ stays;
-  held_are = stand ∙ stood;
-  levels_are = reported ∙ leveled;
-  counts_are = subst (λ (m : Option SpeltMap). counts ≡ option_map (λ (x : SpeltMap). counts_of x.circuit) m) mapped counted;
-  written = record { between = mid; circuit = circuit; beside = beside };
-}
+-- what is written beside the answer leaves it as it was
+pub written_with : (FileGiven : List ℕ → List ℕ → Type 0) (task : Retiming) (input : Input) (old mid new : Output) (answer after : Answered) → after ≡ answer
+    → WritesAnswer FileGiven task input old mid answer → WritesBeside FileGiven task answer mid new → WritesRetiming FileGiven task input old new after
+written_with FileGiven task input old mid new answer after same circuit beside =
+    subst (WritesRetiming FileGiven task input old new) (sym same) (record { between = mid; circuit = circuit; beside = beside })
 
 -- neither the circuit nor the map nor the certificates went to standard output
 pub kept : (task : Retiming) (old mid new : Output) → (is_stdout task.output ≡ false → mid ≡ old)
@@ -151,30 +148,21 @@ if_ended : (result : Result Outcome Failure) (P : Result Outcome Failure → Typ
 if_ended (Ok ended) P p = p
 if_ended (Err failure) P p = tt
 
--- what is reported of it is printed
-pub prints_retiming : (FileGiven : List ℕ → List ℕ → Type 0) (task : Retiming) (is_terminal : Bool) (input : Input) (old mid new shown reported said : Output) (r : Retimed) (held : List ℕ) (levels : ReadLevels) (times : Option Times) (mapped : Option MapCounts) (result : Result Outcome Failure)
-    → IsReportOf FileGiven task input old mid r held levels mapped → (takes_stdout task ≡ true → EndsAside Done mid new result)
-    → (takes_stdout task ≡ true → SaysFrames task r held levels times mapped shown reported) → (takes_stdout task ≡ false → EndsPrintingFrames task.json task r held levels times mapped mid new result)
+-- it is printed
+pub prints_retiming : (FileGiven : List ℕ → List ℕ → Type 0) (task : Retiming) (is_terminal : Bool) (input : Input) (old mid new shown reported said : Output) (answer : Answered) (times : Option Times) (result : Result Outcome Failure)
+    → WritesRetiming FileGiven task input old mid answer → (takes_stdout task ≡ true → EndsAside Done mid new result)
+    → (takes_stdout task ≡ true → SaysFrames task answer times shown reported) → (takes_stdout task ≡ false → EndsPrintingFrames task.json task answer times mid new result)
     → (is_terminal ≡ false → said ≡ reported) → IfOk result (λ ended. PrintsRetiming FileGiven task is_terminal input old new said (Ok ended))
-prints_retiming FileGiven task is_terminal input old mid new shown reported said r held levels times mapped result of aside says frames still =
-    let answer = of.answer in
-    let counts = option_map (λ (m : SpeltMap). counts_of m.circuit) answer.map in
+prints_retiming FileGiven task is_terminal input old mid new shown reported said answer times result written aside says frames still =
     if_ended result (λ (r : Result Outcome Failure). PrintsRetiming FileGiven task is_terminal input old new said r) (record {
       answer = answer;
       times = times;
       between = mid;
-      written = of.written;
-      printed = λ free. subst (λ (m : Option MapCounts). EndsPrintingFrames task.json task answer.retimed answer.keep answer.levels times m mid new result) of.counts_are
-          (subst (λ (l : ReadLevels). EndsPrintingFrames task.json task answer.retimed answer.keep l times mapped mid new result) of.levels_are
-          (subst (λ (js : List ℕ). EndsPrintingFrames task.json task answer.retimed js levels times mapped mid new result) of.held_are
-          (subst (λ (x : Retimed). EndsPrintingFrames task.json task x held levels times mapped mid new result) of.retimed_is (frames free))));
+      written = written;
+      printed = frames;
       quiet = λ taken. stays_quiet mid mid new result (aside taken);
       shown = shown;
-      aside = λ taken quiet. subst (SaysFrames task answer.retimed answer.keep answer.levels times counts shown) (sym (still quiet))
-          (subst (λ (m : Option MapCounts). SaysFrames task answer.retimed answer.keep answer.levels times m shown reported) of.counts_are
-          (subst (λ (l : ReadLevels). SaysFrames task answer.retimed answer.keep l times mapped shown reported) of.levels_are
-          (subst (λ (js : List ℕ). SaysFrames task answer.retimed js levels times mapped shown reported) of.held_are
-          (subst (λ (x : Retimed). SaysFrames task x held levels times mapped shown reported) of.retimed_is (says taken)))));
+      aside = λ taken quiet. subst (SaysFrames task answer times shown) (sym (still quiet)) (says taken);
     })
 
 -- what holds anyway holds where a result is there
@@ -183,16 +171,15 @@ if_done (Ok x) P p = p
 if_done (Err e) P p = tt
 
 -- so a pipe has its answer
-pub writes_pipe : {T E : Type 0} (FileGiven : List ℕ → List ℕ → Type 0) (task : Retiming) (input : Input) (old mid new : Output) (r : Retimed) (held : List ℕ) (levels : ReadLevels) (mapped : Option MapCounts) (result : Result Outcome Failure) (ended : Result T E)
-    → IsReportOf FileGiven task input old mid r held levels mapped → (takes_stdout task ≡ true → EndsAside Done mid new result) → IfOk ended (λ x. IsPipe task → WritesPipe task input old new)
-writes_pipe FileGiven task input old mid new r held levels mapped result ended of aside =
-    let answer = of.answer in
+pub writes_pipe : {T E : Type 0} (FileGiven : List ℕ → List ℕ → Type 0) (task : Retiming) (input : Input) (old mid new : Output) (answer : Answered) (result : Result Outcome Failure) (ended : Result T E)
+    → WritesRetiming FileGiven task input old mid answer → (takes_stdout task ≡ true → EndsAside Done mid new result) → IfOk ended (λ x. IsPipe task → WritesPipe task input old new)
+writes_pipe FileGiven task input old mid new answer result ended written aside =
     let still : IsPipe task → new ≡ mid = λ pipe. stays_quiet mid mid new result (aside (pipe_takes_stdout task pipe)) in
     if_done ended (IsPipe task → WritesPipe task input old new)
     (λ pipe. record {
       retimed = answer.retimed;
       levels = answer.levels;
-      answers = subst (λ (s : Output). AnswersPipe task input old s answer.retimed answer.levels) (sym (still pipe)) (answers_pipe FileGiven task input old mid answer pipe of.written);
+      answers = subst (λ (s : Output). AnswersPipe task input old s answer.retimed answer.levels) (sym (still pipe)) (answers_pipe FileGiven task input old mid answer pipe written);
     })
 
 -- the frames are printed after the circuit and the certificates are written

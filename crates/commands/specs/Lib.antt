@@ -1,4 +1,5 @@
 pub mod RetimingTasks
+pub mod Classes
 pub mod OtherSpelling
 pub mod CertFiles
 pub mod Pipes

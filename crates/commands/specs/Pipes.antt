@@ -1,5 +1,5 @@
 -- What a retiming and a conversion write, and what is reported of it.
-use Rattle.std.specs.Prelude.{ℕ, ◌≡◌, Bool, true, false, List, Option, Some, None, Result, is_some, option_map, unwrap_or}
+use Rattle.std.specs.Prelude.{ℕ, ◌≡◌, Bool, true, false, List, Option, Some, None, Result, is_some, unwrap_or}
 use Rattle.counted_io.specs.Input.{Input}
 use Rattle.counted_io.specs.Output.{Output, WritesAll}
 use Rattle.aig_binary.specs.Spellings.{text_in}
@@ -7,12 +7,12 @@ use Rattle.ascii_file.specs.Laws.{IsWithinLimits}
 use Rattle.file_words.specs.declared.spelling.Spelling.{Spelling}
 use Rattle.aig_binary.specs.declared.reading.SpeltCircuit.{SpeltCircuit}
 use Rattle.aig_binary.specs.Ending.{Spells}
+use Rattle.aig_graph.specs.Circuits.{Netlist}
 use Rattle.state_maps.specs.MapCircuits.{FreeStay, IsMapCircuit}
 use Rattle.retimed_circuits.specs.declared.report.Retimed.{Retimed}
 use Rattle.frames.specs.Answering.{IsAnswer, IsAnswered, ReadsBack, text_for}
 use Rattle.frames.specs.Retiming.{IsRetimedHeld}
 use Rattle.frames.specs.declared.options.Options.{Options}
-use Rattle.mapped_answers.specs.declared.mapped.SpeltMap.{SpeltMap}
 use Rattle.counted_io.specs.Streams.{is_stdin, is_stdout}
 use Rattle.counted_io.specs.declared.source.Source.{Source}
 use Rattle.counted_io.specs.declared.target.Target.{Target}
@@ -21,13 +21,13 @@ use Rattle.command_line.specs.declared.task.Retiming.{Retiming}
 use Rattle.commands.specs.OtherSpelling.{spelling_for}
 use Rattle.certificates.specs.Texts.{file_text as certificates_text}
 use Rattle.json_reports.specs.declared.times.Times.{Times}
-use Rattle.json_reports.specs.declared.counts.MapCounts.{MapCounts}
 use Rattle.json_reports.specs.declared.counts.ReadLevels.{ReadLevels}
 use Rattle.circuit_files.specs.WrittenFiles.{IsTargetGiven}
 use Rattle.circuit_files.specs.declared.outcome.Outcome.{Outcome}
 use Rattle.circuit_files.specs.declared.outcome.Failure.{Failure}
 use Rattle.commands.specs.CertFiles.{file_of}
-use Rattle.commands.specs.RetimingTasks.{AreOptionsFor, EndsPrintingFrames, SaysFrames, counts_of, levels_reported}
+use Rattle.commands.specs.Classes.{AreClassesAt}
+use Rattle.commands.specs.RetimingTasks.{AreOptionsFor, EndsPrintingFrames, SaysFrames, levels_reported}
 use Rattle.commands.specs.declared.answer.Answer.{Answer}
 
 -- a retiming from standard input to standard output, which gets the circuit alone
@@ -38,10 +38,10 @@ pub record IsPipe (task : Retiming) : Type 0 where
   pub map_aside : writes_stdout task.map ≡ false
 
 -- A map, if there is one, is that of the run: from the circuit that was read to the one that is
--- written. The free latches of the latter stay, and it is in its spelling.
-abbrev pub IsMapOf : Options → SpeltCircuit → Retimed → Option SpeltMap → Type 0
-IsMapOf options spelt r None = Unit {0}
-IsMapOf options spelt r (Some m) = IsMapCircuit spelt.circuit r.circuit r.kept_free m.circuit × FreeStay spelt.circuit r.circuit m.circuit × (m.spelling ≡ unwrap_or options.spelling spelt.spelling)
+-- written. The free latches of the latter stay.
+abbrev pub IsMapOf : Netlist → Retimed → Option Netlist → Type 0
+IsMapOf c r None = Unit {0}
+IsMapOf c r (Some m) = IsMapCircuit c r.circuit r.kept_free m × FreeStay c r.circuit m
 
 -- Of a circuit that was read, this is the answer by the options, which is read back. Its held
 -- latches are at `keep`, and the levels of the circuit that was read are reported. Its map is made
@@ -51,7 +51,8 @@ pub record IsAnswerOf (task : Retiming) (options : Options) (spelt : SpeltCircui
   pub held : IsRetimedHeld options spelt.circuit answer.retimed answer.keep
   pub reads_back : IsWithinLimits spelt.circuit → ReadsBack options spelt answer.retimed
   pub levels_are : answer.levels ≡ levels_reported task spelt.circuit
-  pub map_is : IsMapOf options spelt answer.retimed answer.map
+  pub spelling_is : answer.spelling ≡ unwrap_or options.spelling spelt.spelling
+  pub map_is : IsMapOf spelt.circuit answer.retimed answer.map
   pub has_map : is_some answer.map ≡ is_some task.map
 
 -- it was written, and nothing else
@@ -64,20 +65,24 @@ pub record IsAnswerAt (FileGiven : List ℕ → List ℕ → Type 0) (task : Ret
   pub of : IsAnswerOf task options spelt answer
   pub writes : IsTargetGiven FileGiven task.output old new (text_for options spelt answer.retimed)
 
--- so was the answer, by the options of the task, of what it reads: of standard input, of the bytes
--- that were left
+-- So was the answer, by the options of the task, of what it reads: of standard input, of the bytes
+-- that were left. Merged latches that are given are read after the circuit.
 pub record WritesAnswer (FileGiven : List ℕ → List ℕ → Type 0) (task : Retiming) (input : Input) (old new : Output) (answer : Answer) : Type 0 where
   pub options : Options
   pub are_options : AreOptionsFor task options
   pub spelt : SpeltCircuit
   pub read : is_stdin task.input ≡ true → Spells input spelt
+  pub between : Input
+  pub still : is_stdin task.input ≡ false → between ≡ input
+  pub left : Input
+  pub classes_are : AreClassesAt task.classes between left options.classes
   pub at : IsAnswerAt FileGiven task options spelt old new answer
 
 -- a map was written to this, if that is asked for
-abbrev pub WritesMap : (List ℕ → List ℕ → Type 0) → Option Target → Option SpeltMap → Output → Output → Type 0
-WritesMap FileGiven (Some target) (Some m) old new = IsTargetGiven FileGiven target old new (text_in m.spelling m.circuit)
-WritesMap FileGiven (Some target) None old new = new ≡ old
-WritesMap FileGiven None made old new = new ≡ old
+abbrev pub WritesMap : (List ℕ → List ℕ → Type 0) → Option Target → Spelling → Option Netlist → Output → Output → Type 0
+WritesMap FileGiven (Some target) spelling (Some m) old new = IsTargetGiven FileGiven target old new (text_in spelling m)
+WritesMap FileGiven (Some target) spelling None old new = new ≡ old
+WritesMap FileGiven None spelling made old new = new ≡ old
 
 -- the text of a retiming's certificates, with the latches that were merged, if they were to be
 abbrev pub blocks_text : Retiming → Retimed → List ℕ
@@ -91,7 +96,7 @@ WritesCertificates FileGiven None text old new = new ≡ old
 -- the map of an answer was written, and then its certificates
 pub record WritesBeside (FileGiven : List ℕ → List ℕ → Type 0) (task : Retiming) (answer : Answer) (old new : Output) : Type 0 where
   pub between : Output
-  pub map_goes : WritesMap FileGiven task.map answer.map old between
+  pub map_goes : WritesMap FileGiven task.map answer.spelling answer.map old between
   pub certificates_go : WritesCertificates FileGiven task.certificates (blocks_text task answer.retimed) between new
 
 -- all that a retiming writes was written: the answer of what the task reads, its map, and its
@@ -101,15 +106,6 @@ pub record WritesRetiming (FileGiven : List ℕ → List ℕ → Type 0) (task :
   pub circuit : WritesAnswer FileGiven task input old between answer
   pub beside : WritesBeside FileGiven task answer between new
 
--- r is reported of an answer whose parts were all written, and so is its map
-pub record IsReportOf (FileGiven : List ℕ → List ℕ → Type 0) (task : Retiming) (input : Input) (old new : Output) (r : Retimed) (held : List ℕ) (levels : ReadLevels) (mapped : Option MapCounts) : Type 0 where
-  pub answer : Answer
-  pub retimed_is : r ≡ answer.retimed
-  pub held_are : held ≡ answer.keep
-  pub levels_are : levels ≡ answer.levels
-  pub counts_are : mapped ≡ option_map (λ (m : SpeltMap). counts_of m.circuit) answer.map
-  pub written : WritesRetiming FileGiven task input old new answer
-
 -- The answer of what the task reads was written with all that is asked for, and then it was
 -- printed. It was printed on standard output, or if a circuit, a map or certificates went there, on
 -- standard error. A terminal is told more.
@@ -118,10 +114,10 @@ pub record PrintsRetiming (FileGiven : List ℕ → List ℕ → Type 0) (task :
   pub times : Option Times
   pub between : Output
   pub written : WritesRetiming FileGiven task input old between answer
-  pub printed : takes_stdout task ≡ false → EndsPrintingFrames task.json task answer.retimed answer.keep answer.levels times (option_map (λ (m : SpeltMap). counts_of m.circuit) answer.map) between new result
+  pub printed : takes_stdout task ≡ false → EndsPrintingFrames task.json task answer times between new result
   pub quiet : takes_stdout task ≡ true → new ≡ between
   pub shown : Output
-  pub aside : takes_stdout task ≡ true → is_terminal ≡ false → SaysFrames task answer.retimed answer.keep answer.levels times (option_map (λ (m : SpeltMap). counts_of m.circuit) answer.map) shown said
+  pub aside : takes_stdout task ≡ true → is_terminal ≡ false → SaysFrames task answer times shown said
 
 -- The answer by the options of the task was written, and nothing else. It is of the bytes that
 -- standard input had left. The levels are those of the circuit of the bytes.

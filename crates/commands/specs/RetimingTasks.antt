@@ -1,5 +1,5 @@
 -- What the task of a retiming makes of its options, of an error, and of a retiming.
-use Rattle.std.specs.Prelude.{ℕ, ◌≡◌, ◌||◌, Bool, true, false, List, Option, Some, None, Result, is_some, map, length, nat_lt, slice_get, if◌then◌else◌}
+use Rattle.std.specs.Prelude.{ℕ, ◌≡◌, ◌||◌, Bool, true, false, List, Option, Some, None, Result, is_some, option_map, map, length, nat_lt, slice_get, unwrap_or, if◌then◌else◌}
 use Rattle.std.specs.Borrow.{Bor}
 use Rattle.aig_graph.specs.Circuits.{Netlist}
 use Rattle.counted_io.specs.Streams.{target_name}
@@ -12,7 +12,7 @@ use Rattle.mapped_answers.specs.declared.errors.AnswerError.TheVariants.{Bytes, 
 use Rattle.frames.specs.declared.errors.BytesError.{BytesError}
 use Rattle.frames.specs.declared.errors.BytesError.TheVariants.{Read, Retime, Write}
 use Rattle.frames.specs.declared.errors.RetimeError.{RetimeError}
-use Rattle.frames.specs.declared.errors.RetimeError.TheVariants.{NoMemory, NoSuchLatch, NoSuchName}
+use Rattle.frames.specs.declared.errors.RetimeError.TheVariants.{Misread, NoMemory, NoSuchLatch, NoSuchName, NotShown}
 use Rattle.counted_io.specs.Output.{Output}
 use Rattle.retimed_circuits.specs.declared.report.Retimed.{Retimed}
 use Rattle.path_levels.specs.Levels.{levels}
@@ -34,22 +34,29 @@ use Rattle.command_endings.specs.RunOptions.{AreOptionsOf}
 use Rattle.command_endings.specs.Printing.{EndsPrinting}
 use Rattle.frames.specs.Bounds.{bound_for}
 use Rattle.frames.specs.declared.options.Options.{Options}
+use Rattle.commands.specs.declared.answer.Answer.{Answer}
 
 -- the options of a run are the task's, which makes certificates if they are asked for
 abbrev pub AreOptionsFor : Retiming → Options → Type 0
 AreOptionsFor task options = AreOptionsOf task.options task.options.frames (is_some task.certificates) options
 
+-- what the merged latches are read of, if they are given, else the circuit
+abbrev pub classes_source : Retiming → Source
+classes_source task = unwrap_or task.classes task.input
+
 -- The failure that an error of a run is, of a circuit in which the options hold latches. One of
--- them is that of no latch, or there is no memory.
-abbrev pub IsFailureOfRun : Source → RetimingOptions → RetimeError → Failure → Type 0
-IsFailureOfRun source options NoMemory failure = failure ≡ fails.Memory
-IsFailureOfRun source options (NoSuchName number) failure = (name : Bor (List ℕ)) → slice_get options.keep.items number ≡ Some name → OfSource source (λ path. failure ≡ fails.NoSuchName path name)
-IsFailureOfRun source options (NoSuchLatch number) failure = (position : ℕ) → slice_get options.keep_latches.items number ≡ Some position → OfSource source (λ path. failure ≡ fails.NoSuchLatch path position)
+-- them is that of no latch, or there is no memory, or latches aren't merged as the classes say.
+abbrev pub IsFailureOfRun : Source → Source → RetimingOptions → RetimeError → Failure → Type 0
+IsFailureOfRun source classes options NoMemory failure = failure ≡ fails.Memory
+IsFailureOfRun source classes options (NoSuchName number) failure = (name : Bor (List ℕ)) → slice_get options.keep.items number ≡ Some name → OfSource source (λ path. failure ≡ fails.NoSuchName path name)
+IsFailureOfRun source classes options (NoSuchLatch number) failure = (position : ℕ) → slice_get options.keep_latches.items number ≡ Some position → OfSource source (λ path. failure ≡ fails.NoSuchLatch path position)
+IsFailureOfRun source classes options (Misread latch) failure = OfSource classes (λ path. failure ≡ fails.Misread path latch)
+IsFailureOfRun source classes options (NotShown latch) failure = OfSource classes (λ path. failure ≡ fails.NotShown path latch)
 
 -- the failure that an error is: of what is read, of the run, or of what is written
 abbrev pub IsFailureOf : Retiming → BytesError → Failure → Type 0
 IsFailureOf task (Read error) failure = OfSource task.input (λ path. failure ≡ failure_of_reading error path)
-IsFailureOf task (Retime error) failure = IsFailureOfRun task.input task.options error failure
+IsFailureOf task (Retime error) failure = IsFailureOfRun task.input (classes_source task) task.options error failure
 IsFailureOf task (Write error) failure = (name : Bor (List ℕ)) × (name.now ≡ target_name task.output) × (failure ≡ fails.Device name)
 
 -- the failure that an error of a run with a map is; a map that is too large is refused
@@ -75,12 +82,12 @@ levels_reported task c = record { counted = if task.json then Some (levels c) el
 abbrev pub counts_of : Netlist → MapCounts
 counts_of m = record { gates = length m.aig.gates; constraints = length m.props.constraints }
 
--- how printing a retiming ends, as an object of JSON if that is asked for, else in lines
-abbrev pub EndsPrintingFrames : Bool → Retiming → Retimed → List ℕ → ReadLevels → Option Times → Option MapCounts → Output → Output → Result Outcome Failure → Type 0
-EndsPrintingFrames true task r held levels times mapped old new result = EndsPrintingObject Done (retiming_data r levels (remaining_of task levels.bound r held) times mapped) old new result
-EndsPrintingFrames false task r held levels times mapped old new result = EndsPrinting Done (retiming_text r) old new result
+-- how printing an answer ends, as an object of JSON if that is asked for, else in lines
+abbrev pub EndsPrintingFrames : Bool → Retiming → Answer → Option Times → Output → Output → Result Outcome Failure → Type 0
+EndsPrintingFrames true task a times old new result = EndsPrintingObject Done (retiming_data a.retimed a.levels (remaining_of task a.levels.bound a.retimed a.keep) times (option_map counts_of a.map)) old new result
+EndsPrintingFrames false task a times old new result = EndsPrinting Done (retiming_text a.retimed) old new result
 
 -- it was printed so, and nobody asks how that ended
-pub record SaysFrames (task : Retiming) (r : Retimed) (held : List ℕ) (levels : ReadLevels) (times : Option Times) (mapped : Option MapCounts) (old new : Output) : Type 0 where
+pub record SaysFrames (task : Retiming) (a : Answer) (times : Option Times) (old new : Output) : Type 0 where
   pub ended : Result Outcome Failure
-  pub prints : EndsPrintingFrames task.json task r held levels times mapped old new ended
+  pub prints : EndsPrintingFrames task.json task a times old new ended

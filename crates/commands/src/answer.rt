@@ -1,6 +1,6 @@
 //! The answer of `retime`: the circuit that is read, retimed and written, with a map of states if
 //! one is asked for.
-ghost use Rattle.std.specs.Prelude.{◌≡◌, ◌<◌, ◌≤◌, true, false, IfErr, IfOk, None, OnOk, Some, option_map};
+ghost use Rattle.std.specs.Prelude.{◌≡◌, ◌<◌, ◌≤◌, false, IfErr, IfOk, None, OnOk, Some, option_map};
 ghost use Rattle.aig_binary.specs.Spellings.{text_in};
 ghost use Rattle.counted_io.specs.Streams.{is_stdout, target_name};
 ghost use Rattle.counted_io.specs.declared.target.Target.{Target};
@@ -12,6 +12,7 @@ ghost use Rattle.circuit_files.specs.WrittenFiles.{IsFileGiven, IsTargetGiven};
 ghost use Rattle.command_line.specs.StreamUses.{writes_stdout};
 ghost use Rattle.command_endings.specs.Printing.{Prints};
 ghost use Rattle.commands.specs.Pipes.{IsAnswerTo, WritesMap};
+ghost use Rattle.commands.specs.RetimingTasks as wanted;
 ghost use Rattle.commands.specs.RetimingTasks.{AreOptionsFor, HasFailed, IsFailureOf, IsFailureOfRun, IsMapFailureOf, counts_of, levels_reported};
 
 use aig_binary::{Spelling, SpeltCircuit};
@@ -23,7 +24,7 @@ use counted_io::{CountedWrite, Source, Target, WriteError};
 use file_words::ReadError;
 use frames::{BytesError, FrameWatcher, NoFollower, Options, RetimeError, Retimed, Run, run_spelt};
 use json_reports::{MapCounts, ReadLevels};
-use mapped_answers::{AnswerError, Mapped, SpeltMap, retime_spelt_mapped, write_state_map};
+use mapped_answers::{AnswerError, Made, StateMap, retime_spelt_mapped, write_state_map};
 use path_levels::levels;
 use pulse::{Crew, OpenGate};
 use std::alloc::Global;
@@ -33,16 +34,17 @@ use std::thread::Threads;
 const MOST_WORKERS: u32 = 64;
 
 /// A retiming whose circuit is written.
-///
-/// It has the held latches of that circuit. It has the levels and the spelling of the circuit that
-/// was read, and the map if one is asked for.
 #[derive(Drop)]
 pub(crate) struct Answer {
     pub retimed: Retimed,
+    /// The held latches of the written circuit.
     pub keep: Keep,
+    /// The levels of the circuit that was read.
     pub levels: ReadLevels,
+    /// The spelling of the written circuit, and of the map.
     pub spelling: Spelling,
-    pub map: Option<SpeltMap>,
+    /// The map, if one is asked for.
+    pub map: Option<StateMap>,
 }
 
 fn crew(task: &Retiming<'_>) -> Crew<OpenGate>
@@ -51,19 +53,33 @@ fn crew(task: &Retiming<'_>) -> Crew<OpenGate>
     Crew::new(task.workers.clamp(1, MOST_WORKERS), OpenGate)
 }
 
-/// Returns the failure for an error of a run, with the name that it is about.
+/// Returns the failure for an error of a run, with the name that it is about. `classes` is what the
+/// merged latches were read of, if they were given.
 pub(crate) fn failure_of_run<'a>(
     error: RetimeError,
     input: Source<'a>,
+    classes: Source<'a>,
     options: &RetimingOptions<'a>,
 ) -> Failure<'a>
-    ensures { IsFailureOfRun input.entry options.now error result }
+    ensures { IsFailureOfRun input.entry classes.entry options.now error result }
 {
     let (names, positions) = (options.keep.as_slice(), options.keep_latches.as_slice());
     match error {
         RetimeError::NoMemory => Failure::Memory,
         RetimeError::NoSuchName(place) => missing_name(input.name(), names, place),
         RetimeError::NoSuchLatch(number) => missing_latch(input.name(), positions, number),
+        RetimeError::Misread(latch) => Failure::Misread(classes.name(), latch),
+        RetimeError::NotShown(latch) => Failure::NotShown(classes.name(), latch),
+    }
+}
+
+/// Returns what the merged latches are read of, if they are given, else the circuit.
+fn classes_source<'a>(task: &Retiming<'a>) -> Source<'a>
+    ensures { result ≡ wanted.classes_source task.now }
+{
+    match task.classes {
+        Some(classes) => classes,
+        None => task.input,
     }
 }
 
@@ -73,7 +89,9 @@ fn failure_of<'a>(error: BytesError, task: &Retiming<'a>) -> Failure<'a>
 {
     match error {
         BytesError::Read(error) => Failure::of_reading(error, task.input.name()),
-        BytesError::Retime(error) => failure_of_run(error, task.input, &task.options),
+        BytesError::Retime(error) => {
+            failure_of_run(error, task.input, classes_source(task), &task.options)
+        }
         BytesError::Write(_) => Failure::Device(task.output.name()),
     }
 }
@@ -156,7 +174,7 @@ fn mapped_to<R: Threads + Sync, W: CountedWrite, V: FrameWatcher>(
     spelt: SpeltCircuit,
     writer: &mut W,
     watcher: &mut V,
-) -> Result<Mapped, AnswerError>
+) -> Result<Made, AnswerError>
     ensures ok { IfOk result (IsMappedOf options.now spelt (W.output writer.old)
         (W.output writer.new)) }
     ensures err { IfErr result (IsMappingStop options.now spelt (W.output writer.old)
@@ -171,6 +189,7 @@ fn plain_answer(run: Run<NoFollower>, levels: ReadLevels, spelling: Spelling) ->
     ensures retimed { result.retimed ≡ run.retimed }
     ensures keep { result.keep ≡ run.keep }
     ensures levels { result.levels ≡ levels }
+    ensures spelling { result.spelling ≡ spelling }
     ensures map { result.map ≡ None }
 {
     let Run { retimed, keep, .. } = run;
@@ -184,13 +203,14 @@ fn plain_answer(run: Run<NoFollower>, levels: ReadLevels, spelling: Spelling) ->
 }
 
 /// Makes an answer of a retiming with its map.
-fn mapped_answer(mapped: Mapped, levels: ReadLevels, spelling: Spelling) -> Answer
-    ensures retimed { result.retimed ≡ mapped.retimed }
-    ensures keep { result.keep ≡ mapped.keep }
+fn mapped_answer(made: Made, levels: ReadLevels, spelling: Spelling) -> Answer
+    ensures retimed { result.retimed ≡ made.retimed }
+    ensures keep { result.keep ≡ made.keep }
     ensures levels { result.levels ≡ levels }
-    ensures map { result.map ≡ Some mapped.map }
+    ensures spelling { result.spelling ≡ spelling }
+    ensures map { result.map ≡ Some made.map }
 {
-    let Mapped { retimed, keep, map } = mapped;
+    let Made { retimed, keep, map } = made;
     Answer {
         retimed,
         keep,
@@ -202,12 +222,12 @@ fn mapped_answer(mapped: Mapped, levels: ReadLevels, spelling: Spelling) -> Answ
 
 /// Counts the gates and constraints of the map, if there is one.
 pub(crate) fn map_counts(answer: &Answer) -> Option<MapCounts>
-    ensures { result ≡ option_map (λ map. counts_of map.circuit) answer.now.map }
+    ensures { result ≡ option_map counts_of answer.now.map }
 {
     match &answer.map {
         Some(map) => Some(MapCounts {
-            gates: u64::from(map.circuit.gates().count()),
-            constraints: map.circuit.props().constraints.len() as u64,
+            gates: u64::from(map.gates().count()),
+            constraints: map.props().constraints.len() as u64,
         }),
         None => None,
     }
@@ -234,10 +254,10 @@ pub(crate) fn retime_to<'a, R: Threads + Sync, W: CountedWrite, V: FrameWatcher>
         drop(spelt);
         return Err(Failure::Memory);
     };
-    let spelling = spelt.spelling;
+    let spelling = options.spelling.unwrap_or(spelt.spelling);
     match task.map {
         Some(_) => match mapped_to(rt, alloc, task, options, spelt, writer, watcher) {
-            Ok(mapped) => Ok(mapped_answer(mapped, levels, spelling)),
+            Ok(made) => Ok(mapped_answer(made, levels, spelling)),
             Err(error) => Err(failure_of_mapping(error, task)),
         },
         None => match plain_to(rt, alloc, task, options, spelt, writer, watcher) {
@@ -250,19 +270,20 @@ pub(crate) fn retime_to<'a, R: Threads + Sync, W: CountedWrite, V: FrameWatcher>
 /// Writes a map to `target`.
 fn write_map<R: OutputFiles, O: CountedWrite>(
     rt: &R,
-    map: &SpeltMap,
+    map: &StateMap,
+    spelling: Spelling,
     target: Target<'_>,
     out: &mut O,
 ) -> Result<(), WriteError>
     ensures given { OnOk result (IsTargetGiven (IsFileGiven R.Output.contents R.is_made R.is_let_go) target.entry
-        (O.output out.old) (O.output out.new) (text_in map.now.spelling map.now.circuit)) }
+        (O.output out.old) (O.output out.new) (text_in spelling map.now)) }
     ensures file { is_stdout target.entry ≡ false → O.output out.new ≡ O.output out.old }
 {
     match target {
-        Target::Stdout => write_state_map(&map.circuit, map.spelling, out),
+        Target::Stdout => write_state_map(map, spelling, out),
         Target::File(path) => {
             let mut writer = file_at(rt, path);
-            let written = write_state_map(&map.circuit, map.spelling, &mut writer);
+            let written = write_state_map(map, spelling, &mut writer);
             close(writer);
             written
         }
@@ -277,7 +298,7 @@ pub(crate) fn map_written<'a, R: OutputFiles, O: CountedWrite>(
     out: &mut O,
 ) -> Result<(), Failure<'a>>
     ensures written { OnOk result (WritesMap (IsFileGiven R.Output.contents R.is_made R.is_let_go) task.now.map
-        answer.now.map (O.output out.old) (O.output out.new)) }
+        answer.now.spelling answer.now.map (O.output out.old) (O.output out.new)) }
     ensures file { writes_stdout task.now.map ≡ false → O.output out.new ≡ O.output out.old }
     ensures err { IfErr result (HasFailed task.now.map) }
 {
@@ -287,7 +308,7 @@ pub(crate) fn map_written<'a, R: OutputFiles, O: CountedWrite>(
     let Some(map) = &answer.map else {
         return Ok(());
     };
-    match write_map(rt, map, target, out) {
+    match write_map(rt, map, answer.spelling, target, out) {
         Ok(()) => Ok(()),
         Err(_) => Err(Failure::Device(target.name())),
     }

@@ -1,6 +1,6 @@
 //! The check that a circuit can be drawn as asked: around a node with a name, or as a whole that
 //! isn't too large.
-ghost use Rattle.std.specs.Prelude.{◌≡◌, ◌<◌, ◌↔◌, IsTrue, None, Some, MatchOption, MatchResult};
+ghost use Rattle.std.specs.Prelude.{◌≡◌, ◌<◌, ◌↔◌, IsTrue, None, Some, MatchResult};
 ghost use Rattle.commands.specs.Drawings.{CanBeDrawn, IsRefusal};
 ghost use Rattle.commands.specs.Drawings as wanted;
 

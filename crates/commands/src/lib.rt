@@ -5,6 +5,7 @@
 #![tactic(auto)]
 
 mod answer;
+mod classes;
 mod conversion;
 mod drawable;
 mod drawing;

@@ -1,5 +1,5 @@
 //! The command `retime`.
-ghost use Rattle.std.specs.Prelude.{◌≡◌, ◌⊎◌, true, false, IfErr, IfOk, Ok, OnOk, option_map};
+ghost use Rattle.std.specs.Prelude.{◌≡◌, ◌⊎◌, true, false, IfErr, IfOk, Ok, OnOk};
 ghost use Rattle.certificates.specs.Texts.{file_text};
 ghost use Rattle.counted_io.specs.Streams.{is_stdout};
 ghost use Rattle.command_line.specs.StreamUses.{takes_stdout, writes_stdout};
@@ -7,14 +7,15 @@ ghost use Rattle.circuit_files.specs.Outcomes.{outcome_of};
 ghost use Rattle.circuit_files.specs.WrittenFiles.{IsFileGiven, IsTargetGiven};
 ghost use Rattle.circuit_files.specs.declared.outcome.Outcome.TheVariants.{Done};
 ghost use Rattle.commands.specs.CertFiles.{file_of, with_file, without_file};
-ghost use Rattle.commands.specs.Pipes.{IsAnswerAt, IsPipe, IsReportOf, PrintsRetiming, WritesAnswer, WritesBeside, WritesCertificates, WritesPipe, blocks_text};
+ghost use Rattle.commands.specs.Pipes.{IsAnswerAt, IsPipe, PrintsRetiming, WritesAnswer, WritesBeside, WritesCertificates, WritesPipe, WritesRetiming, blocks_text};
 ghost use Rattle.command_endings.specs.Printing.{EndsAside, Prints, ending};
-ghost use Rattle.commands.specs.RetimingTasks.{AreOptionsFor, EndsPrintingFrames, HasFailed, SaysFrames, counts_of, remaining_of};
+ghost use Rattle.commands.specs.RetimingTasks.{AreOptionsFor, EndsPrintingFrames, HasFailed, SaysFrames, remaining_of};
 ghost use Rattle.command_line.specs.declared.task.Shown.TheVariants.{Nothing};
 
 use crate::answer::{Answer, map_counts, map_written, retime_to};
-use aig_binary::{Spelling, SpeltCircuit};
-use aig_graph::{Keep, NoMemory, Sequence};
+use crate::classes::{classes_at, with_classes};
+use aig_binary::SpeltCircuit;
+use aig_graph::{NoMemory, Sequence};
 use certificates::{CertFile, Choice, write_cert};
 use circuit_files::{Failure, Outcome, OutputFiles, circuit_at, close, file_at};
 use command_endings::{Progress, ended, run_options};
@@ -22,7 +23,7 @@ use command_line::{Retiming, Shown};
 use counted_io::{CountedRead, CountedWrite, Streams, Target, WriteError};
 use frames::{FrameWatcher, Options, Retimed};
 use hold_counts::{Holding, print_holding};
-use json_reports::{MapCounts, ReadLevels, Times};
+use json_reports::Times;
 use reports::{Remaining, print_remaining, print_retiming};
 use std::alloc::Global;
 use std::mem;
@@ -58,7 +59,8 @@ fn retime_by<'a, R: OutputFiles + Threads + Sync, O: CountedWrite, V: FrameWatch
     }
 }
 
-/// Reads the circuit of the task, retimes it, and writes it to the target of the task.
+/// Reads the circuit of the task and the merged latches that are given. Retimes the circuit by
+/// `options` with these, and writes it to the target of the task.
 fn retime_read<
     'a,
     R: Files + OutputFiles + Threads + Sync,
@@ -69,12 +71,12 @@ fn retime_read<
     rt: &R,
     alloc: Global,
     task: &Retiming<'a>,
-    options: &Options,
+    options: Options,
     stdin: &mut I,
     out: &mut O,
     watcher: &mut V,
 ) -> Result<Answer, Failure<'a>>
-    requires { AreOptionsFor task.now options.now }
+    requires { AreOptionsFor task.now options }
     ensures answer { IfOk result (WritesAnswer (IsFileGiven R.Output.contents R.is_made R.is_let_go) task.now
         (I.input stdin.old) (O.output out.old) (O.output out.new)) }
     ensures file { is_stdout task.now.output ≡ false → O.output out.new ≡ O.output out.old }
@@ -82,7 +84,16 @@ fn retime_read<
         (O.output out.new)) }
 {
     match circuit_at(rt, alloc, task.input, stdin) {
-        Ok(spelt) => retime_by(rt, alloc, task, options, spelt, out, watcher),
+        Ok(spelt) => match classes_at(rt, alloc, task, stdin) {
+            Ok(classes) => {
+                let options = with_classes(options, classes);
+                retime_by(rt, alloc, task, &options, spelt, out, watcher)
+            }
+            Err(failure) => {
+                drop(spelt);
+                Err(failure)
+            }
+        },
         Err(failure) => Err(failure),
     }
 }
@@ -109,7 +120,7 @@ fn retimed<
 {
     let asked = &task.options;
     match run_options(alloc, asked, asked.frames, task.certificates.is_some()) {
-        Ok(options) => retime_read(rt, alloc, task, &options, stdin, out, watcher),
+        Ok(options) => retime_read(rt, alloc, task, options, stdin, out, watcher),
         Err(_) => Err(Failure::Memory),
     }
 }
@@ -198,53 +209,18 @@ fn write_beside<'a, R: OutputFiles, O: CountedWrite>(
         answer.old (O.output out.old) (O.output out.new)) }
     ensures file { writes_stdout task.now.map ≡ false → writes_stdout task.now.certificates
         ≡ false → O.output out.new ≡ O.output out.old }
-    ensures retimed { answer.new.retimed ≡ answer.old.retimed }
-    ensures keep { answer.new.keep ≡ answer.old.keep }
-    ensures levels { answer.new.levels ≡ answer.old.levels }
-    ensures map { answer.new.map ≡ answer.old.map }
+    ensures answer { answer.new ≡ answer.old }
     ensures err { IfErr result (λ failure. HasFailed task.now.map failure ⊎ HasFailed task.now.certificates failure) }
 {
     map_written(rt, task, answer, out)?;
     certify(rt, alloc, task, &mut answer.retimed, out)
 }
 
-/// The parts of a finished run that [`print_frames`] needs.
-///
-/// `levels` and `spelling` are those of the circuit that was read. `times` has how long each part
-/// took, if that was measured, and `map` the counts of the map, if one is written.
+/// An answer that was written, and how long each part took, if that was measured.
 #[derive(Drop)]
 struct Timed {
-    retimed: Retimed,
-    keep: Keep,
-    levels: ReadLevels,
-    spelling: Spelling,
+    answer: Answer,
     times: Option<Times>,
-    map: Option<MapCounts>,
-}
-
-/// Returns the parts of an answer that are printed, with the times of the run.
-fn with_times(answer: Answer, times: Option<Times>) -> Timed
-    ensures retimed { result.retimed ≡ answer.retimed }
-    ensures keep { result.keep ≡ answer.keep }
-    ensures levels { result.levels ≡ answer.levels }
-    ensures map { result.map ≡ option_map (λ map. counts_of map.circuit) answer.map }
-{
-    let map = map_counts(&answer);
-    let Answer {
-        retimed,
-        keep,
-        levels,
-        spelling,
-        ..
-    } = answer;
-    Timed {
-        retimed,
-        keep,
-        levels,
-        spelling,
-        times,
-        map,
-    }
 }
 
 /// Retimes the circuit and writes it, and then the map and the certificates. Shows progress on
@@ -261,9 +237,8 @@ fn certified<
     task: &Retiming<'a>,
     streams: &mut Streams<I, O, E>,
 ) -> Result<Timed, Failure<'a>>
-    ensures reported { IfOk result (λ timed. IsReportOf (IsFileGiven R.Output.contents R.is_made R.is_let_go) task.now
-        (I.input streams.old.stdin) (O.output streams.old.out) (O.output streams.new.out) timed.retimed timed.keep
-        timed.levels timed.map) }
+    ensures written { IfOk result (λ timed. WritesRetiming (IsFileGiven R.Output.contents R.is_made R.is_let_go) task.now
+        (I.input streams.old.stdin) (O.output streams.old.out) (O.output streams.new.out) timed.answer) }
     ensures file { takes_stdout task.now ≡ false → O.output streams.new.out ≡ O.output streams.old.out }
     ensures prints { IfErr result (λ failure. Prints (outcome_of failure) (O.output streams.old.out)
         (O.output streams.new.out)) }
@@ -294,7 +269,7 @@ fn certified<
         }
     };
     match write_beside(rt, alloc, task, &mut answer, &mut streams.out) {
-        Ok(()) => Ok(with_times(answer, times)),
+        Ok(()) => Ok(Timed { answer, times }),
         Err(failure) => {
             drop(answer);
             drop(times);
@@ -304,16 +279,16 @@ fn certified<
 }
 
 /// Counts the circuit that the retiming leaves, and why its latches don't move.
-fn remaining(alloc: Global, task: &Retiming<'_>, timed: &Timed) -> Result<Remaining, NoMemory>
-    ensures { IfOk result (λ left. left ≡ remaining_of task.now timed.now.levels.bound
-        timed.now.retimed timed.now.keep) }
+fn remaining(alloc: Global, task: &Retiming<'_>, answer: &Answer) -> Result<Remaining, NoMemory>
+    ensures { IfOk result (λ left. left ≡ remaining_of task.now answer.now.levels.bound
+        answer.now.retimed answer.now.keep) }
 {
-    let Timed {
+    let Answer {
         retimed,
         keep,
         levels,
         ..
-    } = timed;
+    } = answer;
     let is_least = retimed.frames.len() < task.options.frames as usize;
     Remaining::of(alloc, &retimed.circuit, keep, levels.bound, is_least)
 }
@@ -325,22 +300,20 @@ fn print_object<'a, W: CountedWrite>(
     timed: &Timed,
     writer: &mut W,
 ) -> Result<Outcome, Failure<'a>>
-    ensures { EndsPrintingFrames true task.now timed.now.retimed timed.now.keep timed.now.levels
-        timed.now.times timed.now.map (W.output writer.old) (W.output writer.new) result }
+    ensures { EndsPrintingFrames true task.now timed.now.answer timed.now.times
+        (W.output writer.old) (W.output writer.new) result }
 {
-    match remaining(alloc, task, timed) {
-        Ok(left) => {
-            let times = timed.times.as_ref();
-            command_endings::print_retiming(
-                alloc,
-                &timed.retimed,
-                timed.levels,
-                &left,
-                times,
-                timed.map,
-                writer,
-            )
-        }
+    let Timed { answer, times } = timed;
+    match remaining(alloc, task, answer) {
+        Ok(left) => command_endings::print_retiming(
+            alloc,
+            &answer.retimed,
+            answer.levels,
+            &left,
+            times.as_ref(),
+            map_counts(answer),
+            writer,
+        ),
         Err(_) => Err(Failure::Memory),
     }
 }
@@ -353,20 +326,20 @@ fn print_as<'a, W: CountedWrite>(
     json: bool,
     writer: &mut W,
 ) -> Result<Outcome, Failure<'a>>
-    ensures frames { EndsPrintingFrames json task.now timed.now.retimed timed.now.keep
-        timed.now.levels timed.now.times timed.now.map (W.output writer.old) (W.output writer.new) result }
+    ensures frames { EndsPrintingFrames json task.now timed.now.answer timed.now.times
+        (W.output writer.old) (W.output writer.new) result }
     ensures prints { Prints (ending result) (W.output writer.old) (W.output writer.new) }
 {
     if json {
         print_object(alloc, task, timed, writer)
     } else {
-        ended(print_retiming(&timed.retimed, writer), Outcome::Done)
+        ended(print_retiming(&timed.answer.retimed, writer), Outcome::Done)
     }
 }
 
 /// Tells how many registers hold of those that are left, if one does.
-fn tell_holding<E: CountedWrite>(alloc: Global, timed: &Timed, err: &mut E) {
-    if let Ok(holding) = Holding::of(alloc, timed.retimed.circuit.aig(), &timed.keep) {
+fn tell_holding<E: CountedWrite>(alloc: Global, answer: &Answer, err: &mut E) {
+    if let Ok(holding) = Holding::of(alloc, answer.retimed.circuit.aig(), &answer.keep) {
         let _ = print_holding(&holding, err);
     }
 }
@@ -376,7 +349,7 @@ fn tell_holding<E: CountedWrite>(alloc: Global, timed: &Timed, err: &mut E) {
 fn tell_remaining<E: CountedWrite>(
     alloc: Global,
     task: &Retiming<'_>,
-    timed: &Timed,
+    answer: &Answer,
     is_terminal: bool,
     err: &mut E,
 )
@@ -384,9 +357,9 @@ fn tell_remaining<E: CountedWrite>(
     ensures quiet { task.now.shown ≡ Nothing → E.output err.new ≡ E.output err.old }
 {
     if is_terminal && !task.json && task.shown != Shown::Nothing {
-        if let Ok(left) = remaining(alloc, task, timed) {
+        if let Ok(left) = remaining(alloc, task, answer) {
             let _ = print_remaining(&left, err);
-            tell_holding(alloc, timed, err);
+            tell_holding(alloc, answer, err);
         }
     }
 }
@@ -404,12 +377,10 @@ fn print_frames<'a, O: CountedWrite, E: CountedWrite>(
 ) -> Result<Outcome, Failure<'a>>
     ensures aside { takes_stdout task.now ≡ true
         → EndsAside Done (O.output out.old) (O.output out.new) result }
-    ensures says { takes_stdout task.now ≡ true → SaysFrames task.now timed.now.retimed
-        timed.now.keep timed.now.levels timed.now.times timed.now.map (E.output err.old) (E.output err.new) }
+    ensures says { takes_stdout task.now ≡ true → SaysFrames task.now timed.now.answer
+        timed.now.times (E.output err.old) (E.output err.new) }
     ensures frames { takes_stdout task.now ≡ false → EndsPrintingFrames task.now.json task.now
-        timed.now.retimed timed.now.keep timed.now.levels timed.now.times timed.now.map
-        (O.output out.old)
-        (O.output out.new) result }
+        timed.now.answer timed.now.times (O.output out.old) (O.output out.new) result }
     ensures prints { takes_stdout task.now ≡ false
         → Prints (ending result) (O.output out.old) (O.output out.new) }
 {
@@ -447,7 +418,7 @@ pub fn print_retimed<
     let is_terminal = streams.is_terminal;
     let timed = certified(rt, alloc, task, streams)?;
     let ended = print_frames(alloc, task, &timed, &mut streams.out, &mut streams.err);
-    tell_remaining(alloc, task, &timed, is_terminal, &mut streams.err);
+    tell_remaining(alloc, task, &timed.answer, is_terminal, &mut streams.err);
     drop(timed);
     ended
 }

@@ -63,7 +63,7 @@ fn run_by<'a, R: Threads + Sync>(
     let crew = Crew::new(1, OpenGate);
     match run_watched(rt, alloc, circuit, options, &crew, &mut NoWatcher) {
         Ok(run) => Ok(under(run, bound)),
-        Err(error) => Err(failure_of_run(error, task.input, &task.options)),
+        Err(error) => Err(failure_of_run(error, task.input, task.input, &task.options)),
     }
 }
 

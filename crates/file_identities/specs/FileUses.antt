@@ -23,7 +23,7 @@ use Rattle.command_line.specs.declared.task.Task.{Task}
 use Rattle.command_line.specs.declared.task.Verification.{Verification}
 use Rattle.command_line.specs.declared.task.Task.TheVariants.{Retime, Move, Batch, Stat, Convert, Sim, Same, Verify, Check, Miter, Product, Lift, Dot, Witness, Explain}
 use Rattle.file_identities.specs.declared.file_use.Argument.{Argument}
-use Rattle.file_identities.specs.declared.file_use.Argument.TheVariants.{In, Out, Map, MapOption, Cert, List as ListFile, First, Second, Kept, Certificates, OutOption, Stim, Vcd, MiterFile, Certificate, ModelFile, CertificateFile, WitnessFile, ResultFile, Witness as WitnessRead, KeepFrom, Progress, Printed}
+use Rattle.file_identities.specs.declared.file_use.Argument.TheVariants.{In, Out, Map, MapOption, Cert, Classes, List as ListFile, First, Second, Kept, Certificates, OutOption, Stim, Vcd, MiterFile, Certificate, ModelFile, CertificateFile, WitnessFile, ResultFile, Witness as WitnessRead, KeepFrom, Progress, Printed}
 use Rattle.file_identities.specs.declared.file_use.Role.TheVariants as roles
 use Rattle.file_identities.specs.declared.file_use.Place.{Place}
 use Rattle.file_identities.specs.declared.file_use.Place.TheVariants as places
@@ -155,7 +155,7 @@ written_by (Explain name) = []
 
 -- what a task reads beside files of names
 abbrev pub others_read_by : Task → List FileUse
-others_read_by (Retime retiming) = given (Some (original In retiming.input) ∷ [])
+others_read_by (Retime retiming) = given (Some (original In retiming.input) ∷ reading_if_asked Classes retiming.classes ∷ [])
 others_read_by (Move moving) = given (Some (original In moving.input) ∷ [])
 others_read_by (Convert input output spelling) = given (Some (original In input) ∷ [])
 others_read_by (Sim simulation) = given (Some (reading In simulation.input) ∷ stimulus_of simulation.stimuli ∷ [])

@@ -18,6 +18,8 @@ pub enum Argument {
     MapOption,
     /// The option for certificates.
     Cert,
+    /// The option for the certificates whose merged latches are merged.
+    Classes,
     /// The list of a batch.
     List,
     /// The first of two circuits that are compared.
@@ -65,6 +67,7 @@ impl Argument {
             Argument::Map => "MAP",
             Argument::MapOption => "--map",
             Argument::Cert => "--cert",
+            Argument::Classes => "--classes",
             Argument::List => "LIST",
             Argument::First => "A",
             Argument::Second => "B",

@@ -365,7 +365,12 @@ fn uses_read<'a>(task: &Task<'a>) -> Uses<'a>
     ensures { given result ≡ wanted.others_read_by task.now }
 {
     match task {
-        Task::Retime(retiming) => one(original(Argument::In, retiming.input)),
+        Task::Retime(retiming) => {
+            two(
+                original(Argument::In, retiming.input),
+                reading_if_asked(Argument::Classes, retiming.classes),
+            )
+        }
         Task::Move(moving) => one(original(Argument::In, moving.input)),
         Task::Batch(batch) => one(reading(Argument::List, batch.list)),
         Task::Stat(counting) => one(reading(Argument::In, counting.input)),

@@ -46,6 +46,12 @@ fn are_of_circuits(alloc: Global) -> bool {
             &RetimeError::NoSuchLatch(2),
             "position 2 is that of no latch",
         )
+        & is_spelt(alloc, &RetimeError::Misread(4), "latch 4 is misread")
+        & is_spelt(
+            alloc,
+            &RetimeError::NotShown(6),
+            "latch 6 is not shown to agree",
+        )
         & is_spelt(alloc, &SimError::Shape, "shapes differ")
 }
 

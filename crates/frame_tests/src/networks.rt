@@ -5,7 +5,7 @@ ghost use Rattle.std.specs.Prelude.{⊤};
 use crate::circuits::options;
 use aag_text::read_aag;
 use aig_graph::Circuit;
-use frames::{FrameReport, FrameWatcher, Retimed, Stage, retime_watched};
+use frames::{FrameReport, FrameWatcher, Retimed, Stage, run_watched};
 use pulse::{Crew, OpenGate};
 use std::alloc::Global;
 use std::test::*;
@@ -50,13 +50,13 @@ fn takes_frames<R: Threads + Sync>(rt: &R, alloc: Global, circuit: &Circuit, wor
     let crew = Crew::new(workers.clamp(1, 64), OpenGate);
     let mut networks = Networks { found: None };
     let options = options(alloc, 1 << 28);
-    let retimed = retime_watched(rt, alloc, circuit, &options, &crew, &mut networks);
+    let run = run_watched(rt, alloc, circuit, &options, &crew, &mut networks);
     drop(options);
-    let taken = match &retimed {
-        Ok(retimed) => has_two_frames(retimed),
+    let taken = match &run {
+        Ok(run) => has_two_frames(&run.retimed),
         Err(_) => false,
     };
-    drop(retimed);
+    drop(run);
     taken & (networks.found == Some(0))
 }
 

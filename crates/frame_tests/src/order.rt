@@ -1,5 +1,5 @@
 //! The order that gates take in a circuit.
-ghost use Rattle.std.specs.Prelude.{◌<◌, ◌^◌};
+ghost use Rattle.std.specs.Prelude.{◌<◌};
 
 use ascii_file::{Reads, are_in_file, gate_order};
 use std::alloc::Global;

@@ -3,7 +3,8 @@ ghost use Rattle.std.specs.Prelude.{⊤};
 
 use crate::circuits::{CHAINS, options};
 use aag_text::Counted;
-use frames::{FrameWatcher, Stage, retime_bytes_watched};
+use aig_binary::{AnyReader, read_circuit};
+use frames::{FrameWatcher, Stage, run_spelt};
 use pulse::{Crew, OpenGate};
 use std::alloc::Global;
 use std::test::*;
@@ -50,6 +51,9 @@ impl FrameWatcher for Stages {
 
 /// Returns true if a watcher of the chains is notified of each stage of both frames.
 fn tells_each_stage<R: Threads + Sync>(rt: &R, alloc: Global) -> bool {
+    let Ok(spelt) = read_circuit(&mut Counted::new(CHAINS), &mut AnyReader::new(alloc)) else {
+        return false;
+    };
     let options = options(alloc, 8);
     let crew = Crew::new(1, OpenGate);
     let mut writer = Counted::new(Vec::new(alloc));
@@ -58,15 +62,7 @@ fn tells_each_stage<R: Threads + Sync>(rt: &R, alloc: Global) -> bool {
         are_wanted: true,
         networks: None,
     };
-    let ended = retime_bytes_watched(
-        rt,
-        alloc,
-        &mut Counted::new(CHAINS),
-        &mut writer,
-        &options,
-        &crew,
-        &mut stages,
-    );
+    let ended = run_spelt(rt, alloc, spelt, &mut writer, &options, &crew, &mut stages);
     let has_ended = ended.is_ok();
     drop(ended);
     has_ended & stages.are_wanted & (stages.count == 7) & (stages.networks == Some(0))

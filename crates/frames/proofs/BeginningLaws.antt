@@ -1,10 +1,10 @@
 -- What frames start from, and what comes of it.
-use Rattle.std.proofs.Common.{ℕ, ◌≡◌, ◌<◌, ◌∙◌, true, false, List, Option, Some, None, arith, length, refl, sym, subst}
+use Rattle.std.proofs.Common.{ℕ, ◌≡◌, ◌<◌, ◌∙◌, true, false, List, Option, Some, None, length, refl, sym, subst}
 use Rattle.std.specs.List.{All}
 use Rattle.std.proofs.lemmas.List.FromFn.{length-range_with_len}
 use Rattle.aig_graph.specs.Circuits.{Netlist}
 use Rattle.aig_graph.specs.Graph.{free_latches}
-use Rattle.aig_graph.specs.Laws.{all_free, composed}
+use Rattle.aig_graph.specs.Laws.{all_free}
 use Rattle.aig_graph.specs.Streams.{SameStreams}
 use Rattle.aig_graph.proofs.PositionLaws.{held_of-names}
 use Rattle.clean.proofs.CleaningLaws.{composed-all}
@@ -18,7 +18,7 @@ use Rattle.frames.specs.declared.run.ReadCircuit.{ReadCircuit}
 use Rattle.frames.specs.Beginning.{IsRunBegun, IsCleanedRun, IsMergedFrom, StartsFrom, read_before}
 use Rattle.frames.specs.Bounds.{bound_in}
 use Rattle.frames.specs.Following.{ComesOn, IsFollowed, IsReady, IsRetimedFollowed, IsRetimedFrom}
-use Rattle.frames.specs.Merging.{IsRunStart, reported_of_read}
+use Rattle.frames.specs.Merging.{AreGivenLines, IsRunStart, reported_of_read}
 use Rattle.frames.specs.Named.{holding_in, kept_by}
 use Rattle.frames.proofs.MergedLaws.{as-it-is, merged-retimed, places-below}
 
@@ -41,9 +41,9 @@ plain-begun has_come options bound most c held old new r now valid unasked keep 
 -- cleaned to
 pub merged-begun : {F : Type 0} (has_come : F → Netlist → Netlist → List ℕ → Type 0) (options : Options) (bound most : Option ℕ) (c : Netlist) (held : List ℕ) (first mid : F) (m : MergedStart) (last : F) (r : Retimed)
     (now : List ℕ) (read : Option ReadCircuit) → IsCircuit c → options.merge ≡ true → held ≡ kept_by options c → bound ≡ bound_in options c → most ≡ bound → has_come first c c (all_free c.aig)
-    → MergesIn held c m.circuit m.kept_free m.keep m.merged → SameStreams c m.circuit m.kept_free → StayHeld held c m.keep m.circuit → ComesOn has_come first mid c m.circuit m.kept_free
+    → MergesIn held c m.circuit m.kept_free m.keep m.merged → SameStreams c m.circuit m.kept_free → StayHeld held c m.keep m.circuit → AreGivenLines options m.merged → ComesOn has_come first mid c m.circuit m.kept_free
     → IsMergedFrom has_come options bound m (length c.aig.latches) mid last r now read → IsRunBegun has_come options most c read r now last
-merged-begun has_come options bound most c held first mid m last r now read valid asked keep right same there so streams stand comes from =
+merged-begun has_come options bound most c held first mid m last r now read valid asked keep right same there so streams stand given comes from =
     let M : List ℕ → Type 0 = λ js. MergesIn js c m.circuit m.kept_free m.keep m.merged × StayHeld js c m.keep m.circuit in
     let both = subst M keep (so, stand) in
     let P : List ℕ → Type 0 = λ places. has_come mid c m.circuit places in
@@ -51,7 +51,7 @@ merged-begun has_come options bound most c held first mid m last r now read vali
     subst P (composed-all (free_latches c.aig) m.kept_free streams.places.below) (comes c (all_free c.aig) (length-range_with_len 0 (free_latches c.aig)) there) in
     let reported : ReadCircuit = read_before m (length c.aig.latches) in
     let is : IsRunStart options c m.circuit m.keep reported =
-    record { latches = refl; merges = both.0; streams = streams; stays = both.1 } in
+    record { latches = refl; merges = both.0; streams = streams; stays = both.1; given = given } in
     let followed : IsFollowed has_come options bound c m.circuit m.keep reported.kept_free 0 r now last =
     record { underway = from.cleaned.underway; come = from.cleaned.comes c m.kept_free streams.places.each come } in
     let ready : StartsFrom has_come options bound c (Some reported) r now last = record { asked = asked; start = m.circuit; held = m.keep; is = is; followed = followed } in

@@ -1,12 +1,9 @@
 -- What looks for a set tell of the set that is found, and of its certificate.
-use Rattle.std.proofs.Common.{ℕ, ◌≡◌, ◌<◌, ◌≤◌, ◌++◌, true, List, [], ◌∷◌, Option, Some, None, arith, ap, sym, ◌∙◌, subst}
+use Rattle.std.proofs.Common.{ℕ, ◌≡◌, ◌<◌, ◌≤◌, ◌++◌, List, [], ◌∷◌, Option, Some, None, arith, ap, sym, ◌∙◌, subst}
 use Rattle.std.specs.Option.{IfSome, MatchOption}
-use Rattle.aig_graph.specs.Border.{border_size}
 use Rattle.aig_graph.specs.Chosen.{IsChosen}
 use Rattle.aig_graph.specs.Circuits.{Netlist}
-use Rattle.aig_graph.specs.Closed.{IsClosedSet}
 use Rattle.aig_graph.specs.Graph.{known_latches}
-use Rattle.aig_graph.specs.Move.{move_of}
 use Rattle.certificates.specs.declared.certificate.Certificate.{Certificate}
 use Rattle.certificates.specs.declared.verdict.Verdict.TheVariants.{Yes}
 use Rattle.certificates.specs.Verdicts.{IsVerdict}

@@ -9,7 +9,7 @@ use Rattle.aig_binary.specs.Ending.{ReadsToEnd, Spells}
 use Rattle.frames.specs.declared.errors.BytesError.{BytesError}
 use Rattle.frames.specs.declared.errors.BytesError.TheVariants.{Read, Retime, Write}
 use Rattle.frames.specs.declared.errors.RetimeError.{RetimeError}
-use Rattle.frames.specs.declared.errors.RetimeError.TheVariants.{NoMemory, NoSuchLatch, NoSuchName}
+use Rattle.frames.specs.declared.errors.RetimeError.TheVariants.{Misread, NoMemory, NoSuchLatch, NoSuchName, NotShown}
 use Rattle.frames.specs.declared.options.Options.{Options}
 use Rattle.frames.specs.Answering.{AfterReading, AreOfCircuit, BeforeWriting, IsAnswered, IsBytesError, IsStop, KeepsLevelsOf, RetimesBytes}
 use Rattle.frames.specs.Named.{IsFirstMissingBy, IsFirstNoLatchBy}
@@ -26,6 +26,8 @@ pub stops-retiming : (options : Options) (spelt : SpeltCircuit) (out : Output) (
 stops-retiming options spelt out NoMemory missing no_latch = refl
 stops-retiming options spelt out (NoSuchName place) missing no_latch = (refl, missing place refl)
 stops-retiming options spelt out (NoSuchLatch place) missing no_latch = (refl, no_latch place refl)
+stops-retiming options spelt out (Misread latch) missing no_latch = refl
+stops-retiming options spelt out (NotShown latch) missing no_latch = refl
 
 -- what stops after the reading is why there is no answer
 pub stops-answering : (options : Options) (old new : Input) (before after : Output) (spelt : SpeltCircuit) (e : BytesError)
@@ -58,6 +60,8 @@ module _ (options : Options) (old new : Input) (before after : Output) where
   unwritten-of (Err (Retime NoMemory)) why = why.stop
   unwritten-of (Err (Retime (NoSuchName place))) why = why.stop.0
   unwritten-of (Err (Retime (NoSuchLatch place))) why = why.stop.0
+  unwritten-of (Err (Retime (Misread latch))) why = why.stop
+  unwritten-of (Err (Retime (NotShown latch))) why = why.stop
   unwritten-of (Err (Write e)) why = tt
 
   -- what an answer and an error mean gives each clause of what retiming bytes ensures
@@ -91,6 +95,8 @@ module _ (options : Options) (old new : Input) (before after : Output) where
   error_of (Retime (NoSuchLatch place)) facts =
       let at = facts.no_latch place refl in
       record { read = facts.read; spelt = at.spelt; spells = at.spells; stop = (facts.unwritten, at.no_latch) }
+  error_of (Retime (Misread latch)) facts = record { read = facts.read; spelt = facts.circuit.spelt; spells = facts.circuit.spells; stop = facts.unwritten }
+  error_of (Retime (NotShown latch)) facts = record { read = facts.read; spelt = facts.circuit.spelt; spells = facts.circuit.spells; stop = facts.unwritten }
   error_of (Write e) facts =
       let at = facts.cut_off e refl in
       record { read = facts.read; spelt = at.spelt; spells = at.spells; stop = at.stops }

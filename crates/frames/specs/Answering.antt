@@ -14,7 +14,7 @@ use Rattle.retimed_circuits.specs.Certified.{IsSameRetiming}
 use Rattle.retimed_circuits.specs.RetimingLevels.{KeepsLevels}
 use Rattle.frames.specs.declared.errors.BytesError.{BytesError}
 use Rattle.frames.specs.declared.errors.BytesError.TheVariants.{Read, Retime, Write}
-use Rattle.frames.specs.declared.errors.RetimeError.TheVariants.{NoMemory, NoSuchLatch, NoSuchName}
+use Rattle.frames.specs.declared.errors.RetimeError.TheVariants.{Misread, NoMemory, NoSuchLatch, NoSuchName, NotShown}
 use Rattle.frames.specs.declared.options.Options.{Options}
 use Rattle.frames.specs.Bounds.{bound_in}
 use Rattle.frames.specs.Named.{AreLatchesBy, IsFirstMissingBy, IsFirstNoLatchBy, NoneMissingBy}
@@ -61,6 +61,8 @@ IsStop options spelt old new (Read e) = ⊥
 IsStop options spelt old new (Retime NoMemory) = new ≡ old
 IsStop options spelt old new (Retime (NoSuchName place)) = (new ≡ old) × IsFirstMissingBy options spelt.circuit place
 IsStop options spelt old new (Retime (NoSuchLatch place)) = (new ≡ old) × IsFirstNoLatchBy options spelt.circuit place
+IsStop options spelt old new (Retime (Misread latch)) = new ≡ old
+IsStop options spelt old new (Retime (NotShown latch)) = new ≡ old
 IsStop options spelt old new (Write e) = StopsWriting options spelt old new
 
 -- The bytes that were left are those of a circuit in a spelling, and its answer was written. The
@@ -73,7 +75,7 @@ pub record IsAnswered (input : Input) (old new : Output) (options : Options) (r 
 
 -- the options with certificates wanted, or not wanted
 abbrev pub certifying : Options → Bool → Options
-certifying options certify = record { spelling = options.spelling; max_frames = options.max_frames; choice = options.choice; certify = certify; keep = options.keep; keep_latches = options.keep_latches; merge = options.merge; bound = options.bound }
+certifying options certify = record { spelling = options.spelling; max_frames = options.max_frames; choice = options.choice; certify = certify; keep = options.keep; keep_latches = options.keep_latches; merge = options.merge; classes = options.classes; bound = options.bound }
 
 -- Of these bytes by these options, with certificates or without, there is one answer but for the
 -- routes of certificates. There is one text of it. If latches were merged, there is one for each

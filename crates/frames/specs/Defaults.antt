@@ -14,4 +14,5 @@ pub record AreDefaults (options : Options) : Type 0 where
   pub keep : options.keep.items ≡ []
   pub keep_latches : options.keep_latches.items ≡ []
   pub merge : options.merge ≡ false
+  pub classes : options.classes ≡ None
   pub bound : options.bound ≡ bounds.None

@@ -1,5 +1,5 @@
 -- What is found in a circuit before a frame.
-use Rattle.std.specs.Prelude.{ℕ, ◌≡◌, ◌<◌, ◌≤◌, ⊤, List, length, Option, Some, None, IfSome, MatchOption}
+use Rattle.std.specs.Prelude.{ℕ, ◌≡◌, ◌<◌, ◌≤◌, ⊤, List, Option, Some, None, IfSome, MatchOption}
 use Rattle.aig_graph.specs.Border.{border_size}
 use Rattle.aig_graph.specs.Chosen.{IsChosen}
 use Rattle.aig_graph.specs.Circuits.{Netlist}

@@ -12,6 +12,7 @@ use Rattle.retimed_circuits.specs.Retiming.{IsRetimedOver, IsRetimedWith}
 use Rattle.clean.specs.Normalised.{IsNormalised}
 use Rattle.frames.specs.declared.options.Options.{Options}
 use Rattle.frames.specs.Bounds.{bound_in}
+use Rattle.frames.specs.Merging.{IsMergedAsGiven}
 use Rattle.frames.specs.Named.{holding_in}
 
 -- r is c retimed by the options
@@ -29,9 +30,11 @@ pub record IsRetimedTo (merge : Bool) (bound : Option ℕ) (choice : Choice) (c 
   pub retimed : IsRetimedWith merge bound choice c holding max_frames certify r
   pub held : now ≡ held_at_end merge bound choice c holding max_frames certify r retimed
 
--- so by the options
-abbrev pub IsRetimedHeld : Options → Netlist → Retimed → List ℕ → Type 0
-IsRetimedHeld options c r now = IsRetimedTo options.merge (bound_in options c) options.choice c (holding_in options) options.max_frames options.certify r now
+-- so by the options; the latches that were merged are those that they have, if any
+pub record IsRetimedHeld (options : Options) (c : Netlist) (r : Retimed) (now : List ℕ) : Type 0 where
+  pub retimed : IsRetimedBy options c r
+  pub held : now ≡ held_at_end options.merge (bound_in options c) options.choice c (holding_in options) options.max_frames options.certify r retimed
+  pub given : IsMergedAsGiven options r
 
 -- c retimed under this bound, with the latches at these positions held, without merging, whatever
 -- the options say of that

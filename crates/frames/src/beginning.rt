@@ -2,7 +2,7 @@
 //! merged and cleaned again.
 //!
 //! After that nobody needs the circuit that was read, so a caller that owns it may drop it.
-ghost use Rattle.std.specs.Prelude.{ℕ, ◌≡◌, ◌<◌, false, All, IfOk, [], List, None, length, true};
+ghost use Rattle.std.specs.Prelude.{◌≡◌, ◌<◌, false, All, IfOk, [], None, length, true};
 ghost use Rattle.aig_graph.specs.Laws.{all_free};
 ghost use Rattle.frames.specs.Beginning.{IsRunBegun, IsCleanedRun, IsMergedFrom};
 ghost use Rattle.frames.specs.Bounds.{bound_in};
@@ -157,7 +157,7 @@ fn begun_merged<F: RunFollower + Drop>(
     circuit.known();
     let latches = circuit.aig().latches().len() as u32;
     let mut follower = follower;
-    match follower.clean_and_merge(alloc, circuit, keep) {
+    match follower.clean_and_merge(alloc, circuit, keep, options) {
         Ok(start) => merged_run(alloc, follower, start, latches, bound, options),
         Err(error) => {
             drop(follower);

@@ -3,7 +3,7 @@
 //! If the chosen least set makes a path too long, closed sets are restricted to those whose gates
 //! arrive within the bound. The frame then takes the chosen least of these. They are the closed
 //! sets of a bounded circuit, so the search and its certificates serve unchanged.
-ghost use Rattle.std.specs.Prelude.{ℕ, ◌≡◌, List, Some, IfOk, IfSome};
+ghost use Rattle.std.specs.Prelude.{ℕ, List, Some, IfOk, IfSome};
 ghost use Rattle.aig_graph.specs.Chosen.{IsChosen};
 ghost use Rattle.aig_graph.specs.Circuits.{Netlist};
 ghost use Rattle.chosen_cuts.specs.Certified.{AddsOne};

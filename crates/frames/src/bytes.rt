@@ -50,42 +50,15 @@ fn in_range(circuit: &Circuit)
     circuit.known();
 }
 
-/// Retimes a circuit that was read, and writes it, as [`retime_bytes_watched`] does after reading.
-/// The circuit is dropped before the first frame; only its spelling is kept.
+/// Retimes a circuit that was read, and writes it, as [`retime_bytes`] does after reading. Returns
+/// the held latches of the written circuit too.
+///
+/// The circuit is dropped before the first frame; only its spelling is kept. The watcher is
+/// notified of the stages of [`run_watched`](crate::run_watched), and then of the writing.
 ///
 /// # Errors
 ///
 /// Those of [`retime_bytes`], but for those of reading.
-pub fn retime_spelt<W: CountedWrite, G: PhaseGate, V: FrameWatcher>(
-    rt: &(impl Threads + Sync),
-    alloc: Global,
-    spelt: SpeltCircuit,
-    writer: &mut W,
-    options: &Options,
-    crew: &Crew<G>,
-    watcher: &mut V,
-) -> Result<Retimed, BytesError>
-    ensures ok { IfOk result (IsWritten options.now spelt (W.output writer.old)
-        (W.output writer.new)) }
-    ensures levels { IfOk result (λ r. KeepsLevels (bound_in options.now spelt.circuit)
-        spelt.circuit r.circuit) }
-    ensures err { IfErr result (IsStop options.now spelt (W.output writer.old)
-        (W.output writer.new)) }
-    ensures notified { IfOk result (λ r. Notifies V.was_notified watcher.old watcher.new
-        (stages_of options.now.max_frames r ++ Writing ∷ [])) }
-{
-    match run_spelt(rt, alloc, spelt, writer, options, crew, watcher) {
-        Ok(run) => Ok(retimed_of(run)),
-        Err(error) => Err(error),
-    }
-}
-
-/// Retimes and writes as [`retime_spelt`] does, and returns the held latches of the written circuit
-/// too.
-///
-/// # Errors
-///
-/// Those of [`retime_spelt`].
 pub fn run_spelt<W: CountedWrite, G: PhaseGate, V: FrameWatcher>(
     rt: &(impl Threads + Sync),
     alloc: Global,
@@ -116,6 +89,38 @@ pub fn run_spelt<W: CountedWrite, G: PhaseGate, V: FrameWatcher>(
             drop(run);
             Err(BytesError::Write(error))
         }
+    }
+}
+
+/// Reads a circuit with `circuits`, a reader of circuits that has been fed nothing yet.
+fn read_by<R: CountedRead, C: CircuitReader + Drop>(
+    reader: &mut R,
+    mut circuits: C,
+) -> Result<SpeltCircuit, ReadError>
+    requires { C.holds circuits [] }
+    ensures read { OnOk result (ReadsToEnd (R.input reader.old) (R.input reader.new)) }
+    ensures circuit { IfOk result (Spells (R.input reader.old)) }
+    ensures err { IfErr result (IsReadError (R.input reader.old) (R.input reader.new)) }
+{
+    read_circuit(reader, &mut circuits)
+}
+
+/// Reads a circuit, retimes it and writes it. `RetimesBytes` joins the clauses of [`retime_bytes`].
+fn read_and_write<R: CountedRead, W: CountedWrite, G: PhaseGate>(
+    rt: &(impl Threads + Sync),
+    alloc: Global,
+    reader: &mut R,
+    writer: &mut W,
+    options: &Options,
+    crew: &Crew<G>,
+) -> Result<Retimed, BytesError>
+    ensures { RetimesBytes options.now (R.input reader.old) (R.input reader.new)
+        (W.output writer.old) (W.output writer.new) result }
+{
+    let spelt = read_by(reader, AnyReader::new(alloc))?;
+    match run_spelt(rt, alloc, spelt, writer, options, crew, &mut NoWatcher) {
+        Ok(run) => Ok(retimed_of(run)),
+        Err(error) => Err(error),
     }
 }
 
@@ -160,45 +165,5 @@ pub fn retime_bytes<R: CountedRead, W: CountedWrite, G: PhaseGate>(
     ensures cut_off { (e : WriteError) → IsErrOf result (BytesError.Write e)
         → IsCutOff options.now (R.input reader.old) (W.output writer.old) (W.output writer.new) }
 {
-    retime_bytes_watched(rt, alloc, reader, writer, options, crew, &mut NoWatcher)
-}
-
-/// Reads a circuit with `circuits`, a reader of circuits that has been fed nothing yet.
-fn read_by<R: CountedRead, C: CircuitReader + Drop>(
-    reader: &mut R,
-    mut circuits: C,
-) -> Result<SpeltCircuit, ReadError>
-    requires { C.holds circuits [] }
-    ensures read { OnOk result (ReadsToEnd (R.input reader.old) (R.input reader.new)) }
-    ensures circuit { IfOk result (Spells (R.input reader.old)) }
-    ensures err { IfErr result (IsReadError (R.input reader.old) (R.input reader.new)) }
-{
-    read_circuit(reader, &mut circuits)
-}
-
-/// Retimes as [`retime_bytes`] does, under a watcher.
-///
-/// After reading, the watcher is notified of the stages of
-/// [`retime_watched`](crate::retime_watched), and then of the writing. `RetimesBytes` joins the
-/// clauses of `retime_bytes`.
-///
-/// # Errors
-///
-/// Those of [`retime_bytes`].
-pub fn retime_bytes_watched<R: CountedRead, W: CountedWrite, G: PhaseGate, V: FrameWatcher>(
-    rt: &(impl Threads + Sync),
-    alloc: Global,
-    reader: &mut R,
-    writer: &mut W,
-    options: &Options,
-    crew: &Crew<G>,
-    watcher: &mut V,
-) -> Result<Retimed, BytesError>
-    ensures retimes { RetimesBytes options.now (R.input reader.old) (R.input reader.new)
-        (W.output writer.old) (W.output writer.new) result }
-    ensures notified { IfOk result (λ r. Notifies V.was_notified watcher.old watcher.new
-        (stages_of options.now.max_frames r ++ Writing ∷ [])) }
-{
-    let spelt = read_by(reader, AnyReader::new(alloc))?;
-    retime_spelt(rt, alloc, spelt, writer, options, crew, watcher)
+    read_and_write(rt, alloc, reader, writer, options, crew)
 }

@@ -20,6 +20,35 @@ pub enum RetimeError {
     /// The index, from 0, of the first position to be held that is no latch's.
     #[error("position {0} is that of no latch")]
     NoSuchLatch(usize),
+    /// The latch of a line of the given classes that no reading has. It isn't a latch behind those
+    /// of the lines before, it is free or held, or it may not read as its literal.
+    #[error("latch {0} is misread")]
+    Misread(u32),
+    /// The latch of a line of the given classes, which isn't shown to be told what that is told
+    /// which it reads as.
+    #[error("latch {0} is not shown to agree")]
+    NotShown(u32),
+}
+
+/// Why a run without a follower stopped after its latches were held.
+#[derive(Clone, Copy, Debug, PartialEq, Eq)]
+pub enum RunError {
+    /// Memory is refused.
+    NoMemory,
+    /// As [`RetimeError::Misread`].
+    Misread(u32),
+    /// As [`RetimeError::NotShown`].
+    NotShown(u32),
+}
+
+impl From<NoMemory> for RunError {
+    ghost use Rattle.frames.specs.declared.errors.RunError.TheVariants as errors;
+
+    ghost from_gives = { λ _ e. e ≡ errors.NoMemory };
+
+    fn from(_error: NoMemory) -> RunError {
+        RunError::NoMemory
+    }
 }
 
 impl RetimeError {
@@ -33,6 +62,8 @@ impl RetimeError {
             RetimeError::NoMemory => 1,
             RetimeError::NoSuchName(_) => 2,
             RetimeError::NoSuchLatch(_) => 3,
+            RetimeError::Misread(_) => 4,
+            RetimeError::NotShown(_) => 5,
         }
     }
 }
@@ -57,6 +88,20 @@ impl From<HoldError> for RetimeError {
             HoldError::NoMemory => RetimeError::NoMemory,
             HoldError::NoSuchName(place) => RetimeError::NoSuchName(place),
             HoldError::NoSuchLatch(place) => RetimeError::NoSuchLatch(place),
+        }
+    }
+}
+
+impl From<RunError> for RetimeError {
+    ghost use Rattle.frames.specs.Codes.{of_run_error};
+
+    ghost from_gives = { λ error e. e ≡ of_run_error error };
+
+    fn from(error: RunError) -> RetimeError {
+        match error {
+            RunError::NoMemory => RetimeError::NoMemory,
+            RunError::Misread(latch) => RetimeError::Misread(latch),
+            RunError::NotShown(latch) => RetimeError::NotShown(latch),
         }
     }
 }

@@ -1,5 +1,5 @@
 //! A run to its end. If latches were merged, its report is made one of the circuit that was read.
-ghost use Rattle.std.specs.Prelude.{ℕ, ◌≡◌, ◌<◌, length, All, IfOk};
+ghost use Rattle.std.specs.Prelude.{◌≡◌, ◌<◌, length, All, IfOk};
 ghost use Rattle.aig_graph.specs.Circuits.{Netlist};
 ghost use Rattle.frames.specs.Beginning.{IsRunBegun};
 ghost use Rattle.frames.specs.Following.{IsRetimedFollowed};

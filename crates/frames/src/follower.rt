@@ -17,11 +17,16 @@ ghost use Rattle.rebuild.specs.Marked.{AreMarksOf};
 ghost use Rattle.rebuild.specs.Moved.{moved_of, moved_size};
 ghost use Rattle.retimed_circuits.specs.Merging.{MergesIn};
 ghost use Rattle.retimed_circuits.specs.Names.{StayHeld};
+ghost use Rattle.latch_merging.specs.Starts.{IsStart};
 ghost use Rattle.frames.specs.Following.{ComesOn, ComesWhole, HasComeTo};
+ghost use Rattle.frames.specs.Merging.{AreGivenLines};
 
+use crate::errors::RunError;
+use crate::options::Options;
 use aig_graph::{Circuit, ClosedSet, Keep, NoMemory};
+use certificates::MergedLatch;
 use clean::{Cleaned, clean};
-use latch_merging::{MergedStart, merged_start};
+use latch_merging::{GivenStart, MergedStart, merged_start, start_by};
 use rebuild::MoveMarks;
 use std::alloc::Global;
 
@@ -48,13 +53,15 @@ pub trait RunFollower {
         ensures comes { IfOk result (λ d. ComesOn has_come self.old self.new circuit.now d.circuit
             d.kept_free) };
 
-    /// Cleans the circuit that was read and merges its latches that always agree, as
-    /// `latch_merging::merged_start` does.
+    /// Cleans the circuit that was read and merges its latches that always agree. They are the
+    /// classes of the options, as `latch_merging::start_by` merges them. Without classes they are
+    /// those that `latch_merging::merged_start` finds.
     fn clean_and_merge(
         &mut self,
         alloc: Global,
         circuit: &Circuit,
         keep: &Keep,
+        options: &Options,
     ) -> Result<MergedStart, Self::Stop>
         requires there { HasComeTo has_come self.old circuit.now }
         requires in_range { All (λ j. j < length circuit.now.aig.latches) keep.now }
@@ -63,6 +70,7 @@ pub trait RunFollower {
         ensures in_range { IfOk result (λ m. All (λ j. j < length m.circuit.aig.latches) m.keep) }
         ensures streams { IfOk result (λ m. SameStreams circuit.now m.circuit m.kept_free) }
         ensures stay { IfOk result (λ m. StayHeld keep.now circuit.now m.keep m.circuit) }
+        ensures given { IfOk result (λ m. AreGivenLines options.now m.merged) }
         ensures comes { IfOk result (λ m. ComesOn has_come self.old self.new circuit.now m.circuit
             m.kept_free) };
 
@@ -83,12 +91,42 @@ pub trait RunFollower {
             (moved_of (move_of circuit.now keep.now set.now))) };
 }
 
+/// Cleans the circuit, and merges its latches that always agree.
+fn started(alloc: Global, circuit: &Circuit, keep: &Keep) -> Result<MergedStart, RunError>
+    requires in_range { All (λ j. j < length circuit.now.aig.latches) keep.now }
+    ensures { IfOk result (IsStart keep.now circuit.now) }
+{
+    match merged_start(alloc, circuit, keep) {
+        Ok(start) => Ok(start),
+        Err(NoMemory) => Err(RunError::NoMemory),
+    }
+}
+
+/// Cleans the circuit, and merges it by lines.
+fn started_by(
+    alloc: Global,
+    circuit: &Circuit,
+    keep: &Keep,
+    lines: &[MergedLatch],
+) -> Result<MergedStart, RunError>
+    requires in_range { All (λ j. j < length circuit.now.aig.latches) keep.now }
+    ensures start { IfOk result (IsStart keep.now circuit.now) }
+    ensures given { IfOk result (λ m. m.merged ≡ lines.now) }
+{
+    match start_by(alloc, circuit, keep, lines) {
+        Ok(GivenStart::Merged(start)) => Ok(start),
+        Ok(GivenStart::Misread(latch)) => Err(RunError::Misread(latch)),
+        Ok(GivenStart::NotShown(latch)) => Err(RunError::NotShown(latch)),
+        Err(NoMemory) => Err(RunError::NoMemory),
+    }
+}
+
 /// A follower that keeps nothing: a run with it is a plain one.
 #[derive(Clone, Copy)]
 pub struct NoFollower;
 
 impl RunFollower for NoFollower {
-    type Stop = NoMemory;
+    type Stop = RunError;
 
     ghost has_come = { λ _ _ _ _. ⊤ };
 
@@ -97,8 +135,9 @@ impl RunFollower for NoFollower {
         alloc: Global,
         circuit: &Circuit,
         keep: &Keep,
-    ) -> Result<Cleaned, NoMemory> {
-        clean(alloc, circuit, keep)
+    ) -> Result<Cleaned, RunError> {
+        let cleaned = clean(alloc, circuit, keep)?;
+        Ok(cleaned)
     }
 
     fn clean_and_merge(
@@ -106,8 +145,12 @@ impl RunFollower for NoFollower {
         alloc: Global,
         circuit: &Circuit,
         keep: &Keep,
-    ) -> Result<MergedStart, NoMemory> {
-        merged_start(alloc, circuit, keep)
+        options: &Options,
+    ) -> Result<MergedStart, RunError> {
+        match &options.classes {
+            Some(lines) => started_by(alloc, circuit, keep, lines.as_slice()),
+            None => started(alloc, circuit, keep),
+        }
     }
 
     fn see_move(
@@ -116,7 +159,7 @@ impl RunFollower for NoFollower {
         _set: &ClosedSet,
         _keep: &Keep,
         _marks: &MoveMarks,
-    ) -> Result<(), NoMemory> {
+    ) -> Result<(), RunError> {
         Ok(())
     }
 }

@@ -1,6 +1,6 @@
 //! One frame: the latches of a cleaned circuit move over the set that is found, and the circuit is
 //! cleaned again.
-ghost use Rattle.std.specs.Prelude.{ℕ, ◌≡◌, ◌<◌, [], ◌∷◌, All, IfOk, List, OnOk, MatchOption, length};
+ghost use Rattle.std.specs.Prelude.{◌≡◌, ◌<◌, [], ◌∷◌, All, IfOk, OnOk, MatchOption, length};
 ghost use Rattle.frames.specs.Certified.{AddsFound};
 ghost use Rattle.frames.specs.Following.{HasComeTo, IsMovedFollowed, MovesFollowed};
 ghost use Rattle.frames.specs.Found.{IsAfterMove, IsPrepared, IsSavingSet};

@@ -1,5 +1,5 @@
 //! The closed set of a circuit that leaves fewer latches, if there is one.
-ghost use Rattle.std.specs.Prelude.{◌≡◌, IfOk};
+ghost use Rattle.std.specs.Prelude.{IfOk};
 ghost use Rattle.aig_graph.specs.Closed.{IsClosedSet};
 ghost use Rattle.frames.specs.Found.{Finds, IsFoundOver, IsLook};
 

@@ -1,7 +1,8 @@
 ghost use Rattle.frames.specs.Defaults.{AreDefaults};
 
 use crate::bound::PathBound;
-use aig_graph::Choice;
+use aig_graph::{Choice, Sequence};
+use certificates::MergedLatch;
 use file_words::Spelling;
 use std::alloc::Global;
 
@@ -26,6 +27,10 @@ pub struct Options {
     /// Merges latches that always agree before the first frame. The circuit is cleaned, merged, and
     /// then retimed as any circuit is.
     pub merge: bool,
+    /// The latches of the cleaned circuit that are merged then, in order, and what each reads as.
+    /// No others are. They are judged, whoever found them. `None` has them guessed; without `merge`
+    /// they aren't looked at.
+    pub classes: Option<Sequence<MergedLatch>>,
     /// The bound on path length. A frame whose set would make a longer path takes a set of gates
     /// that keep the bound, or none.
     pub bound: PathBound,
@@ -47,6 +52,7 @@ impl Options {
             keep: Vec::new(alloc),
             keep_latches: Vec::new(alloc),
             merge: false,
+            classes: None,
             bound: PathBound::None,
         }
     }

@@ -1,5 +1,5 @@
 //! Whole runs without a follower.
-ghost use Rattle.std.specs.Prelude.{ℕ, ◌≡◌, ◌<◌, All, IfOk, List, OnOk, IsErrOf, length};
+ghost use Rattle.std.specs.Prelude.{ℕ, ◌≡◌, ◌<◌, IfOk, OnOk, IsErrOf};
 ghost use Rattle.aig_graph.specs.Circuits.{Netlist};
 ghost use Rattle.frames.specs.Beginning.{IsRunBegun};
 ghost use Rattle.frames.specs.Bounds.{bound_in};
@@ -10,13 +10,13 @@ ghost use Rattle.retimed_circuits.specs.RetimingLevels.{KeepsLevels};
 ghost use Rattle.frames.specs.declared.errors.RetimeError.TheVariants.{NoSuchLatch, NoSuchName};
 
 use crate::beginning::begin;
-use crate::errors::RetimeError;
+use crate::errors::{RetimeError, RunError};
 use crate::finishing::finish;
 use crate::follower::{NoFollower, RunFollower};
 use crate::options::Options;
 use crate::run::{Begun, Run};
 use crate::watcher::{FrameWatcher, NoWatcher, Stage};
-use aig_graph::{Circuit, Keep, NoMemory, hold};
+use aig_graph::{Circuit, Keep, hold};
 use pulse::{Crew, PhaseGate};
 use retimed_circuits::Retimed;
 use std::alloc::Global;
@@ -73,7 +73,7 @@ fn finish_plain<G: PhaseGate, V: FrameWatcher>(
     options: &Options,
     crew: &Crew<G>,
     watcher: &mut V,
-) -> Result<Run<NoFollower>, NoMemory>
+) -> Result<Run<NoFollower>, RunError>
     requires { (c : Netlist) × IsRunBegun ⟦<NoFollower as RunFollower>⟧.has_come options.now
         begun.run.bound c begun.read begun.run.retimed begun.run.keep begun.run.follower }
     ensures retimed { IfOk result (λ run. (c : Netlist)
@@ -132,44 +132,17 @@ pub fn retime<G: PhaseGate>(
     ensures missing { (place : ℕ) → IsErrOf result (NoSuchName place)
         → IsFirstMissingBy options.now circuit.now place }
 {
-    retime_watched(rt, alloc, circuit, options, crew, &mut NoWatcher)
-}
-
-/// Retimes as [`retime`] does, under a watcher, which doesn't change the answer.
-///
-/// The watcher is notified of the cleaning, of each look for a set, and of each move over one. The
-/// last look finds that no set helps, unless the limit of frames ends the run.
-///
-/// # Errors
-///
-/// Those of [`retime`].
-pub fn retime_watched<G: PhaseGate, V: FrameWatcher>(
-    rt: &(impl Threads + Sync),
-    alloc: Global,
-    circuit: &Circuit,
-    options: &Options,
-    crew: &Crew<G>,
-    watcher: &mut V,
-) -> Result<Retimed, RetimeError>
-    ensures retimed { IfOk result (IsRetimedBy options.now circuit.now) }
-    ensures levels { IfOk result (λ r. KeepsLevels (bound_in options.now circuit.now) circuit.now
-        r.circuit) }
-    ensures latches { OnOk result (AreLatchesBy options.now circuit.now) }
-    ensures none_missing { OnOk result (NoneMissingBy options.now circuit.now) }
-    ensures no_latch { (place : ℕ) → IsErrOf result (NoSuchLatch place)
-        → IsFirstNoLatchBy options.now circuit.now place }
-    ensures missing { (place : ℕ) → IsErrOf result (NoSuchName place)
-        → IsFirstMissingBy options.now circuit.now place }
-    ensures notified { IfOk result (λ r. Notifies V.was_notified watcher.old watcher.new
-        (stages_of options.now.max_frames r)) }
-{
-    match run_watched(rt, alloc, circuit, options, crew, watcher) {
+    match run_watched(rt, alloc, circuit, options, crew, &mut NoWatcher) {
         Ok(run) => Ok(retimed_of(run)),
         Err(error) => Err(error),
     }
 }
 
-/// Retimes as [`retime_watched`] does, and returns the held latches of the retimed circuit too.
+/// Retimes as [`retime`] does, and returns the held latches of the retimed circuit too.
+///
+/// The watcher doesn't change the answer. It is notified of the cleaning, of each look for a set,
+/// and of each move over one. The last look finds that no set helps, unless the limit of frames
+/// ends the run.
 ///
 /// # Errors
 ///

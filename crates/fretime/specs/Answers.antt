@@ -28,6 +28,8 @@ IsWrittenTo FileGiven path (jobs.Refused fault) = Unit {0}
 IsWrittenTo FileGiven path jobs.NoMemory = Unit {0}
 IsWrittenTo FileGiven path (jobs.NoSuchName place) = Unit {0}
 IsWrittenTo FileGiven path (jobs.NoSuchLatch place) = Unit {0}
+IsWrittenTo FileGiven path (jobs.Misread latch) = Unit {0}
+IsWrittenTo FileGiven path (jobs.NotShown latch) = Unit {0}
 
 -- so was that of an answer to its path
 abbrev pub IsWritten : (List ℕ → List ℕ → Type 0) → Answer → Type 0

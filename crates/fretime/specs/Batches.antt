@@ -31,6 +31,8 @@ report_of (jobs.Refused fault) = reports.Refused fault
 report_of jobs.NoMemory = reports.NoMemory
 report_of (jobs.NoSuchName place) = reports.NoSuchName
 report_of (jobs.NoSuchLatch place) = reports.NoSuchLatch
+report_of (jobs.Misread latch) = reports.Misread
+report_of (jobs.NotShown latch) = reports.NotShown
 
 -- how a batch of one file ends
 abbrev pub end_of : JobReport → Outcome
@@ -39,6 +41,8 @@ end_of (reports.Refused fault) = Refused
 end_of reports.NoMemory = Memory
 end_of reports.NoSuchName = Refused
 end_of reports.NoSuchLatch = Refused
+end_of reports.Misread = Refused
+end_of reports.NotShown = Refused
 
 -- how a batch ends after one more file: the first that isn't done decides
 abbrev pub after : Outcome → JobReport → Outcome

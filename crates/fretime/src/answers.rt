@@ -60,7 +60,9 @@ pub fn write_answer<'a, R: OutputFiles>(rt: &R, answer: &Answer<'a>) -> Result<(
         Outcome::Refused(_)
         | Outcome::NoMemory
         | Outcome::NoSuchName(_)
-        | Outcome::NoSuchLatch(_) => Ok(()),
+        | Outcome::NoSuchLatch(_)
+        | Outcome::Misread(_)
+        | Outcome::NotShown(_) => Ok(()),
     }
 }
 

@@ -132,6 +132,8 @@ pub(crate) fn report_of(outcome: &batch_pool::Outcome) -> JobReport
         batch_pool::Outcome::NoMemory => JobReport::NoMemory,
         batch_pool::Outcome::NoSuchName(_) => JobReport::NoSuchName,
         batch_pool::Outcome::NoSuchLatch(_) => JobReport::NoSuchLatch,
+        batch_pool::Outcome::Misread(_) => JobReport::Misread,
+        batch_pool::Outcome::NotShown(_) => JobReport::NotShown,
     }
 }
 
@@ -184,9 +186,11 @@ pub(crate) fn after(ended: Outcome, report: JobReport) -> Outcome
     match ended {
         Outcome::Done => match report {
             JobReport::Done(_, _) => Outcome::Done,
-            JobReport::Refused(_) | JobReport::NoSuchName | JobReport::NoSuchLatch => {
-                Outcome::Refused
-            }
+            JobReport::Refused(_)
+            | JobReport::NoSuchName
+            | JobReport::NoSuchLatch
+            | JobReport::Misread
+            | JobReport::NotShown => Outcome::Refused,
             JobReport::NoMemory => Outcome::Memory,
         },
         ended => ended,

@@ -96,7 +96,8 @@ impl SharedCircuits {
         Ok((SharedCircuits { gates, latches }, copied))
     }
 
-    /// All circuits as one graph, with an input for each variable before the latches. Linear.
+    /// Returns all circuits as one graph, with an input for each variable before the latches. Takes
+    /// linear time.
     pub fn graph(self, alloc: Global) -> Result<Aig, NoMemory>
         requires { 1 + length self.latches ≤ self.gates.first }
         ensures gates { IfOk result (λ aig. gates_of aig ≡ self.gates) }

@@ -38,21 +38,21 @@ impl Model for Copied {
 }
 
 impl Copied {
-    /// These literals, from a first variable on.
+    /// Returns these literals as copies of the variables from a first one on.
     pub fn of(first: u32, literals: Vec<Lit>) -> Copied
         ensures { result ≡ record { first = first; literals = literals.items } }
     {
         Copied { first, literals }
     }
 
-    /// The variable of the first literal.
+    /// Returns the variable of the first literal.
     pub fn first(&self) -> u32
         ensures { result ≡ self.now.first }
     {
         self.first
     }
 
-    /// The shared literal of one of the circuit.
+    /// Returns the shared literal of one of the circuit.
     #[tactic(auto, unfolding(crate::specs::Copies::copy_of))]
     pub fn literal(&self, lit: Lit) -> Lit
         requires { variable lit < copied_end self.now }
@@ -81,7 +81,8 @@ fn are_below(lits: &[Lit], end: u32) -> bool
     lits.iter().all(|lit| lit.var() < end)
 }
 
-/// These literals, from a first variable on, if all are of variables below `end`.
+/// Returns these literals as copies of the variables from a first one on, if all are of variables
+/// below `end`.
 pub fn leaves_below(
     alloc: Global,
     first: u32,

@@ -36,7 +36,8 @@ impl Model for Equalities {
 }
 
 impl Equalities {
-    /// Each literal stands for itself; for those before `first` none ever does.
+    /// Returns equalities in which each literal stands for itself. For one before `first` no other
+    /// ever does.
     pub fn none(alloc: Global, first: u32) -> Equalities
         ensures { result ≡ record { first = first; substitutes = [] } }
     {

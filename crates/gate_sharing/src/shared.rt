@@ -6,7 +6,7 @@
 ghost use Rattle.std.specs.Prelude.{ℕ, ◌≡◌, ◌+◌, ◌≤◌, ◌<◌, [], IfOk, IfSome, OnOk, Some, length, slice_get};
 ghost use Rattle.aig_graph.specs.declared.literal.TheConstants.{MAX_VARIABLES};
 ghost use Rattle.aig_graph.specs.declared.graph.Latch.{Latch};
-ghost use Rattle.aig_graph.specs.Graph.{IsGateAt, variable};
+ghost use Rattle.aig_graph.specs.Graph.{IsGateAt};
 ghost use Rattle.aig_graph.specs.Gates.{Grows, gates_end};
 ghost use Rattle.gate_sharing.specs.Shared.{IsBoth, IsFolded, IsSharedLiteral};
 
@@ -158,7 +158,8 @@ impl SharedGates {
         }
     }
 
-    /// Has the gate that is put next found from then on. Returns the link that leads on from it.
+    /// Links the gate that is put next, so that it is found. Returns the link that leads on from
+    /// it.
     fn linked(&mut self, gate: &Gate) -> Result<u32, SharingError>
         requires { gates_end self.old < MAX_VARIABLES }
         ensures { OnOk result (self.new ≡ self.old) }
@@ -220,7 +221,7 @@ impl SharedGates {
         Ok(Lit::new(self.first + place as u32, false))
     }
 
-    /// The literal of the conjunction of two literals.
+    /// Returns the literal of the conjunction of two literals.
     pub fn gate(&mut self, a: Lit, b: Lit) -> Result<Lit, SharingError>
         requires a { IsSharedLiteral self.old a }
         requires b { IsSharedLiteral self.old b }
@@ -234,8 +235,8 @@ impl SharedGates {
         }
     }
 
-    /// The gates as those of a graph with these latches, which are the last variables before the
-    /// gates; the others are inputs. Linear.
+    /// Returns a graph of the gates and of these latches, which are the last variables before the
+    /// gates. The other variables are inputs. Takes linear time.
     pub fn graph(&self, alloc: Global, latches: Vec<Latch>) -> Result<Aig, NoMemory>
         requires room { 1 + length latches.items ≤ self.now.first }
         requires nexts { (place : ℕ) (latch : Latch) → slice_get latches.items place ≡ Some latch

@@ -3,15 +3,11 @@
 use crate::opening::{Opening, STAYS};
 use aig_graph::Memory;
 use backward_sets::Literal;
+use checked_tables::entry_or;
 
 /// Returns the class at `place`, or [`STAYS`] past the end, as that of an input.
 pub(crate) fn class_at(classes: &[u32], place: u32) -> u32 {
-    let place = place as usize;
-    if place < classes.len() {
-        classes[place]
-    } else {
-        STAYS
-    }
+    entry_or(classes, place as usize, STAYS)
 }
 
 /// Returns the class of a gate whose fan-ins have these.

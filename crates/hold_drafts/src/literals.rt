@@ -2,6 +2,7 @@
 
 use aig_graph::Lit;
 use backward_sets::Literal;
+use checked_tables::{entry_or, put_if_there};
 
 /// The constant true.
 pub const TRUE: Literal = Literal { code: 1 };
@@ -28,18 +29,10 @@ pub(crate) fn literal_of(lit: Lit) -> Literal {
 
 /// Returns the literal at `place`, or the constant false past the end.
 pub(crate) fn literal_at(literals: &[Literal], place: u32) -> Literal {
-    let place = place as usize;
-    if place < literals.len() {
-        literals[place]
-    } else {
-        Literal::FALSE
-    }
+    entry_or(literals, place as usize, Literal::FALSE)
 }
 
 /// Puts a literal at `place`, if the table has it.
 pub(crate) fn set_literal(literals: &mut [Literal], place: u32, lit: Literal) {
-    let place = place as usize;
-    if place < literals.len() {
-        literals[place] = lit;
-    }
+    put_if_there(literals, place as usize, lit);
 }

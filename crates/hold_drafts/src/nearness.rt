@@ -5,6 +5,7 @@ use crate::choices::choice_of;
 use crate::sharing::Sharing;
 use aig_graph::Memory;
 use backward_sets::{Literal, entry, number, set_entry};
+use checked_tables::entry_or;
 
 /// The most steps from a next literal down to its latch.
 pub(crate) const MOST_STEPS: u32 = 10;
@@ -53,12 +54,11 @@ impl Nearness {
 
     /// Returns the entry of a gate, or [`FAR`] if a variable is no gate.
     fn mark(&self, var: u32) -> u32 {
-        let place = var.wrapping_sub(self.first_gate) as usize;
-        if place < self.steps.len() {
-            self.steps[place]
-        } else {
-            FAR
-        }
+        entry_or(
+            self.steps.as_slice(),
+            var.wrapping_sub(self.first_gate) as usize,
+            FAR,
+        )
     }
 
     /// Sets the entry of a gate.

@@ -5,6 +5,7 @@
 use crate::literals::literal_at;
 use aig_graph::Reset;
 use backward_sets::{Literal, Pair, number};
+use checked_tables::entry_or;
 
 /// The class of latches without a hold.
 pub const PLAIN: u32 = 0;
@@ -108,12 +109,7 @@ impl Opening {
 
     /// Returns the latch with number `place`, from 0, or one that stays if there is none.
     pub fn latch(&self, place: u32) -> OpenLatch {
-        let place = place as usize;
-        if place < self.latches.len() {
-            self.latches[place]
-        } else {
-            OpenLatch::NONE
-        }
+        entry_or(self.latches.as_slice(), place as usize, OpenLatch::NONE)
     }
 
     /// Returns true if a variable is a gate.
@@ -123,12 +119,11 @@ impl Opening {
 
     /// Returns the gate at a variable, or one of constants if there is none.
     pub fn gate(&self, var: u32) -> Pair {
-        let place = var.wrapping_sub(self.first_gate()) as usize;
-        if place < self.gates.len() {
-            self.gates[place]
-        } else {
-            Pair::NONE
-        }
+        entry_or(
+            self.gates.as_slice(),
+            var.wrapping_sub(self.first_gate()) as usize,
+            Pair::NONE,
+        )
     }
 
     /// Returns the literal of the property with number `place`, from 0.

@@ -9,6 +9,16 @@ use crate::walks::Split;
 use crate::ways::{Way, splits_of};
 use aig_graph::{Circuit, Keep, Latch, Lit, Memory};
 use backward_sets::{Literal, number};
+use checked_tables::entry_or;
+
+/// How the latches of a circuit are opened.
+#[derive(Drop)]
+struct Splits {
+    /// By latch how it is opened, if it is.
+    of_latches: Vec<Option<Split>>,
+    /// The codes of the holds, rising, each once.
+    codes: Vec<u32>,
+}
 
 /// Returns the codes of the holds, rising, each once.
 fn hold_codes(memory: &mut Memory, splits: &[Option<Split>]) -> Vec<u32> {
@@ -21,14 +31,6 @@ fn hold_codes(memory: &mut Memory, splits: &[Option<Split>]) -> Vec<u32> {
     codes.sort_unstable();
     codes.dedup();
     codes
-}
-
-/// Returns the class of a hold: one more than its place among the codes.
-fn class_of(codes: &[u32], hold: Literal) -> u32 {
-    match codes.binary_search(&hold.code) {
-        Ok(place) => number(place).wrapping_add(1),
-        Err(_) => STAYS,
-    }
 }
 
 /// Returns a latch that isn't opened.
@@ -46,33 +48,34 @@ fn closed_latch(latch: &Latch, position: u32, keep: &Keep) -> OpenLatch {
     closed
 }
 
-/// Returns how a latch is opened.
-fn split_at(splits: &[Option<Split>], place: usize) -> Option<Split> {
-    if place < splits.len() {
-        splits[place]
-    } else {
-        None
+impl Splits {
+    /// Returns the ways in which latches are opened, with their holds.
+    fn of(memory: &mut Memory, of_latches: Vec<Option<Split>>) -> Splits {
+        let codes = hold_codes(memory, of_latches.as_slice());
+        Splits { of_latches, codes }
     }
-}
 
-/// Returns the latches of a circuit, opened.
-fn open_latches(
-    memory: &mut Memory,
-    latches: &[Latch],
-    keep: &Keep,
-    splits: &[Option<Split>],
-    codes: &[u32],
-) -> Vec<OpenLatch> {
-    let mut opened = memory.list(latches.len());
-    for place in 0..latches.len() {
-        let mut latch = closed_latch(&latches[place], number(place), keep);
-        if let Some(split) = split_at(splits, place) {
-            latch.load = split.load;
-            latch.class = class_of(codes, split.hold);
+    /// Returns the class of a hold: one more than its place among the codes.
+    fn class_of(&self, hold: Literal) -> u32 {
+        match self.codes.as_slice().binary_search(&hold.code) {
+            Ok(place) => number(place).wrapping_add(1),
+            Err(_) => STAYS,
         }
-        memory.push(&mut opened, latch);
     }
-    opened
+
+    /// Returns the latches of a circuit, opened.
+    fn open(&self, memory: &mut Memory, latches: &[Latch], keep: &Keep) -> Vec<OpenLatch> {
+        let mut opened = memory.list(latches.len());
+        for place in 0..latches.len() {
+            let mut latch = closed_latch(&latches[place], number(place), keep);
+            if let Some(split) = entry_or(self.of_latches.as_slice(), place, None) {
+                latch.load = split.load;
+                latch.class = self.class_of(split.hold);
+            }
+            memory.push(&mut opened, latch);
+        }
+        opened
+    }
 }
 
 /// Returns literals as those of a draft.
@@ -105,20 +108,14 @@ pub fn opened(
     only: Option<&[bool]>,
 ) -> Opening {
     let aig = circuit.aig();
-    let splits = splits_of(memory, candidates, aig.latches().len(), way, only);
-    let codes = hold_codes(memory, splits.as_slice());
+    let of_latches = splits_of(memory, candidates, aig.latches().len(), way, only);
+    let splits = Splits::of(memory, of_latches);
     let opening = Opening {
         inputs: aig.inputs(),
-        latches: open_latches(
-            memory,
-            aig.latches(),
-            keep,
-            splits.as_slice(),
-            codes.as_slice(),
-        ),
+        latches: splits.open(memory, aig.latches(), keep),
         gates: memory.nothing(),
         observed: literals_of(memory, properties),
-        holds: coded(memory, codes.as_slice()),
+        holds: coded(memory, splits.codes.as_slice()),
     };
     with_gates_read(memory, opening, candidates.sharing.gates())
 }

@@ -7,6 +7,7 @@ use crate::literals::{TRUE, literal_at, opposite, set_literal};
 use crate::sharing::Sharing;
 use aig_graph::Memory;
 use backward_sets::{Literal, has_mark, number, set_mark};
+use checked_tables::put_if_covered;
 
 /// The most contexts by which loads are simplified. Each takes a look at all gates.
 const MOST_CONTEXTS: usize = 64;
@@ -51,8 +52,8 @@ impl Settled {
 
     /// Sets what stands for a literal, if it is a gate.
     fn set(&mut self, lit: Literal, stand: Literal) {
-        let place = self.place(lit);
-        set_literal(self.stands.as_mut_slice(), place, stand.signed_as(lit));
+        let place = self.place(lit) as usize;
+        put_if_covered(self.stands.as_mut_slice(), place, stand.signed_as(lit));
     }
 
     /// Lets the constant true stand for the literals that are 1.

@@ -3,13 +3,8 @@
 
 use crate::literals::{TRUE, opposite};
 use aig_graph::Memory;
-use backward_sets::{Literal, Pair, entry, number, set_entry};
-
-/// The smallest table.
-const SMALLEST: usize = 16;
-
-/// The most entries of a table.
-const LARGEST: usize = 1 << 31;
+use backward_sets::{LARGEST_TABLE, Literal, Pair, entry, number, set_entry, table_size};
+use checked_tables::entry_or;
 
 /// Gates from a first variable on, and a table by fan-ins: one more than the place of each gate, 0
 /// if there is none.
@@ -20,51 +15,13 @@ pub struct Sharing {
     table: Vec<u32>,
 }
 
-/// Returns both literals, the larger first.
-fn ordered(a: Literal, b: Literal) -> Pair {
-    let (larger, smaller) = if a.code < b.code { (b, a) } else { (a, b) };
-    Pair { larger, smaller }
-}
-
-/// Returns true if a gate is false for any values of its fan-ins.
-fn is_false(pair: &Pair) -> bool {
-    (pair.smaller.code == 0) | (pair.larger.code == pair.smaller.code ^ 1)
-}
-
-/// Returns true if a gate equals its larger fan-in.
-fn is_larger(pair: &Pair) -> bool {
-    (pair.smaller.code == 1) | (pair.larger.code == pair.smaller.code)
-}
-
-/// Returns the slot at which a gate's entry is looked for first, in a table whose size is one more
-/// than `mask`.
-fn slot(pair: &Pair, mask: usize) -> usize {
-    let key = u64::from(pair.larger.code)
-        .wrapping_mul(0x9e37_79b9_7f4a_7c15)
-        .wrapping_add(u64::from(pair.smaller.code))
-        .wrapping_mul(0xd6e8_feb8_6659_fd93);
-    (key >> 32) as usize & mask
-}
-
-/// Returns the size of a table that `gates` gates fill by half at most.
-fn size_for(gates: usize) -> usize {
-    let mut size = SMALLEST;
-    for _ in 0..usize::BITS {
-        if (size / 2 > gates) | (size >= LARGEST) {
-            return size;
-        }
-        size = size.saturating_mul(2);
-    }
-    size
-}
-
 impl Sharing {
     /// Returns no gates yet, from the variable `first` on, with a table for `room`.
     pub fn new(memory: &mut Memory, first: u32, room: usize) -> Sharing {
         Sharing {
             first,
             gates: memory.list(room),
-            table: memory.table(0u32, size_for(room)),
+            table: memory.table(0u32, table_size(room)),
         }
     }
 
@@ -100,12 +57,11 @@ impl Sharing {
 
     /// Returns the gate at a variable, or one of constants if there is none.
     pub fn gate(&self, var: u32) -> Pair {
-        let place = var.wrapping_sub(self.first) as usize;
-        if place < self.gates.len() {
-            self.gates[place]
-        } else {
-            Pair::NONE
-        }
+        entry_or(
+            self.gates.as_slice(),
+            var.wrapping_sub(self.first) as usize,
+            Pair::NONE,
+        )
     }
 
     /// Returns the literal of the gate that has an entry.
@@ -116,14 +72,13 @@ impl Sharing {
     /// Returns true if an entry is empty, or that of this gate.
     fn fits(&self, known: u32, pair: &Pair) -> bool {
         let own = self.gate(self.first.wrapping_add(known).wrapping_sub(1));
-        (known == 0)
-            | ((own.larger.code == pair.larger.code) & (own.smaller.code == pair.smaller.code))
+        (known == 0) | own.equals(pair)
     }
 
     /// Returns the slot of a gate, or the empty one at which it would stand.
     fn find(&self, pair: &Pair) -> u32 {
         let mask = self.table.len().saturating_sub(1);
-        let mut at = slot(pair, mask);
+        let mut at = pair.slot(mask);
         for _ in 0..self.table.len() {
             let known = entry(self.table.as_slice(), number(at));
             if self.fits(known, pair) {
@@ -149,9 +104,9 @@ impl Sharing {
     /// Takes a larger table if the gates fill this one by half.
     fn grow(&mut self, memory: &mut Memory) {
         let many = self.gates.len();
-        let full = (many >= self.table.len() / 2) & (self.table.len() < LARGEST);
+        let full = (many >= self.table.len() / 2) & (self.table.len() < LARGEST_TABLE);
         if full & !memory.is_refused() {
-            self.table = memory.table(0u32, size_for(many.saturating_mul(2)));
+            self.table = memory.table(0u32, table_size(many.saturating_mul(2)));
             self.fill();
         }
     }
@@ -161,7 +116,7 @@ impl Sharing {
         for pair in pairs {
             memory.push(&mut self.gates, *pair);
         }
-        self.table = memory.table(0u32, size_for(self.gates.len()));
+        self.table = memory.table(0u32, table_size(self.gates.len()));
         self.fill();
     }
 
@@ -182,11 +137,11 @@ impl Sharing {
     /// Returns the literal of the conjunction of two literals. It is simplified only if a fan-in is
     /// constant, or both have one variable.
     pub fn and(&mut self, memory: &mut Memory, a: Literal, b: Literal) -> Literal {
-        let pair = ordered(a, b);
-        if is_false(&pair) {
+        let pair = Pair::of(a, b);
+        if pair.is_false() {
             return Literal::FALSE;
         }
-        if is_larger(&pair) {
+        if pair.is_larger() {
             return pair.larger;
         }
         self.put(memory, pair)

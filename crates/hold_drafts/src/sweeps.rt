@@ -2,11 +2,12 @@
 
 use crate::opening::Opening;
 use aig_graph::Memory;
-use backward_sets::{Literal, Pair, entry, has_mark, number, set_entry, set_mark};
+use backward_sets::{Literal, Pair, entry, has_mark, number, set_entry};
+use checked_tables::put_if_covered;
 
 /// Marks the gate that a literal reads, if it reads one.
 fn mark(read: &mut [bool], first: u32, lit: Literal) {
-    set_mark(read, lit.var().wrapping_sub(first), true);
+    put_if_covered(read, lit.var().wrapping_sub(first) as usize, true);
 }
 
 /// Marks by gate those that literals read, over other gates or not.

@@ -15,7 +15,7 @@ use Rattle.reports.specs.declared.agreement.Agreement.{Agreement}
 use Rattle.reports.specs.declared.judgement.Judgement.{Judgement}
 use Rattle.reports.specs.declared.agreement.Agreement.TheVariants.{Same, DiffersAt}
 use Rattle.reports.specs.declared.batch.JobReport.{JobReport}
-use Rattle.reports.specs.declared.batch.JobReport.TheVariants.{Done, Refused, NoMemory, NoSuchLatch, NoSuchName}
+use Rattle.reports.specs.declared.batch.JobReport.TheVariants.{Done, Misread, NoMemory, NoSuchLatch, NoSuchName, NotShown, Refused}
 use Rattle.retimed_circuits.specs.declared.report.Retimed.{Retimed}
 use Rattle.serde_json.specs.Data.{Data, null, string, object, Members, member, no_members, depth, items_depth, members_depth}
 use Rattle.serde_json.specs.View.{items_of, view}
@@ -157,6 +157,8 @@ plain-job (Refused fault) = plain-object (plain-member (plain-fault (faults.Circ
 plain-job NoMemory = record { whole = refl; nests = omega arith }
 plain-job NoSuchName = record { whole = refl; nests = omega arith }
 plain-job NoSuchLatch = record { whole = refl; nests = omega arith }
+plain-job Misread = record { whole = refl; nests = omega arith }
+plain-job NotShown = record { whole = refl; nests = omega arith }
 
 -- of a batch
 pub batch : (reports : List JobReport) (status : ℕ) → IsPlain (batch_data reports status)

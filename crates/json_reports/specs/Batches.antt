@@ -2,7 +2,7 @@
 use Rattle.std.specs.Prelude.{ℕ, List, codes}
 use Rattle.file_words.specs.declared.fault.ReadError.TheVariants as files
 use Rattle.reports.specs.declared.batch.JobReport.{JobReport}
-use Rattle.reports.specs.declared.batch.JobReport.TheVariants.{Done, Refused, NoMemory, NoSuchLatch, NoSuchName}
+use Rattle.reports.specs.declared.batch.JobReport.TheVariants.{Done, Misread, NoMemory, NoSuchLatch, NoSuchName, NotShown, Refused}
 use Rattle.serde_json.specs.Data.{Data, null, string, object, member, no_members}
 use Rattle.json_reports.specs.Faults.{fault_data}
 use Rattle.json_reports.specs.Members.{count, array_of}
@@ -22,6 +22,8 @@ job_data (Refused fault) = file_data (fault_data (faults.Circuit fault)) null
 job_data NoMemory = file_data (fault_data (faults.Circuit files.NoMemory)) null
 job_data NoSuchName = file_data (fault_data faults.NoSuchName) null
 job_data NoSuchLatch = file_data (fault_data faults.NoSuchLatch) null
+job_data Misread = file_data (fault_data faults.Misread) null
+job_data NotShown = file_data (fault_data faults.NotShown) null
 
 -- the files in the order of the list
 abbrev pub batch_data : List JobReport → ℕ → Data

@@ -8,7 +8,7 @@ use Rattle.witnesses.specs.Codes as witnesses
 use Rattle.serde_json.specs.Data.{Data, string, object, member, no_members}
 use Rattle.json_reports.specs.Members.{count, or_null}
 use Rattle.json_reports.specs.declared.fault.Fault.{Fault}
-use Rattle.json_reports.specs.declared.fault.Fault.TheVariants.{Circuit, Stimulus, FileList, Certificates, Witness, NoSuchName, NoSuchLatch, TooManyNodes, TooManySteps, NotAMap, NoSuchLiteral, Device}
+use Rattle.json_reports.specs.declared.fault.Fault.TheVariants.{Circuit, Stimulus, FileList, Certificates, Witness, NoSuchName, NoSuchLatch, Misread, NotShown, TooManyNodes, TooManySteps, NotAMap, NoSuchLiteral, Device}
 
 -- the name of a fault of any kind of file
 abbrev pub fault_name : Fault → List ℕ
@@ -19,6 +19,8 @@ fault_name (Certificates fault) = certificates.name_of fault
 fault_name (Witness fault) = witnesses.name_of fault
 fault_name NoSuchName = codes "NoSuchName"
 fault_name NoSuchLatch = codes "NoSuchLatch"
+fault_name Misread = codes "Misread"
+fault_name NotShown = codes "NotShown"
 fault_name TooManyNodes = codes "TooManyNodes"
 fault_name TooManySteps = codes "TooManySteps"
 fault_name NotAMap = codes "NotAMap"
@@ -34,6 +36,8 @@ fault_offset (Certificates fault) = certificates.offset_of fault
 fault_offset (Witness fault) = witnesses.offset_of fault
 fault_offset NoSuchName = None
 fault_offset NoSuchLatch = None
+fault_offset Misread = None
+fault_offset NotShown = None
 fault_offset TooManyNodes = None
 fault_offset TooManySteps = None
 fault_offset NotAMap = None

@@ -50,6 +50,8 @@ fn job_object(alloc: Global, report: JobReport) -> Result<Value, AllocError>
         JobReport::NoMemory => refused_object(alloc, Fault::Circuit(ReadError::NoMemory)),
         JobReport::NoSuchName => refused_object(alloc, Fault::NoSuchName),
         JobReport::NoSuchLatch => refused_object(alloc, Fault::NoSuchLatch),
+        JobReport::Misread => refused_object(alloc, Fault::Misread),
+        JobReport::NotShown => refused_object(alloc, Fault::NotShown),
     }
 }
 

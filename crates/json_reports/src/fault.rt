@@ -30,6 +30,10 @@ pub enum Fault {
     NoSuchName,
     /// A place is that of no latch.
     NoSuchLatch,
+    /// A line of merged latches names what no latch reads as.
+    Misread,
+    /// A merged latch isn't shown to agree with what it reads as.
+    NotShown,
     /// A circuit has too many nodes for a picture.
     TooManyNodes,
     /// Random sequences of a circuit would take too much memory.
@@ -58,6 +62,8 @@ impl Fault {
             Fault::Witness(fault) => fault.name(),
             Fault::NoSuchName => "NoSuchName",
             Fault::NoSuchLatch => "NoSuchLatch",
+            Fault::Misread => "Misread",
+            Fault::NotShown => "NotShown",
             Fault::TooManyNodes => "TooManyNodes",
             Fault::TooManySteps => "TooManySteps",
             Fault::NotAMap => "NotAMap",
@@ -78,6 +84,8 @@ impl Fault {
             Fault::Witness(fault) => fault.offset(),
             Fault::NoSuchName
             | Fault::NoSuchLatch
+            | Fault::Misread
+            | Fault::NotShown
             | Fault::TooManyNodes
             | Fault::TooManySteps
             | Fault::NotAMap

@@ -1,6 +1,7 @@
 //! What a step has to know: what the latches are told that read as others, and what those are told
 //! which they read as. Few latches do after some steps, so most gates needn't be simulated.
 use aig_graph::{Aig, Gate, Lit, MAX_VARIABLES, NoMemory};
+use checked_tables::put_if_there;
 use reading_splits::reads_another;
 use std::alloc::Global;
 
@@ -33,9 +34,7 @@ impl Drop for Cone {
 
 /// Marks a place, if there is one.
 fn mark(marks: &mut [bool], place: usize) {
-    if place < marks.len() {
-        marks[place] = true;
-    }
+    put_if_there(marks, place, true);
 }
 
 /// Marks a latch by its variable, and what it is told.
@@ -106,7 +105,7 @@ fn marked(
     Ok(places)
 }
 
-/// The literal of a literal, by those of the gates.
+/// Returns what a literal is, by what the gates are from the variable `first` on.
 fn renumbered(numbers: &[Lit], first: u32, lit: Lit) -> Lit {
     if lit.var() < first {
         return lit;

@@ -49,7 +49,7 @@ fn simulate(
     Ok(())
 }
 
-/// Simulates, and then asks of all latches. Whether a class was parted by what was asked.
+/// Simulates, and then asks of all latches. Returns true if what was asked parted a class.
 fn turn(
     alloc: Global,
     aig: &Aig,

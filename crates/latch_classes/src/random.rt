@@ -39,12 +39,12 @@ fn mixed(word: u64) -> u64 {
 }
 
 impl Random {
-    /// Those of the one seed.
+    /// Returns the numbers of the one seed.
     pub(crate) fn seeded() -> Random {
         Random { state: 4711 }
     }
 
-    /// The next word, of which each bit is 1 half of the time.
+    /// Returns the next word, of which each bit is 1 half of the time.
     fn next(&mut self) -> u64 {
         let mut word = self.state;
         word ^= word << 13;
@@ -54,7 +54,7 @@ impl Random {
         word
     }
 
-    /// The next word, of which each bit is 1 so often.
+    /// Returns the next word, of which each bit is 1 as often as `density` says.
     pub(crate) fn word(&mut self, density: Density) -> u64 {
         let word = self.next();
         match density {
@@ -67,7 +67,7 @@ impl Random {
         }
     }
 
-    /// The next words, of which each has its density.
+    /// Returns the next words, each with its density.
     pub(crate) fn words(&mut self, densities: &[Density; 4]) -> Words {
         Words {
             a: self.word(densities[0]),

@@ -5,6 +5,7 @@ use crate::cone::Cone;
 use crate::random::{Density, Random};
 use crate::words::{Words, ZERO};
 use aig_graph::{Aig, Lit, NoMemory};
+use checked_tables::put_if_there;
 use reading_splits::{Leaving, part, reads_another};
 use std::alloc::Global;
 use std::mem;
@@ -55,7 +56,7 @@ impl Drop for Steps {
     }
 }
 
-/// The words of a literal.
+/// Returns the words of a literal.
 fn words_of(words: &[Words], lit: Lit) -> Words {
     let var = lit.var() as usize;
     if var < words.len() {
@@ -65,11 +66,9 @@ fn words_of(words: &[Words], lit: Lit) -> Words {
     }
 }
 
-/// Sets the words at a place, if there are any.
+/// Puts the words at a place, if there is one.
 fn set_words(words: &mut [Words], place: usize, value: Words) {
-    if place < words.len() {
-        words[place] = value;
-    }
+    put_if_there(words, place, value);
 }
 
 /// Returns words in which a literal is 1. In two of them an eighth of some lanes is turned round:
@@ -93,7 +92,7 @@ pub(crate) fn cost(aig: &Aig) -> u64 {
 }
 
 impl Steps {
-    /// For steps of a circuit whose latches read so at first.
+    /// Returns the steps of a circuit whose latches read as `reads` at first.
     pub(crate) fn of(
         alloc: Global,
         aig: &Aig,

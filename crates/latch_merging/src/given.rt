@@ -13,11 +13,14 @@ use clean::{Cleaned, clean, own_literal};
 use latch_readings::{Judgement, LineReading, judge, reading_of};
 use std::alloc::Global;
 
-/// What a circuit is merged to by given lines.
+/// What a circuit is merged to by given lines, or why it isn't merged.
 #[derive(Drop)]
-enum GivenMerging {
+pub enum GivenMerging {
+    /// The latches that the lines name, and no others, read as the lines say.
     Merged(MergedCircuit),
+    /// The latch of a line that no reading has, as in [`GivenStart::Misread`].
     Misread(u32),
+    /// The latch of a line, which isn't shown to be told what that is told which it reads as.
     NotShown(u32),
 }
 
@@ -63,8 +66,13 @@ fn judged(
     }
 }
 
-/// Merges the latches that lines name, if the judge shows that they always agree.
-fn merge_by(
+/// Merges the latches that lines name, if the judge shows that they always agree. The held latches
+/// take no part. Names stay, and nothing goes.
+///
+/// # Errors
+///
+/// `NoMemory` if memory is refused.
+pub fn merge_by(
     alloc: Global,
     circuit: &Circuit,
     keep: &Keep,

@@ -9,6 +9,6 @@ mod given;
 mod merging;
 mod start;
 
-pub use given::{GivenStart, start_by};
+pub use given::{GivenMerging, GivenStart, merge_by, start_by};
 pub use merging::{MergedCircuit, merge_latches};
 pub use start::{MergedStart, merged_start};

@@ -60,7 +60,7 @@ impl Obligation {
         Obligation::of_property(props, left)
     }
 
-    /// The property literal with this number, kind after kind.
+    /// Returns the property literal with this number, kind after kind.
     pub fn of_property(props: &Props, number: usize) -> Obligation {
         let mut left = number;
         if let Some(place) = among(&mut left, props.outputs.len()) {

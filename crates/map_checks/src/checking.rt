@@ -2,7 +2,7 @@
 //! a step of the second circuit. That step begins from what the map gives. Literals that must have
 //! one value have it wherever the constraints hold if they are one, or are shown to be equal. So
 //! the map is one of states.
-ghost use Rattle.std.specs.Prelude.{◌≡◌, ◌↔◌, [], length, IfOk, IfNone, IsErrOf, OnOk};
+ghost use Rattle.std.specs.Prelude.{◌≡◌, ◌↔◌, [], IfOk, IfNone, IsErrOf, OnOk};
 ghost use Rattle.aig_graph.specs.Streams.{SameShape};
 ghost use Rattle.map_checks.specs.Answers.{AreFitting, IsAnswer, IsOpeningOf, IsMap, KeepsStates};
 

@@ -4,15 +4,13 @@
 use crate::comparing::is_marked;
 use crate::pairs::Pairs;
 use aig_graph::{Aig, Lit, NoMemory};
+use checked_tables::{entry_or, put_if_covered, put_if_there};
 use gate_sharing::Equalities;
 use std::alloc::Global;
 
 /// Marks the variable of a literal.
 fn mark(marks: &mut [bool], lit: Lit) {
-    let var = lit.var() as usize;
-    if var < marks.len() {
-        marks[var] = true;
-    }
+    put_if_there(marks, lit.var() as usize, true);
 }
 
 /// Marks what stands for the literals of a part.
@@ -35,12 +33,11 @@ fn mark_cone(marks: &mut [bool], aig: &Aig) {
     }
 }
 
-/// Counts that a variable is read.
+/// Counts that a variable is read, if it is before the gates.
 fn count(counts: &mut [u32], lit: Lit) {
     let var = lit.var() as usize;
-    if var < counts.len() {
-        counts[var] = counts[var].wrapping_add(1);
-    }
+    let counted = entry_or(counts, var, 0);
+    put_if_covered(counts, var, counted.wrapping_add(1));
 }
 
 /// Counts by variable before the gates the marked gates that read it.

@@ -1,6 +1,5 @@
 //! What the inputs and latches of a circuit are among shared gates, before its gates are copied.
-ghost use Rattle.std.specs.Prelude.{◌≡◌, ◌≤◌, ◌<◌, ◌++◌, All, IfOk, OnOk, map};
-ghost use Rattle.aig_graph.specs.declared.literal.TheConstants.{MAX_VARIABLES};
+ghost use Rattle.std.specs.Prelude.{◌≡◌, ◌<◌, ◌++◌, All, IfOk, OnOk, map};
 ghost use Rattle.aig_graph.specs.Graph.{variable};
 ghost use Rattle.gate_sharing.specs.Equal.{StaysRight};
 ghost use Rattle.gate_sharing.specs.Copies.{copied_end, copy_of};

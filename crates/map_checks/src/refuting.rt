@@ -1,6 +1,6 @@
 //! Literals that stay two, and what propagation says of them: they are equal if neither can be 1
 //! without the other.
-ghost use Rattle.std.specs.Prelude.{◌≡◌, Bool, true, IfOk, OnOk, length};
+ghost use Rattle.std.specs.Prelude.{◌≡◌, true, IfOk, OnOk, length};
 ghost use Rattle.aig_graph.specs.Gates.{AreEqualIn, gates_of};
 ghost use Rattle.gate_sharing.specs.Equal.{StaysRight};
 ghost use Rattle.map_checks.specs.Parts.{AreMarkedEqual};

@@ -44,7 +44,7 @@ fn one_if_free(latch: &Latch) -> u32
     u32::from(latch.reset == Reset::Free)
 }
 
-/// Of each latch how many free ones come before it.
+/// Counts, for each latch, the free ones before it.
 pub fn free_places(alloc: Global, aig: &Aig) -> Result<Vec<u32>, NoMemory>
     ensures { IfOk result (λ places. places.items
         ≡ table 0 (length aig.now.latches) (free_before aig.now)) }

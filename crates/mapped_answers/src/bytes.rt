@@ -8,11 +8,10 @@ ghost use Rattle.aig_graph.specs.Graph.{IsGraph};
 ghost use Rattle.aig_binary.specs.Spellings.{text_in};
 ghost use Rattle.counted_io.specs.Output.{Writes};
 ghost use Rattle.frames.specs.Stages.{Notifies, Writing, stages_of};
-ghost use Rattle.mapped_answers.specs.Mapping.{IsMadeCutOff, IsMadeWritten, IsMappedOf, IsMappingStop};
+ghost use Rattle.mapped_answers.specs.Mapping.{IsMappedOf, IsMappingStop};
 
 use crate::errors::AnswerError;
 use crate::making::{Made, made_over};
-use crate::mapped::{Mapped, SpeltMap};
 use aig_binary::{Spelling, SpeltCircuit, write};
 use aig_graph::Circuit;
 use counted_io::{CountedWrite, WriteError};
@@ -36,45 +35,15 @@ fn write_in<W: CountedWrite>(
     write(circuit, spelling, writer)
 }
 
-/// Writes the circuit of a retiming in `spelling`, which becomes that of the map too.
-fn write_made<W: CountedWrite>(
-    made: Made,
-    spelling: Spelling,
-    writer: &mut W,
-) -> Result<Mapped, AnswerError>
-    ensures ok { IfOk result (IsMadeWritten made spelling (W.output writer.old)
-        (W.output writer.new)) }
-    ensures err { IfErr result (IsMadeCutOff made spelling (W.output writer.old)
-        (W.output writer.new)) }
-{
-    match write_in(&made.retimed.circuit, spelling, writer) {
-        Ok(()) => {
-            let Made { retimed, keep, map } = made;
-            Ok(Mapped {
-                retimed,
-                keep,
-                map: SpeltMap {
-                    circuit: map,
-                    spelling,
-                },
-            })
-        }
-        Err(error) => {
-            drop(made);
-            Err(AnswerError::Bytes(BytesError::Write(error)))
-        }
-    }
-}
-
-/// Retimes a circuit that was read and writes it as `frames::retime_spelt` does, and returns its
-/// map too.
+/// Retimes a circuit that was read and writes it as `frames::run_spelt` does, and returns its map
+/// too.
 ///
 /// The map is made before the circuit is written. The circuit that was read is kept until the map
 /// is there.
 ///
 /// # Errors
 ///
-/// `Bytes` with the error of `frames::retime_spelt`, or if memory for the map is refused.
+/// `Bytes` with the error of `frames::run_spelt`, or if memory for the map is refused.
 /// `MapTooLarge` if the map would have too many variables: nothing is written then.
 pub fn retime_spelt_mapped<W: CountedWrite, G: PhaseGate, V: FrameWatcher>(
     rt: &(impl Threads + Sync),
@@ -84,24 +53,26 @@ pub fn retime_spelt_mapped<W: CountedWrite, G: PhaseGate, V: FrameWatcher>(
     options: &Options,
     crew: &Crew<G>,
     watcher: &mut V,
-) -> Result<Mapped, AnswerError>
+) -> Result<Made, AnswerError>
     ensures ok { IfOk result (IsMappedOf options.now spelt (W.output writer.old)
         (W.output writer.new)) }
     ensures err { IfErr result (IsMappingStop options.now spelt (W.output writer.old)
         (W.output writer.new)) }
-    ensures notified { IfOk result (λ mapped. Notifies V.was_notified watcher.old watcher.new
-        (stages_of options.now.max_frames mapped.retimed ++ Writing ∷ [])) }
+    ensures notified { IfOk result (λ made. Notifies V.was_notified watcher.old watcher.new
+        (stages_of options.now.max_frames made.retimed ++ Writing ∷ [])) }
 {
-    let SpeltCircuit {
-        circuit,
-        spelling: fallback,
-    } = spelt;
-    let spelling = options.spelling.unwrap_or(fallback);
-    match made_over(rt, alloc, circuit, options, crew, watcher) {
-        Ok(made) => {
-            watcher.enter(Stage::Writing);
-            write_made(made, spelling, writer)
+    let SpeltCircuit { circuit, spelling } = spelt;
+    let made = made_over(rt, alloc, circuit, options, crew, watcher)?;
+    watcher.enter(Stage::Writing);
+    match write_in(
+        &made.retimed.circuit,
+        options.spelling.unwrap_or(spelling),
+        writer,
+    ) {
+        Ok(()) => Ok(made),
+        Err(error) => {
+            drop(made);
+            Err(AnswerError::Bytes(BytesError::Write(error)))
         }
-        Err(error) => Err(error),
     }
 }

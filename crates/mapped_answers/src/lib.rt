@@ -7,10 +7,9 @@ mod errors;
 mod following;
 mod making;
 mod map_text;
-mod mapped;
 
 pub use bytes::retime_spelt_mapped;
 pub use errors::AnswerError;
 pub use making::{Made, made_over};
 pub use map_text::write_state_map;
-pub use mapped::{Mapped, SpeltMap};
+pub use retiming_maps::StateMap;

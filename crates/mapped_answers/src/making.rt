@@ -1,30 +1,26 @@
 //! A circuit retimed, with its map.
 ghost use Rattle.std.specs.Prelude.{◌≡◌, IfErr, IfOk};
 ghost use Rattle.frames.specs.Following.{IsRetimedFollowed};
-ghost use Rattle.frames.specs.Named.{AreLatchesBy, NoneMissingBy, kept_by};
+ghost use Rattle.frames.specs.Named.{kept_by};
 ghost use Rattle.frames.specs.Stages.{Notifies, looks_of, stages_of};
-ghost use Rattle.frames.specs.declared.errors.BytesError.TheVariants.{Retime};
-ghost use Rattle.mapped_answers.specs.Mapping.{IsMade, IsMakingError, IsMapError, IsRetimedMapped};
-ghost use Rattle.mapped_answers.specs.declared.errors.AnswerError.TheVariants.{Bytes};
+ghost use Rattle.mapped_answers.specs.Mapping.{IsMade, IsMakingError, IsRetimedMapped};
 
-use crate::errors::AnswerError;
+use crate::errors::{AnswerError, FollowError};
 use crate::following::GrowingMap;
-use crate::mapped::map_error;
 use aig_graph::{Circuit, Keep, NoMemory};
-use frames::{
-    BytesError, FrameWatcher, Options, RetimeError, Retimed, Run, RunFollower, Stage, begin,
-    finish, hold_by,
-};
+use frames::{FrameWatcher, Options, Retimed, Run, RunFollower, Stage, begin, finish, hold_by};
 use pulse::{Crew, PhaseGate};
 use retiming_maps::{MapError, StateMap, identity, state_map};
 use std::alloc::Global;
 use std::thread::Threads;
 
-/// A retiming with the held latches of its circuit, and its map.
+/// A retiming with its map.
 #[derive(Drop)]
 pub struct Made {
     pub retimed: Retimed,
+    /// The held latches of the retimed circuit.
     pub keep: Keep,
+    /// The map from the states of the circuit that was read to those of the retimed one.
     pub map: StateMap,
 }
 
@@ -66,7 +62,7 @@ fn made_kept<G: PhaseGate, V: FrameWatcher>(
     options: &Options,
     crew: &Crew<G>,
     watcher: &mut V,
-) -> Result<Made, MapError>
+) -> Result<Made, FollowError>
     requires { keep.now ≡ kept_by options.now circuit.now }
     ensures made { IfOk result (IsRetimedMapped options.now circuit.now) }
     ensures notified { IfOk result (λ made. Notifies V.was_notified watcher.old watcher.new
@@ -77,38 +73,8 @@ fn made_kept<G: PhaseGate, V: FrameWatcher>(
     };
     let begun = begin(alloc, circuit, keep, options, map)?;
     let end = finish(rt, alloc, begun, options, crew, watcher)?;
-    with_map(alloc, circuit, end, options)
-}
-
-/// Runs [`made_kept`], with the errors of an answer.
-fn made_mapped<G: PhaseGate, V: FrameWatcher>(
-    rt: &(impl Threads + Sync),
-    alloc: Global,
-    circuit: &Circuit,
-    keep: &Keep,
-    options: &Options,
-    crew: &Crew<G>,
-    watcher: &mut V,
-) -> Result<Made, AnswerError>
-    requires keep { keep.now ≡ kept_by options.now circuit.now }
-    requires latches { AreLatchesBy options.now circuit.now }
-    requires names { NoneMissingBy options.now circuit.now }
-    ensures ok { IfOk result (IsMade options.now circuit.now) }
-    ensures err { IfErr result IsMapError }
-    ensures notified { IfOk result (λ made. Notifies V.was_notified watcher.old watcher.new
-        (looks_of options.now.max_frames made.retimed)) }
-{
-    match made_kept(rt, alloc, circuit, keep, options, crew, watcher) {
-        Ok(made) => Ok(made),
-        Err(error) => Err(map_error(error)),
-    }
-}
-
-/// Returns the error of an answer for one of holding latches.
-fn unheld(error: RetimeError) -> AnswerError
-    ensures { result ≡ Bytes (Retime error) }
-{
-    AnswerError::Bytes(BytesError::Retime(error))
+    let made = with_map(alloc, circuit, end, options)?;
+    Ok(made)
 }
 
 /// Retimes the circuit and makes its map. Latches that always agree are merged first if the options
@@ -127,10 +93,9 @@ fn made_of<G: PhaseGate, V: FrameWatcher>(
         (stages_of options.now.max_frames made.retimed)) }
 {
     watcher.enter(Stage::Cleaning);
-    match hold_by(alloc, circuit, options) {
-        Ok(keep) => made_mapped(rt, alloc, circuit, &keep, options, crew, watcher),
-        Err(error) => Err(unheld(error)),
-    }
+    let keep = hold_by(alloc, circuit, options)?;
+    let made = made_kept(rt, alloc, circuit, &keep, options, crew, watcher)?;
+    Ok(made)
 }
 
 /// Retimes the circuit, makes its map, and drops the circuit. Latches that always agree are merged

@@ -2,7 +2,7 @@
 //!
 //! The gates of a map stand as the bytes of the binary form, so that form gets them as they are,
 //! without a copy. For the ASCII form they are read one by one. So neither form takes memory.
-ghost use Rattle.std.specs.Prelude.{ℕ, ◌≡◌, ◌+◌, ◌≤◌, ◌<◌, ◌++◌, List, length};
+ghost use Rattle.std.specs.Prelude.{ℕ, ◌≡◌, ◌+◌, ◌<◌, ◌++◌, List};
 ghost use Rattle.aig_graph.specs.declared.graph.Gate.{Gate};
 ghost use Rattle.aig_graph.specs.declared.literal.TheConstants.{MAX_VARIABLES};
 ghost use Rattle.aig_graph.specs.Graph.{IsGateAt, first_gate};

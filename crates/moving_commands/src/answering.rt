@@ -57,7 +57,7 @@ fn moved<'a, R: Threads + Sync, W: MoveWatcher>(
     }
 }
 
-/// The answer of the circuit that is read.
+/// Returns the answer of a circuit that was read.
 fn answer_of<'a, R: Threads + Sync, W: MoveWatcher>(
     rt: &R,
     alloc: Global,

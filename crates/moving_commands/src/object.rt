@@ -97,7 +97,7 @@ fn map_value(alloc: Global, task: &Moving<'_>, answer: &Answer) -> Result<Value,
     }
 }
 
-/// The bound on paths that is reported.
+/// Returns the bound on paths that is reported.
 fn reported_bound(task: &Moving<'_>, answer: &Answer) -> Option<u64>
     ensures { result ≡ wanted.reported_bound task.now.options.bound answer.now.before }
 {

@@ -43,7 +43,8 @@ fn guessed(
     }
 }
 
-/// The answer where the latches hold what they read as: whether the properties are equal then.
+/// Returns the answer if the latches hold what they read as: it says if the properties are equal
+/// then.
 fn answer_under(
     alloc: Global,
     first: &Circuit,
@@ -71,7 +72,7 @@ fn answer_under(
     }
 }
 
-/// The answer, if these are shown to be what the latches always hold.
+/// Returns the answer, if the latches are shown to hold what they read as in all states.
 fn answer_by(
     alloc: Global,
     first: &Circuit,
@@ -95,7 +96,7 @@ fn answer_by(
     }
 }
 
-/// The check of circuits of one shape.
+/// Checks circuits of one shape.
 fn checked(
     alloc: Global,
     first: &Circuit,

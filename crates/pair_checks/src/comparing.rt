@@ -19,7 +19,7 @@ pub(crate) struct Compared {
     pub(crate) shown: usize,
 }
 
-/// The literal at a place.
+/// Returns the literal at a place.
 fn literal_at(lits: &[Lit], place: usize) -> Lit
     requires { place < length lits.now }
     ensures { result ≡ slice_index_or lits.now place 0 }

@@ -1,5 +1,5 @@
 //! The judge of a reading: the latches begin as what they read as, and are told what that is told.
-ghost use Rattle.std.specs.Prelude.{ℕ, ◌≡◌, Bool, true, List, IfOk, IfSome};
+ghost use Rattle.std.specs.Prelude.{ℕ, ◌≡◌, true, List, IfOk, IfSome};
 ghost use Rattle.unit_refutations.specs.Classes.{AreAlike};
 ghost use Rattle.pair_checks.specs.Openings.{openings};
 ghost use Rattle.pair_checks.specs.Pairs.{IsInductive};

@@ -1,8 +1,8 @@
 //! How the latches of both circuits begin: a known one as its reset, and a free one as a variable
 //! of its own. It shares that with the free latch of the other circuit that it stands for.
-ghost use Rattle.std.specs.Prelude.{ℕ, ◌≡◌, ◌<◌, ◌-◌, ◌^◌, All, IfOk, length, slice_get};
+ghost use Rattle.std.specs.Prelude.{◌≡◌, ◌<◌, ◌-◌, ◌^◌, All, IfOk};
 ghost use Rattle.std.specs.List.{slice_index_or};
-ghost use Rattle.aig_graph.specs.Graph.{free_before, free_latches};
+ghost use Rattle.aig_graph.specs.Graph.{free_latches};
 ghost use Rattle.aig_graph.specs.Value.{opening_literal};
 ghost use Rattle.pair_checks.specs.Openings as wanted;
 
@@ -11,7 +11,7 @@ use clean::all_places;
 use map_checks::free_places;
 use std::alloc::Global;
 
-/// The entry of a list at a place, and 0 past its end.
+/// Returns the entry of a list at a place, and 0 past its end.
 fn entry_at(list: &[u32], place: usize) -> u32
     ensures value { result ≡ slice_index_or list.now place 0 }
     ensures small { All (λ entry. entry < 2 ^ 28 - 1) list.now → result < 2 ^ 28 - 1 }

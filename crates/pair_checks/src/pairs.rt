@@ -1,5 +1,5 @@
 //! Both circuits as one graph over the same inputs, in which their latches read as given literals.
-ghost use Rattle.std.specs.Prelude.{◌≡◌, ◌≤◌, Bool, true, All, IfOk, IfSome, drop, length, take};
+ghost use Rattle.std.specs.Prelude.{◌≡◌, ◌≤◌, true, All, IfOk, IfSome, drop, length, take};
 ghost use Rattle.pair_checks.specs.Sides.{IsPair, IsRead};
 
 use aig_graph::{Aig, Lit, MAX_VARIABLES};

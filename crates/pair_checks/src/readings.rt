@@ -1,5 +1,5 @@
 //! What the latches of both circuits read as: a literal each, by its place in the list of them all.
-ghost use Rattle.std.specs.Prelude.{ℕ, ◌≡◌, Bool, true};
+ghost use Rattle.std.specs.Prelude.{◌≡◌, true};
 ghost use Rattle.pair_checks.specs.Openings.{BeginAlike, BeginsAs};
 
 use aig_graph::{Lit, NoMemory};
@@ -36,7 +36,7 @@ pub(crate) fn begin_alike(first: u32, begins: &[Lit], reads: &[Lit]) -> bool
     true
 }
 
-/// The literal of a latch, by its place in the list.
+/// Returns the literal of a latch, by its place in the list.
 fn own_literal(first: u32, place: usize) -> Lit {
     let room = (1 << 28) - 1 - place.min((1 << 28) - 1);
     if (first as usize) < room {
@@ -46,7 +46,7 @@ fn own_literal(first: u32, place: usize) -> Lit {
     }
 }
 
-/// Each latch read as itself.
+/// Returns the reading in which each latch reads as itself.
 pub(crate) fn own_reading(alloc: Global, first: u32, count: usize) -> Result<Vec<Lit>, NoMemory> {
     let mut reads = Vec::new(alloc);
     for place in 0..count {

@@ -5,7 +5,7 @@ use Rattle.file_words.specs.declared.fault.ReadError.{ReadError}
 use Rattle.file_words.specs.Codes.{name_of, offset_of}
 use Rattle.reports.specs.Retimings.{change}
 use Rattle.reports.specs.declared.batch.JobReport.{JobReport}
-use Rattle.reports.specs.declared.batch.JobReport.TheVariants.{Done, Refused, NoMemory, NoSuchLatch, NoSuchName}
+use Rattle.reports.specs.declared.batch.JobReport.TheVariants.{Done, Misread, NoMemory, NoSuchLatch, NoSuchName, NotShown, Refused}
 
 unfoldable pub offset_text : Option ℕ → List ℕ
 offset_text None = []
@@ -25,6 +25,8 @@ report_text (Refused fault) = refusal_text fault
 report_text NoMemory = codes " memory" ++ 10 ∷ []
 report_text NoSuchName = codes " refused NoSuchName" ++ 10 ∷ []
 report_text NoSuchLatch = codes " refused NoSuchLatch" ++ 10 ∷ []
+report_text Misread = codes " refused Misread" ++ 10 ∷ []
+report_text NotShown = codes " refused NotShown" ++ 10 ∷ []
 
 -- the line of the file with this number
 abbrev pub job_line : ℕ → JobReport → List ℕ

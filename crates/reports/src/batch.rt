@@ -23,6 +23,10 @@ pub enum JobReport {
     NoSuchName,
     /// A position that is to be held is that of no latch.
     NoSuchLatch,
+    /// No reading has a line of the classes that are to be merged.
+    Misread,
+    /// A latch that is to be merged isn't shown to agree with its first.
+    NotShown,
 }
 
 fn put_offset<W: CountedWrite>(out: &mut Buffered<'_, W>, offset: Option<u64>)
@@ -62,6 +66,8 @@ fn put_report<W: CountedWrite>(out: &mut Buffered<'_, W>, report: JobReport)
         JobReport::NoMemory => out.put(b" memory\n"),
         JobReport::NoSuchName => out.put(b" refused NoSuchName\n"),
         JobReport::NoSuchLatch => out.put(b" refused NoSuchLatch\n"),
+        JobReport::Misread => out.put(b" refused Misread\n"),
+        JobReport::NotShown => out.put(b" refused NotShown\n"),
     }
 }
 

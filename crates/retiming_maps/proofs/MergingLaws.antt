@@ -11,6 +11,9 @@ use Rattle.aig_graph.proofs.StreamLaws.{composed-every}
 use Rattle.clean.specs.declared.cleaning.Cleaned.{Cleaned}
 use Rattle.cleaned_circuits.proofs.MergedLaws.{length-replaced_latches}
 use Rattle.cleaned_circuits.proofs.PassLaws.{IsCircuit}
+use Rattle.certificates.specs.declared.merged.MergedLatch.{MergedLatch}
+use Rattle.latch_merging.specs.declared.given.GivenStart.{GivenStart}
+use Rattle.latch_merging.specs.declared.given.GivenStart.TheVariants.{Merged, Misread, NotShown}
 use Rattle.latch_merging.specs.declared.start.MergedStart.{MergedStart}
 use Rattle.latch_merging.proofs.StartLaws.{start-of}
 use Rattle.merged_circuits.specs.Inductive.{IsMergedBy}
@@ -22,7 +25,7 @@ use Rattle.map_circuits.proofs.ReadFunctionLaws.{merged-step, read-within}
 use Rattle.retimed_circuits.specs.Frames.{CleansTo}
 use Rattle.retiming_maps.specs.declared.parts.MapParts.{MapParts}
 use Rattle.retiming_maps.specs.Mapping.{IsCleanedAlong, IsMapBy, LeadsOn}
-use Rattle.retiming_maps.specs.Merging.{IsMergedAfter, IsStartAlong}
+use Rattle.retiming_maps.specs.Merging.{IsGivenAfter, IsGivenStartAlong, IsMergedAfter, IsStartAlong}
 use Rattle.retiming_maps.proofs.FreeLaws.{free-merged, kept-then}
 
 module _ (b d e : Netlist) (held kept reads : List ℕ) (g h : Graph) (functions old new : List ℕ) where
@@ -55,3 +58,10 @@ started held c d old mid new m valid in_range along after =
       start = start-of held c d m valid in_range cleans along.in_range after.start;
       leads = subst P (sym after.start.kept_free) (λ b kept p. after.leads b (composed kept d.kept_free) (along.leads b kept p));
     }
+
+-- so by lines that are given
+pub given-started : (held : List ℕ) (c : Netlist) (d : Cleaned) (lines : List MergedLatch) (old mid new : MapParts) (given : GivenStart) → IsCircuit c → All (λ j. j < length c.aig.latches) held
+    → IsCleanedAlong held c old mid d → IsGivenAfter d lines mid new given → IsGivenStartAlong held c lines old new given
+given-started held c d lines old mid new (Merged m) valid in_range along after = (started held c d old mid new m valid in_range along after.0, after.1)
+given-started held c d lines old mid new (Misread latch) valid in_range along after = tt
+given-started held c d lines old mid new (NotShown latch) valid in_range along after = tt

@@ -12,7 +12,7 @@ mod start;
 
 pub use map_circuits::MapError;
 pub use maps::state_map;
-pub use merging::start_along;
+pub use merging::{start_along, start_along_by};
 pub use moves::follow_move;
 pub use packed_maps::StateMap;
 pub use parts::MapParts;

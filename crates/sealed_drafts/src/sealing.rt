@@ -1,7 +1,7 @@
 //! The graph of a draft.
 ghost use Rattle.std.specs.Prelude.{◌≡◌, ◌+◌, ◌≤◌, IfOk, OnOk, length, map};
 ghost use Rattle.aig_graph.specs.declared.literal.TheConstants.{MAX_VARIABLES};
-ghost use Rattle.aig_graph.specs.Graph.{IsGraph, variables_end};
+ghost use Rattle.aig_graph.specs.Graph.{variables_end};
 ghost use Rattle.sealed_drafts.specs.Sealed.{IsGrown, IsSealed, IsWired, reset_of};
 
 use crate::seals::{SealError, literal_below};

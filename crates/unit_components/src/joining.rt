@@ -7,10 +7,11 @@
 
 use crate::ranges::border;
 use aig_graph::Memory;
+use checked_tables::{entry_or, put_if_there};
 use std::alloc::{AllocError, Global};
 use std::thread::Threads;
 use std::{mem, thread};
-use unit_starts::{Region, entry_or, narrow, put_if_there};
+use unit_starts::{Region, narrow};
 
 /// Two places that are connected.
 #[derive(Clone, Copy)]

@@ -3,9 +3,10 @@
 //! that nothing goes through takes a unit that waits after a fan-in, the larger fan-in first.
 
 use aig_graph::{Gate, NoMemory};
+use checked_tables::put_if_there;
 use std::alloc::Global;
 use unit_flows::GateFlow;
-use unit_starts::{Region, narrow, put_if_there};
+use unit_starts::{Region, narrow};
 
 /// Returns true if a unit came to `place`.
 fn came(region: &Region, flows: &[GateFlow], place: usize) -> bool {

@@ -1,6 +1,6 @@
 //! Literals that are known to be 1 in a question. Each question has a number, and a literal that is
 //! 1 in it has that number as its mark. So nothing is taken back between two questions.
-ghost use Rattle.std.specs.Prelude.{ℕ, ◌≡◌, ◌≤◌, ◌<◌, Bool, true, false, IfOk, slice_get, Some};
+ghost use Rattle.std.specs.Prelude.{ℕ, ◌≡◌, ◌≤◌, ◌<◌, Bool, true, false, IfOk, Some};
 ghost use Rattle.aig_graph.specs.Gates.{IsNegated};
 ghost use Rattle.unit_refutations.specs.Assigned.{Holds};
 

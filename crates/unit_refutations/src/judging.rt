@@ -1,7 +1,7 @@
 //! The judge of classes of latches, over gates in which each literal reads its substitute already.
 //! It judges if a latch and its reading have equal signatures. Nobody has to believe how the
 //! classes were found.
-ghost use Rattle.std.specs.Prelude.{◌≡◌, Bool, true, IfOk, IfNone, length};
+ghost use Rattle.std.specs.Prelude.{◌≡◌, true, IfOk, IfNone};
 ghost use Rattle.unit_refutations.specs.Classes.{AreAlike, IsAlike, told};
 
 use crate::probing::equal_by_probing;

@@ -1,6 +1,6 @@
 //! The literals that must be 1 if some are, found gate by gate. A budget bounds the visits of
 //! gates: a question that spends it stays open.
-ghost use Rattle.std.specs.Prelude.{ℕ, ◌≡◌, Bool, true, false, IfOk, All};
+ghost use Rattle.std.specs.Prelude.{ℕ, ◌≡◌, Bool, true, false, IfOk};
 ghost use Rattle.aig_graph.specs.Gates.{AreEqualIn, AreOne, IsNegated, Respects, gates_of};
 ghost use Rattle.unit_refutations.specs.Assigned.{Holds};
 

@@ -1,6 +1,7 @@
 //! Which gate is looked at next: the gate of each literal that was found, and then those that read
 //! its variable. Nothing that is proved rests on it.
 use aig_graph::{Aig, Lit, NoMemory};
+use checked_tables::{entry_or, put_if_there};
 use std::alloc::Global;
 
 /// Links by variable and by fan-in. A variable has the link to the last fan-in that reads it. A
@@ -50,15 +51,9 @@ impl Readers {
     /// Adds a fan-in.
     fn add(&mut self, lit: Lit) -> Result<(), NoMemory> {
         let var = lit.var() as usize;
-        let mut link = 0;
-        if var < self.last.len() {
-            link = self.last[var];
-        }
-        self.before.push(link)?;
+        self.before.push(entry_or(self.last.as_slice(), var, 0))?;
         self.fan_ins = self.fan_ins.wrapping_add(1);
-        if var < self.last.len() {
-            self.last[var] = self.fan_ins;
-        }
+        put_if_there(self.last.as_mut_slice(), var, self.fan_ins);
         Ok(())
     }
 

@@ -4,8 +4,8 @@
 
 use crate::left_units::LeftUnits;
 use crate::region::{Region, narrow};
-use crate::tables::entry_or;
 use aig_graph::{Gate, NoMemory};
+use checked_tables::entry_or;
 use std::alloc::Global;
 use std::mem;
 use unit_flows::{GateFlow, UnitFlow, filled};

@@ -14,8 +14,6 @@ mod least_set;
 mod left_units;
 mod region;
 mod start;
-mod tables;
 
 pub use least_set::{Started, start_along, start_in};
 pub use region::{Region, narrow};
-pub use tables::{entry_or, put_if_there};

@@ -2,8 +2,8 @@
 
 use crate::left_units::LeftUnits;
 use crate::region::Region;
-use crate::tables::{entry_or, put_if_there};
 use aig_graph::NoMemory;
+use checked_tables::{entry_or, put_if_there};
 use std::alloc::Global;
 
 /// One of the two fan-ins of a gate, by their variables.

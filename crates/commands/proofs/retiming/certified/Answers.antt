@@ -1,17 +1,15 @@
-use Rattle.commands.proofs.PipeLaws.{fails_beside, kept, report_of}
+use Rattle.commands.proofs.PipeLaws.{fails_beside, kept, written_with}
 use Rattle.commands.proofs.retiming.certified.Goals as goal
 
 pub returns-in-Err-write_beside-clause-file : goal.returns-in-Err-write_beside-clause-file
 returns-in-Err-write_beside-clause-file g c =
     kept c.args.task.now (g.O.CountedWrite.output c.args.streams.now.out) (g.O.CountedWrite.output c.retimed-ended.new.out) (g.O.CountedWrite.output c.write_beside.new.out) c.retimed-ended.ensures.file c.write_beside.ensures.file
 
-pub returns-in-Ok-write_beside-clause-reported : goal.returns-in-Ok-write_beside-clause-reported
-returns-in-Ok-write_beside-clause-reported g c =
+pub returns-in-Ok-write_beside-clause-written : goal.returns-in-Ok-write_beside-clause-written
+returns-in-Ok-write_beside-clause-written g c =
     let beside = c.in-Ok-write_beside.ensures in
-    let reported = c.with_times in
-    report_of _ c.args.task.now (g.I.CountedRead.input c.args.streams.now.stdin) (g.O.CountedWrite.output c.args.streams.now.out) (g.O.CountedWrite.output c.retimed-ended.new.out)
-    (g.O.CountedWrite.output c.write_beside.new.out) c.in-Ok.answer c.write_beside.new.answer reported.result.retimed reported.result.keep reported.result.levels reported.result.map
-    reported.ensures.keep beside.keep reported.ensures.levels beside.levels reported.ensures.retimed beside.retimed reported.ensures.map beside.map c.in-Ok.ensures.answer beside.written
+    written_with _ c.args.task.now (g.I.CountedRead.input c.args.streams.now.stdin) (g.O.CountedWrite.output c.args.streams.now.out) (g.O.CountedWrite.output c.retimed-ended.new.out)
+    (g.O.CountedWrite.output c.write_beside.new.out) c.in-Ok.answer c.write_beside.new.answer beside.answer c.in-Ok.ensures.answer beside.written
 
 pub returns-in-Err-write_beside-clause-prints : goal.returns-in-Err-write_beside-clause-prints
 returns-in-Err-write_beside-clause-prints g c =

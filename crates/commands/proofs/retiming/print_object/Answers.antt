@@ -3,4 +3,4 @@ use Rattle.commands.proofs.retiming.print_object.Goals as goal
 
 pub returns-in-Ok : goal.returns-in-Ok
 returns-in-Ok g c =
-    object_of_frames c.args.task.now c.args.timed.now.retimed c.args.timed.now.keep c.args.timed.now.levels c.in-Ok.left _ c.args.timed.now.times c.args.timed.now.map _ _ _ c.in-Ok.ensures c.as_ref-times.ensures.value c.print_retiming.ensures
+    object_of_frames c.args.task.now c.args.timed.now.answer c.in-Ok.left _ c.args.timed.now.times _ _ _ _ c.in-Ok.ensures c.as_ref.ensures.value c.map_counts.ensures c.print_retiming.ensures

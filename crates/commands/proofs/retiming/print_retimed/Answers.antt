@@ -8,15 +8,15 @@ returns-clause-frames g c =
     let printed = c.print_frames-ended in
     let timed = c.in_ok-timed in
     prints_retiming _ c.args.task.now c.args.streams.now.is_terminal (g.I.CountedRead.input c.args.streams.now.stdin) (out c.args.streams.now.out) (out c.certified.new.streams.out) (out printed.new.out)
-    (err c.certified.new.streams.err) (err printed.new.err) (err c.tell_remaining.new.err) timed.timed.retimed timed.timed.keep timed.timed.levels timed.timed.times timed.timed.map printed.result
-    timed.ensures.reported printed.ensures.aside printed.ensures.says printed.ensures.frames c.tell_remaining.ensures.aside
+    (err c.certified.new.streams.err) (err printed.new.err) (err c.tell_remaining.new.err) timed.timed.answer timed.timed.times printed.result
+    timed.ensures.written printed.ensures.aside printed.ensures.says printed.ensures.frames c.tell_remaining.ensures.aside
 
 pub returns-clause-pipe : goal.returns-clause-pipe
 returns-clause-pipe g c =
     let out = g.O.CountedWrite.output in
     let printed = c.print_frames-ended in
     writes_pipe _ c.args.task.now (g.I.CountedRead.input c.args.streams.now.stdin) (out c.args.streams.now.out) (out c.certified.new.streams.out) (out printed.new.out)
-    c.in_ok-timed.timed.retimed c.in_ok-timed.timed.keep c.in_ok-timed.timed.levels c.in_ok-timed.timed.map printed.result printed.result c.in_ok-timed.ensures.reported printed.ensures.aside
+    c.in_ok-timed.timed.answer printed.result printed.result c.in_ok-timed.ensures.written printed.ensures.aside
 
 pub returns-clause-prints : goal.returns-clause-prints
 returns-clause-prints g c =

@@ -38,5 +38,5 @@ returns-in-Ok g c =
     IfOk-weaker c.merged_run.result _ _
     (λ b from. merged-begun has_come options c.args.bound b.run.bound before c.args.keep.now c.args.follower mid start b.run.follower b.run.retimed b.run.keep b.read
     (record { graph = c.known.ensures.graph; netlist = c.known.ensures.netlist }) c.requires.merge c.requires.keep c.requires.bound from.1 c.requires.there
-    c.in-Ok.ensures.merges c.in-Ok.ensures.streams c.in-Ok.ensures.stay c.in-Ok.ensures.comes
+    c.in-Ok.ensures.merges c.in-Ok.ensures.streams c.in-Ok.ensures.stay c.in-Ok.ensures.given c.in-Ok.ensures.comes
     (subst (λ (n : ℕ). IsMergedFrom has_come options c.args.bound start n mid b.run.follower b.run.retimed b.run.keep b.read) latches from.0)) c.merged_run.ensures

@@ -1,4 +1,4 @@
-use Rattle.std.proofs.Common.{Option, Some, None, arith, subst}
+use Rattle.std.proofs.Common.{Option, arith, subst}
 use Rattle.std.specs.Option.{IfSome}
 use Rattle.aig_graph.specs.Border.{border_size}
 use Rattle.aig_graph.specs.Circuits.{Netlist}

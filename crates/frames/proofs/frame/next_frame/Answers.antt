@@ -1,4 +1,4 @@
-use Rattle.std.proofs.Common.{List, Option, ◌∙◌, ap, refl, subst, sym, ℕ}
+use Rattle.std.proofs.Common.{Option, refl, subst}
 use Rattle.std.specs.Option.{MatchOption}
 use Rattle.std.proofs.lemmas.Result.{IfOk-from_err}
 use Rattle.frames.specs.declared.helping.Helping.{Helping}

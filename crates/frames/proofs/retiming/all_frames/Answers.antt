@@ -1,10 +1,8 @@
-use Rattle.std.proofs.Common.{◌+◌, ◌≡◌, ◌<◌, [], ◌∷◌, ◌++◌, ◌∙◌, List, Option, ap, length, suc, arith, subst, sym, ℕ, refl}
-use Rattle.std.specs.List.{All}
+use Rattle.std.proofs.Common.{◌+◌, ◌≡◌, [], ◌∷◌, ◌++◌, ◌∙◌, List, Option, ap, length, suc, arith, subst, sym, ℕ, refl}
 use Rattle.std.specs.Option.{MatchOption}
 use Rattle.aig_graph.specs.Circuits.{Netlist}
 use Rattle.aig_graph.specs.Graph.{known_latches}
 use Rattle.aig_graph.specs.Laws.{composed}
-use Rattle.clean.specs.Normalised.{IsNormalised}
 use Rattle.retimed_circuits.specs.declared.report.FrameReport.{FrameReport}
 use Rattle.retimed_circuits.specs.declared.report.Retimed.{Retimed}
 use Rattle.frames.specs.declared.frame.Frame.{Frame}

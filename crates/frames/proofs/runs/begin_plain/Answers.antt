@@ -1,7 +1,7 @@
 use Rattle.std.proofs.Common.{Err, ap}
 use Rattle.frames.specs.declared.errors.RetimeError.{RetimeError}
-use Rattle.frames.specs.Named.{IsFirstNoLatchBy}
-use Rattle.frames.proofs.HoldLaws.{at-latch}
+use Rattle.frames.specs.Named.{IsFirstMissingBy, IsFirstNoLatchBy}
+use Rattle.frames.proofs.HoldLaws.{at-latch, never-latch, never-name}
 use Rattle.frames.proofs.runs.begin_plain.Goals as goal
 
 pub begin-requires-clause-keep : goal.begin-requires-clause-keep
@@ -11,3 +11,11 @@ pub returns-in_err-keep-clause-no_latch : goal.returns-in_err-keep-clause-no_lat
 returns-in_err-keep-clause-no_latch c =
     at-latch c.from_residual.result c.in_err-keep.field-0.0 (IsFirstNoLatchBy c.args.options.now c.args.circuit.now) c.from_residual.ensures.1
     (λ place is. c.in_err-keep.ensures.no_latch place (ap (λ (x : RetimeError). Err x) is))
+
+pub returns-in_err-begun-clause-no_latch : goal.returns-in_err-begun-clause-no_latch
+returns-in_err-begun-clause-no_latch c =
+    never-latch c.from_residual-in_err-begun.result c.in_err-begun.field-0.0 (IsFirstNoLatchBy c.args.options.now c.args.circuit.now) c.from_residual-in_err-begun.ensures.1
+
+pub returns-in_err-begun-clause-missing : goal.returns-in_err-begun-clause-missing
+returns-in_err-begun-clause-missing c =
+    never-name c.from_residual-in_err-begun.result c.in_err-begun.field-0.0 (IsFirstMissingBy c.args.options.now c.args.circuit.now) c.from_residual-in_err-begun.ensures.1

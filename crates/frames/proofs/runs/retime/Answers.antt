@@ -1,19 +1,22 @@
+use Rattle.std.proofs.Common.{Err, ap, refl, sym, subst}
+use Rattle.retimed_circuits.specs.declared.report.Retimed.{Retimed}
+use Rattle.retimed_circuits.specs.RetimingLevels.{KeepsLevels}
+use Rattle.frames.specs.declared.errors.RetimeError.{RetimeError}
+use Rattle.frames.specs.Bounds.{bound_in}
+use Rattle.frames.specs.Named.{IsFirstNoLatchBy}
+use Rattle.frames.specs.Retiming.{IsRetimedBy}
+use Rattle.frames.proofs.HoldLaws.{at-latch}
 use Rattle.frames.proofs.runs.retime.Goals as goal
 
-pub returns-clause-retimed : goal.returns-clause-retimed
-returns-clause-retimed g c = c.retime_watched.ensures.retimed
+pub returns-in-Ok-clause-retimed : goal.returns-in-Ok-clause-retimed
+returns-in-Ok-clause-retimed g c = subst (IsRetimedBy c.args.options.now c.args.circuit.now) (sym c.retimed_of.ensures) c.in-Ok.ensures.retimed.retimed
 
-pub returns-clause-latches : goal.returns-clause-latches
-returns-clause-latches g c = c.retime_watched.ensures.latches
+pub returns-in-Ok-clause-levels : goal.returns-in-Ok-clause-levels
+returns-in-Ok-clause-levels g c =
+    let before = c.args.circuit.now in
+    subst (λ (r : Retimed). KeepsLevels (bound_in c.args.options.now before) before r.circuit) (sym c.retimed_of.ensures) c.in-Ok.ensures.levels
 
-pub returns-clause-none_missing : goal.returns-clause-none_missing
-returns-clause-none_missing g c = c.retime_watched.ensures.none_missing
-
-pub returns-clause-no_latch : goal.returns-clause-no_latch
-returns-clause-no_latch g c = c.retime_watched.ensures.no_latch
-
-pub returns-clause-missing : goal.returns-clause-missing
-returns-clause-missing g c = c.retime_watched.ensures.missing
-
-pub returns-clause-levels : goal.returns-clause-levels
-returns-clause-levels g c = c.retime_watched.ensures.levels
+pub returns-in-Err-clause-no_latch : goal.returns-in-Err-clause-no_latch
+returns-in-Err-clause-no_latch g c =
+    at-latch {T = Retimed} (Err c.in-Err.error) c.in-Err.error (IsFirstNoLatchBy c.args.options.now c.args.circuit.now) refl
+    (λ place is. c.in-Err.ensures.no_latch place (ap (λ (x : RetimeError). Err x) is))

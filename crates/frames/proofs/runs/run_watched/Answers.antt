@@ -2,9 +2,9 @@ use Rattle.std.proofs.Common.{[], ◌∷◌, Err, ap}
 use Rattle.retimed_circuits.proofs.RetimingLevelLaws.{retiming-levels}
 use Rattle.frames.specs.Bounds.{bound_in}
 use Rattle.frames.specs.declared.errors.RetimeError.{RetimeError}
-use Rattle.frames.specs.Named.{IsFirstNoLatchBy, holding_in}
+use Rattle.frames.specs.Named.{IsFirstMissingBy, IsFirstNoLatchBy, holding_in}
 use Rattle.frames.specs.Stages.{Cleaning, looks_of}
-use Rattle.frames.proofs.HoldLaws.{at-latch}
+use Rattle.frames.proofs.HoldLaws.{at-latch, never-latch, never-name}
 use Rattle.frames.proofs.StageLaws.{notifies-then}
 use Rattle.frames.proofs.runs.run_watched.Goals as goal
 
@@ -36,3 +36,11 @@ pub returns-in_err-begun-clause-no_latch : goal.returns-in_err-begun-clause-no_l
 returns-in_err-begun-clause-no_latch g c =
     at-latch c.from_residual.result c.in_err-begun.field-0.0 (IsFirstNoLatchBy c.args.options.now c.args.circuit.now) c.from_residual.ensures.1
     (λ place is. c.in_err-begun.ensures.no_latch place (ap (λ (x : RetimeError). Err x) is))
+
+pub returns-in_err-run-clause-no_latch : goal.returns-in_err-run-clause-no_latch
+returns-in_err-run-clause-no_latch g c =
+    never-latch c.from_residual-in_err-run.result c.in_err-run.field-0.0 (IsFirstNoLatchBy c.args.options.now c.args.circuit.now) c.from_residual-in_err-run.ensures.1
+
+pub returns-in_err-run-clause-missing : goal.returns-in_err-run-clause-missing
+returns-in_err-run-clause-missing g c =
+    never-name c.from_residual-in_err-run.result c.in_err-run.field-0.0 (IsFirstMissingBy c.args.options.now c.args.circuit.now) c.from_residual-in_err-run.ensures.1

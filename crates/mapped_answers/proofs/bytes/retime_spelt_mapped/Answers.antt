@@ -1,36 +1,37 @@
-use Rattle.std.proofs.lemmas.Result.{IfErr-weaker, IfOk-weaker}
-use Rattle.mapped_answers.specs.Mapping.{IsMadeCutOff, IsMadeWritten, IsMappedOf, IsMappingStop}
-use Rattle.mapped_answers.proofs.MakingLaws.{cut_off-answer, makes-nothing, notified-answer, written-answer}
+use Rattle.std.proofs.Common.{[], ◌∷◌}
+use Rattle.std.proofs.lemmas.Result.{IfOk-from_err}
+use Rattle.frames.specs.Stages.{Writing, stages_of}
+use Rattle.frames.proofs.StageLaws.{notifies-then}
+use Rattle.frames.proofs.StopLaws.{at-error}
+use Rattle.mapped_answers.specs.Mapping.{IsMappingStop}
+use Rattle.mapped_answers.proofs.MakingLaws.{cut_off-answer, makes-nothing, written-answer}
 use Rattle.mapped_answers.proofs.bytes.retime_spelt_mapped.Goals as goal
 
 pub returns-in-Ok-clause-ok : goal.returns-in-Ok-clause-ok
 returns-in-Ok-clause-ok g c =
-    let options = c.args.options.now in
-    let spelt = c.args.spelt in
-    let made = c.in-Ok.made in
-    let before = g.W.CountedWrite.output c.args.writer.now in
-    let after = g.W.CountedWrite.output c.write_made.new.writer in
-    let spelling = c.unwrap_or-spelling.result in
-    IfOk-weaker c.write_made.result (IsMadeWritten made spelling before after) (IsMappedOf options spelt before after)
-    (λ m written. written-answer options spelt made spelling before after m c.unwrap_or-spelling.ensures c.in-Ok.ensures.ok written) c.write_made.ensures.ok
-
-pub returns-in-Ok-clause-err : goal.returns-in-Ok-clause-err
-returns-in-Ok-clause-err g c =
-    let options = c.args.options.now in
-    let spelt = c.args.spelt in
-    let made = c.in-Ok.made in
-    let before = g.W.CountedWrite.output c.args.writer.now in
-    let after = g.W.CountedWrite.output c.write_made.new.writer in
-    let spelling = c.unwrap_or-spelling.result in
-    IfErr-weaker c.write_made.result (IsMadeCutOff made spelling before after) (IsMappingStop options spelt before after)
-    (λ e cut. cut_off-answer options spelt made spelling before after e c.unwrap_or-spelling.ensures c.in-Ok.ensures.ok cut) c.write_made.ensures.err
+    written-answer c.args.options.now c.args.spelt c.in_ok-made.made c.unwrap_or.result (g.W.CountedWrite.output c.args.writer.now) (g.W.CountedWrite.output c.write_in.new.writer)
+    c.unwrap_or.ensures c.in_ok-made.ensures.ok c.write_in.ensures.graph c.write_in.ensures.netlist c.in-Ok.ensures.writes.ok
 
 pub returns-in-Err-clause-err : goal.returns-in-Err-clause-err
 returns-in-Err-clause-err g c =
-    makes-nothing c.args.options.now c.args.spelt (g.W.CountedWrite.output c.args.writer.now) c.in-Err.error c.in-Err.ensures.err
+    cut_off-answer c.args.options.now c.args.spelt c.in_ok-made.made c.unwrap_or.result (g.W.CountedWrite.output c.args.writer.now) (g.W.CountedWrite.output c.write_in.new.writer)
+    c.unwrap_or.ensures c.in_ok-made.ensures.ok c.in-Err.ensures.writes.err
+
+pub returns-in_err-made-clause-err : goal.returns-in_err-made-clause-err
+returns-in_err-made-clause-err g c =
+    let options = c.args.options.now in
+    let spelt = c.args.spelt in
+    let out = g.W.CountedWrite.output c.args.writer.now in
+    let e = c.in_err-made.field-0.0 in
+    at-error c.from_residual.result e (IsMappingStop options spelt out out) c.from_residual.ensures.1 (makes-nothing options spelt out e c.in_err-made.ensures.err)
+
+pub returns-in_err-made-clause-ok : goal.returns-in_err-made-clause-ok
+returns-in_err-made-clause-ok g c = IfOk-from_err c.from_residual.result _ c.from_residual.ensures.0
 
 pub returns-in-Ok-clause-notified : goal.returns-in-Ok-clause-notified
 returns-in-Ok-clause-notified g c =
-    IfOk-weaker c.write_made.result _ _
-    (λ m written. notified-answer g.V.FrameWatcher.was_notified c.args.options.now.max_frames c.args.watcher.now c.made_over.new.watcher c.enter.new.self c.in-Ok.made m written.same
-    c.in-Ok.ensures.notified c.enter.ensures) c.write_made.ensures.ok
+    notifies-then g.V.FrameWatcher.was_notified c.args.watcher.now c.made_over.new.watcher c.enter.new.self (stages_of c.args.options.now.max_frames c.in_ok-made.made.retimed) (Writing ∷ [])
+    c.in_ok-made.ensures.notified c.enter.ensures
+
+pub returns-in_err-made-clause-notified : goal.returns-in_err-made-clause-notified
+returns-in_err-made-clause-notified g c = IfOk-from_err c.from_residual.result _ c.from_residual.ensures.0

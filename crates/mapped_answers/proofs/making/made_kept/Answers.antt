@@ -1,8 +1,6 @@
-use Rattle.std.proofs.Common.{ap, subst}
-use Rattle.std.proofs.lemmas.Result.{IfOk-weaker}
+use Rattle.std.proofs.Common.{subst, sym}
 use Rattle.retimed_circuits.specs.declared.report.Retimed.{Retimed}
 use Rattle.frames.specs.Stages.{Notifies, looks_of}
-use Rattle.mapped_answers.proofs.MakingLaws.{same-notified}
 use Rattle.mapped_answers.proofs.making.made_kept.Goals as goal
 
 pub begin-requires-clause-there : goal.begin-requires-clause-there
@@ -18,7 +16,8 @@ pub with_map-requires : goal.with_map-requires
 with_map-requires g c = c.in_ok-end.ensures.retimed c.args.circuit.now c.in_ok-begun.ensures
 
 pub returns-clause-made : goal.returns-clause-made
-returns-clause-made g c = c.with_map.ensures.made
+returns-clause-made g c = c.in_ok-made.ensures.made
 
 pub returns-clause-notified : goal.returns-clause-notified
-returns-clause-notified g c = same-notified g.V.FrameWatcher.was_notified c.args.options.now.max_frames c.args.watcher.now c.finish.new.watcher c.in_ok-end.end.retimed c.with_map.result c.in_ok-end.ensures.notified c.with_map.ensures.same
+returns-clause-notified g c =
+    subst (λ (r : Retimed). Notifies g.V.FrameWatcher.was_notified c.args.watcher.now c.finish.new.watcher (looks_of c.args.options.now.max_frames r)) (sym c.in_ok-made.ensures.same) c.in_ok-end.ensures.notified

@@ -1,36 +1,36 @@
-use Rattle.std.proofs.Common.{Err, ap, subst, sym, [], ◌∷◌}
-use Rattle.std.proofs.lemmas.Result.{IfErr-weaker}
+use Rattle.std.proofs.Common.{Err, ap, [], ◌∷◌}
+use Rattle.frames.specs.declared.errors.BytesError.TheVariants.{Retime}
 use Rattle.frames.specs.declared.errors.RetimeError.{RetimeError}
 use Rattle.frames.specs.Stages.{Cleaning, looks_of}
-use Rattle.frames.proofs.StageLaws.{all-notified}
-use Rattle.mapped_answers.specs.Mapping.{IsMakingError, IsMapError}
+use Rattle.frames.proofs.StageLaws.{notifies-then}
+use Rattle.frames.proofs.StopLaws.{at-error}
+use Rattle.mapped_answers.specs.declared.errors.AnswerError.TheVariants.{Bytes}
+use Rattle.mapped_answers.specs.Mapping.{IsMakingError, of_follow_error}
 use Rattle.mapped_answers.proofs.MakingLaws.{unheld, unmapped}
 use Rattle.mapped_answers.proofs.making.made_of.Goals as goal
 
-pub made_mapped-requires-clause-keep : goal.made_mapped-requires-clause-keep
-made_mapped-requires-clause-keep g c κs within = c.in-Ok.ensures.keep
+pub made_kept-requires-after_bounds : goal.made_kept-requires-after_bounds
+made_kept-requires-after_bounds g c κs within = c.in_ok-keep.ensures.keep
 
-pub made_mapped-requires-clause-latches : goal.made_mapped-requires-clause-latches
-made_mapped-requires-clause-latches g c κs within = c.in-Ok.ensures.latches
+pub returns-clause-ok : goal.returns-clause-ok
+returns-clause-ok g c = record { latches = c.in_ok-keep.ensures.latches; names = c.in_ok-keep.ensures.none_missing; mapped = c.in_ok-made.ensures.made }
 
-pub made_mapped-requires-clause-names : goal.made_mapped-requires-clause-names
-made_mapped-requires-clause-names g c κs within = c.in-Ok.ensures.none_missing
+pub returns-clause-notified : goal.returns-clause-notified
+returns-clause-notified g c =
+    notifies-then g.V.FrameWatcher.was_notified c.args.watcher.now c.enter.new.self c.made_kept.new.watcher (Cleaning ∷ []) (looks_of c.args.options.now.max_frames c.in_ok-made.made.retimed)
+    c.enter.ensures c.in_ok-made.ensures.notified
 
-pub returns-in-Ok-clause-err : goal.returns-in-Ok-clause-err
-returns-in-Ok-clause-err g c =
+pub returns-in_err-keep-clause-err : goal.returns-in_err-keep-clause-err
+returns-in_err-keep-clause-err g c =
     let options = c.args.options.now in
     let circuit = c.args.circuit.now in
-    IfErr-weaker c.made_mapped.result IsMapError (IsMakingError options circuit) (unmapped options circuit) c.made_mapped.ensures.err
+    let e = c.in_err-keep.field-0.0 in
+    at-error c.from_residual.result (Bytes (Retime e)) (IsMakingError options circuit) c.from_residual.ensures.1
+    (unheld options circuit e (λ place is. c.in_err-keep.ensures.missing place (ap (λ (x : RetimeError). Err x) is)) (λ place is. c.in_err-keep.ensures.no_latch place (ap (λ (x : RetimeError). Err x) is)))
 
-pub returns-in-Ok-clause-notified : goal.returns-in-Ok-clause-notified
-returns-in-Ok-clause-notified g c =
-    let limit = c.args.options.now.max_frames in
-    all-notified g.V.FrameWatcher.was_notified c.made_mapped.result c.args.watcher.now c.enter.new.self c.made_mapped.new.watcher (Cleaning ∷ []) (λ made. looks_of limit made.retimed) c.enter.ensures c.made_mapped.ensures.notified
-
-pub returns-in-Err-clause-err : goal.returns-in-Err-clause-err
-returns-in-Err-clause-err g c =
+pub returns-in_err-made-clause-err : goal.returns-in_err-made-clause-err
+returns-in_err-made-clause-err g c =
     let options = c.args.options.now in
     let circuit = c.args.circuit.now in
-    let e = c.in-Err.error in
-    subst (IsMakingError options circuit) (sym c.unheld.ensures)
-    (unheld options circuit e (λ place is. c.in-Err.ensures.missing place (ap (λ (x : RetimeError). Err x) is)) (λ place is. c.in-Err.ensures.no_latch place (ap (λ (x : RetimeError). Err x) is)))
+    let e = c.in_err-made.field-0.0 in
+    at-error c.from_residual-in_err-made.result (of_follow_error e) (IsMakingError options circuit) c.from_residual-in_err-made.ensures.1 (unmapped options circuit e)

@@ -20,3 +20,11 @@ returns-in-NoSuchName g c = rw c.in-NoSuchName.is c.put-in-NoSuchName.ensures
 pub returns-in-NoSuchLatch : goal.returns-in-NoSuchLatch
 unfolding report_text
 returns-in-NoSuchLatch g c = rw c.in-NoSuchLatch.is c.put-in-NoSuchLatch.ensures
+
+pub returns-in-Misread : goal.returns-in-Misread
+unfolding report_text
+returns-in-Misread g c = rw c.in-Misread.is c.put-in-Misread.ensures
+
+pub returns-in-NotShown : goal.returns-in-NotShown
+unfolding report_text
+returns-in-NotShown g c = rw c.in-NotShown.is c.put-in-NotShown.ensures

@@ -1,17 +1,41 @@
+use Rattle.std.proofs.Common.{◌∙◌}
 use Rattle.std.proofs.lemmas.Result.{IfOk-weaker}
+use Rattle.frames.proofs.MergedLaws.{given-none, given-some}
 use Rattle.mapped_answers.proofs.following.GrowingMapRunFollower.clean_and_merge.Goals as goal
 
-pub returns-clause-merges : goal.returns-clause-merges
-returns-clause-merges c = IfOk-weaker c.start_along.result _ _ (λ m along. along.start.merges) c.start_along.ensures
+pub returns-in-Some-clause-merges : goal.returns-in-Some-clause-merges
+returns-in-Some-clause-merges c = IfOk-weaker c.started_by.result _ _ (λ m is. is.start.merges) c.started_by.ensures.start
 
-pub returns-clause-streams : goal.returns-clause-streams
-returns-clause-streams c = IfOk-weaker c.start_along.result _ _ (λ m along. along.start.streams) c.start_along.ensures
+pub returns-in-None-clause-merges : goal.returns-in-None-clause-merges
+returns-in-None-clause-merges c = IfOk-weaker c.started.result _ _ (λ m is. is.start.merges) c.started.ensures
 
-pub returns-clause-stay : goal.returns-clause-stay
-returns-clause-stay c = IfOk-weaker c.start_along.result _ _ (λ m along. along.start.stay) c.start_along.ensures
+pub returns-in-Some-clause-in_range : goal.returns-in-Some-clause-in_range
+returns-in-Some-clause-in_range c = IfOk-weaker c.started_by.result _ _ (λ m is. is.start.in_range) c.started_by.ensures.start
 
-pub returns-clause-in_range : goal.returns-clause-in_range
-returns-clause-in_range c = IfOk-weaker c.start_along.result _ _ (λ m along. along.start.in_range) c.start_along.ensures
+pub returns-in-None-clause-in_range : goal.returns-in-None-clause-in_range
+returns-in-None-clause-in_range c = IfOk-weaker c.started.result _ _ (λ m is. is.start.in_range) c.started.ensures
 
-pub returns-clause-comes : goal.returns-clause-comes
-returns-clause-comes c = IfOk-weaker c.start_along.result _ _ (λ m along. λ b kept each come. along.leads b kept come) c.start_along.ensures
+pub returns-in-Some-clause-streams : goal.returns-in-Some-clause-streams
+returns-in-Some-clause-streams c = IfOk-weaker c.started_by.result _ _ (λ m is. is.start.streams) c.started_by.ensures.start
+
+pub returns-in-None-clause-streams : goal.returns-in-None-clause-streams
+returns-in-None-clause-streams c = IfOk-weaker c.started.result _ _ (λ m is. is.start.streams) c.started.ensures
+
+pub returns-in-Some-clause-stay : goal.returns-in-Some-clause-stay
+returns-in-Some-clause-stay c = IfOk-weaker c.started_by.result _ _ (λ m is. is.start.stay) c.started_by.ensures.start
+
+pub returns-in-None-clause-stay : goal.returns-in-None-clause-stay
+returns-in-None-clause-stay c = IfOk-weaker c.started.result _ _ (λ m is. is.start.stay) c.started.ensures
+
+pub returns-in-Some-clause-comes : goal.returns-in-Some-clause-comes
+returns-in-Some-clause-comes c = IfOk-weaker c.started_by.result _ _ (λ m is. λ b kept each come. is.leads b kept come) c.started_by.ensures.start
+
+pub returns-in-None-clause-comes : goal.returns-in-None-clause-comes
+returns-in-None-clause-comes c = IfOk-weaker c.started.result _ _ (λ m is. λ b kept each come. is.leads b kept come) c.started.ensures
+
+pub returns-in-Some-clause-given : goal.returns-in-Some-clause-given
+returns-in-Some-clause-given c =
+    IfOk-weaker c.started_by.result _ _ (λ m same. given-some c.args.options.now c.in-Some.lines m.merged c.in-Some.is (same ∙ c.as_slice.ensures)) c.started_by.ensures.given
+
+pub returns-in-None-clause-given : goal.returns-in-None-clause-given
+returns-in-None-clause-given c = IfOk-weaker c.started.result _ _ (λ m is. given-none c.args.options.now m.merged c.in-None.is) c.started.ensures
