@@ -9,7 +9,7 @@ ghost use Rattle.frames.specs.Stages.{Notifies, looks_of, stages_of};
 ghost use Rattle.retimed_circuits.specs.RetimingLevels.{KeepsLevels};
 ghost use Rattle.frames.specs.declared.errors.RetimeError.TheVariants.{NoSuchLatch, NoSuchName};
 
-use crate::beginning::begin;
+use crate::beginning::{begin, begin_over};
 use crate::errors::{RetimeError, RunError};
 use crate::finishing::finish;
 use crate::follower::{NoFollower, RunFollower};
@@ -63,6 +63,34 @@ fn begin_plain(
     let keep = hold_by(alloc, circuit, options)?;
     let begun = begin(alloc, circuit, &keep, options, NoFollower)?;
     Ok(begun)
+}
+
+/// Begins a run without a follower as [`begin_plain`] does, of a circuit that nobody else needs.
+fn begin_plain_over(
+    alloc: Global,
+    circuit: Circuit,
+    options: &Options,
+) -> Result<Begun<NoFollower>, RetimeError>
+    ensures begun { IfOk result (λ begun. IsRunBegun ⟦<NoFollower as RunFollower>⟧.has_come options.now
+        begun.run.bound circuit begun.read begun.run.retimed begun.run.keep
+        begun.run.follower) }
+    ensures latches { OnOk result (AreLatchesBy options.now circuit) }
+    ensures none_missing { OnOk result (NoneMissingBy options.now circuit) }
+    ensures no_latch { (place : ℕ) → IsErrOf result (NoSuchLatch place)
+        → IsFirstNoLatchBy options.now circuit place }
+    ensures missing { (place : ℕ) → IsErrOf result (NoSuchName place)
+        → IsFirstMissingBy options.now circuit place }
+{
+    match hold_by(alloc, &circuit, options) {
+        Ok(keep) => {
+            let begun = begin_over(alloc, circuit, &keep, options, NoFollower)?;
+            Ok(begun)
+        }
+        Err(error) => {
+            drop(circuit);
+            Err(error)
+        }
+    }
 }
 
 /// Takes the frames of a run without a follower.
@@ -176,7 +204,7 @@ pub fn run_watched<G: PhaseGate, V: FrameWatcher>(
     Ok(run)
 }
 
-/// Retimes as [`run_watched`] does, and drops the circuit once it is cleaned, before the first
+/// Retimes as [`run_watched`] does, and lets the circuit go as it is cleaned, before the first
 /// frame.
 ///
 /// # Errors
@@ -206,8 +234,7 @@ pub(crate) fn run_over<G: PhaseGate, V: FrameWatcher>(
     // Tells the prover that it is a circuit.
     circuit.known();
     watcher.enter(Stage::Cleaning);
-    let begun = begin_plain(alloc, &circuit, options);
-    drop(circuit);
-    let run = finish_plain(rt, alloc, begun?, options, crew, watcher)?;
+    let begun = begin_plain_over(alloc, circuit, options)?;
+    let run = finish_plain(rt, alloc, begun, options, crew, watcher)?;
     Ok(run)
 }
