@@ -107,7 +107,7 @@ module _ (g : Graph) (lines : List MergedLatch) where
       ]
 
   -- so they begin all lines
-  lines-begin : (whole : List ℕ) (n : ℕ) → n ≤ length g.latches → IsSaidBy g lines whole → (rest : List MergedLatch) × (lines ≡ lines_below g whole n ++ rest)
+  pub lines-begin : (whole : List ℕ) (n : ℕ) → n ≤ length g.latches → IsSaidBy g lines whole → (rest : List MergedLatch) × (lines ≡ lines_below g whole n ++ rest)
   lines-begin whole n h so =
       let further = lines-further whole n (length g.latches - n) in
       let all : length g.latches ≡ n + (length g.latches - n) = omega (arith, h) in
