@@ -1,11 +1,11 @@
 //! The parts of a step are shown by sharing gates alone if that is enough, as it is for the maps of
 //! this program's retimings. Else they are shown by cases. What cases show beside the part for
 //! which they were made counts too.
-ghost use Rattle.std.specs.Prelude.{◌≡◌, [], IfNone, IfOk, OnOk};
+ghost use Rattle.std.specs.Prelude.{◌≡◌, [], IfNone, IfOk, IfSome, OnOk};
 ghost use Rattle.map_checks.specs.Answers.{AreFitting, KeepsStates};
-ghost use Rattle.map_checks.specs.Parts.{AreShownWhere};
+ghost use Rattle.map_checks.specs.Parts.{AreShownWhere, IsTree};
 
-use crate::cases::ask;
+use crate::cases::{Asked, Look, first_look};
 use crate::comparing::{first_unmarked, is_marked};
 use crate::trees::{Tree, step};
 use aig_graph::Circuit;
@@ -18,29 +18,63 @@ const FOR_ONE: u32 = 100;
 /// How many are asked for all.
 const FOR_ALL: u32 = 400;
 
-/// Marks the parts that cases show, of which there are made as many as this part needs; `left` says
-/// how many more may be.
+/// Asks at most so many cases of a tree for a part, and marks the parts that all of its cases show.
+/// Returns how many more may be asked.
+fn settle_by(
+    alloc: Global,
+    first: &Circuit,
+    second: &Circuit,
+    map: &Circuit,
+    part: usize,
+    tree: Tree,
+    most: u32,
+    marks: &mut Vec<bool>,
+) -> Result<u32, SharingError>
+    requires fitting { AreFitting first.now second.now map.now }
+    requires latches { map.now.aig.latches ≡ [] }
+    requires tree { IsTree first.now second.now map.now tree.pending.items tree.shown.items }
+    requires shown { AreShownWhere first.now second.now map.now [] marks.old.items }
+    ensures { OnOk result (AreShownWhere first.now second.now map.now [] marks.new.items) }
+{
+    let mut tree = tree;
+    for _ in 0..most {
+        step(alloc, first, second, map, part, &mut tree)?;
+    }
+    tree.add_to(marks);
+    Ok(tree.left)
+}
+
+/// Marks the parts that cases show, of which there are made as many as this part needs. They begin
+/// from what was asked with no case, if that was. `left` says how many more may be asked, and so
+/// does the answer.
 fn settle(
     alloc: Global,
     first: &Circuit,
     second: &Circuit,
     map: &Circuit,
     part: usize,
+    asked: Option<Asked>,
     marks: &mut Vec<bool>,
-    left: &mut u32,
-) -> Result<(), SharingError>
+    left: u32,
+) -> Result<u32, SharingError>
     requires fitting { AreFitting first.now second.now map.now }
     requires latches { map.now.aig.latches ≡ [] }
+    requires asked { IfSome asked (λ asked. AreShownWhere first.now second.now map.now []
+        asked.marks.items) }
     requires shown { AreShownWhere first.now second.now map.now [] marks.old.items }
     ensures { OnOk result (AreShownWhere first.now second.now map.now [] marks.new.items) }
 {
-    let mut tree = Tree::begun(alloc, marks.len(), *left)?;
-    for _ in 0..FOR_ONE {
-        step(alloc, first, second, map, part, &mut tree)?;
+    first.known();
+    match asked {
+        Some(asked) => {
+            let tree = Tree::answered(alloc, marks.len(), left.saturating_sub(1), &asked)?;
+            settle_by(alloc, first, second, map, part, tree, FOR_ONE - 1, marks)
+        }
+        None => {
+            let tree = Tree::begun(alloc, marks.len(), left)?;
+            settle_by(alloc, first, second, map, part, tree, FOR_ONE, marks)
+        }
     }
-    *left = tree.left;
-    tree.add_to(marks);
-    Ok(())
 }
 
 /// Returns the first part of a step that isn't shown.
@@ -57,13 +91,17 @@ pub(crate) fn first_open_part(
     first.known();
     second.known();
     map.known();
-    let mut marks = ask(alloc, first, second, map, &[], None)?.into_marks();
+    let Look {
+        mut marks,
+        mut asked,
+    } = first_look(alloc, first, second, map)?;
     let mut left = FOR_ALL;
     for _ in 0..FOR_ALL {
         let Some(part) = first_unmarked(marks.as_slice()) else {
             return Ok(None);
         };
-        settle(alloc, first, second, map, part, &mut marks, &mut left)?;
+        let known = asked.take();
+        left = settle(alloc, first, second, map, part, known, &mut marks, left)?;
         if !is_marked(marks.as_slice(), part) {
             return Ok(Some(part));
         }

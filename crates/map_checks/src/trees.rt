@@ -102,6 +102,26 @@ impl Tree {
         })
     }
 
+    /// Returns the tree for `count` parts in which the case of no variable is answered.
+    pub(crate) fn answered(
+        alloc: Global,
+        count: usize,
+        left: u32,
+        asked: &Asked,
+    ) -> Result<Tree, NoMemory>
+        ensures { IfOk result (λ tree. (c d m : Netlist) → count ≡ parts d m → IsGraph c.aig
+            → AreShownWhere c d m [] asked.now.marks.items
+            → IsTree c d m tree.pending.items tree.shown.items) }
+    {
+        let mut tree = Tree {
+            pending: Vec::new(alloc),
+            shown: vec![in alloc; true; count]?,
+            left,
+        };
+        tree.answer(alloc, &[], asked)?;
+        Ok(tree)
+    }
+
     /// Takes what was shown in the case that was taken out last, or splits it.
     fn answer(&mut self, alloc: Global, case: &[Lit], asked: &Asked) -> Result<(), NoMemory>
         ensures { OnOk result ((c d m : Netlist) → IsGraph c.aig
@@ -158,7 +178,7 @@ pub(crate) fn step(
     let Some(case) = tree.pending.pop() else {
         return Ok(());
     };
-    let asked = ask(alloc, first, second, map, case.as_slice(), Some(part))?;
+    let asked = ask(alloc, first, second, map, case.as_slice(), part)?;
     tree.answer(alloc, case.as_slice(), &asked)?;
     Ok(())
 }

@@ -1,4 +1,4 @@
-use Rattle.std.proofs.Common.{◌≡◌, Bool, List, length, arith, ap, subst}
+use Rattle.std.proofs.Common.{Bool, List, length, arith, ap, subst}
 use Rattle.map_checks.specs.Parts.{IsMarked}
 use Rattle.map_checks.proofs.MarkLaws.{if-none}
 use Rattle.map_checks.proofs.StepLaws.{keeps-states}
@@ -7,11 +7,11 @@ use Rattle.map_checks.proofs.settling.first_open_part.Goals as goal
 pub returns-in_default : goal.returns-in_default
 returns-in_default c =
     keeps-states c.args.first.now c.args.second.now c.args.map.now c.requires.fitting (λ part less.
-    c.loop.invariant.shown part (subst (λ (marks : List Bool). IsMarked marks part) c.as_slice.ensures.value
-    (c.in_default.ensures part (omega (arith, less, c.loop.invariant.long, ap length c.as_slice.ensures.value)))))
+    c.loop.invariant.marks.shown part (subst (λ (marks : List Bool). IsMarked marks part) c.as_slice.ensures.value
+    (c.in_default.ensures part (omega (arith, less, c.loop.invariant.marks.long, ap length c.as_slice.ensures.value)))))
 
 pub returns : goal.returns
 returns c = if-none c.first_unmarked-2.result (λ all.
     keeps-states c.args.first.now c.args.second.now c.args.map.now c.requires.fitting (λ part less.
-    c.loop.invariant.shown part (subst (λ (marks : List Bool). IsMarked marks part) c.as_slice-2.ensures.value
-    (all part (omega (arith, less, c.loop.invariant.long, ap length c.as_slice-2.ensures.value)))))) c.first_unmarked-2.ensures
+    c.loop.invariant.marks.shown part (subst (λ (marks : List Bool). IsMarked marks part) c.as_slice-2.ensures.value
+    (all part (omega (arith, less, c.loop.invariant.marks.long, ap length c.as_slice-2.ensures.value)))))) c.first_unmarked-2.ensures
