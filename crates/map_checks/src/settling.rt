@@ -18,16 +18,15 @@ const FOR_ONE: u32 = 100;
 /// How many are asked for all.
 const FOR_ALL: u32 = 400;
 
-/// Asks at most so many cases of a tree for a part, and marks the parts that all of its cases show.
-/// Returns how many more may be asked.
-fn settle_by(
+/// Asks the cases of a tree for a part, and marks the parts that all of its cases show. Returns how
+/// many cases it may ask yet.
+fn settle(
     alloc: Global,
     first: &Circuit,
     second: &Circuit,
     map: &Circuit,
     part: usize,
     tree: Tree,
-    most: u32,
     marks: &mut Vec<bool>,
 ) -> Result<u32, SharingError>
     requires fitting { AreFitting first.now second.now map.now }
@@ -37,44 +36,11 @@ fn settle_by(
     ensures { OnOk result (AreShownWhere first.now second.now map.now [] marks.new.items) }
 {
     let mut tree = tree;
-    for _ in 0..most {
+    for _ in 0..tree.left {
         step(alloc, first, second, map, part, &mut tree)?;
     }
     tree.add_to(marks);
     Ok(tree.left)
-}
-
-/// Marks the parts that cases show, of which there are made as many as this part needs. They begin
-/// from what was asked with no case, if that was. `left` says how many more may be asked, and so
-/// does the answer.
-fn settle(
-    alloc: Global,
-    first: &Circuit,
-    second: &Circuit,
-    map: &Circuit,
-    part: usize,
-    asked: Option<Asked>,
-    marks: &mut Vec<bool>,
-    left: u32,
-) -> Result<u32, SharingError>
-    requires fitting { AreFitting first.now second.now map.now }
-    requires latches { map.now.aig.latches ≡ [] }
-    requires asked { IfSome asked (λ asked. AreShownWhere first.now second.now map.now []
-        asked.marks.items) }
-    requires shown { AreShownWhere first.now second.now map.now [] marks.old.items }
-    ensures { OnOk result (AreShownWhere first.now second.now map.now [] marks.new.items) }
-{
-    first.known();
-    match asked {
-        Some(asked) => {
-            let tree = Tree::answered(alloc, marks.len(), left.saturating_sub(1), &asked)?;
-            settle_by(alloc, first, second, map, part, tree, FOR_ONE - 1, marks)
-        }
-        None => {
-            let tree = Tree::begun(alloc, marks.len(), left)?;
-            settle_by(alloc, first, second, map, part, tree, FOR_ONE, marks)
-        }
-    }
 }
 
 /// Returns the first part of a step that isn't shown.
@@ -100,8 +66,10 @@ pub(crate) fn first_open_part(
         let Some(part) = first_unmarked(marks.as_slice()) else {
             return Ok(None);
         };
-        let known = asked.take();
-        left = settle(alloc, first, second, map, part, known, &mut marks, left)?;
+        let share = left.min(FOR_ONE);
+        let tree = Tree::of(alloc, marks.len(), share, asked.take())?;
+        let rest = settle(alloc, first, second, map, part, tree, &mut marks)?;
+        left = left.saturating_sub(share).saturating_add(rest);
         if !is_marked(marks.as_slice(), part) {
             return Ok(Some(part));
         }

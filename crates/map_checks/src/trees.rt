@@ -1,6 +1,6 @@
 //! Cases that together cover all values: each is answered, or split into the two values of one more
 //! input or latch.
-ghost use Rattle.std.specs.Prelude.{ℕ, ◌≡◌, ◌++◌, ◌⊎◌, [], ◌∷◌, IfOk, OnOk, length};
+ghost use Rattle.std.specs.Prelude.{ℕ, ◌≡◌, ◌++◌, ◌⊎◌, [], ◌∷◌, IfOk, IfSome, OnOk, length};
 ghost use Rattle.aig_graph.specs.Circuits.{Netlist};
 ghost use Rattle.aig_graph.specs.Graph.{IsGraph};
 ghost use Rattle.map_checks.specs.Answers.{AreFitting};
@@ -88,7 +88,7 @@ fn widen(marks: &mut [bool], shown: &[bool])
 
 impl Tree {
     /// Returns one case, of no variable, for `count` parts.
-    pub(crate) fn begun(alloc: Global, count: usize, left: u32) -> Result<Tree, NoMemory>
+    fn begun(alloc: Global, count: usize, left: u32) -> Result<Tree, NoMemory>
         ensures { IfOk result (λ tree. (c d m : Netlist) → count ≡ parts d m
             → IsTree c d m tree.pending.items tree.shown.items) }
     {
@@ -103,12 +103,7 @@ impl Tree {
     }
 
     /// Returns the tree for `count` parts in which the case of no variable is answered.
-    pub(crate) fn answered(
-        alloc: Global,
-        count: usize,
-        left: u32,
-        asked: &Asked,
-    ) -> Result<Tree, NoMemory>
+    fn answered(alloc: Global, count: usize, left: u32, asked: &Asked) -> Result<Tree, NoMemory>
         ensures { IfOk result (λ tree. (c d m : Netlist) → count ≡ parts d m → IsGraph c.aig
             → AreShownWhere c d m [] asked.now.marks.items
             → IsTree c d m tree.pending.items tree.shown.items) }
@@ -120,6 +115,27 @@ impl Tree {
         };
         tree.answer(alloc, &[], asked)?;
         Ok(tree)
+    }
+
+    /// Returns the tree for `count` parts in which `left` cases may be asked. The case of no variable
+    /// is one of them, if it was asked.
+    pub(crate) fn of(
+        alloc: Global,
+        count: usize,
+        left: u32,
+        asked: Option<Asked>,
+    ) -> Result<Tree, NoMemory>
+        ensures { IfOk result (λ tree. (c d m : Netlist) → count ≡ parts d m → IsGraph c.aig
+            → IfSome asked (λ asked. AreShownWhere c d m [] asked.marks.items)
+            → IsTree c d m tree.pending.items tree.shown.items) }
+    {
+        match asked {
+            Some(asked) => Tree::answered(alloc, count, left.saturating_sub(1), &asked),
+            None => {
+                let tree = Tree::begun(alloc, count, left)?;
+                Ok(tree)
+            }
+        }
     }
 
     /// Takes what was shown in the case that was taken out last, or splits it.
