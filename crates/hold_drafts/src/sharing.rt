@@ -9,7 +9,7 @@ use checked_tables::entry_or;
 use std::mem;
 
 /// How many gates a list takes.
-const LONGEST: u32 = 32;
+const LONGEST: u32 = 8;
 
 /// Gates from a first variable on. Their entries are their places and one more, 0 for none.
 #[derive(Drop)]
