@@ -1,6 +1,8 @@
-//! Gates of which no two have equal fan-ins, as they are put one after another. A gate is looked for
-//! on the list of those that have its larger fan-in, of which there are few, and which were mostly
-//! put close together. Gates that would make a list longer than `LONGEST` stand in an open table.
+//! Gates of which no two have equal fan-ins, as they are put one after another.
+//!
+//! A gate is looked for on the list of those that have its larger fan-in. They are few, and most of
+//! them were put close together. A gate that would make a list longer than `LONGEST` stands in an
+//! open table.
 
 use crate::literals::{TRUE, opposite};
 use aig_graph::Memory;

@@ -50,8 +50,8 @@ abbrev pub IsReadingOf : Graph → List MergedLatch → LineReading → Type 0
 IsReadingOf g lines (Reads reads) = IsSaidBy g lines reads.items
 IsReadingOf g lines (Misplaced latch) = NameLatch lines latch × SayNoReading g lines
 
--- the line at a place is that of latch j, which reads as another literal by it; if there is none,
--- no line there is so
+-- The line at a place is that of latch j, which reads as another literal by it. If there is no
+-- literal, no line there is so.
 abbrev pub IsLineFor : Graph → List MergedLatch → ℕ → ℕ → Option ℕ → Type 0
 IsLineFor g lines at j (Some lit) = (slice_get lines at ≡ Some (record { latch = first_latch g + j; reads = lit })) × (is_merged (record { latch = first_latch g + j; reads = lit }) ≡ true)
 IsLineFor g lines at j None =

@@ -67,8 +67,8 @@ abbrev pub AreMarkedEqual : Gates → Equal → List ℕ → List ℕ → List B
 AreMarkedEqual k f lits others marks = (place : ℕ) → IsMarked marks place → AreEqualAt k f lits others place
 
 -- each pair has a mark, and those that are marked have one value
-abbrev pub AreMarks : Gates → Equal → List ℕ → List ℕ → List Bool → Type 0
-AreMarks k f lits others marks = (length marks ≡ length lits) × AreMarkedEqual k f lits others marks
+abbrev pub ArePairMarks : Gates → Equal → List ℕ → List ℕ → List Bool → Type 0
+ArePairMarks k f lits others marks = (length marks ≡ length lits) × AreMarkedEqual k f lits others marks
 
 -- if these literals of the first circuit are 1, the substitute of a variable has its value
 abbrev pub AssumesCase : Gates → Netlist → List ℕ → Equal → Equal → Type 0

@@ -5,7 +5,7 @@ ghost use Rattle.std.specs.Prelude.{◌≡◌, ◌≤◌, [], IfOk, IfSome, OnOk
 ghost use Rattle.aig_graph.specs.Gates.{Gates, gates_of};
 ghost use Rattle.aig_graph.specs.Graph.{first_gate};
 ghost use Rattle.map_checks.specs.Answers.{AreFitting};
-ghost use Rattle.map_checks.specs.Parts.{AreMarkedEqual, AreMarks, AreShownWhere, AssumesCase};
+ghost use Rattle.map_checks.specs.Parts.{AreMarkedEqual, ArePairMarks, AreShownWhere, AssumesCase};
 
 use crate::choosing::chosen;
 use crate::comparing::{first_unmarked, is_marked, mark_equal};
@@ -87,7 +87,7 @@ fn probed(alloc: Global, aig: &Aig, equal: &mut Equalities, pairs: &Pairs) -> Re
     ensures long { IfOk result (λ look. length look.marks.items ≡ length pairs.now.lits.items) }
     ensures equal { IfOk result (λ look. AreMarkedEqual (gates_of aig.now) equal.old
         pairs.now.lits.items pairs.now.others.items look.marks.items) }
-    ensures asked { IfOk result (λ look. IfSome look.asked (λ asked. AreMarks (gates_of aig.now)
+    ensures asked { IfOk result (λ look. IfSome look.asked (λ asked. ArePairMarks (gates_of aig.now)
         equal.old pairs.now.lits.items pairs.now.others.items asked.marks.items)) }
 {
     let (lits, others) = (pairs.lits.as_slice(), pairs.others.as_slice());
@@ -115,7 +115,7 @@ fn look_of(
     ensures long { IfOk result (λ look. length look.marks.items ≡ length pairs.now.lits.items) }
     ensures equal { IfOk result (λ look. AreMarkedEqual shared.now equal.old pairs.now.lits.items
         pairs.now.others.items look.marks.items) }
-    ensures asked { IfOk result (λ look. IfSome look.asked (λ asked. AreMarks shared.now equal.old
+    ensures asked { IfOk result (λ look. IfSome look.asked (λ asked. ArePairMarks shared.now equal.old
         pairs.now.lits.items pairs.now.others.items asked.marks.items)) }
 {
     let marks = mark_equal(alloc, equal, pairs.lits.as_slice(), pairs.others.as_slice())?;

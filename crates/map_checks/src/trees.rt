@@ -117,8 +117,8 @@ impl Tree {
         Ok(tree)
     }
 
-    /// Returns the tree for `count` parts in which `left` cases may be asked. The case of no variable
-    /// is one of them, if it was asked.
+    /// Returns the tree for `count` parts in which `left` cases may be asked. If the case of no
+    /// variable was asked, it is one of them.
     pub(crate) fn of(
         alloc: Global,
         count: usize,
