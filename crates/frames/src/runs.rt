@@ -22,6 +22,11 @@ use retimed_circuits::Retimed;
 use std::alloc::Global;
 use std::thread::Threads;
 
+/// The least number of gates of a circuit that is cleaned in its own tables. A smaller one is
+/// copied as it is cleaned, and its tables are let go. Then the C library keeps such room for the
+/// frames. Else it would give pages back in each frame, and ask for them in the next.
+const LARGE: usize = 131_072;
+
 /// Finds the latches that the options hold, by name and by position.
 ///
 /// They are looked up once, as a run begins. Each step of the run says where they stand afterwards.
@@ -91,6 +96,30 @@ fn begin_plain_over(
             Err(error)
         }
     }
+}
+
+/// Begins a run without a follower, of a circuit that nobody else needs. It is cleaned in its own
+/// tables if it is large.
+fn begin_owned(
+    alloc: Global,
+    circuit: Circuit,
+    options: &Options,
+) -> Result<Begun<NoFollower>, RetimeError>
+    ensures begun { IfOk result (λ b. IsRunBegun ⟦<NoFollower as RunFollower>⟧.has_come options.now
+        b.run.bound circuit b.read b.run.retimed b.run.keep b.run.follower) }
+    ensures latches { OnOk result (AreLatchesBy options.now circuit) }
+    ensures none_missing { OnOk result (NoneMissingBy options.now circuit) }
+    ensures no_latch { (place : ℕ) → IsErrOf result (NoSuchLatch place)
+        → IsFirstNoLatchBy options.now circuit place }
+    ensures missing { (place : ℕ) → IsErrOf result (NoSuchName place)
+        → IsFirstMissingBy options.now circuit place }
+{
+    if circuit.aig().gates().len() >= LARGE {
+        return begin_plain_over(alloc, circuit, options);
+    }
+    let begun = begin_plain(alloc, &circuit, options);
+    drop(circuit);
+    begun
 }
 
 /// Takes the frames of a run without a follower.
@@ -234,7 +263,7 @@ pub(crate) fn run_over<G: PhaseGate, V: FrameWatcher>(
     // Tells the prover that it is a circuit.
     circuit.known();
     watcher.enter(Stage::Cleaning);
-    let begun = begin_plain_over(alloc, circuit, options)?;
+    let begun = begin_owned(alloc, circuit, options)?;
     let run = finish_plain(rt, alloc, begun, options, crew, watcher)?;
     Ok(run)
 }
