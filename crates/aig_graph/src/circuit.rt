@@ -51,6 +51,20 @@ impl Circuit {
         }
     }
 
+    /// Returns the graph, the properties and the symbol table. Takes no memory.
+    pub fn into_parts(self) -> (Aig, Props, Symbols)
+        ensures aig { result.0 ≡ self.aig }
+        ensures props { result.1 ≡ self.props }
+        ensures symbols { result.2 ≡ self.symbols }
+    {
+        let Circuit {
+            aig,
+            props,
+            symbols,
+        } = self;
+        (aig, props, symbols)
+    }
+
     /// Gives a caller the invariant of a circuit, of which it sees the value alone. Costs nothing.
     pub fn known(&self)
         ensures graph { IsGraph self.now.aig }

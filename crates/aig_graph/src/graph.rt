@@ -109,6 +109,20 @@ impl Aig {
         }
     }
 
+    /// Returns the number of inputs, the latches and the gates. Takes no memory.
+    pub fn into_parts(self) -> (u32, Vec<Latch>, Vec<Gate>)
+        ensures inputs { result.0 ≡ self.inputs }
+        ensures latches { result.1.items ≡ self.latches }
+        ensures gates { result.2.items ≡ self.gates }
+    {
+        let Aig {
+            inputs,
+            latches,
+            gates,
+        } = self;
+        (inputs, latches, gates)
+    }
+
     /// Gives a caller the invariant of a graph, of which it sees the value alone. Costs nothing.
     pub fn known(&self)
         ensures { IsGraph self.now }

@@ -16,5 +16,5 @@ mod starting;
 mod values;
 
 pub use marking::MoveMarks;
-pub use moving::{moved, moved_by};
+pub use moving::{moved, moved_by, moved_in};
 pub use starting::resets;

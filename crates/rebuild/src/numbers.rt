@@ -1,7 +1,7 @@
 //! Numbers after a move, for each latch and gate. One is read in its place from outside the set,
 //! and one has now its value of one step later. A loop over the latches and one over the gates make
 //! each table, and look at marks alone. Who asks for a number then looks at one entry.
-ghost use Rattle.std.specs.Prelude.{◌≡◌, ◌*◌, ◌+◌, ◌<◌, ◌≤◌, IfOk, true, if◌then◌else◌};
+ghost use Rattle.std.specs.Prelude.{◌≡◌, ◌*◌, ◌+◌, ◌<◌, ◌≤◌, IfOk, [], true, vec_capacity, if◌then◌else◌};
 ghost use Rattle.aig_graph.specs.declared.literal.TheConstants.{MAX_VARIABLES};
 ghost use Rattle.aig_graph.specs.Graph.{variable, variables_end};
 ghost use Rattle.aig_graph.specs.Counting.{count_below};
@@ -36,10 +36,21 @@ fn number_of(latched: bool, outside: bool, latch: u32, gate: u32, own: u32) -> u
     }
 }
 
-/// Returns the variable that is read in the place of each from outside the set. The gates outside
-/// it count up from `start`.
+/// Returns an empty table with room for `room` numbers, in the memory of another one.
+fn emptied(memory: Vec<u32>, room: usize) -> Result<Vec<u32>, NoMemory>
+    ensures none { IfOk result (λ table. table.items ≡ []) }
+    ensures room { IfOk result (λ table. room ≤ vec_capacity table) }
+{
+    let mut table = memory;
+    table.clear();
+    table.reserve(room)?;
+    Ok(table)
+}
+
+/// Returns the variable that is read in the place of each from outside the set, in the memory of a
+/// table. The gates outside it count up from `start`.
 pub(crate) fn new_variables(
-    alloc: Global,
+    memory: Vec<u32>,
     marks: &MarkedSet<'_>,
     start: u32,
 ) -> Result<Vec<u32>, NoMemory>
@@ -50,7 +61,7 @@ pub(crate) fn new_variables(
     let latched = marks.latched.as_slice();
     let members = marks.members.as_slice();
     let latches = marks.aig().latches().len();
-    let mut numbers = Vec::with_capacity(alloc, latched.len())?;
+    let mut numbers = emptied(memory, latched.len())?;
     let mut latch = marks.first;
     for k in 0..latches {
         let own = marks.first + k as u32;

@@ -35,7 +35,13 @@ pub(crate) struct Plan<'a> {
 impl<'a> Plan<'a> {
     ghost use Rattle.rebuild.specs.Planned.{marked, planned};
 
-    pub(crate) fn new(alloc: Global, marks: MarkedSet<'a>) -> Result<Plan<'a>, NoMemory>
+    /// Returns the plan of these marks. The table of variables is made in the memory of another
+    /// one.
+    pub(crate) fn new(
+        alloc: Global,
+        marks: MarkedSet<'a>,
+        memory: Vec<u32>,
+    ) -> Result<Plan<'a>, NoMemory>
         requires moved { IsGraph (moved_graph (marked marks)) }
         requires room { copies_start (marked marks) + count_below (has (marked marks).set)
             (variables_end (marked marks).circuit.aig) ≤ MAX_VARIABLES }
@@ -44,13 +50,19 @@ impl<'a> Plan<'a> {
         let gates_start = marks.first + count_marks(marks.latched.as_slice());
         let outside = marks.aig().gates().len() as u32 - count_marks(marks.members.as_slice());
         let first_copy = gates_start + outside;
-        let variables = new_variables(alloc, &marks, gates_start)?;
+        let variables = new_variables(memory, &marks, gates_start)?;
         let later = advanced_literals(alloc, &marks, variables.as_slice(), first_copy)?;
         Ok(Plan {
             marks,
             variables,
             later,
         })
+    }
+
+    /// Returns the table of variables.
+    pub(crate) fn into_numbers(self) -> Vec<u32> {
+        let Plan { variables, .. } = self;
+        variables
     }
 
     /// Returns the graph before the move.

@@ -18,10 +18,10 @@ loop-k-init c =
     let m = marked k in
     let g = k.circuit.now.aig in
     record {
-      room = omega (arith, c.in_ok-numbers.ensures.exact, length-by_variable g (is_latched m) c.as_slice-latched.result.now (c.as_slice-latched.ensures.value ∙ k.latched_are));
+      room = omega (arith, c.in_ok-numbers.ensures.room, length-by_variable g (is_latched m) c.as_slice-latched.result.now (c.as_slice-latched.ensures.value ∙ k.latched_are));
       within = omega arith;
       latch_is = omega (arith, k.first_is, none-latched-before m k.passable k.latched.items k.latched_are);
-      filled = c.in_ok-numbers.ensures.items ∙ sym (table-none (first_latch g) (new_variable m));
+      filled = c.in_ok-numbers.ensures.none ∙ sym (table-none (first_latch g) (new_variable m));
     }
 
 pub overflow_cast-own : goal.overflow_cast-own

@@ -1,0 +1,24 @@
+-- What a further round is asked for, and what rounds with these options make of a circuit.
+use Rattle.std.specs.Prelude.{ℕ, ◌≡◌, true, List, Option}
+use Rattle.aig_graph.specs.Circuits.{Netlist}
+use Rattle.retimed_circuits.specs.declared.report.Retimed.{Retimed}
+use Rattle.frames.specs.Bounds.{bound_in, levels_named}
+use Rattle.frames.specs.Named.{holding_in}
+use Rattle.frames.specs.declared.options.Options.{Options}
+use Rattle.merging_rounds.specs.Rounds.{IsRetimedInRounds, at_positions}
+use Rattle.merging_rounds.specs.declared.rounds.Rounds.{Rounds}
+
+-- It merges latches, and holds those at the positions. It takes at most the frames that are left,
+-- under this bound.
+pub record AreRoundOptions (options : Options) (bound : Option ℕ) (held : List ℕ) (left : ℕ) (asked : Options) : Type 0 where
+  pub merges : asked.merge ≡ true
+  pub choice : asked.choice ≡ options.choice
+  pub certify : asked.certify ≡ options.certify
+  pub frames : asked.max_frames ≡ left
+  pub holding : holding_in asked ≡ at_positions held
+  pub bound_is : levels_named asked.bound ≡ bound
+
+-- c retimed in rounds as the options ask
+abbrev pub IsInRounds : Options → Netlist → List Retimed → Rounds → List ℕ → Type 0
+IsInRounds options c runs r now =
+    IsRetimedInRounds options.merge (bound_in options c) options.choice c (holding_in options) options.max_frames options.certify runs r now

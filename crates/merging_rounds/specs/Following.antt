@@ -1,0 +1,66 @@
+-- Rounds under way, and what goes with them: a follower, and a watcher.
+use Rattle.std.specs.Prelude.{ℕ, ◌-◌, ◌≡◌, List, [], ◌∷◌, ◌++◌, Option, length}
+use Rattle.aig_graph.specs.Circuits.{IsNetlist, Netlist}
+use Rattle.aig_graph.specs.Graph.{IsGraph}
+use Rattle.aig_graph.specs.Laws.{all_free}
+use Rattle.retimed_circuits.specs.declared.report.Retimed.{Retimed}
+use Rattle.retimed_circuits.specs.RetimingLevels.{KeepsLevels}
+use Rattle.frames.specs.Beginning.{IsRunBegun}
+use Rattle.frames.specs.Bounds.{bound_in}
+use Rattle.frames.specs.Following.{IsRetimedFollowed}
+use Rattle.frames.specs.Stages.{Notification, Notifies, looks_of, stages_of}
+use Rattle.frames.specs.declared.options.Options.{Options}
+use Rattle.frames.specs.declared.run.Begun.{Begun}
+use Rattle.frames.specs.declared.run.Run.{Run}
+use Rattle.merging_rounds.specs.Asking.{IsInRounds}
+use Rattle.merging_rounds.specs.Rounds.{frames_of}
+use Rattle.merging_rounds.specs.declared.rounds.Rounds.{Rounds}
+
+-- the stages of further runs, of which each may take the frames that those before it left
+unfoldable pub later_stages : ℕ → List Retimed → List Notification
+later_stages limit [] = []
+later_stages limit (run ∷ runs) = stages_of limit run ++ later_stages (limit - length run.frames) runs
+
+-- the stages of all runs, from the cleaned circuit of the first on
+abbrev pub looks_of_runs : ℕ → List Retimed → List Notification
+looks_of_runs limit [] = []
+looks_of_runs limit (run ∷ runs) = looks_of limit run ++ later_stages (limit - length run.frames) runs
+
+-- A circuit c retimed in rounds, under the bound that the options have for it, which is kept. The
+-- follower has come there from c.
+pub record AreRoundsFollowed {F : Type 0} (has_come : F → Netlist → Netlist → List ℕ → Type 0) (options : Options) (bound : Option ℕ) (c : Netlist) (runs : List Retimed) (r : Rounds)
+    (now : List ℕ) (f : F) : Type 0 where
+  pub graph : IsGraph c.aig
+  pub netlist : IsNetlist c
+  pub bound_is : bound ≡ bound_in options c
+  pub is : IsInRounds options c runs r now
+  pub levels : KeepsLevels bound c r.circuit
+  pub come : has_come f c r.circuit r.kept_free
+
+-- so by more runs, and the watcher was notified of their stages
+pub record AreMoreRounds {F W : Type 0} (has_come : F → Netlist → Netlist → List ℕ → Type 0) (was_notified : W → List Notification → Type 0) (options : Options) (bound : Option ℕ) (c : Netlist)
+    (runs : List Retimed) (r : Rounds) (now : List ℕ) (f : F) (old new : W) : Type 0 where
+  pub more : List Retimed
+  pub followed : AreRoundsFollowed has_come options bound c (runs ++ more) r now f
+  pub notified : Notifies was_notified old new (later_stages (options.max_frames - length (frames_of runs)) more)
+
+-- so by some runs, and the watcher was notified of their stages, but for the cleaning before the
+-- first
+pub record EndInRounds {F W : Type 0} (has_come : F → Netlist → Netlist → List ℕ → Type 0) (was_notified : W → List Notification → Type 0) (options : Options) (bound : Option ℕ) (c : Netlist)
+    (r : Rounds) (now : List ℕ) (f : F) (old new : W) : Type 0 where
+  pub runs : List Retimed
+  pub followed : AreRoundsFollowed has_come options bound c runs r now f
+  pub notified : Notifies was_notified old new (looks_of_runs options.max_frames runs)
+
+-- a circuit c before the first frame of its first round; the follower had come to it from itself
+pub record AreRoundsBegun {F : Type 0} (has_come : F → Netlist → Netlist → List ℕ → Type 0) (options : Options) (c : Netlist) (begun : Begun F) : Type 0 where
+  pub graph : IsGraph c.aig
+  pub netlist : IsNetlist c
+  pub starts : IsRunBegun has_come options begun.run.bound c (all_free c.aig) c begun.read begun.run.retimed begun.run.keep begun.run.follower
+
+-- a run of c that ended, and the follower has come with it from c
+pub record IsFirstRun {F : Type 0} (has_come : F → Netlist → Netlist → List ℕ → Type 0) (options : Options) (bound : Option ℕ) (c : Netlist) (run : Run F) : Type 0 where
+  pub graph : IsGraph c.aig
+  pub netlist : IsNetlist c
+  pub bound_is : bound ≡ bound_in options c
+  pub followed : IsRetimedFollowed has_come options c (all_free c.aig) c run.retimed run.keep run.follower
