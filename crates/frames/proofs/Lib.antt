@@ -1,8 +1,6 @@
 pub mod CertificateLaws
 pub mod FrameLaws
 pub mod LookLaws
-pub mod AnswerLaws
-pub mod StopLaws
 pub mod MergedLaws
 pub mod StageLaws
 pub mod FollowingLaws

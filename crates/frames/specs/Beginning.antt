@@ -3,6 +3,7 @@ use Rattle.std.specs.Prelude.{ℕ, ◌≡◌, true, false, List, Option, Some, N
 use Rattle.aig_graph.specs.Circuits.{Netlist}
 use Rattle.aig_graph.specs.Graph.{free_latches}
 use Rattle.aig_graph.specs.Laws.{composed}
+use Rattle.certificates.specs.declared.merged.MergedLatch.{MergedLatch}
 use Rattle.latch_merging.specs.declared.start.MergedStart.{MergedStart}
 use Rattle.retimed_circuits.specs.declared.report.Retimed.{Retimed}
 use Rattle.retimed_circuits.specs.Names.{Covers}
@@ -23,6 +24,11 @@ pub record IsCleanedRun {F : Type 0} (has_come : F → Netlist → Netlist → L
 -- the report of a circuit with `latches` latches that was merged to m
 abbrev pub read_before : MergedStart → ℕ → ReadCircuit
 read_before m latches = record { latches = latches; kept_free = m.kept_free; merged = m.merged }
+
+-- the latches that were merged before the first frame, if some were to be
+abbrev pub merged_before : Option ReadCircuit → Option (List MergedLatch)
+merged_before None = None
+merged_before (Some read) = Some read.merged
 
 -- a merged circuit cleaned, and it was followed; what is reported of the circuit that was merged is
 -- beside it

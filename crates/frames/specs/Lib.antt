@@ -10,5 +10,4 @@ pub mod Merging
 pub mod Following
 pub mod Beginning
 pub mod Stages
-pub mod Answering
 pub mod Limits

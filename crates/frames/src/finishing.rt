@@ -1,7 +1,7 @@
 //! A run to its end. If latches were merged, its report is made one of the circuit that was read.
 ghost use Rattle.std.specs.Prelude.{ℕ, ◌≡◌, ◌<◌, List, length, All, IfOk};
 ghost use Rattle.aig_graph.specs.Circuits.{Netlist};
-ghost use Rattle.frames.specs.Beginning.{IsRunBegun};
+ghost use Rattle.frames.specs.Beginning.{IsRunBegun, merged_before};
 ghost use Rattle.frames.specs.Following.{IsRetimedFollowed};
 ghost use Rattle.frames.specs.Merging.{reported_of_read};
 ghost use Rattle.frames.specs.Stages.{Notifies, looks_of};
@@ -107,6 +107,7 @@ pub fn finish<F: RunFollower + Drop, G: PhaseGate, V: FrameWatcher>(
         begun.run.retimed begun.run.keep begun.run.follower
         → IsRetimedFollowed F.has_come options.now b before c end.retimed end.keep
         end.follower) }
+    ensures merged { IfOk result (λ end. end.retimed.merged ≡ merged_before begun.read) }
     ensures notified { IfOk result (λ end. Notifies V.was_notified watcher.old watcher.new
         (looks_of options.now.max_frames end.retimed)) }
 {

@@ -91,7 +91,7 @@ fn finish_plain<G: PhaseGate, V: FrameWatcher>(
 }
 
 /// Returns the retiming of a run that ended, and drops its held latches.
-pub(crate) fn retimed_of(run: Run<NoFollower>) -> Retimed
+fn retimed_of(run: Run<NoFollower>) -> Retimed
     ensures { result ≡ run.retimed }
 {
     let Run { retimed, keep, .. } = run;
@@ -176,41 +176,5 @@ pub fn run_watched<G: PhaseGate, V: FrameWatcher>(
     watcher.enter(Stage::Cleaning);
     let begun = begin_plain(alloc, circuit, options)?;
     let run = finish_plain(rt, alloc, begun, options, crew, watcher)?;
-    Ok(run)
-}
-
-/// Retimes as [`run_watched`] does, and drops the circuit once it is cleaned, before the first
-/// frame.
-///
-/// # Errors
-///
-/// Those of [`retime`].
-pub(crate) fn run_over<G: PhaseGate, V: FrameWatcher>(
-    rt: &(impl Threads + Sync),
-    alloc: Global,
-    circuit: Circuit,
-    options: &Options,
-    crew: &Crew<G>,
-    watcher: &mut V,
-) -> Result<Run<NoFollower>, RetimeError>
-    ensures retimed { IfOk result (λ run. IsRetimedHeld options.now circuit run.retimed
-        run.keep) }
-    ensures levels { IfOk result (λ run. KeepsLevels (bound_in options.now circuit) circuit
-        run.retimed.circuit) }
-    ensures latches { OnOk result (AreLatchesBy options.now circuit) }
-    ensures none_missing { OnOk result (NoneMissingBy options.now circuit) }
-    ensures no_latch { (place : ℕ) → IsErrOf result (NoSuchLatch place)
-        → IsFirstNoLatchBy options.now circuit place }
-    ensures missing { (place : ℕ) → IsErrOf result (NoSuchName place)
-        → IsFirstMissingBy options.now circuit place }
-    ensures notified { IfOk result (λ run. Notifies V.was_notified watcher.old watcher.new
-        (stages_of options.now.max_frames run.retimed)) }
-{
-    // Tells the prover that it is a circuit.
-    circuit.known();
-    watcher.enter(Stage::Cleaning);
-    let begun = begin_plain(alloc, &circuit, options);
-    drop(circuit);
-    let run = finish_plain(rt, alloc, begun?, options, crew, watcher)?;
     Ok(run)
 }

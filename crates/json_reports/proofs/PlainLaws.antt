@@ -16,7 +16,7 @@ use Rattle.reports.specs.declared.judgement.Judgement.{Judgement}
 use Rattle.reports.specs.declared.agreement.Agreement.TheVariants.{Same, DiffersAt}
 use Rattle.reports.specs.declared.batch.JobReport.{JobReport}
 use Rattle.reports.specs.declared.batch.JobReport.TheVariants.{Done, Misread, NoMemory, NoSuchLatch, NoSuchName, NotShown, Refused}
-use Rattle.retimed_circuits.specs.declared.report.Retimed.{Retimed}
+use Rattle.merging_rounds.specs.declared.rounds.Rounds.{Rounds}
 use Rattle.serde_json.specs.Data.{Data, null, string, object, Members, member, no_members, depth, items_depth, members_depth}
 use Rattle.serde_json.specs.View.{items_of, view}
 use Rattle.serde_json.specs.declared.value.Value.{Value}
@@ -125,11 +125,11 @@ plain-held_back h is_least =
     (plain-member (plain-count h.read_elsewhere) (plain-member (plain-or_null count plain-count h.too_long) plain-none))))))
 
 -- of a retiming
-pub retiming : (r : Retimed) (levels : ReadLevels) (left : Remaining) (times : Option Times) (mapped : Option MapCounts) → IsPlain (retiming_data r levels left times mapped)
+pub retiming : (r : Rounds) (levels : ReadLevels) (left : Remaining) (times : Option Times) (mapped : Option MapCounts) → IsPlain (retiming_data r levels left times mapped)
 retiming r levels left times mapped =
     is_plain {n = 4} (omega arith) (plain-object (plain-member (plain-circuit left.counts) (plain-member (plain-object (plain-member (plain-count r.read_latches) (plain-member (plain-or_null count plain-count levels.counted) plain-none)))
     (plain-member (plain-or_null count plain-count levels.bound) (plain-member (plain-string _) (plain-member (plain-array frame_data r.frames plain-frame) (plain-member (plain-array count r.kept_free plain-count) (plain-member (plain-held_back left.held_back left.is_least)
-    (plain-member (plain-or_null map_data plain-map mapped) (plain-member (plain-or_null merge_data plain-merge (merged_counts r.merged)) (plain-member (plain-or_null times_data plain-times times)
+    (plain-member (plain-or_null map_data plain-map mapped) (plain-member (plain-or_null merge_data plain-merge (merged_counts r.parts)) (plain-member (plain-or_null times_data plain-times times)
     (plain-member (plain-or_null count plain-count (networks_of times)) (plain-member (plain-count 0) plain-none)))))))))))))
 
 plain-agreement : {n : ℕ} (agreement : Agreement) → Plain (suc n) (agreement_data agreement)

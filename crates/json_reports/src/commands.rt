@@ -20,8 +20,8 @@ use certificates::Certificate;
 use counted_io::CountedWrite;
 use lane_sim::Place;
 use merged_circuits::MergeCounts;
+use merging_rounds::Rounds;
 use reports::{JobReport, Judgement, Remaining, Statistics};
-use retimed_circuits::Retimed;
 use std::alloc::Global;
 
 /// Prints what [`retiming_object`] makes, on a line.
@@ -32,7 +32,7 @@ use std::alloc::Global;
 /// object.
 pub fn print_retiming<W: CountedWrite>(
     alloc: Global,
-    retimed: &Retimed,
+    rounds: &Rounds,
     levels: ReadLevels,
     remaining: &Remaining,
     times: Option<&Times>,
@@ -40,12 +40,12 @@ pub fn print_retiming<W: CountedWrite>(
     writer: &mut W,
 ) -> Result<(), PrintError>
     ensures { PrintsLine
-        (retiming_data retimed.now levels remaining.now (option_map (λ t. t.now) times.entry) map)
+        (retiming_data rounds.now levels remaining.now (option_map (λ t. t.now) times.entry) map)
         (W.output writer.old) (W.output writer.new) result }
 {
     print_made(
         alloc,
-        retiming_object(alloc, retimed, levels, remaining, times, map),
+        retiming_object(alloc, rounds, levels, remaining, times, map),
         writer,
     )
 }

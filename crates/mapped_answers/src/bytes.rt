@@ -2,13 +2,14 @@
 //!
 //! The map is made before anything is written. So if memory is refused for it, or it is too large,
 //! the writer's bytes stay as they were.
-ghost use Rattle.std.specs.Prelude.{[], ◌∷◌, ◌++◌, IfErr, IfOk};
+ghost use Rattle.std.specs.Prelude.{[], ◌∷◌, IfErr, IfOk};
 ghost use Rattle.aig_graph.specs.Circuits.{IsNetlist};
 ghost use Rattle.aig_graph.specs.Graph.{IsGraph};
 ghost use Rattle.aig_binary.specs.Spellings.{text_in};
 ghost use Rattle.counted_io.specs.Output.{Writes};
-ghost use Rattle.frames.specs.Stages.{Notifies, Writing, stages_of};
+ghost use Rattle.frames.specs.Stages.{Cleaning, Writing};
 ghost use Rattle.mapped_answers.specs.Mapping.{IsMappedOf, IsMappingStop};
+ghost use Rattle.merging_rounds.specs.Following.{AreRoundsSeen};
 
 use crate::errors::AnswerError;
 use crate::making::{Made, made_over};
@@ -35,7 +36,7 @@ fn write_in<W: CountedWrite>(
     write(circuit, spelling, writer)
 }
 
-/// Retimes a circuit that was read and writes it as `frames::run_spelt` does, and returns its map
+/// Retimes a circuit that was read and writes it as `answers::run_spelt` does, and returns its map
 /// too.
 ///
 /// The map is made before the circuit is written. The circuit that was read is kept until the map
@@ -43,7 +44,7 @@ fn write_in<W: CountedWrite>(
 ///
 /// # Errors
 ///
-/// `Bytes` with the error of `frames::run_spelt`, or if memory for the map is refused.
+/// `Bytes` with the error of `answers::run_spelt`, or if memory for the map is refused.
 /// `MapTooLarge` if the map would have too many variables: nothing is written then.
 pub fn retime_spelt_mapped<W: CountedWrite, G: PhaseGate, V: FrameWatcher>(
     rt: &(impl Threads + Sync),
@@ -58,14 +59,14 @@ pub fn retime_spelt_mapped<W: CountedWrite, G: PhaseGate, V: FrameWatcher>(
         (W.output writer.new)) }
     ensures err { IfErr result (IsMappingStop options.now spelt (W.output writer.old)
         (W.output writer.new)) }
-    ensures notified { IfOk result (λ made. Notifies V.was_notified watcher.old watcher.new
-        (stages_of options.now.max_frames made.retimed ++ Writing ∷ [])) }
+    ensures seen { IfOk result (λ made. AreRoundsSeen V.was_notified (Cleaning ∷ [])
+        (Writing ∷ []) options.now spelt.circuit made.rounds made.keep watcher.old watcher.new) }
 {
     let SpeltCircuit { circuit, spelling } = spelt;
     let made = made_over(rt, alloc, circuit, options, crew, watcher)?;
     watcher.enter(Stage::Writing);
     match write_in(
-        &made.retimed.circuit,
+        &made.rounds.circuit,
         options.spelling.unwrap_or(spelling),
         writer,
     ) {

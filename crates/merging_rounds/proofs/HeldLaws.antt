@@ -74,7 +74,7 @@ in-order-then held now later c d e p q = record {
 }
 
 -- merging keeps them
-merges-in-order : (held : List ℕ) (c d : Netlist) (kept now : List ℕ) (lines : List MergedLatch) → IsCircuit c → All (λ j. j < length c.aig.latches) held → IsStrictlyIncreasing held → MergesIn held c d kept now lines → HeldInOrder held c now d
+pub merges-in-order : (held : List ℕ) (c d : Netlist) (kept now : List ℕ) (lines : List MergedLatch) → IsCircuit c → All (λ j. j < length c.aig.latches) held → IsStrictlyIncreasing held → MergesIn held c d kept now lines → HeldInOrder held c now d
 merges-in-order held c d kept now lines valid in_range rising merges =
     let clean : Netlist = merges.clean in
     let first : IsCircuit clean = IsCircuit-cleans clean held c kept merges.cleaned.cleans valid in

@@ -23,7 +23,7 @@ use Rattle.retimed_circuits.proofs.MergedRunLaws.{read-latches}
 use Rattle.retimed_circuits.proofs.RetimingLevelLaws.{retiming-levels}
 use Rattle.frames.specs.Retiming.{IsRetimedTo}
 use Rattle.merging_rounds.specs.declared.rounds.Rounds.{Rounds}
-use Rattle.merging_rounds.specs.Rounds.{AfterRuns, IsRetimedInRounds, again, at_positions, first, frames_of, part_of}
+use Rattle.merging_rounds.specs.Rounds.{AfterRuns, IsRetimedInRounds, MergesSome, again, at_positions, first, frames_of, part_of}
 use Rattle.merging_rounds.proofs.HeldLaws.{HeldInOrder, held_of-own, in-order-then, run-in-order}
 use Rattle.merging_rounds.proofs.RunLaws.{run-last, run-streams, run-within}
 
@@ -38,14 +38,14 @@ module _ (merge : Bool) (bound : Option ℕ) (choice : Choice) (c : Netlist) (ho
   -- runs keep the latches that are asked to be held
   pub runs-in-order : IsCircuit c → (runs : List Retimed) (d : Netlist) (kept now : List ℕ) → AfterRuns merge bound choice c holding max_frames certify runs d kept now → HeldInOrder (held_of holding c) c now d
   runs-in-order valid _ _ _ _ (first run now is) = run-in-order merge bound choice c holding max_frames certify run now valid is
-  runs-in-order valid _ _ _ _ (again runs d kept now later run before asked is) =
+  runs-in-order valid _ _ _ _ (again runs d kept now later run before asked some is) =
       let so_far : HeldInOrder (held_of holding c) c now d = runs-in-order valid runs d kept now before in
       in-order-then (held_of holding c) now later c d run.circuit so_far (again-in-order d now later (max_frames - length (frames_of runs)) run so_far is)
 
   -- they keep the bound
   pub runs-levels : IsCircuit c → (runs : List Retimed) (d : Netlist) (kept now : List ℕ) → AfterRuns merge bound choice c holding max_frames certify runs d kept now → KeepsLevels bound c d
   runs-levels valid _ _ _ _ (first run now is) = retiming-levels merge bound choice c holding max_frames certify run valid.graph valid.netlist is.retimed
-  runs-levels valid _ _ _ _ (again runs d kept now later run before asked is) =
+  runs-levels valid _ _ _ _ (again runs d kept now later run before asked some is) =
       let there : IsCircuit d = (runs-in-order valid runs d kept now before).stand.circuit in
       let more : KeepsLevels bound d run.circuit = retiming-levels true bound choice d (at_positions now) (max_frames - length (frames_of runs)) certify run there.graph there.netlist is.retimed in
       levels-then bound c d run.circuit (runs-levels valid runs d kept now before) more
@@ -80,10 +80,10 @@ module _ (merge : Bool) (bound : Option ℕ) (choice : Choice) (c : Netlist) (ho
 
   -- a further run
   pub next-round : (runs : List Retimed) (r s : Rounds) (now later : List ℕ) (run : Retimed) → IsCircuit c → IsRetimedInRounds merge bound choice c holding max_frames certify runs r now
-      → merge ≡ true → IsRetimedTo true bound choice r.circuit (at_positions now) (max_frames - length r.frames) certify run later
+      → merge ≡ true → MergesSome run → IsRetimedTo true bound choice r.circuit (at_positions now) (max_frames - length r.frames) certify run later
       → s.circuit ≡ run.circuit → s.kept_free ≡ composed r.kept_free run.kept_free → s.read_latches ≡ r.read_latches → s.frames ≡ r.frames ++ run.frames → s.parts ≡ r.parts ++ part_of run ∷ []
       → IsRetimedInRounds merge bound choice c holding max_frames certify (runs ++ run ∷ []) s later
-  next-round runs r s now later run valid before asked is circuit kept latches frames parts =
+  next-round runs r s now later run valid before asked some is circuit kept latches frames parts =
       let held : List ℕ = held_of holding c in
       let left : ℕ = max_frames - length r.frames in
       let so_far : HeldInOrder held c now r.circuit = runs-in-order valid runs r.circuit r.kept_free now before.after in
@@ -96,7 +96,7 @@ module _ (merge : Bool) (bound : Option ℕ) (choice : Choice) (c : Netlist) (ho
       same_streams-transitive c r.circuit run.circuit r.kept_free run.kept_free before.streams (run-streams true bound choice r.circuit (at_positions now) left certify run later is) in
       let P : Netlist → List ℕ → Type 0 = λ d places. AfterRuns merge bound choice c holding max_frames certify (runs ++ run ∷ []) d places later × SameStreams c d places in
       let both : P s.circuit s.kept_free =
-      subst (λ (d : Netlist). P d s.kept_free) (sym circuit) (subst (P run.circuit) (sym kept) (again runs r.circuit r.kept_free now later run before.after asked next, streams)) in
+      subst (λ (d : Netlist). P d s.kept_free) (sym circuit) (subst (P run.circuit) (sym kept) (again runs r.circuit r.kept_free now later run before.after asked some next, streams)) in
       let there : StayHeld held c later s.circuit = subst (StayHeld held c later) (sym circuit) stays in
       let few : length run.frames ≤ left = run-within true bound choice r.circuit (at_positions now) left certify run later is in
       let many : length s.frames ≡ length r.frames + length run.frames = ap (λ (xs : List FrameReport). length xs) frames ∙ length-append r.frames run.frames in

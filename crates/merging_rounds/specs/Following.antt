@@ -1,5 +1,5 @@
 -- Rounds under way, and what goes with them: a follower, and a watcher.
-use Rattle.std.specs.Prelude.{ℕ, ◌-◌, ◌≡◌, List, [], ◌∷◌, ◌++◌, Option, length}
+use Rattle.std.specs.Prelude.{ℕ, ◌-◌, ◌≡◌, Bool, true, false, List, [], ◌∷◌, ◌++◌, Option, length}
 use Rattle.aig_graph.specs.Circuits.{IsNetlist, Netlist}
 use Rattle.aig_graph.specs.Graph.{IsGraph}
 use Rattle.aig_graph.specs.Laws.{all_free}
@@ -8,12 +8,11 @@ use Rattle.retimed_circuits.specs.RetimingLevels.{KeepsLevels}
 use Rattle.frames.specs.Beginning.{IsRunBegun}
 use Rattle.frames.specs.Bounds.{bound_in}
 use Rattle.frames.specs.Following.{IsRetimedFollowed}
-use Rattle.frames.specs.Stages.{Notification, Notifies, looks_of, stages_of}
+use Rattle.frames.specs.Stages.{Cleaning, Notification, Notifies, looks_of, stages_of}
 use Rattle.frames.specs.declared.options.Options.{Options}
 use Rattle.frames.specs.declared.run.Begun.{Begun}
 use Rattle.frames.specs.declared.run.Run.{Run}
-use Rattle.merging_rounds.specs.Asking.{IsInRounds}
-use Rattle.merging_rounds.specs.Rounds.{frames_of}
+use Rattle.merging_rounds.specs.Asking.{AreMergedAsGiven, IsInRounds}
 use Rattle.merging_rounds.specs.declared.rounds.Rounds.{Rounds}
 
 -- the stages of further runs, of which each may take the frames that those before it left
@@ -34,23 +33,23 @@ pub record AreRoundsFollowed {F : Type 0} (has_come : F → Netlist → Netlist 
   pub netlist : IsNetlist c
   pub bound_is : bound ≡ bound_in options c
   pub is : IsInRounds options c runs r now
+  pub given : AreMergedAsGiven options r
   pub levels : KeepsLevels bound c r.circuit
   pub come : has_come f c r.circuit r.kept_free
 
--- so by more runs, and the watcher was notified of their stages
-pub record AreMoreRounds {F W : Type 0} (has_come : F → Netlist → Netlist → List ℕ → Type 0) (was_notified : W → List Notification → Type 0) (options : Options) (bound : Option ℕ) (c : Netlist)
-    (runs : List Retimed) (r : Rounds) (now : List ℕ) (f : F) (old new : W) : Type 0 where
-  pub more : List Retimed
-  pub followed : AreRoundsFollowed has_come options bound c (runs ++ more) r now f
-  pub notified : Notifies was_notified old new (later_stages (options.max_frames - length (frames_of runs)) more)
+-- the cleaning before a last round that found no latch to merge, if there was one
+abbrev pub last_cleaning : Bool → List Notification
+last_cleaning false = []
+last_cleaning true = Cleaning ∷ []
 
--- so by some runs, and the watcher was notified of their stages, but for the cleaning before the
--- first
+-- So by some runs, and the watcher was notified of their stages, but for the cleaning before the
+-- first. At the end a further round may have found nothing.
 pub record EndInRounds {F W : Type 0} (has_come : F → Netlist → Netlist → List ℕ → Type 0) (was_notified : W → List Notification → Type 0) (options : Options) (bound : Option ℕ) (c : Netlist)
     (r : Rounds) (now : List ℕ) (f : F) (old new : W) : Type 0 where
   pub runs : List Retimed
   pub followed : AreRoundsFollowed has_come options bound c runs r now f
-  pub notified : Notifies was_notified old new (looks_of_runs options.max_frames runs)
+  pub nothing : Bool
+  pub notified : Notifies was_notified old new (looks_of_runs options.max_frames runs ++ last_cleaning nothing)
 
 -- a circuit c before the first frame of its first round; the follower had come to it from itself
 pub record AreRoundsBegun {F : Type 0} (has_come : F → Netlist → Netlist → List ℕ → Type 0) (options : Options) (c : Netlist) (begun : Begun F) : Type 0 where
@@ -64,3 +63,18 @@ pub record IsFirstRun {F : Type 0} (has_come : F → Netlist → Netlist → Lis
   pub netlist : IsNetlist c
   pub bound_is : bound ≡ bound_in options c
   pub followed : IsRetimedFollowed has_come options c (all_free c.aig) c run.retimed run.keep run.follower
+
+-- c retimed in rounds by the options, whichever runs those are; its held latches stand at now
+pub record AreRoundsOf (options : Options) (c : Netlist) (r : Rounds) (now : List ℕ) : Type 0 where
+  pub runs : List Retimed
+  pub is : IsInRounds options c runs r now
+  pub given : AreMergedAsGiven options r
+
+-- whose bound is kept, and a watcher was notified of these first and last stages, and of those of
+-- the rounds between them
+pub record AreRoundsSeen {W : Type 0} (was_notified : W → List Notification → Type 0) (before after : List Notification) (options : Options) (c : Netlist) (r : Rounds) (now : List ℕ)
+    (old new : W) : Type 0 where
+  pub rounds : AreRoundsOf options c r now
+  pub levels : KeepsLevels (bound_in options c) c r.circuit
+  pub nothing : Bool
+  pub notified : Notifies was_notified old new (before ++ ((looks_of_runs options.max_frames rounds.runs ++ last_cleaning nothing) ++ after))

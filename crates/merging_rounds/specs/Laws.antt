@@ -1,21 +1,16 @@
 -- Laws of rounds.
-use Rattle.std.specs.Prelude.{ℕ, ◌≡◌, Bool, List, length, map, Option, Some, slice_get}
+use Rattle.std.specs.Prelude.{ℕ, ◌≡◌, Bool, List, length, Option, Some, slice_get}
 use Rattle.aig_graph.specs.Circuits.{IsNetlist, Netlist}
 use Rattle.aig_graph.specs.Graph.{IsGraph}
 use Rattle.aig_graph.specs.Keep.{Holding}
 use Rattle.aig_graph.specs.declared.choice.Choice.{Choice}
 use Rattle.ascii_file.specs.Laws.{IsWithinLimits}
 use Rattle.certificate_files.specs.declared.file.CertPart.{CertPart}
-use Rattle.certificates.specs.declared.merged.MergedLatch.{MergedLatch}
 use Rattle.retimed_circuits.specs.declared.report.Retimed.{Retimed}
 use Rattle.retimed_circuits.specs.Certified.{SameButRoutes}
 use Rattle.retimed_circuits.specs.RetimingLevels.{KeepsLevels}
-use Rattle.merging_rounds.specs.Rounds.{IsRetimedInRounds}
+use Rattle.merging_rounds.specs.Rounds.{IsRetimedInRounds, merged_in}
 use Rattle.merging_rounds.specs.declared.rounds.Rounds.{Rounds}
-
--- the latches that each round merged
-abbrev pub merged_in : Rounds → List (Option (List MergedLatch))
-merged_in r = map (λ (part : CertPart). part.merged) r.parts
 
 -- one part, whether certificates are wanted or not; if they are of both or of none, one but for
 -- their routes

@@ -47,6 +47,7 @@ pub(crate) fn round_options(
         keep: Vec::new(alloc),
         keep_latches,
         merge: true,
+        classes: None,
         bound: path_bound(bound),
     })
 }

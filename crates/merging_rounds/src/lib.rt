@@ -11,6 +11,6 @@ mod laws;
 mod rounds;
 mod running;
 
-pub use laws::{round_levels_law, round_limits_law};
+pub use laws::{round_answer_law, round_levels_law, round_limits_law};
 pub use rounds::{Rounds, RoundsRun};
 pub use running::finish_rounds;

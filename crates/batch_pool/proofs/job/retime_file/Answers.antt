@@ -1,7 +1,7 @@
 use Rattle.std.proofs.Common.{Some, sym, ap, ◌∙◌, subst}
 use Rattle.batch_pool.specs.declared.job.Outcome.{Outcome}
 use Rattle.batch_pool.specs.Outcomes.{IsOutcome}
-use Rattle.frames.proofs.StopLaws.{error_of}
+use Rattle.answers.proofs.StopLaws.{error_of}
 use Rattle.batch_pool.proofs.FileOutcomeLaws.{an_answer, no_answer}
 use Rattle.batch_pool.proofs.job.retime_file.Goals as goal
 
@@ -11,7 +11,7 @@ returns-in-Ok g c =
     let known = ap (λ b. Some b.now) c.new-reader.ensures.inner in
     let empty = ap (λ v. Some v.items) c.new-writer.ensures.inner ∙ ap Some c.new.ensures.items in
     let full = ap (λ v. Some v.items) (sym c.into_inner.ensures) in
-    subst O (sym c.done.ensures) (an_answer c.args.bytes.now c.into_inner.result.items c.args.options.now c.in-Ok.retimed _ _ _ known empty full c.in-Ok.ensures.answer)
+    subst O (sym c.done.ensures) (an_answer c.args.bytes.now c.into_inner.result.items c.args.options.now c.in-Ok.rounds _ _ _ known empty full c.in-Ok.ensures.answer)
 
 pub returns-in-Err : goal.returns-in-Err
 returns-in-Err g c =

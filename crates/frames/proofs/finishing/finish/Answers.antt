@@ -1,6 +1,7 @@
-use Rattle.std.proofs.Common.{ap}
+use Rattle.std.proofs.Common.{◌∙◌, ap, sym}
 use Rattle.std.proofs.lemmas.Result.{IfOk-weaker}
 use Rattle.retimed_circuits.specs.declared.report.Retimed.{Retimed}
+use Rattle.frames.specs.Beginning.{merged_before}
 use Rattle.frames.proofs.BeginningLaws.{begun-ready, merged-below, merged-finished, plain-finished}
 use Rattle.frames.proofs.StageLaws.{same-looks}
 use Rattle.frames.proofs.finishing.finish.Goals as goal
@@ -40,3 +41,14 @@ returns-in-Some-clause-notified g c =
     IfOk-weaker c.run_of_read.result _ _
     (λ whole same. same-looks g.V.FrameWatcher.was_notified c.args.watcher.now c.run_to_end.new.watcher c.args.options.now.max_frames r whole.retimed
     (ap (λ (x : Retimed). x.frames) same.0) (ap (λ (x : Retimed). x.circuit) same.0) c.in_ok-end.ensures.notified) c.run_of_read.ensures
+
+pub returns-in-None-clause-merged : goal.returns-in-None-clause-merged
+returns-in-None-clause-merged g c =
+    let begun = c.args.begun in
+    let is = c.requires in
+    let ready = begun-ready g.F.RunFollower.has_come c.args.options.now begun.run.bound is.0 is.1 is.2 begun.read begun.run.retimed begun.run.keep begun.run.follower is.3 in
+    (c.in_ok-end.ensures.retimed is.0 ready.start ready.held ready.kept ready.followed).retimed.none_merged ∙ ap merged_before (sym c.in-None.is)
+
+pub returns-in-Some-clause-merged : goal.returns-in-Some-clause-merged
+returns-in-Some-clause-merged g c =
+    IfOk-weaker c.run_of_read.result _ _ (λ whole same. ap (λ (x : Retimed). x.merged) same.0 ∙ ap merged_before (sym c.in-Some.is)) c.run_of_read.ensures

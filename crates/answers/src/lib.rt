@@ -1,0 +1,10 @@
+//! Circuits retimed in rounds, from the bytes of a reader to those of a writer.
+#![tactic(auto)]
+
+mod bytes;
+mod laws;
+mod runs;
+
+pub use bytes::{retime_bytes, run_spelt};
+pub use laws::answer_law;
+pub use runs::{retime_in_rounds, run_in_rounds};

@@ -1,0 +1,168 @@
+//! Whole retimings in rounds, without a follower.
+ghost use Rattle.std.specs.Prelude.{ℕ, ◌≡◌, ◌∷◌, [], IfOk, OnOk, IsErrOf, List};
+ghost use Rattle.aig_graph.specs.Circuits.{Netlist};
+ghost use Rattle.frames.specs.Bounds.{bound_in};
+ghost use Rattle.frames.specs.Named.{AreLatchesBy, IsFirstMissingBy, IsFirstNoLatchBy, NoneMissingBy};
+ghost use Rattle.frames.specs.declared.errors.RetimeError.TheVariants.{NoSuchLatch, NoSuchName};
+ghost use Rattle.frames.specs.Stages.{Cleaning};
+ghost use Rattle.merging_rounds.specs.Following.{AreRoundsBegun, AreRoundsOf, AreRoundsSeen};
+ghost use Rattle.retimed_circuits.specs.RetimingLevels.{KeepsLevels};
+
+use aig_graph::Circuit;
+use frames::{Begun, FrameWatcher, NoFollower, NoWatcher, Options, RetimeError, RunError, RunFollower, Stage, begin, hold_by};
+use merging_rounds::{Rounds, RoundsRun, finish_rounds};
+use pulse::{Crew, PhaseGate};
+use std::alloc::Global;
+use std::thread::Threads;
+
+/// Begins a run without a follower, if the latches can be held.
+fn begin_plain(
+    alloc: Global,
+    circuit: &Circuit,
+    options: &Options,
+) -> Result<Begun<NoFollower>, RetimeError>
+    ensures begun { IfOk result (AreRoundsBegun ⟦<NoFollower as RunFollower>⟧.has_come options.now
+        circuit.now) }
+    ensures latches { OnOk result (AreLatchesBy options.now circuit.now) }
+    ensures none_missing { OnOk result (NoneMissingBy options.now circuit.now) }
+    ensures no_latch { (place : ℕ) → IsErrOf result (NoSuchLatch place)
+        → IsFirstNoLatchBy options.now circuit.now place }
+    ensures missing { (place : ℕ) → IsErrOf result (NoSuchName place)
+        → IsFirstMissingBy options.now circuit.now place }
+{
+    // Tells the prover that it is a circuit.
+    circuit.known();
+    let keep = hold_by(alloc, circuit, options)?;
+    let begun = begin(alloc, circuit, &keep, options, NoFollower)?;
+    Ok(begun)
+}
+
+/// Takes the rounds of a run without a follower.
+fn finish_plain<G: PhaseGate, V: FrameWatcher>(
+    rt: &(impl Threads + Sync),
+    alloc: Global,
+    begun: Begun<NoFollower>,
+    options: &Options,
+    crew: &Crew<G>,
+    watcher: &mut V,
+) -> Result<RoundsRun<NoFollower>, RunError>
+    requires { (c : Netlist)
+        × AreRoundsBegun ⟦<NoFollower as RunFollower>⟧.has_come options.now c begun }
+    ensures { IfOk result (λ run. (c : Netlist)
+        → AreRoundsBegun ⟦<NoFollower as RunFollower>⟧.has_come options.now c begun
+        → AreRoundsSeen V.was_notified [] [] options.now c run.rounds run.keep watcher.old
+        watcher.new) }
+{
+    let end = finish_rounds(rt, alloc, begun, options, crew, watcher)?;
+    Ok(end)
+}
+
+/// Returns the report of rounds that ended, and drops the held latches.
+pub(crate) fn rounds_of(run: RoundsRun<NoFollower>) -> Rounds
+    ensures { result ≡ run.rounds }
+{
+    let RoundsRun { rounds, keep, .. } = run;
+    drop(keep);
+    rounds
+}
+
+/// Cleans a circuit and retimes it forward in rounds. In each round latches are merged, if the
+/// options ask for it, and frames are taken: latches move over the chosen least set, and the
+/// circuit is cleaned again.
+///
+/// A round ends if no closed set needs fewer latches than there are, or at the limit of frames.
+/// Under a bound on path length a frame may not take a set that makes a longer path. It then takes
+/// the chosen least one among the closed sets whose gates arrive within the bound.
+///
+/// The latches whose names or positions the options have stay. The answer doesn't depend on the
+/// crew, but for the routes of certificates.
+///
+/// # Errors
+///
+/// `NoSuchLatch` if a position of the options is no latch's, and `NoSuchName` if no latch has a
+/// name; these are found first. `Misread` or `NotShown` for a line of given classes. `NoMemory` if
+/// memory is refused.
+pub fn retime_in_rounds<G: PhaseGate>(
+    rt: &(impl Threads + Sync),
+    alloc: Global,
+    circuit: &Circuit,
+    options: &Options,
+    crew: &Crew<G>,
+) -> Result<Rounds, RetimeError>
+    ensures retimed { IfOk result (λ r. (now : List ℕ) × AreRoundsOf options.now circuit.now r now) }
+    ensures levels { IfOk result (λ r. KeepsLevels (bound_in options.now circuit.now) circuit.now
+        r.circuit) }
+    ensures latches { OnOk result (AreLatchesBy options.now circuit.now) }
+    ensures none_missing { OnOk result (NoneMissingBy options.now circuit.now) }
+    ensures no_latch { (place : ℕ) → IsErrOf result (NoSuchLatch place)
+        → IsFirstNoLatchBy options.now circuit.now place }
+    ensures missing { (place : ℕ) → IsErrOf result (NoSuchName place)
+        → IsFirstMissingBy options.now circuit.now place }
+{
+    match run_in_rounds(rt, alloc, circuit, options, crew, &mut NoWatcher) {
+        Ok(run) => Ok(rounds_of(run)),
+        Err(error) => Err(error),
+    }
+}
+
+/// Retimes as [`retime_in_rounds`] does, and returns the held latches of the retimed circuit too.
+///
+/// The watcher doesn't change the answer. It is notified of each cleaning, of each look for a set,
+/// and of each move over one. The last look of a round finds that no set helps, unless the limit
+/// of frames ends the run. After it a cleaning may find no latch to merge.
+///
+/// # Errors
+///
+/// Those of [`retime_in_rounds`].
+pub fn run_in_rounds<G: PhaseGate, V: FrameWatcher>(
+    rt: &(impl Threads + Sync),
+    alloc: Global,
+    circuit: &Circuit,
+    options: &Options,
+    crew: &Crew<G>,
+    watcher: &mut V,
+) -> Result<RoundsRun<NoFollower>, RetimeError>
+    ensures retimed { IfOk result (λ run. AreRoundsSeen V.was_notified (Cleaning ∷ []) []
+        options.now circuit.now run.rounds run.keep watcher.old watcher.new) }
+    ensures latches { OnOk result (AreLatchesBy options.now circuit.now) }
+    ensures none_missing { OnOk result (NoneMissingBy options.now circuit.now) }
+    ensures no_latch { (place : ℕ) → IsErrOf result (NoSuchLatch place)
+        → IsFirstNoLatchBy options.now circuit.now place }
+    ensures missing { (place : ℕ) → IsErrOf result (NoSuchName place)
+        → IsFirstMissingBy options.now circuit.now place }
+{
+    watcher.enter(Stage::Cleaning);
+    let begun = begin_plain(alloc, circuit, options)?;
+    let run = finish_plain(rt, alloc, begun, options, crew, watcher)?;
+    Ok(run)
+}
+
+/// Retimes as [`run_in_rounds`] does, and drops the circuit once it is cleaned, before the first
+/// frame.
+///
+/// # Errors
+///
+/// Those of [`retime_in_rounds`].
+pub(crate) fn run_over<G: PhaseGate, V: FrameWatcher>(
+    rt: &(impl Threads + Sync),
+    alloc: Global,
+    circuit: Circuit,
+    options: &Options,
+    crew: &Crew<G>,
+    watcher: &mut V,
+) -> Result<RoundsRun<NoFollower>, RetimeError>
+    ensures retimed { IfOk result (λ run. AreRoundsSeen V.was_notified (Cleaning ∷ []) []
+        options.now circuit run.rounds run.keep watcher.old watcher.new) }
+    ensures latches { OnOk result (AreLatchesBy options.now circuit) }
+    ensures none_missing { OnOk result (NoneMissingBy options.now circuit) }
+    ensures no_latch { (place : ℕ) → IsErrOf result (NoSuchLatch place)
+        → IsFirstNoLatchBy options.now circuit place }
+    ensures missing { (place : ℕ) → IsErrOf result (NoSuchName place)
+        → IsFirstMissingBy options.now circuit place }
+{
+    watcher.enter(Stage::Cleaning);
+    let begun = begin_plain(alloc, &circuit, options);
+    drop(circuit);
+    let run = finish_plain(rt, alloc, begun?, options, crew, watcher)?;
+    Ok(run)
+}
