@@ -9,7 +9,10 @@ ghost use Rattle.merging_rounds.specs.Following.{AreRoundsBegun, AreRoundsOf, Ar
 ghost use Rattle.retimed_circuits.specs.RetimingLevels.{KeepsLevels};
 
 use aig_graph::Circuit;
-use frames::{Begun, FrameWatcher, NoFollower, NoWatcher, Options, RetimeError, RunError, RunFollower, Stage, begin, hold_by};
+use frames::{
+    Begun, FrameWatcher, NoFollower, NoWatcher, Options, RetimeError, RunError, RunFollower, Stage,
+    begin, hold_by,
+};
 use merging_rounds::{Rounds, RoundsRun, finish_rounds};
 use pulse::{Crew, PhaseGate};
 use std::alloc::Global;

@@ -131,9 +131,7 @@ impl Progress {
         let part = &made.rounds.circuit;
         let after = joined(memory, net, cut, part, &map, &mut self.growing);
         drop(mem::replace(net, after));
-        self.frames = self
-            .frames
-            .saturating_add(number(made.rounds.frames.len()));
+        self.frames = self.frames.saturating_add(number(made.rounds.frames.len()));
     }
 
     /// Moves the latches of one class. Returns true if that leaves fewer.

@@ -60,7 +60,7 @@ written-answer options spelt made spelling old new same is graph netlist writes 
     writes = subst (λ (s : Spelling). WritesAll old new (text_in s made.rounds.circuit)) same writes;
     reads_back = λ within. (the_spelling_law (unwrap_or options.spelling spelt.spelling) made.rounds.circuit).read graph netlist
         (runs-limits options.merge (bound_in options spelt.circuit) options.choice spelt.circuit (holding_in options) options.max_frames options.certify is.rounds.runs made.rounds.circuit made.rounds.kept_free made.keep
-            is.rounds.is.after within);
+        is.rounds.is.after within);
   };
   mapped = is.mapped;
 }

@@ -27,11 +27,7 @@ pub struct Made {
 }
 
 /// Makes the map of `circuit` to the circuit at the rounds' end, and puts it beside that circuit.
-fn with_map(
-    alloc: Global,
-    circuit: &Circuit,
-    end: RoundsRun<GrowingMap>,
-) -> Result<Made, MapError>
+fn with_map(alloc: Global, circuit: &Circuit, end: RoundsRun<GrowingMap>) -> Result<Made, MapError>
     requires { IsMapTo circuit.now end.rounds.circuit end.rounds.kept_free end.follower.parts }
     ensures mapped { IfOk result (IsMapped circuit.now) }
     ensures same { IfOk result (λ made. (made.rounds ≡ end.rounds) × (made.keep ≡ end.keep)) }

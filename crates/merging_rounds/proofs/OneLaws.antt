@@ -1,5 +1,5 @@
 -- What a circuit is retimed to in rounds is one.
-use Rattle.std.proofs.Common.{ℕ, ◌-◌, ◌<◌, ◌≡◌, ◌∙◌, inl, inr, Bool, true, false, List, [], ◌∷◌, ◌++◌, Option, Some, length, map, refl, arith, ap, ap₂, sym, subst}
+use Rattle.std.proofs.Common.{ℕ, ◌+◌, ◌-◌, ◌<◌, ◌≡◌, ◌∙◌, inl, inr, Bool, true, false, List, [], ◌∷◌, ◌++◌, Option, Some, length, map, refl, arith, ap, ap₂, sym, subst}
 use Rattle.std.proofs.lemmas.List.{length-append, length-map, map-append}
 use Rattle.std.proofs.lemmas.Grind.{flat_map-append}
 use Rattle.std.proofs.lemmas.Option.{same_Some, slice_get_within}
@@ -88,13 +88,13 @@ parts-more : (certify other : Bool) (xs ys : List CertPart) (x y : CertPart) →
     → ((i : ℕ) (a b : CertPart) → slice_get xs i ≡ Some a → slice_get ys i ≡ Some b → IsSamePart certify other a b) → IsSamePart certify other x y
     → (i : ℕ) (a b : CertPart) → slice_get (xs ++ x ∷ []) i ≡ Some a → slice_get (ys ++ y ∷ []) i ≡ Some b → IsSamePart certify other a b
 parts-more certify other xs ys x y many so_far last i a b p q = elim (slice_get_push xs x i a p) [
-  | inl first ↦ elim (slice_get_push ys y i b q) [
-    | inl second ↦ so_far i a b first second
-    | inr second ↦ absurd (omega (arith, slice_get_within xs i a first, second.0, many))
+  | inl here ↦ elim (slice_get_push ys y i b q) [
+    | inl there ↦ so_far i a b here there
+    | inr there ↦ absurd (omega (arith, slice_get_within xs i a here, there.0, many))
   ]
-  | inr first ↦ elim (slice_get_push ys y i b q) [
-    | inl second ↦ absurd (omega (arith, slice_get_within ys i b second, first.0, many))
-    | inr second ↦ subst (λ (part : CertPart). IsSamePart certify other part b) (sym first.1) (subst (λ (part : CertPart). IsSamePart certify other x part) (sym second.1) last)
+  | inr here ↦ elim (slice_get_push ys y i b q) [
+    | inl there ↦ absurd (omega (arith, slice_get_within ys i b there, here.0, many))
+    | inr there ↦ subst (λ (part : CertPart). IsSamePart certify other part b) (sym here.1) (subst (λ (part : CertPart). IsSamePart certify other x part) (sym there.1) last)
   ]
 ]
 
@@ -147,7 +147,7 @@ module _ (merge : Bool) (bound : Option ℕ) (choice : Choice) (c : Netlist) (ho
       let left_frames : ℕ = max_frames - length (frames_of runs) in
       let one = retiming-with-one true bound choice d (at_positions now) left_frames certify other run last is.retimed here.retimed both.1 in
       let parts = parts-more certify other (map part_of runs) (map part_of others) (part_of run) (part_of last) (length-map runs part_of ∙ before_same.many ∙ sym (length-map others part_of)) before_same.parts
-          (same-part certify other run last one) in
+      (same-part certify other run last one) in
       record {
         circuit = one.circuit;
         free = ap₂ composed before_same.free one.free;

@@ -1,5 +1,5 @@
 -- What is merged by no lines stays as it was.
-use Rattle.std.proofs.Common.{ℕ, zero, suc, ◌+◌, ◌-◌, ◌*◌, ◌<◌, ◌≤◌, ◌≡◌, ◌∙◌, ◌++◌, ◌∷◌, inl, inr, not, false, true, List, [], Option, Some, length, get_or, refl, zero-add, add-one, arith, ap, sym, subst, length-append}
+use Rattle.std.proofs.Common.{ℕ, zero, suc, ◌+◌, ◌-◌, ◌*◌, ◌<◌, ◌≤◌, ◌≡◌, ◌∙◌, inl, inr, not, false, true, List, [], length, get_or, refl, zero-add, add-one, arith, ap, sym, subst}
 use Rattle.std.specs.List.{All}
 use Rattle.std.proofs.lemmas.Bool.{cases_lt, eq-eqb}
 use Rattle.std.proofs.lemmas.List.{ext_get_or}
@@ -23,7 +23,7 @@ use Rattle.merged_circuits.specs.Lines.{IsSaidBy, is_merged, latch_line, merged_
 use Rattle.merged_circuits.specs.Readings.{leaves, own_literal, own_reading, read, substitutes_by}
 use Rattle.merged_circuits.proofs.LineLaws.{lines_below, lines-all, lines-none, lines-stay, one-reading}
 use Rattle.merged_circuits.proofs.OwnLaws.{own-long}
-use Rattle.merged_circuits.proofs.ReadingLaws.{leaf-latch, leaf-low}
+use Rattle.merged_circuits.proofs.ReadingLaws.{leaf-latch, leaf-low, length-leaves}
 use Rattle.retimed_circuits.specs.declared.report.FrameReport.{FrameReport}
 use Rattle.retimed_circuits.specs.Frames.{AfterFrames, CleansTo, cleaned}
 use Rattle.retimed_circuits.specs.Merging.{MergesIn}
@@ -45,21 +45,20 @@ module _ (g : Graph) where
   -- and if there is none, each does
   unmerged-own : (reads : List ℕ) → IsSaidBy g [] reads → reads ≡ own_reading g
   unmerged-own reads said =
-      let own : IsSaidBy g [] (own_reading g) = record { long = own-long g; said = sym (lines-all g (own_reading g)) ∙ own-none (length g.latches) (omega arith) } in
+      let own : IsSaidBy g [] (own_reading g) = record { long = own-long g []; said = sym (lines-all g (own_reading g)) ∙ own-none (length g.latches) (omega arith) } in
       one-reading g [] reads (own_reading g) said own
 
-  length-leaves : length (leaves g (own_reading g)) ≡ first_gate g
-  unfolding leaves
-  length-leaves = omega (arith, length-append (table 0 (first_latch g) (λ (v : ℕ). 2 * v)) (own_reading g), length-table 0 (first_latch g) (λ (v : ℕ). 2 * v), own-long g)
+  many-leaves : length (leaves g (own_reading g)) ≡ first_gate g
+  many-leaves = omega (arith, length-leaves g [] (own_reading g), own-long g [])
 
   leaf-own : (v : ℕ) → v < first_gate g → get_or (leaves g (own_reading g)) v 0 ≡ 2 * v
   leaf-own v h = elim (cases_lt v (first_latch g)) [
-    | inl low ↦ leaf-low g (own_reading g) v low
+    | inl low ↦ leaf-low g [] (own_reading g) v low
     | inr past ↦ (
         let j : ℕ = v - first_latch g in
         let place : first_latch g + j ≡ v = omega (arith, past) in
         let below : j < length g.latches = omega (arith, h, past) in
-        ap (λ (w : ℕ). get_or (leaves g (own_reading g)) w 0) (sym place) ∙ leaf-latch g (own_reading g) j ∙ reads-itself j below ∙ ap (λ (w : ℕ). 2 * w) place)
+        ap (λ (w : ℕ). get_or (leaves g (own_reading g)) w 0) (sym place) ∙ leaf-latch g [] (own_reading g) j ∙ reads-itself j below ∙ ap (λ (w : ℕ). 2 * w) place)
   ]
 
 module _ (held : List ℕ) (c : Netlist) (valid : IsCircuit c) (normalised : IsNormalised held c) where
@@ -71,13 +70,13 @@ module _ (held : List ℕ) (c : Netlist) (valid : IsCircuit c) (normalised : IsN
   same-leaves =
       let n : ℕ = first_gate c.aig in
       let many : length (table 0 n (leaf_substitute c.aig held)) ≡ n = length-table 0 n (leaf_substitute c.aig held) in
-      ext_get_or 0 (table 0 n (leaf_substitute c.aig held)) (leaves c.aig (own_reading c.aig)) (many ∙ sym (length-leaves c.aig)) (λ v h.
+      ext_get_or 0 (table 0 n (leaf_substitute c.aig held)) (leaves c.aig (own_reading c.aig)) (many ∙ sym (many-leaves c.aig)) (λ v h.
       let below : v < n = omega (arith, h, many) in
       table-at 0 n (leaf_substitute c.aig held) v 0 below ∙ ap (leaf_substitute c.aig held) (zero-add v)
       ∙ sym (substitutes-leaf c.aig held v below) ∙ normalised-own held c valid.graph normalised v (omega (arith, below, first-below)) ∙ sym (leaf-own c.aig v below))
 
   same-substitutes : substitutes_of c.aig held ≡ substitutes_by c.aig (own_reading c.aig)
-  unfolding substitutes_of substitutes_by substitutes_after
+  unfolding substitutes_of substitutes_after
   same-substitutes = ap (λ (xs : List ℕ). (merge_gates c.aig.gates (merging_from xs)).substitutes) same-leaves
 
   -- a normalised circuit that is merged by no lines is as it was

@@ -16,12 +16,14 @@ begin-requires-clause-keep g c = c.requires
 
 pub finish_rounds-requires-after_bounds : goal.finish_rounds-requires-after_bounds
 finish_rounds-requires-after_bounds g c κs within =
-    let d = c.args.circuit.now in
-    (d, record {
-      graph = c.known.ensures.graph;
-      netlist = c.known.ensures.netlist;
-      starts = c.in_ok-begun.ensures d (all_free d.aig) (record { places = length-range_with_len 0 (free_latches d.aig); come = c.in_ok-identity.ensures });
-    })
+    let d = c.args.circuit.now in (
+      d,
+      record {
+        graph = c.known.ensures.graph;
+        netlist = c.known.ensures.netlist;
+        starts = c.in_ok-begun.ensures d (all_free d.aig) (record { places = length-range_with_len 0 (free_latches d.aig); come = c.in_ok-identity.ensures });
+      },
+    )
 
 pub with_map-requires : goal.with_map-requires
 with_map-requires g c =

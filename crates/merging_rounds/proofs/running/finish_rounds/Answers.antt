@@ -1,4 +1,4 @@
-use Rattle.std.proofs.Common.{List, [], ◌∷◌, ◌++◌}
+use Rattle.std.proofs.Common.{List, [], ◌∷◌}
 use Rattle.std.proofs.lemmas.Result.{IfOk-weaker}
 use Rattle.aig_graph.specs.Laws.{all_free}
 use Rattle.merging_rounds.proofs.StageLaws.{notified-all}
@@ -7,8 +7,8 @@ use Rattle.merging_rounds.proofs.running.finish_rounds.Goals as goal
 pub finish-requires-after_bounds : goal.finish-requires-after_bounds
 finish-requires-after_bounds g c κs within = let is = c.requires in (is.0, all_free is.0.aig, is.0, is.1.starts)
 
-pub further_rounds-requires-after_bounds : goal.further_rounds-requires-after_bounds
-further_rounds-requires-after_bounds g c κs within =
+pub rounds_after-requires-after_bounds : goal.rounds_after-requires-after_bounds
+rounds_after-requires-after_bounds g c κs within =
     let is = c.requires in
     let read = is.0 in
     let run = c.in_ok-run.run' in
@@ -26,7 +26,7 @@ further_rounds-requires-after_bounds g c κs within =
 pub returns : goal.returns
 returns g c =
     let run = c.in_ok-run.run' in
-    IfOk-weaker c.further_rounds.result _ _ (λ end more. λ read is.
+    IfOk-weaker c.rounds_after.result _ _ (λ end more. λ read is.
     let begun = is.starts in
     let all = more read (run.retimed ∷ []) (c.in_ok-first.ensures read (record {
       graph = is.graph;
@@ -35,8 +35,9 @@ returns g c =
       followed = c.in_ok-run.ensures.retimed read (all_free read.aig) read begun;
     })) in
     record {
-      runs = run.retimed ∷ all.more;
-      followed = all.followed;
-      notified = notified-all g.V.FrameWatcher.was_notified c.args.watcher.now c.finish.new.watcher c.further_rounds.new.watcher c.args.options.now.max_frames run.retimed all.more
-          c.in_ok-run.ensures.notified all.notified;
-    }) c.further_rounds.ensures
+      runs = run.retimed ∷ all.1.more;
+      followed = all.1.followed;
+      nothing = all.0;
+      notified = notified-all g.V.FrameWatcher.was_notified c.args.watcher.now c.finish.new.watcher c.rounds_after.new.watcher c.args.options.now.max_frames run.retimed all.1.more all.0
+          c.in_ok-run.ensures.notified all.1.notified;
+    }) c.rounds_after.ensures
