@@ -4,7 +4,7 @@ use Rattle.answers.proofs.runs.finish_plain.Goals as goal
 pub finish_rounds-requires-after_bounds : goal.finish_rounds-requires-after_bounds
 finish_rounds-requires-after_bounds g c κs within = c.requires
 
-pub returns-in_ok-end : goal.returns-in_ok-end
-returns-in_ok-end g c = λ d begun.
+pub returns : goal.returns
+returns g c = λ d begun.
     let end = c.in_ok-end.end in
     ended-rounds _ g.V.FrameWatcher.was_notified c.args.options.now c.args.begun.run.bound d end.rounds end.keep end.follower c.args.watcher.now c.finish_rounds.new.watcher (c.in_ok-end.ensures d begun)
