@@ -1,5 +1,5 @@
 //! The frames of a retiming.
-ghost use Rattle.std.specs.Prelude.{◌≡◌, IfOk, OnOk, option_map};
+ghost use Rattle.std.specs.Prelude.{◌≡◌, ◌++◌, IfOk, OnOk, option_map};
 ghost use Rattle.serde_json.specs.Data.{no_members, object};
 ghost use Rattle.serde_json.specs.View.{members_view, view};
 ghost use Rattle.json_reports.specs.Members.{array_of, count};
@@ -95,15 +95,27 @@ fn networks_of(times: Option<&Times>) -> Option<u32>
     }
 }
 
+/// Appends the latches that a round merged.
+fn with_lines(
+    lines: Vec<MergedLatch>,
+    part: &CertPart,
+) -> Result<Vec<MergedLatch>, AllocError>
+    ensures { IfOk result (λ all. all.items ≡ lines.items ++ told.lines_in part.now) }
+{
+    let mut all = lines;
+    if let Some(more) = &part.merged {
+        all.extend_from_slice(more.as_slice())?;
+    }
+    Ok(all)
+}
+
 /// Returns the latches that all rounds merged.
 fn merged_lines(alloc: Global, parts: &[CertPart]) -> Result<Vec<MergedLatch>, AllocError>
     ensures { IfOk result (λ lines. lines.items ≡ told.merged_lines parts.now) }
 {
     let mut all = Vec::new(alloc);
     for part in parts {
-        if let Some(lines) = &part.merged {
-            all.extend_from_slice(lines.as_slice())?;
-        }
+        all = with_lines(all, part)?;
     }
     Ok(all)
 }
