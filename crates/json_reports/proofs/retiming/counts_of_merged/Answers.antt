@@ -6,10 +6,10 @@ use Rattle.merged_circuits.specs.declared.counts.MergeCounts.{MergeCounts}
 use Rattle.json_reports.specs.Retimings.{are_merged, merged_lines}
 use Rattle.json_reports.proofs.retiming.counts_of_merged.Goals as goal
 
-pub returns-then-are_merged : goal.returns-then-are_merged
-returns-then-are_merged c =
+pub returns-in_ok-lines : goal.returns-in_ok-lines
+returns-in_ok-lines c =
     let parts = c.args.parts.now in
-    let lines = c.as_slice.ensures ∙ c.in_ok-lines.ensures in
+    let lines = c.as_slice.ensures.value ∙ c.in_ok-lines.ensures in
     let made : Option MergeCounts = Some (counts_of (merged_lines parts)) in
     ap (λ (counts : MergeCounts). Some counts) (c.counts_of.ensures ∙ ap counts_of lines) ∙ sym (cond-true (are_merged parts) made None (sym c.are_merged.ensures ∙ c.if-are_merged.true))
 
