@@ -19,6 +19,7 @@ pub mod FrontLaws
 pub mod ReadsLaws
 pub mod SweepLaws
 pub mod TrimLaws
+pub mod CloseLaws
 pub mod NamesLaws
 pub mod PassStepLaws
 pub mod CleaningLaws

@@ -74,3 +74,8 @@ module _ (c : Netlist) (held : List ℕ) (graph : IsGraph c.aig) (netlist : IsNe
     -- what is reached in the merged graph is what is reached in the merged circuit
     pub pass-reached : AreReached (merged_of held c).aig (merged_of held c).props held s
     pass-reached = subst (λ (q : Props). AreReached (merged_of held c).aig q held s) props (subst (λ (h : Graph). AreReached h p held s) aig reached)
+
+-- a circuit of equal parts is that circuit
+pub of-parts : (c : Netlist) (g : Graph) (p : Props) (names : Symbols) → g ≡ c.aig → p ≡ c.props → names ≡ c.symbols → ◌≡◌ {A = Netlist} (netlist_of g p names) c
+of-parts c g p names one two three =
+    ap (λ (h : Graph). netlist_of h p names) one ∙ ap (λ (q : Props). netlist_of c.aig q names) two ∙ ap (λ (ns : Symbols). netlist_of c.aig c.props ns) three

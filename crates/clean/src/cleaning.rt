@@ -15,8 +15,8 @@ ghost use Rattle.clean.specs.Settled.{AreOwnLatches};
 
 use crate::held::Held;
 use crate::latches::are_own_latches;
-use crate::pass::{Pass, run_pass};
-use crate::substitution::Substitution;
+use crate::pass::{Pass, run_pass, run_pass_over};
+use crate::tables::PassTables;
 use aig_graph::{Circuit, Keep, NoMemory, Sequence};
 use std::alloc::Global;
 
@@ -70,28 +70,24 @@ pub fn kept_twice(alloc: Global, first: &[bool], second: &[bool]) -> Result<Vec<
     Ok(kept)
 }
 
-/// Runs the pass after a pass. The places of the last pass may be counted among the free latches of
-/// an earlier circuit; those of this one are then too.
-fn pass_after(alloc: Global, last: &Pass, spare: &mut Substitution) -> Result<Pass, NoMemory>
-    requires in_range { All (λ j. j < length last.now.circuit.aig.latches) last.now.held.items }
-    requires places { length last.now.kept_free.items ≡ free_latches last.now.circuit.aig }
-    ensures { IfOk result (λ next. IsPassAfter last.now.held.items last.now.circuit next.circuit
-        last.now.kept_free.items next.kept_free.items next.held.items) }
-{
-    let mut next = run_pass(alloc, &last.circuit, last.held.as_slice(), spare)?;
-    next.kept_free = composed(alloc, last.kept_free.as_slice(), next.kept_free.as_slice())?;
-    next.kept = kept_twice(alloc, last.kept.as_slice(), next.kept.as_slice())?;
-    Ok(next)
-}
-
-/// Runs the pass after a pass, and drops that one.
-fn next_pass(alloc: Global, last: Pass, spare: &mut Substitution) -> Result<Pass, NoMemory>
+/// Runs the pass after a pass, in the table of gates that it left. The places of the last pass may
+/// be counted among the free latches of an earlier circuit; those of this one are then too.
+fn next_pass(alloc: Global, last: Pass, tables: &mut PassTables) -> Result<Pass, NoMemory>
     requires in_range { All (λ j. j < length last.circuit.aig.latches) last.held.items }
     requires places { length last.kept_free.items ≡ free_latches last.circuit.aig }
     ensures { IfOk result (λ next. IsPassAfter last.held.items last.circuit next.circuit
         last.kept_free.items next.kept_free.items next.held.items) }
 {
-    pass_after(alloc, &last, spare)
+    let Pass {
+        circuit,
+        kept_free,
+        kept,
+        held,
+    } = last;
+    let mut next = run_pass_over(alloc, circuit, held.as_slice(), tables)?;
+    next.kept_free = composed(alloc, kept_free.as_slice(), next.kept_free.as_slice())?;
+    next.kept = kept_twice(alloc, kept.as_slice(), next.kept.as_slice())?;
+    Ok(next)
 }
 
 /// Returns true if each latch of a circuit is its own substitute.
@@ -172,11 +168,30 @@ pub fn clean(alloc: Global, circuit: &Circuit, keep: &Keep) -> Result<Cleaned, N
     ensures in_range { IfOk result (λ c. All (λ j. j < length c.circuit.aig.latches) c.keep) }
 {
     let mut before = circuit.aig().latches_and_gates();
-    let mut spare = Substitution::none(alloc);
-    let mut last = run_pass(alloc, circuit, keep.positions(), &mut spare)?;
+    let mut tables = PassTables::none(alloc);
+    let mut last = run_pass(alloc, circuit, keep.positions(), &mut tables)?;
     while goes_on(alloc, &last, before) {
         before = last.circuit.aig().latches_and_gates();
-        last = next_pass(alloc, last, &mut spare)?;
+        last = next_pass(alloc, last, &mut tables)?;
+    }
+    Ok(cleaned_by(last))
+}
+
+/// Cleans a circuit as [`clean`] does, in its own table of gates. So no copy of them is made.
+pub fn clean_over(alloc: Global, circuit: Circuit, keep: &Keep) -> Result<Cleaned, NoMemory>
+    requires in_range { All (λ j. j < length circuit.aig.latches) keep.now }
+    ensures cleaned { IfOk result (λ c. Cleans c.circuit keep.now circuit c.kept_free) }
+    ensures streams { IfOk result (λ c. SameStreams circuit c.circuit c.kept_free) }
+    ensures held { IfOk result (λ c. HeldAfter c.circuit c.keep keep.now circuit) }
+    ensures in_range { IfOk result (λ c. All (λ j. j < length c.circuit.aig.latches) c.keep) }
+{
+    circuit.known();
+    let mut before = circuit.aig().latches_and_gates();
+    let mut tables = PassTables::none(alloc);
+    let mut last = run_pass_over(alloc, circuit, keep.positions(), &mut tables)?;
+    while goes_on(alloc, &last, before) {
+        before = last.circuit.aig().latches_and_gates();
+        last = next_pass(alloc, last, &mut tables)?;
     }
     Ok(cleaned_by(last))
 }

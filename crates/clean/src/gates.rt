@@ -9,7 +9,7 @@ ghost use Rattle.aig_graph.specs.Graph.{IsGateAt, variable, first_gate};
 ghost use Rattle.cleaned_circuits.specs.Merged.{same_fan_ins, known_substitute, substitute_or_own, kept_after, merge_gate, merge_gates, replaced_gate};
 ghost use Rattle.clean.specs.Kept.{pairs, next_variable, IsEntered};
 
-use crate::kept::KeptGates;
+use crate::kept::{KeptGates, Links};
 use crate::substitution::Substitution;
 use aig_graph::{Aig, Gate, Lit, NoMemory};
 use std::alloc::Global;
@@ -97,7 +97,7 @@ fn merge_all(kept: &mut KeptGates, substitutes: &mut Substitution) -> Result<(),
 }
 
 /// Returns a copy of the gates.
-fn copied_gates(alloc: Global, aig: &Aig) -> Result<Vec<Gate>, NoMemory>
+pub(crate) fn copied_gates(alloc: Global, aig: &Aig) -> Result<Vec<Gate>, NoMemory>
     ensures { IfOk result (λ gates. gates.items ≡ aig.now.gates) }
 {
     let mut gates = Vec::with_capacity(alloc, aig.gates().len())?;
@@ -105,26 +105,34 @@ fn copied_gates(alloc: Global, aig: &Aig) -> Result<Vec<Gate>, NoMemory>
     Ok(gates)
 }
 
-/// Adds the substitutes of all gates to those of the variables before them. Returns each gate with
-/// the substitutes of its literals.
+/// Adds the substitutes of all gates to those of the variables before them. The first latch has the
+/// variable `first`. Returns each gate with the substitutes of its literals, in the gates' own
+/// table. The tables of links are used.
 pub(crate) fn merged_gates(
     alloc: Global,
-    aig: &Aig,
+    first: u32,
+    gates: Vec<Gate>,
     substitutes: &mut Substitution,
+    links: &mut Links,
 ) -> Result<Vec<Gate>, NoMemory>
-    requires { length substitutes.old ≡ first_gate aig.now }
+    requires first { first ≤ length substitutes.old }
+    requires few { length substitutes.old + length gates.items ≤ 2 ^ 28 }
+    requires graph { (k : ℕ) (gate : Gate) → slice_get gates.items k ≡ Some gate
+        → IsGateAt (length substitutes.old + k) gate }
     ensures substitutes { OnOk result (substitutes.new ≡
-        (merge_gates aig.now.gates (record {
+        (merge_gates gates.items (record {
           substitutes = substitutes.old;
           kept = [];
         })).substitutes) }
-    ensures gates { IfOk result (λ gates. gates.items ≡
-        map (replaced_gate substitutes.new) aig.now.gates) }
+    ensures gates { IfOk result (λ merged. merged.items ≡
+        map (replaced_gate substitutes.new) gates.items) }
 {
-    let gates = copied_gates(alloc, aig)?;
-    let mut kept = KeptGates::over(alloc, aig, aig.first_gate(), gates)?;
+    let own = substitutes.len();
+    let mut kept = KeptGates::with_links(alloc, first, own, gates, links.take(alloc))?;
     merge_all(&mut kept, substitutes)?;
-    Ok(kept.into_gates())
+    let (gates, used) = kept.into_parts();
+    *links = used;
+    Ok(gates)
 }
 
 /// Adds the substitutes of all gates to those of the variables before them.
@@ -136,6 +144,8 @@ pub fn merge_gates(alloc: Global, aig: &Aig, substitutes: &mut Substitution) -> 
           kept = [];
         })).substitutes) }
 {
-    merged_gates(alloc, aig, substitutes)?;
+    let gates = copied_gates(alloc, aig)?;
+    let mut links = Links::none(alloc);
+    merged_gates(alloc, aig.first_latch(), gates, substitutes, &mut links)?;
     Ok(())
 }

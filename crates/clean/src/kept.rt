@@ -4,7 +4,7 @@
 //! inputs alone, stand in a hash table. The place of a gate is for speed alone: it is looked for in
 //! both. Entries are written over a table of gates from its first place on, so new fan-ins take the
 //! places of old ones.
-ghost use Rattle.std.specs.Prelude.{◌≡◌, ◌+◌, ◌*◌, ◌<◌, ◌≤◌, ◌^◌, ◌++◌, ◌∷◌, [], None, IfOk, IfSome, OnErr, OnOk, get_or, length};
+ghost use Rattle.std.specs.Prelude.{◌≡◌, ◌+◌, ◌*◌, ◌<◌, ◌≤◌, ◌^◌, ◌++◌, ◌∷◌, [], None, IfOk, IfSome, OnErr, OnOk, get_or, length, replicate};
 ghost use Rattle.std.specs.Map.{lookup};
 ghost use Rattle.cleaned_circuits.specs.Merged.{same_fan_ins};
 ghost use Rattle.aig_graph.specs.Graph.{variable};
@@ -14,12 +14,48 @@ use aig_graph::{Aig, Gate, Lit, NoMemory};
 use indexmap::IndexMap;
 use std::alloc::Global;
 use std::marker::Model;
+use std::mem;
 
 /// How many gates a list takes.
 const LONGEST: u32 = 32;
 
 /// The link of a kept gate that has none before it in its list.
 const END: u32 = 1;
+
+/// Tables of links whose values don't matter.
+#[derive(Drop)]
+pub(crate) struct Links {
+    before: Vec<u32>,
+    lists: Vec<u32>,
+}
+
+impl Links {
+    /// Returns empty tables. Takes no memory.
+    pub(crate) fn none(alloc: Global) -> Links {
+        Links {
+            before: Vec::new(alloc),
+            lists: Vec::new(alloc),
+        }
+    }
+
+    /// Takes the tables out, and leaves empty ones.
+    pub(crate) fn take(&mut self, alloc: Global) -> Links {
+        mem::replace(self, Links::none(alloc))
+    }
+
+    /// Puts `entries` lists in the place of these, each empty, and makes room for links of `gates`
+    /// gates.
+    fn clear(&mut self, gates: usize, entries: usize) -> Result<(), NoMemory>
+        ensures before { OnOk result (self.new.before.items ≡ []) }
+        ensures lists { OnOk result (self.new.lists.items ≡ replicate entries 0) }
+    {
+        self.before.clear();
+        self.lists.clear();
+        self.before.reserve(gates)?;
+        self.lists.resize(entries, 0)?;
+        Ok(())
+    }
+}
 
 /// Gates by entry, whose variables rise by one from entry to entry. Some of them are kept.
 pub struct KeptGates {
@@ -138,19 +174,50 @@ impl KeptGates {
         })
     }
 
-    /// Returns the gates, both those that have an entry and those that have none.
-    pub(crate) fn into_gates(self) -> Vec<Gate>
-        ensures { result.items ≡ self.gates }
+    /// Returns gates without an entry as [`over`](KeptGates::over) does, with links in the memory
+    /// of others. The circuit's first latch has the variable `first`.
+    pub(crate) fn with_links(
+        alloc: Global,
+        first: u32,
+        own: u32,
+        gates: Vec<Gate>,
+        links: Links,
+    ) -> Result<KeptGates, NoMemory>
+        requires first { first ≤ own }
+        requires few { own + length gates.items ≤ 2 ^ 28 }
+        ensures pairs { IfOk result (λ kept. pairs kept ≡ []) }
+        ensures next { IfOk result (λ kept. next_variable kept ≡ own) }
+        ensures before { IfOk result (λ kept. kept.before ≡ []) }
+        ensures gates { IfOk result (λ kept. kept.gates ≡ gates.items) }
+    {
+        let mut links = links;
+        let entries = (own - first) as usize + gates.len();
+        links.clear(gates.len(), entries)?;
+        let Links { before, lists } = links;
+        Ok(KeptGates {
+            first,
+            own,
+            gates,
+            before,
+            lists,
+            rest: IndexMap::new(alloc),
+        })
+    }
+
+    /// Returns the gates, both those that have an entry and those that have none, and the tables of
+    /// links.
+    pub(crate) fn into_parts(self) -> (Vec<Gate>, Links)
+        ensures { result.0.items ≡ self.gates }
     {
         let KeptGates {
             first: _first,
             own: _own,
             gates,
-            before: _before,
-            lists: _lists,
+            before,
+            lists,
             rest: _rest,
         } = self;
-        gates
+        (gates, Links { before, lists })
     }
 
     /// Returns the number of gates, with those that have no entry yet.

@@ -20,10 +20,11 @@ mod places;
 mod reached;
 mod substitutes;
 mod substitution;
+mod tables;
 mod tracing;
 mod trim;
 
-pub use cleaning::{Cleaned, clean, composed, has_more, kept_twice};
+pub use cleaning::{Cleaned, clean, clean_over, composed, has_more, kept_twice};
 pub use gates::{known_substitute, merge_gates};
 pub use held::Held;
 pub use kept::KeptGates;

@@ -1,12 +1,16 @@
 //! The first half of a pass: each literal reads what stands for it. Nothing goes and nothing is
 //! renumbered yet, so the streams are kept by this half alone.
-ghost use Rattle.std.specs.Prelude.{◌≡◌, ◌<◌, IfOk, length, map};
+ghost use Rattle.std.specs.Prelude.{◌≡◌, ◌<◌, All, IfOk, OnOk, length, map};
 ghost use Rattle.aig_graph.specs.Graph.{IsGraph, variable, variables_end};
-ghost use Rattle.aig_graph.specs.Circuits.{IsNetlist};
-ghost use Rattle.cleaned_circuits.specs.Merged.{replaced_latch, replaced_gate, replaced_graph, replaced_circuit, merged_of, substitutes_of};
+ghost use Rattle.aig_graph.specs.Circuits.{ArePropsOf, IsNetlist};
+ghost use Rattle.aig_graph.specs.Mapped.{mapped_props};
+ghost use Rattle.cleaned_circuits.specs.Merged.{replaced, replaced_latch, replaced_gate, replaced_graph, replaced_circuit, substitutes_of};
 
+use crate::gates::copied_gates;
 use crate::names::copied_symbols;
+use crate::substitutes::merged_graph;
 use crate::substitution::Substitution;
+use crate::tables::PassTables;
 use aig_graph::{Aig, Circuit, Gate, Latch, NoMemory, Props};
 use std::alloc::Global;
 
@@ -26,20 +30,21 @@ impl Drop for Merged {
     }
 }
 
-fn replaced_latches(
+/// Returns the latches, each with the substitute of its next literal.
+pub(crate) fn replaced_latches(
     alloc: Global,
     substitutes: &Substitution,
-    aig: &Aig,
+    latches: &[Latch],
 ) -> Result<Vec<Latch>, NoMemory>
-    requires { length substitutes.now ≡ variables_end aig.now }
-    ensures { IfOk result (λ latches. latches.items
-        ≡ map (replaced_latch substitutes.now) aig.now.latches) }
+    requires { All (λ latch. variable latch.next < length substitutes.now) latches.now }
+    ensures { IfOk result (λ replaced. replaced.items
+        ≡ map (replaced_latch substitutes.now) latches.now) }
 {
-    let mut latches = Vec::with_capacity(alloc, aig.latches().len())?;
-    for latch in aig.latches() {
-        latches.push(substitutes.latch(*latch))?;
+    let mut replaced = Vec::with_capacity(alloc, latches.len())?;
+    for latch in latches {
+        replaced.push(substitutes.latch(*latch))?;
     }
-    Ok(latches)
+    Ok(replaced)
 }
 
 fn replaced_gates(
@@ -70,7 +75,7 @@ fn replaced_aig(
     requires gates { gates.items ≡ map (replaced_gate substitutes.now) aig.now.gates }
     ensures { IfOk result (λ after. after ≡ replaced_graph substitutes.now aig.now) }
 {
-    let latches = replaced_latches(alloc, substitutes, aig)?;
+    let latches = replaced_latches(alloc, substitutes, aig.latches())?;
     Ok(Aig::from_parts(aig.inputs(), latches, gates))
 }
 
@@ -96,22 +101,47 @@ pub fn replaced_circuit(
     Ok(Circuit::new(aig, props, symbols))
 }
 
-/// Returns the circuit in which substitutes are read, as its gates do already. They are those of a
-/// pass with these latches held.
+/// Returns a copy of a graph.
+pub(crate) fn copied_graph(alloc: Global, aig: &Aig) -> Result<Aig, NoMemory>
+    ensures { IfOk result (λ copy. copy ≡ aig.now) }
+{
+    let latches = Vec::from_slice(alloc, aig.latches())?;
+    let gates = copied_gates(alloc, aig)?;
+    Ok(Aig::from_parts(aig.inputs(), latches, gates))
+}
+
+impl Merged {
+    /// Returns the graph, and drops the properties.
+    pub(crate) fn into_graph(self) -> Aig
+        ensures { result ≡ self.aig }
+    {
+        let Merged { aig, props: _props } = self;
+        aig
+    }
+}
+
+/// Returns the graph and the properties in which substitutes are read, those of a pass with these
+/// latches held. The graph's own table of gates is used. Fills the table with the substitutes.
 pub(crate) fn merged_by(
     alloc: Global,
-    circuit: &Circuit,
+    aig: Aig,
+    props: &Props,
     held: &[u32],
-    substitutes: &Substitution,
-    gates: Vec<Gate>,
+    tables: &mut PassTables,
 ) -> Result<Merged, NoMemory>
-    requires substitutes { substitutes.now ≡ substitutes_of circuit.now.aig held.now }
-    requires gates { gates.items ≡ map (replaced_gate substitutes.now) circuit.now.aig.gates }
-    ensures aig { IfOk result (λ merged. merged.aig ≡ (merged_of held.now circuit.now).aig) }
-    ensures props { IfOk result (λ merged. merged.props ≡ (merged_of held.now circuit.now).props) }
+    requires props { ArePropsOf aig props.now }
+    ensures substitutes { OnOk result (tables.new.literals ≡ substitutes_of aig held.now) }
+    ensures aig { IfOk result (λ merged. merged.aig ≡ replaced_graph
+        (substitutes_of aig held.now) aig) }
+    ensures props { IfOk result (λ merged. merged.props ≡ mapped_props
+        (replaced (substitutes_of aig held.now)) props.now) }
 {
-    let _held = held;
-    let aig = replaced_aig(alloc, circuit.aig(), substitutes, gates)?;
-    let props = circuit.props().mapped(alloc, substitutes)?;
-    Ok(Merged { aig, props })
+    let aig = merged_graph(alloc, aig, held, tables)?;
+    match props.mapped(alloc, &tables.literals) {
+        Ok(props) => Ok(Merged { aig, props }),
+        Err(error) => {
+            drop(aig);
+            Err(error)
+        }
+    }
 }

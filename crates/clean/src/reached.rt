@@ -195,10 +195,14 @@ impl Reached {
     }
 
     /// Returns the marks of what is reached, by variable from the first latch on.
-    pub(crate) fn copied_marks(&self, alloc: Global) -> Result<Vec<bool>, NoMemory> {
-        let mut marks = Vec::new(alloc);
-        marks.extend_from_slice(self.marks.as_slice())?;
-        Ok(marks)
+    pub(crate) fn into_marks(self) -> Vec<bool> {
+        let Reached {
+            first: _first,
+            latches: _latches,
+            marks,
+            waiting: _waiting,
+        } = self;
+        marks
     }
 
     /// Returns true if the latch or the gate at a variable is reached.

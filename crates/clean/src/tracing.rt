@@ -9,11 +9,11 @@ ghost use Rattle.clean.specs.Sweep.{is_marked};
 ghost use Rattle.clean.specs.Tracing.{IsTraced};
 
 use crate::latches::own_literal;
-use crate::merged::merged_by;
+use crate::merged::{copied_graph, merged_by};
 use crate::pass::trimmed;
 use crate::reached::{Reached, reach_everything};
-use crate::substitutes::put_substitutes;
 use crate::substitution::Substitution;
+use crate::tables::PassTables;
 use aig_graph::{Aig, Circuit, Lit, NoMemory};
 use std::alloc::Global;
 
@@ -75,13 +75,14 @@ pub fn traced_pass(alloc: Global, circuit: &Circuit, held: &[u32]) -> Result<Tra
     requires { All (λ j. j < length circuit.now.aig.latches) held.now }
     ensures { IfOk result (IsTraced held.now circuit.now) }
 {
-    let mut table = Substitution::none(alloc);
-    let gates = put_substitutes(alloc, circuit.aig(), held, &mut table)?;
-    let substitutes = latch_literals(alloc, circuit.aig(), held, &table)?;
-    let merged = merged_by(alloc, circuit, held, &table, gates)?;
+    let mut tables = PassTables::none(alloc);
+    let aig = copied_graph(alloc, circuit.aig())?;
+    let merged = merged_by(alloc, aig, circuit.props(), held, &mut tables)?;
+    let substitutes = latch_literals(alloc, circuit.aig(), held, &tables.literals)?;
     let reached = reach_everything(alloc, &merged.aig, &merged.props, held)?;
     let stays = stays_of(alloc, circuit.aig(), &reached)?;
-    let pass = trimmed(alloc, circuit, held, &merged, &reached, &mut table)?;
+    let table = &mut tables.literals;
+    let pass = trimmed(alloc, merged, reached, circuit.symbols(), held, table)?;
     Ok(TracedPass {
         circuit: pass.circuit,
         kept_free: pass.kept_free,

@@ -1,18 +1,17 @@
 //! The second half of a pass: what isn't reached goes. A variable's new number is by how many
 //! reached ones come before it, so order is kept, and fan-ins still come first.
-ghost use Rattle.std.specs.Prelude.{◌≡◌, ◌+◌, ◌<◌, ◌≤◌, All, IfOk, OnOk, Some, length, map, slice_get, if◌then◌else◌};
-ghost use Rattle.aig_graph.specs.Graph.{is_free, IsGraph, IsLiteralOf, first_latch, first_gate};
-ghost use Rattle.aig_graph.specs.Circuits.{IsNetlist};
-ghost use Rattle.aig_graph.specs.Mapped.{OfProps};
+ghost use Rattle.std.specs.Prelude.{◌≡◌, ◌+◌, ◌<◌, ◌≤◌, ◌^◌, All, IfOk, OnOk, Some, length, map, slice_get, take, if◌then◌else◌};
+ghost use Rattle.aig_graph.specs.Graph.{is_free, variable, IsGraph, IsLiteralOf, first_latch};
+ghost use Rattle.aig_graph.specs.Mapped.{OfProps, mapped_props};
+ghost use Rattle.cleaned_circuits.specs.Merged.{replaced_gate};
 ghost use Rattle.cleaned_circuits.specs.Reached.{stays};
-ghost use Rattle.cleaned_circuits.specs.Trimmed.{new_position, picked, renumbered_latch, renumbered_gate, trimmed_graph, trimmed_of, is_kept_free, kept_free};
+ghost use Rattle.cleaned_circuits.specs.Trimmed.{new_position, picked, renumbered, renumbered_latch, trimmed_graph, is_kept_free, kept_free};
 ghost use Rattle.clean.specs.Substitutions.{new_literals};
 ghost use Rattle.clean.specs.Sweep.{is_marked};
 
-use crate::names::trimmed_symbols;
 use crate::reached::Reached;
 use crate::substitution::Substitution;
-use aig_graph::{Aig, Circuit, Gate, Latch, Lit, NoMemory, Props, Reset, Symbols};
+use aig_graph::{Aig, Gate, Latch, Lit, NoMemory, Props, Reset};
 use std::alloc::Global;
 
 /// A graph of which the latches and gates that aren't reached go, with the new literal of each
@@ -41,6 +40,67 @@ pub(crate) fn put_new_literals(
         next += u32::from(reached.has(var));
     }
     Ok(())
+}
+
+/// Writes the gates that are reached, with the literals that replace theirs, from the first place
+/// on. Returns how many they are. The first gate has the variable `first`.
+fn close_gates(gates: &mut [Gate], first: u32, reached: &Reached, literals: &Substitution) -> usize
+    requires small { first + length gates.old ≤ 2 ^ 28 }
+    requires larger { All (λ gate. variable gate.rhs0 < length literals.now) gates.old }
+    requires smaller { All (λ gate. variable gate.rhs1 < length literals.now) gates.old }
+    ensures few { result ≤ length gates.new }
+    ensures gates { take result gates.new ≡ map (replaced_gate literals.now)
+        (picked (is_marked reached.now) first gates.old) }
+{
+    let mut kept = 0;
+    for place in 0..gates.len() {
+        if reached.has(first + place as u32) {
+            gates[kept] = literals.gate(gates[place]);
+            kept += 1;
+        }
+    }
+    kept
+}
+
+/// Returns the gates that are reached, with the literals that replace theirs, in the gates' own
+/// table.
+fn closed_gates(
+    gates: Vec<Gate>,
+    first: u32,
+    reached: &Reached,
+    literals: &Substitution,
+) -> Vec<Gate>
+    requires small { first + length gates.items ≤ 2 ^ 28 }
+    requires larger { All (λ gate. variable gate.rhs0 < length literals.now) gates.items }
+    requires smaller { All (λ gate. variable gate.rhs1 < length literals.now) gates.items }
+    ensures { result.items ≡ map (replaced_gate literals.now)
+        (picked (is_marked reached.now) first gates.items) }
+{
+    let mut gates = gates;
+    let kept = close_gates(gates.as_mut_slice(), first, reached, literals);
+    gates.truncate(kept);
+    gates.shrink_to_fit();
+    gates
+}
+
+/// Returns the graph without what isn't reached, by its new literals and with the latches that
+/// stay. The graph's own table of gates is used.
+pub(crate) fn closed_graph(
+    aig: Aig,
+    latches: Vec<Latch>,
+    reached: &Reached,
+    literals: &Substitution,
+) -> Aig
+    requires literals { literals.now ≡ new_literals aig (is_marked reached.now) }
+    requires latches { latches.items ≡ map (renumbered_latch aig (is_marked reached.now))
+        (picked (stays aig (is_marked reached.now)) (first_latch aig) aig.latches) }
+    requires graph { IsGraph (trimmed_graph aig (is_marked reached.now)) }
+    ensures { result ≡ trimmed_graph aig (is_marked reached.now) }
+{
+    let first = aig.first_gate();
+    let (inputs, _before, gates) = aig.into_parts();
+    let gates = closed_gates(gates, first, reached, literals);
+    Aig::from_parts(inputs, latches, gates)
 }
 
 /// Returns 1 if the latch is free, else 0.
@@ -86,7 +146,7 @@ impl<'a> Trim<'a> {
     }
 
     /// Returns the latches that stay.
-    fn latches(&self, alloc: Global) -> Result<Vec<Latch>, NoMemory>
+    pub(crate) fn latches(&self, alloc: Global) -> Result<Vec<Latch>, NoMemory>
         ensures { IfOk result (λ latches. latches.items ≡
             map (renumbered_latch self.now.aig.now (is_marked self.now.reached.now))
             (picked (stays self.now.aig.now (is_marked self.now.reached.now))
@@ -101,56 +161,13 @@ impl<'a> Trim<'a> {
         Ok(latches)
     }
 
-    /// Returns the gates that stay.
-    fn gates(&self, alloc: Global) -> Result<Vec<Gate>, NoMemory>
-        ensures { IfOk result (λ gates. gates.items ≡
-            map (renumbered_gate self.now.aig.now (is_marked self.now.reached.now))
-            (picked (stays self.now.aig.now (is_marked self.now.reached.now))
-            (first_gate self.now.aig.now) self.now.aig.now.gates)) }
+    /// Returns the properties by new literals.
+    pub(crate) fn props(&self, alloc: Global, props: &Props) -> Result<Props, NoMemory>
+        requires { OfProps (IsLiteralOf self.now.aig.now) props.now }
+        ensures { IfOk result (λ new. new ≡ mapped_props
+            (renumbered self.now.aig.now (is_marked self.now.reached.now)) props.now) }
     {
-        let first = self.aig.first_gate();
-        let mut gates = Vec::new(alloc);
-        for (place, gate) in self.aig.gates().iter().enumerate() {
-            if self.reached.has(first + place as u32) {
-                gates.push(self.literals.gate(*gate))?;
-            }
-        }
-        Ok(gates)
-    }
-
-    /// Returns the graph of what stays.
-    fn graph(&self, alloc: Global) -> Result<Aig, NoMemory>
-        requires { IsGraph (trimmed_graph self.now.aig.now (is_marked self.now.reached.now)) }
-        ensures { IfOk result (λ aig. aig ≡ trimmed_graph self.now.aig.now
-            (is_marked self.now.reached.now)) }
-    {
-        let latches = self.latches(alloc)?;
-        let gates = self.gates(alloc)?;
-        Ok(Aig::from_parts(self.aig.inputs(), latches, gates))
-    }
-
-    /// Returns the circuit of what stays.
-    pub(crate) fn circuit(
-        &self,
-        alloc: Global,
-        props: &Props,
-        symbols: &Symbols,
-    ) -> Result<Circuit, NoMemory>
-        requires graph { IsGraph (trimmed_graph self.now.aig.now (is_marked self.now.reached.now)) }
-        requires props { OfProps (IsLiteralOf self.now.aig.now) props.now }
-        requires names { All (λ name. name.position < length self.now.aig.now.latches)
-            symbols.now.latches }
-        requires netlist { IsNetlist (trimmed_of
-            (record { aig = self.now.aig.now; props = props.now; symbols = symbols.now })
-            (is_marked self.now.reached.now)) }
-        ensures { IfOk result (λ circuit. circuit ≡ trimmed_of
-            (record { aig = self.now.aig.now; props = props.now; symbols = symbols.now })
-            (is_marked self.now.reached.now)) }
-    {
-        let aig = self.graph(alloc)?;
-        let props = props.mapped(alloc, self.literals)?;
-        let symbols = trimmed_symbols(alloc, self, symbols)?;
-        Ok(Circuit::new(aig, props, symbols))
+        props.mapped(alloc, self.literals)
     }
 
     /// Returns the new positions of these latches, which stay.
