@@ -1,5 +1,5 @@
-//! A move of latches over a closed set, step by step: marks, then a plan of numbers, then the
-//! graph, the properties and the symbols after it.
+//! A move of latches over a closed set: marks, then a plan of numbers, then the graph, the
+//! properties and the symbols after it.
 ghost use Rattle.std.specs.Prelude.{◌≡◌, ◌≤◌, IfOk};
 ghost use Rattle.aig_graph.specs.declared.literal.TheConstants.{MAX_VARIABLES};
 ghost use Rattle.aig_graph.specs.Graph.{known_latches};
