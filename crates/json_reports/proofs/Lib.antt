@@ -3,3 +3,4 @@ mod PutLaws
 mod MergedLaws
 pub mod PlainLaws
 mod Examples
+mod CountLaws
