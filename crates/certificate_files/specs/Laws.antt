@@ -43,8 +43,8 @@ abbrev pub are_of_one_version : List CertPart → Bool
 are_of_one_version [] = false
 are_of_one_version (part ∷ parts) = may_follow part.merged parts
 
--- the parts are those of a version; counts, gates, latches and variables are at most 2^28 - 1,
--- literals at most 2^29 - 1, and each route has a point
+-- The parts are those of a version. Counts, gates, latches and variables are at most 2^28 - 1 and
+-- literals at most 2^29 - 1, and each route has a point.
 abbrev pub is_writable : CertFile → Bool
 is_writable f = are_of_one_version f.parts && list_all is_writable_part f.parts
 

@@ -1,5 +1,5 @@
--- The text that is written of certificates: the third version if its parts list merged latches, else
--- the second.
+-- The text that is written of certificates: the third version if its parts list merged latches,
+-- else the second.
 use Rattle.std.specs.Prelude.{ℕ, Bool, List, [], ◌∷◌, ◌++◌, length, decimal, codes, Option, Some, None, if◌then◌else◌}
 use Rattle.std.specs.List.{flat_map}
 use Rattle.counted_io.specs.Line.{line}

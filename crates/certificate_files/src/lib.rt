@@ -1,5 +1,5 @@
-//! Files of certificates. Each part of a file is about a round of a retiming: latches are merged, if
-//! that was asked for, and then frames are taken.
+//! Files of certificates. Each part of a file is about a round of a retiming: latches are merged,
+//! if that was asked for, and then frames are taken.
 //!
 //! A part has the set of each frame, the size of its border, and the routes that show it to be
 //! least. It may list the latches that were merged before its first frame.

@@ -1,4 +1,5 @@
-//! A judgement of certificates, and what came of comparing a file with the circuit that they end in.
+//! A judgement of certificates, and what came of comparing a file with the circuit that they end
+//! in.
 ghost use Rattle.std.specs.Prelude.{◌≡◌, ◌++◌, IfOk, OnOk, map, take};
 ghost use Rattle.serde_json.specs.View.{members_view, view};
 ghost use Rattle.certificate_audits.specs.Ends.{block_objection_name};
@@ -61,11 +62,7 @@ fn push_counts(list: &mut Vec<Value>, blocks: &[Certificate]) -> Result<(), Allo
 }
 
 /// Returns the counts of the confirmed blocks of parts, in order.
-fn counts_array(
-    alloc: Global,
-    parts: &[CertPart],
-    audits: &[Audit],
-) -> Result<Value, AllocError>
+fn counts_array(alloc: Global, parts: &[CertPart], audits: &[Audit]) -> Result<Value, AllocError>
     ensures { IfOk result (λ v. view v
         ≡ array_of block_data (confirmed_blocks parts.now audits.now)) }
 {
@@ -158,12 +155,7 @@ fn put_audit(
     let audits = judgement.audits.as_slice();
     let end = last_end(audits);
     let agreement = judgement.agreement;
-    put_made(
-        members,
-        alloc,
-        "counts",
-        counts_array(alloc, parts, audits),
-    )?;
+    put_made(members, alloc, "counts", counts_array(alloc, parts, audits))?;
     put_made(members, alloc, "objection", objection_value(alloc, end))?;
     put_made(members, alloc, "out", agreement_value(alloc, agreement))?;
     put_scalars(

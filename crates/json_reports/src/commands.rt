@@ -112,11 +112,7 @@ pub fn print_audit<W: CountedWrite>(
     ensures { PrintsLine (audit_data parts.now judgement.now status)
         (W.output writer.old) (W.output writer.new) result }
 {
-    print_made(
-        alloc,
-        audit_object(alloc, parts, judgement, status),
-        writer,
-    )
+    print_made(alloc, audit_object(alloc, parts, judgement, status), writer)
 }
 
 /// Prints what [`batch_object`] makes, on a line.

@@ -95,6 +95,7 @@ all-text (p ∷ ps) (a ∷ later) (suc k) number past =
     let fewer : min (length ps) (length later) ≤ k = omega (arith, past) in
     ap (λ (t : List ℕ). part_text number p a ++ t) (all-text ps later k (counted_on number a.confirmed) fewer)
 
+-- and all their blocks are counted
 pub all-confirmed : (parts : List CertPart) (audits : List Audit) (k number : ℕ) → min (length parts) (length audits) ≤ k → confirmed_on number (take k parts) (take k audits) ≡ confirmed_on number parts audits
 unfolding confirmed_on
 all-confirmed [] audits zero number past = refl

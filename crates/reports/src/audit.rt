@@ -1,7 +1,7 @@
-//! The lines of a judgement: for each part its merged latches and its confirmed blocks, then how the
-//! last one ended. Then comes whether a file has the circuit that they end in. Nothing is printed of
-//! blocks after a rejected one, or if a merged latch is refused: the circuits that they speak of
-//! aren't known.
+//! The lines of a judgement: for each part its merged latches and its confirmed blocks, then how
+//! the last one ended. Then comes whether a file has the circuit that they end in. Nothing is
+//! printed of blocks after a rejected one, or if a merged latch is refused: the circuits that they
+//! speak of aren't known.
 ghost use Rattle.std.specs.Prelude.{◌≡◌, None, Some, length, option_map, take};
 ghost use Rattle.counted_io.specs.Buffered.{Puts};
 ghost use Rattle.counted_io.specs.Output.{Writes};
@@ -122,16 +122,15 @@ fn listed(merged: &Option<Sequence<MergedLatch>>) -> Option<u64>
 }
 
 /// Puts what was judged of a part. Its first block has the number `first`.
-fn put_part<W: CountedWrite>(
-    out: &mut Buffered<'_, W>,
-    first: u64,
-    part: &CertPart,
-    audit: Audit,
-)
+fn put_part<W: CountedWrite>(out: &mut Buffered<'_, W>, first: u64, part: &CertPart, audit: Audit)
     ensures { Puts W.output out.old out.new (part_text first part.now audit) }
 {
     put_merged(out, listed(&part.merged), audit.end.refused_latch());
-    put_blocks(out, first, first_blocks(part.blocks.as_slice(), audit.confirmed));
+    put_blocks(
+        out,
+        first,
+        first_blocks(part.blocks.as_slice(), audit.confirmed),
+    );
 }
 
 /// Puts what was judged of parts, and returns the number of confirmed blocks.
@@ -175,8 +174,8 @@ fn put_judgement<W: CountedWrite>(
     put_agreement(out, judgement.agreement);
 }
 
-/// Prints a line for the merged latches of each part that was judged, if it lists them, and one for
-/// each confirmed block, with its count. Blocks are numbered on from part to part. Prints how the
+/// Prints a line for the merged latches of each part that was judged, if it lists them. Prints one
+/// for each confirmed block, with its count. Blocks are numbered on from part to part. Prints how the
 /// last part ended; if it has no block, nothing. If a file was compared with the circuit that the
 /// parts end in, a line says the outcome.
 ///
