@@ -1,5 +1,5 @@
 -- Parts of a file, one after another.
-use Rattle.std.proofs.Common.{ℕ, ◌+◌, ◌<◌, ◌≤◌, ◌≡◌, ◌∙◌, List, [], ◌∷◌, ◌++◌, Option, Some, None, length, drop, get_or, max, refl, arith, ap, sym, subst, append-nil, append_assoc}
+use Rattle.std.proofs.Common.{ℕ, ◌+◌, ◌<◌, ◌≤◌, ◌≡◌, ◌∙◌, List, [], ◌∷◌, ◌++◌, Option, Some, None, length, drop, get_or, refl, arith, ap, sym, subst, append-nil, append_assoc}
 use Rattle.std.specs.List.{All}
 use Rattle.std.specs.Option.{IfSome}
 use Rattle.std.proofs.lemmas.List.{drop_all, drop_more}
@@ -15,8 +15,7 @@ use Rattle.cleaned_circuits.proofs.PassLaws.{IsCircuit}
 use Rattle.aig_graph.specs.Move.{move_of}
 use Rattle.merged_circuits.specs.Readings.{substitutes_by}
 use Rattle.rebuild.proofs.HeldLaws.{moved_held-below}
-use Rattle.retimed_circuits.specs.Frames.{CleansTo, held_over, moved_over}
-use Rattle.retimed_circuits.specs.Merging.{MergesIn}
+use Rattle.retimed_circuits.specs.Frames.{held_over, moved_over}
 use Rattle.retimed_circuits.specs.RetimingLevels.{KeepsLevels}
 use Rattle.certificate_audits.specs.declared.moving.Stage.{Stage}
 use Rattle.certificate_audits.specs.declared.outcome.Audit.{Audit}
@@ -25,7 +24,7 @@ use Rattle.certificate_audits.specs.declared.outcome.End.TheVariants.{Misread, N
 use Rattle.certificate_audits.specs.declared.outcome.Replay.{Replay}
 use Rattle.certificate_audits.specs.Laws.{HasStreamsOf}
 use Rattle.certificate_audits.specs.Parts.{IsPartReplay, IsReplayBy, IsStageInRange, PartsLaw, PartsLevelLaw, ReplaysParts, judged, no_more, not_judged}
-use Rattle.certificate_audits.specs.Replays.{EndIn, IsGivenReplay, IsLast, IsMergedReplay, IsReplay, after_move, at_end, misread, not_shown, refused_by, replayed}
+use Rattle.certificate_audits.specs.Replays.{EndIn, IsGivenReplay, IsGuessedReplay, IsLast, IsMergedReplay, IsReplay, after_move, at_end, misread, not_shown, refused_by, replayed}
 use Rattle.certificate_audits.specs.Replays as replays
 use Rattle.certificate_audits.proofs.LevelLaws.{merged-replay-levels, replay-levels}
 use Rattle.certificate_audits.proofs.ReplayLaws.{Follows, follows-then, merged-replay-follows, replay-follows}
@@ -63,7 +62,13 @@ merged-in-range bound held c lines blocks replay in_range is =
 none-at : (end : End) (replay : Replay) (P : Stage → Type 0) → replay ≡ refused_by end → IfSome replay.last P
 none-at end replay P same = subst (λ (x : Replay). IfSome x.last P) (sym same) tt
 
-given-in-range : (bound : Option ℕ) (held : List ℕ) (c : Netlist) (lines : List MergedLatch) (blocks : List Certificate) (replay : Replay) → All (λ j. j < length c.aig.latches) held
+-- of a replay by lines that were guessed
+pub guessed-in-range : (bound : Option ℕ) (held : List ℕ) (c : Netlist) (blocks : List Certificate) (replay : Replay) → All (λ j. j < length c.aig.latches) held → IsGuessedReplay bound held c blocks replay
+    → IfSome replay.last IsStageInRange
+guessed-in-range bound held c blocks replay in_range is = merged-in-range bound held c is.lines blocks replay in_range is.is
+
+-- of one by given lines
+pub given-in-range : (bound : Option ℕ) (held : List ℕ) (c : Netlist) (lines : List MergedLatch) (blocks : List Certificate) (replay : Replay) → All (λ j. j < length c.aig.latches) held
     → IsGivenReplay bound held c lines blocks replay → IfSome replay.last IsStageInRange
 given-in-range bound held c lines blocks replay in_range (replayed is) = merged-in-range bound held c lines blocks replay in_range is
 given-in-range bound held c lines blocks replay in_range (misread latch same) = none-at (Misread latch) replay IsStageInRange same
@@ -180,6 +185,11 @@ one-judged bound first parts k audits all s part replay within there whole befor
       subst (λ (xs : List Audit). ReplaysParts bound first parts xs last) same (before.onward (replay.audit ∷ more) last next);
   in_range = part-in-range bound s.keep s.circuit part.merged part.blocks replay before.in_range is;
 }
+
+-- what isn't a circuit is none
+pub none-there : (last : Option Stage) → ((s : Stage) → last ≡ Some s → ⊥) → last ≡ None
+none-there None other = refl
+none-there (Some s) other = absurd (other s refl)
 
 -- all that is judged, if something speaks against a part
 pub ends-early : (bound : Option ℕ) (first now : Option Stage) (parts : List CertPart) (k : ℕ) (audits : List Audit) → now ≡ None → HaveComeTo bound first parts k audits now → ReplaysParts bound first parts audits None

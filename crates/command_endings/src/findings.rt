@@ -10,7 +10,7 @@ ghost use Rattle.circuit_files.specs.declared.outcome.Outcome.TheVariants.{Done,
 ghost use Rattle.command_endings.specs.Objects.{EndsBy, EndsPrintingObject};
 ghost use Rattle.command_endings.specs.Objects as wanted;
 
-use certificates::Certificate;
+use certificate_files::CertPart;
 use circuit_files::{Failure, Outcome};
 use counted_io::CountedWrite;
 use json_reports::{MapCounts, PrintError, ReadLevels, Times};
@@ -104,19 +104,19 @@ pub fn print_shapes_differ<'a, W: CountedWrite>(
     ended(printed, Outcome::ShapesDiffer)
 }
 
-/// Prints a judgement of a file's blocks. The run then ends so.
+/// Prints a judgement of a file's parts. The run then ends so.
 pub fn print_audit<'a, W: CountedWrite>(
     alloc: Global,
-    blocks: &[Certificate],
+    parts: &[CertPart],
     judgement: &Judgement,
     outcome: Outcome,
     writer: &mut W,
 ) -> Result<Outcome, Failure<'a>>
-    ensures { EndsPrintingObject outcome (audit_data blocks.now judgement.now (status_of outcome))
+    ensures { EndsPrintingObject outcome (audit_data parts.now judgement.now (status_of outcome))
         (W.output writer.old) (W.output writer.new) result }
 {
     let status = outcome.status();
-    let printed = json_reports::print_audit(alloc, blocks, judgement, status, writer);
+    let printed = json_reports::print_audit(alloc, parts, judgement, status, writer);
     ended(printed, outcome)
 }
 

@@ -4,3 +4,4 @@ mod MergedLaws
 pub mod PlainLaws
 mod Examples
 pub mod MergedLineLaws
+mod CountLaws

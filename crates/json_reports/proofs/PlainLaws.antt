@@ -11,6 +11,8 @@ use Rattle.certificates.specs.declared.certificate.Certificate.{Certificate}
 use Rattle.certificate_audits.specs.declared.outcome.End.{End}
 use Rattle.counted_io.specs.Output.{Output}
 use Rattle.lane_sim.specs.declared.difference.Place.{Place}
+use Rattle.certificate_files.specs.declared.file.CertPart.{CertPart}
+use Rattle.reports.specs.Audits.{last_end}
 use Rattle.reports.specs.declared.agreement.Agreement.{Agreement}
 use Rattle.reports.specs.declared.judgement.Judgement.{Judgement}
 use Rattle.reports.specs.declared.agreement.Agreement.TheVariants.{Same, DiffersAt}
@@ -145,10 +147,10 @@ plain-before None end p = p
 plain-before (Some latches) end p = plain-member (plain-merged latches end) p
 
 -- of an audit
-pub audit : (blocks : List Certificate) (j : Judgement) (status : ℕ) → IsPlain (audit_data blocks j status)
-audit blocks j status =
+pub audit : (parts : List CertPart) (j : Judgement) (status : ℕ) → IsPlain (audit_data parts j status)
+audit parts j status =
     is_plain {n = 3} (omega arith) (plain-object (plain-member (plain-or_null count plain-count j.bound) (plain-member (plain-string _) (plain-member (plain-array block_data _ (λ b. plain-count b.count))
-    (plain-member (plain-string _) (plain-before j.merged j.audit.end (plain-member (plain-or_null (λ o. string (block_objection_name o)) (λ o. plain-string _) (objection_at j.audit.end))
+    (plain-member (plain-string _) (plain-before j.merged (last_end j.audits) (plain-member (plain-or_null (λ o. string (block_objection_name o)) (λ o. plain-string _) (objection_at (last_end j.audits)))
     (plain-member (plain-or_null agreement_data plain-agreement j.agreement) (plain-member (plain-count status) plain-none)))))))))
 
 plain-job : (report : JobReport) → Plain 2 (job_data report)
