@@ -11,12 +11,17 @@ ghost use Rattle.retimed_circuits.specs.RetimingLevels.{KeepsLevels};
 use aig_graph::Circuit;
 use frames::{
     Begun, FrameWatcher, NoFollower, NoWatcher, Options, RetimeError, RunError, RunFollower, Stage,
-    begin, hold_by,
+    begin, begin_over, hold_by,
 };
 use merging_rounds::{Rounds, RoundsRun, finish_rounds};
 use pulse::{Crew, PhaseGate};
 use std::alloc::Global;
 use std::thread::Threads;
+
+/// The least number of gates of a circuit that is cleaned in its own tables. A smaller one is
+/// copied as it is cleaned, and its tables are let go. Then the C library keeps such room for the
+/// frames. Else it would give pages back in each frame, and ask for them in the next.
+const LARGE: usize = 131_072;
 
 /// Begins a run without a follower, if the latches can be held.
 fn begin_plain(
@@ -38,6 +43,59 @@ fn begin_plain(
     let keep = hold_by(alloc, circuit, options)?;
     let begun = begin(alloc, circuit, &keep, options, NoFollower)?;
     Ok(begun)
+}
+
+/// Begins a run without a follower as [`begin_plain`] does, of a circuit that nobody else needs.
+fn begin_plain_over(
+    alloc: Global,
+    circuit: Circuit,
+    options: &Options,
+) -> Result<Begun<NoFollower>, RetimeError>
+    ensures begun { IfOk result (AreRoundsBegun ⟦<NoFollower as RunFollower>⟧.has_come options.now
+        circuit) }
+    ensures latches { OnOk result (AreLatchesBy options.now circuit) }
+    ensures none_missing { OnOk result (NoneMissingBy options.now circuit) }
+    ensures no_latch { (place : ℕ) → IsErrOf result (NoSuchLatch place)
+        → IsFirstNoLatchBy options.now circuit place }
+    ensures missing { (place : ℕ) → IsErrOf result (NoSuchName place)
+        → IsFirstMissingBy options.now circuit place }
+{
+    // Tells the prover that it is a circuit.
+    circuit.known();
+    match hold_by(alloc, &circuit, options) {
+        Ok(keep) => {
+            let begun = begin_over(alloc, circuit, &keep, options, NoFollower)?;
+            Ok(begun)
+        }
+        Err(error) => {
+            drop(circuit);
+            Err(error)
+        }
+    }
+}
+
+/// Begins a run without a follower, of a circuit that nobody else needs. It is cleaned in its own
+/// tables if it is large.
+fn begin_owned(
+    alloc: Global,
+    circuit: Circuit,
+    options: &Options,
+) -> Result<Begun<NoFollower>, RetimeError>
+    ensures begun { IfOk result (AreRoundsBegun ⟦<NoFollower as RunFollower>⟧.has_come options.now
+        circuit) }
+    ensures latches { OnOk result (AreLatchesBy options.now circuit) }
+    ensures none_missing { OnOk result (NoneMissingBy options.now circuit) }
+    ensures no_latch { (place : ℕ) → IsErrOf result (NoSuchLatch place)
+        → IsFirstNoLatchBy options.now circuit place }
+    ensures missing { (place : ℕ) → IsErrOf result (NoSuchName place)
+        → IsFirstMissingBy options.now circuit place }
+{
+    if circuit.aig().gates().len() >= LARGE {
+        return begin_plain_over(alloc, circuit, options);
+    }
+    let begun = begin_plain(alloc, &circuit, options);
+    drop(circuit);
+    begun
 }
 
 /// Takes the rounds of a run without a follower.
@@ -140,7 +198,7 @@ pub fn run_in_rounds<G: PhaseGate, V: FrameWatcher>(
     Ok(run)
 }
 
-/// Retimes as [`run_in_rounds`] does, and drops the circuit once it is cleaned, before the first
+/// Retimes as [`run_in_rounds`] does, and lets the circuit go as it is cleaned, before the first
 /// frame.
 ///
 /// # Errors
@@ -164,8 +222,7 @@ pub(crate) fn run_over<G: PhaseGate, V: FrameWatcher>(
         → IsFirstMissingBy options.now circuit place }
 {
     watcher.enter(Stage::Cleaning);
-    let begun = begin_plain(alloc, &circuit, options);
-    drop(circuit);
-    let run = finish_plain(rt, alloc, begun?, options, crew, watcher)?;
+    let begun = begin_owned(alloc, circuit, options)?;
+    let run = finish_plain(rt, alloc, begun, options, crew, watcher)?;
     Ok(run)
 }

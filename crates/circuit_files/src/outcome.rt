@@ -186,8 +186,8 @@ impl<'a> Failure<'a> {
             | Failure::NoSuchName(path, _)
             | Failure::NoSuchLatch(path, _)
             | Failure::Misread(path, _)
-            | Failure::NotShown(path, _)
-            | Failure::TooManyNodes(path)
+            | Failure::NotShown(path, _) => Some(path),
+            Failure::TooManyNodes(path)
             | Failure::TooManySteps(path)
             | Failure::NotAMap(path)
             | Failure::NoSuchLiteral(path)

@@ -4,7 +4,7 @@
 use crate::running::{Limits, Progress, run};
 use aig_graph::Memory;
 use backward_sets::{Literal, number};
-use class_nets::{Closure, Net, NumberMap, Plan, Scene, held_positions, needed};
+use class_nets::{Closure, GrowingMap, Net, Plan, Scene, held_positions, needed};
 use mapped_answers::Made;
 use pulse::{Crew, PhaseGate};
 use std::mem;
@@ -13,7 +13,7 @@ use std::thread::Threads;
 /// A circuit that has fewer latches than the one that was opened, and its map.
 pub(crate) struct Attempt {
     pub made: Made,
-    pub map: NumberMap,
+    pub map: GrowingMap,
     pub frames: u32,
     /// Marks the latches over which others moved; no mark if these are all that were opened.
     pub only: Vec<bool>,
@@ -33,7 +33,7 @@ impl Drop for Attempt {
 
 impl Attempt {
     /// Returns the circuit with its map of plain frames, the map of all, and the number of frames.
-    pub fn into_parts(self) -> (Made, NumberMap, u32) {
+    pub fn into_parts(self) -> (Made, GrowingMap, u32) {
         let Attempt {
             made,
             map,

@@ -198,7 +198,7 @@ fn all_below(memory: &mut Memory, many: u32) -> Vec<u32> {
 }
 
 /// Returns what a draft has come to, after an attempt. Before it the free latches were these.
-fn stand_of(memory: &mut Memory, attempt: Attempt, kept_free: &[u32]) -> (Stand, NumberMap, u32) {
+fn stand_of(memory: &mut Memory, attempt: Attempt, kept_free: &[u32]) -> (Stand, GrowingMap, u32) {
     let (made, map, frames) = attempt.into_parts();
     let Made { rounds, keep, .. } = made;
     let Rounds {
@@ -266,12 +266,20 @@ impl Drafting {
         }
     }
 
+    /// Goes on with the map of an attempt. That is the whole map if none was taken before.
+    fn follow(&mut self, memory: &mut Memory, map: GrowingMap) {
+        match &self.stand {
+            Some(_) => self.map.follow(memory, &map.into_map()),
+            None => drop(mem::replace(&mut self.map, map)),
+        }
+    }
+
     /// Goes on from an attempt.
     fn take(&mut self, memory: &mut Memory, found: Found, free: u32) {
         let (attempt, plan) = found.into_parts();
         let kept_free = self.kept_free(memory, free);
         let (stand, map, frames) = stand_of(memory, attempt, kept_free.as_slice());
-        self.map.follow(memory, &map);
+        self.follow(memory, map);
         self.frames = self.frames.saturating_add(frames);
         self.plan = plan;
         drop(mem::replace(&mut self.stand, Some(stand)));

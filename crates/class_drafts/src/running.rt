@@ -212,7 +212,7 @@ impl Progress {
         } = self;
         Attempt {
             made,
-            map: growing.into_map(),
+            map: growing,
             frames: frames.saturating_add(taken),
             only,
         }

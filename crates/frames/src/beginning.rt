@@ -84,6 +84,33 @@ fn cleaned_run<F: RunFollower + Drop>(
     }
 }
 
+/// Cleans `circuit` as [`cleaned_run`] does, and drops it or uses its own tables.
+fn cleaned_run_over<F: RunFollower + Drop>(
+    alloc: Global,
+    follower: F,
+    circuit: Circuit,
+    keep: &Keep,
+    bound: Option<u32>,
+    options: &Options,
+) -> Result<Run<F>, F::Stop>
+    requires there { HasComeTo F.has_come follower circuit }
+    requires in_range { All (λ j. j < length circuit.aig.latches) keep.now }
+    ensures { IfOk result (λ run. IsCleanedRun F.has_come options.now bound circuit keep.now
+        follower run.follower run.retimed run.keep × (run.bound ≡ bound)) }
+{
+    let _options = options;
+    circuit.known();
+    let mut follower = follower;
+    let read_latches = circuit.aig().latches().len() as u32;
+    match follower.clean_over(alloc, circuit, keep) {
+        Ok(start) => Ok(begun(alloc, start, read_latches, follower, bound)),
+        Err(error) => {
+            drop(follower);
+            Err(error)
+        }
+    }
+}
+
 /// Begins a run that merges no latches.
 fn begun_as_is<F: RunFollower + Drop>(
     alloc: Global,
@@ -108,7 +135,31 @@ fn begun_as_is<F: RunFollower + Drop>(
     Ok(Begun { run, read: None })
 }
 
-/// Cleans and drops the merged circuit of `start`. The circuit that was read had `latches` latches.
+/// Begins a run that merges no latches, of a circuit that nobody else needs.
+fn begun_as_is_over<F: RunFollower + Drop>(
+    alloc: Global,
+    follower: F,
+    circuit: Circuit,
+    keep: &Keep,
+    bound: Option<u32>,
+    options: &Options,
+) -> Result<Begun<F>, F::Stop>
+    requires there { (b : Netlist) × (before : List ℕ)
+        × HasComeFrom F.has_come follower b before circuit }
+    requires keep { keep.now ≡ kept_by options.now circuit }
+    requires bound { bound ≡ bound_in options.now circuit }
+    requires merge { options.now.merge ≡ false }
+    ensures { IfOk result (λ begun. (b : Netlist) (before : List ℕ)
+        → HasComeFrom F.has_come follower b before circuit
+        → IsRunBegun F.has_come options.now begun.run.bound b before circuit begun.read
+        begun.run.retimed begun.run.keep begun.run.follower) }
+{
+    circuit.known();
+    let run = cleaned_run_over(alloc, follower, circuit, keep, bound, options)?;
+    Ok(Begun { run, read: None })
+}
+
+/// Cleans the merged circuit of `start`. The circuit that was read had `latches` latches.
 fn merged_run<F: RunFollower + Drop>(
     alloc: Global,
     follower: F,
@@ -129,8 +180,7 @@ fn merged_run<F: RunFollower + Drop>(
         kept_free,
         merged,
     } = start;
-    let run = cleaned_run(alloc, follower, &circuit, &keep, bound, options)?;
-    drop(circuit);
+    let run = cleaned_run_over(alloc, follower, circuit, &keep, bound, options)?;
     Ok(Begun {
         run,
         read: Some(ReadCircuit {
@@ -224,6 +274,64 @@ pub fn begin<F: RunFollower + Drop>(
         Ok(bound) => begun_under(alloc, follower, circuit, keep, bound, options),
         Err(error) => {
             drop(follower);
+            Err(F::Stop::from(error))
+        }
+    }
+}
+
+/// Begins a run under `bound`, merged if the options ask for it, and lets the circuit go.
+fn begun_over<F: RunFollower + Drop>(
+    alloc: Global,
+    follower: F,
+    circuit: Circuit,
+    keep: &Keep,
+    bound: Option<u32>,
+    options: &Options,
+) -> Result<Begun<F>, F::Stop>
+    requires there { (b : Netlist) × (before : List ℕ)
+        × HasComeFrom F.has_come follower b before circuit }
+    requires keep { keep.now ≡ kept_by options.now circuit }
+    requires bound { bound ≡ bound_in options.now circuit }
+    ensures { IfOk result (λ begun. (b : Netlist) (before : List ℕ)
+        → HasComeFrom F.has_come follower b before circuit
+        → IsRunBegun F.has_come options.now begun.run.bound b before circuit begun.read
+        begun.run.retimed begun.run.keep begun.run.follower) }
+{
+    if options.merge {
+        let begun = begun_merged(alloc, follower, &circuit, keep, bound, options);
+        drop(circuit);
+        begun
+    } else {
+        begun_as_is_over(alloc, follower, circuit, keep, bound, options)
+    }
+}
+
+/// Begins a run as [`begin`] does, of a circuit that nobody else needs: a run that merges nothing
+/// cleans it in its own tables.
+///
+/// # Errors
+///
+/// Those of [`begin`].
+pub fn begin_over<F: RunFollower + Drop>(
+    alloc: Global,
+    circuit: Circuit,
+    keep: &Keep,
+    options: &Options,
+    follower: F,
+) -> Result<Begun<F>, F::Stop>
+    requires there { (b : Netlist) × (before : List ℕ)
+        × HasComeFrom F.has_come follower b before circuit }
+    requires keep { keep.now ≡ kept_by options.now circuit }
+    ensures { IfOk result (λ begun. (b : Netlist) (before : List ℕ)
+        → HasComeFrom F.has_come follower b before circuit
+        → IsRunBegun F.has_come options.now begun.run.bound b before circuit begun.read
+        begun.run.retimed begun.run.keep begun.run.follower) }
+{
+    match options.bound.for_circuit(alloc, &circuit) {
+        Ok(bound) => begun_over(alloc, follower, circuit, keep, bound, options),
+        Err(error) => {
+            drop(follower);
+            drop(circuit);
             Err(F::Stop::from(error))
         }
     }

@@ -25,7 +25,7 @@ use crate::errors::RunError;
 use crate::options::Options;
 use aig_graph::{Circuit, ClosedSet, Keep, NoMemory};
 use certificates::MergedLatch;
-use clean::{Cleaned, clean};
+use clean::{Cleaned, clean, clean_over};
 use latch_merging::{GivenStart, MergedStart, merged_start, start_by};
 use rebuild::MoveMarks;
 use std::alloc::Global;
@@ -51,6 +51,21 @@ pub trait RunFollower {
         ensures cleaned { IfOk result (λ d. Cleans d.circuit keep.now circuit.now d.kept_free) }
         ensures held { IfOk result (λ d. HeldAfter d.circuit d.keep keep.now circuit.now) }
         ensures comes { IfOk result (λ d. ComesOn has_come self.old self.new circuit.now d.circuit
+            d.kept_free) };
+
+    /// Cleans the circuit that the run has come to as [`clean`](RunFollower::clean) does, and drops
+    /// it, or cleans it in its own tables.
+    fn clean_over(
+        &mut self,
+        alloc: Global,
+        circuit: Circuit,
+        keep: &Keep,
+    ) -> Result<Cleaned, Self::Stop>
+        requires there { HasComeTo has_come self.old circuit }
+        requires in_range { All (λ j. j < length circuit.aig.latches) keep.now }
+        ensures cleaned { IfOk result (λ d. Cleans d.circuit keep.now circuit d.kept_free) }
+        ensures held { IfOk result (λ d. HeldAfter d.circuit d.keep keep.now circuit) }
+        ensures comes { IfOk result (λ d. ComesOn has_come self.old self.new circuit d.circuit
             d.kept_free) };
 
     /// Cleans the circuit that was read and merges its latches that always agree. They are the
@@ -137,6 +152,16 @@ impl RunFollower for NoFollower {
         keep: &Keep,
     ) -> Result<Cleaned, RunError> {
         let cleaned = clean(alloc, circuit, keep)?;
+        Ok(cleaned)
+    }
+
+    fn clean_over(
+        &mut self,
+        alloc: Global,
+        circuit: Circuit,
+        keep: &Keep,
+    ) -> Result<Cleaned, RunError> {
+        let cleaned = clean_over(alloc, circuit, keep)?;
         Ok(cleaned)
     }
 

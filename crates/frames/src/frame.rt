@@ -18,7 +18,7 @@ use aig_graph::{Circuit, ClosedSet, Keep, NoMemory};
 use chosen_cuts::Records;
 use clean::Cleaned;
 use pulse::{Crew, PhaseGate};
-use rebuild::moved_by;
+use rebuild::moved_in;
 use retimed_circuits::FrameReport;
 use std::alloc::Global;
 use std::mem;
@@ -43,6 +43,7 @@ fn finished_move(
     keep: &Keep,
     set: &ClosedSet,
     prepared: PreparedMove,
+    numbers: &mut Vec<u32>,
 ) -> Result<Circuit, NoMemory>
     requires saves { IsSavingSet circuit.now keep.now set.now }
     requires prepared { IsPrepared circuit.now keep.now set.now prepared }
@@ -55,12 +56,12 @@ fn finished_move(
             drop(marks);
             Ok(after)
         }
-        None => moved_by(alloc, circuit, set, keep, marks),
+        None => moved_in(alloc, circuit, set, keep, marks, numbers),
     }
 }
 
 /// Moves the latches of `circuit` over `set`, and cleans the circuit after the move. `follower`
-/// sees both.
+/// sees both. The move uses a spare table of numbers.
 fn moved_over<F: RunFollower>(
     alloc: Global,
     follower: &mut F,
@@ -68,6 +69,7 @@ fn moved_over<F: RunFollower>(
     keep: &Keep,
     set: &ClosedSet,
     prepared: PreparedMove,
+    numbers: &mut Vec<u32>,
 ) -> Result<Cleaned, F::Stop>
     requires there { HasComeTo F.has_come follower.old circuit.now }
     requires in_range { All (λ j. j < length circuit.now.aig.latches) keep.now }
@@ -81,7 +83,7 @@ fn moved_over<F: RunFollower>(
     let copies = set.vars().len();
     follower.see_move(circuit, set, keep, &prepared.marks)?;
     let held = prepared.marks.held_after(alloc, circuit, set, keep)?;
-    let after = finished_move(alloc, circuit, keep, set, prepared)?;
+    let after = finished_move(alloc, circuit, keep, set, prepared, numbers)?;
     settled(alloc, follower, after, held, copies)
 }
 
@@ -141,7 +143,9 @@ pub(crate) fn next_frame<F: RunFollower, G: PhaseGate, V: FrameWatcher>(
             let prepared = found.prepared;
             let set = &found.set;
             let follower = &mut run.follower;
-            let cleaned = moved_over(alloc, follower, circuit, keep, set, prepared)?;
+            let mut numbers = records.spare.take_numbers(alloc);
+            let cleaned = moved_over(alloc, follower, circuit, keep, set, prepared, &mut numbers)?;
+            records.spare.keep_numbers(numbers);
             let flows = mem::replace(&mut records.flows, Vec::new(alloc));
             records.flows = carried(alloc, circuit, set, cleaned.kept.as_slice(), flows)?;
             Ok(Some(Frame {

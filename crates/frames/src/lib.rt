@@ -24,7 +24,7 @@ mod settling;
 mod watcher;
 
 pub use aig_graph::Choice;
-pub use beginning::begin;
+pub use beginning::{begin, begin_over};
 pub use bound::PathBound;
 pub use certificates::{Certificate, MergedLatch};
 pub use errors::{BytesError, RetimeError, RunError};

@@ -34,23 +34,6 @@ fn as_cleaned<E: From<NoMemory>>(alloc: Global, circuit: Circuit, keep: Keep) ->
 }
 
 /// Cleans a circuit by the follower.
-fn cleaned<F: RunFollower>(
-    alloc: Global,
-    follower: &mut F,
-    circuit: &Circuit,
-    keep: &Keep,
-) -> Result<Cleaned, F::Stop>
-    requires there { HasComeTo F.has_come follower.old circuit.now }
-    requires in_range { All (λ j. j < length circuit.now.aig.latches) keep.now }
-    ensures { IfOk result (IsCleanedFollowed F.has_come keep.now circuit.now follower.old
-        follower.new) }
-{
-    // Tells the prover that it is a circuit.
-    circuit.known();
-    follower.clean(alloc, circuit, keep)
-}
-
-/// Cleans a circuit by the follower, and drops it.
 fn cleaned_over<F: RunFollower>(
     alloc: Global,
     follower: &mut F,
@@ -61,8 +44,9 @@ fn cleaned_over<F: RunFollower>(
     requires in_range { All (λ j. j < length circuit.aig.latches) keep }
     ensures { IfOk result (IsCleanedFollowed F.has_come keep circuit follower.old follower.new) }
 {
-    let cleaned = cleaned(alloc, follower, &circuit, &keep);
-    drop(circuit);
+    // Tells the prover that it is a circuit.
+    circuit.known();
+    let cleaned = follower.clean_over(alloc, circuit, &keep);
     drop(keep);
     cleaned
 }

@@ -58,5 +58,5 @@ start-of held c d m valid in_range cleans after start =
 pub given-start : (held : List ℕ) (c : Netlist) (lines : List MergedLatch) (d : Cleaned) (given : GivenStart) → IsCircuit c → All (λ j. j < length c.aig.latches) held → CleansTo held c d.circuit d.kept_free d.keep
     → All (λ j. j < length d.circuit.aig.latches) d.keep → IsGivenStartOf d lines given → IsGivenStart held c lines given
 given-start held c lines d (Merged m) valid in_range cleans after given = (start-of held c d m valid in_range cleans after given.0, given.1)
-given-start held c lines d (Misread latch) valid in_range cleans after given = tt
+given-start held c lines d (Misread latch) valid in_range cleans after given = record { clean = d.circuit; kept = d.kept_free; now = d.keep; cleaned = cleans; misread = given }
 given-start held c lines d (NotShown latch) valid in_range cleans after given = tt

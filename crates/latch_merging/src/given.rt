@@ -1,6 +1,7 @@
 //! The start of a run that merges the latches that lines of a file name. Whether they may be merged
 //! is judged, whoever wrote the file.
-ghost use Rattle.std.specs.Prelude.{◌<◌, All, IfOk, length};
+ghost use Rattle.std.specs.Prelude.{◌≡◌, ◌+◌, ◌<◌, All, IfOk, length};
+ghost use Rattle.aig_graph.specs.Graph.{first_latch};
 ghost use Rattle.merged_circuits.specs.Lines.{merged_lines};
 ghost use Rattle.latch_merging.specs.Merging.{IsGivenMerging};
 ghost use Rattle.latch_merging.specs.Starts.{IsGivenStart, IsGivenStartOf};
@@ -37,7 +38,9 @@ pub enum GivenStart {
 }
 
 /// Returns the variable of the latch at a place. It is that of the first gate if there is no latch.
-fn variable_at(aig: &Aig, place: usize) -> u32 {
+fn variable_at(aig: &Aig, place: usize) -> u32
+    ensures { place < length aig.now.latches → result ≡ first_latch aig.now + place }
+{
     if place < aig.latches().len() {
         own_literal(aig, place).var()
     } else {
@@ -45,13 +48,14 @@ fn variable_at(aig: &Aig, place: usize) -> u32 {
     }
 }
 
-/// Judges a reading.
+/// Judges a list with a literal for each latch.
 fn judged(
     alloc: Global,
     circuit: &Circuit,
     keep: &Keep,
     reads: Vec<Lit>,
 ) -> Result<GivenMerging, NoMemory>
+    requires { length reads.items ≡ length circuit.now.aig.latches }
     ensures { IfOk result (IsGivenMerging keep.now circuit.now
         (merged_lines circuit.now.aig reads.items)) }
 {

@@ -1,6 +1,7 @@
 //! Whether a list of literals is a reading: whether each latch may read as its literal.
-ghost use Rattle.std.specs.Prelude.{◌≡◌, ◌<◌, IfNone, Some, length, slice_get, true};
+ghost use Rattle.std.specs.Prelude.{◌≡◌, ◌<◌, IfNone, IfSome, Some, length, slice_get, true};
 ghost use Rattle.merged_circuits.specs.Readings.{IsReading, ReadsAs, may_merge};
+ghost use Rattle.latch_readings.specs.Judgements.{IsMisread, IsOfFirst};
 
 use aig_graph::{Aig, Latch, Lit, Reset};
 use clean::{Held, constant_of, own_literal};
@@ -14,8 +15,9 @@ pub(crate) fn may_merge(held: &Held<'_>, place: usize, latch: &Latch) -> bool
     latch.reset != Reset::Free && !is_held
 }
 
-/// Returns true if a latch that may be merged may read as a literal of an earlier latch. That one
-/// may be merged too, and reads as itself. Its literal is negated if the resets differ.
+/// Returns true if a literal is that of an earlier latch, as a latch that may be merged may read
+/// it. The earlier one may be merged too, and reads as itself. Its literal is negated if the resets
+/// differ.
 fn reads_as_first(
     aig: &Aig,
     held: &Held<'_>,
@@ -27,9 +29,10 @@ fn reads_as_first(
     requires there { slice_get aig.now.latches place ≡ Some latch.now }
     requires held { length held.now.marks.items ≡ length aig.now.latches }
     requires reads { length reads.now ≡ length aig.now.latches }
-    requires may { may_merge held.now.positions.now place latch.now ≡ true }
-    ensures { result ≡ true
-        → ReadsAs aig.now held.now.positions.now reads.now place latch.now lit }
+    ensures so { result ≡ true
+        → IsOfFirst aig.now held.now.positions.now reads.now place latch.now lit }
+    ensures only { IsOfFirst aig.now held.now.positions.now reads.now place latch.now lit
+        → result ≡ true }
 {
     if lit.var() < aig.first_latch() {
         return false;
@@ -57,8 +60,10 @@ fn reads_as(
     requires there { slice_get aig.now.latches place ≡ Some latch.now }
     requires held { length held.now.marks.items ≡ length aig.now.latches }
     requires reads { length reads.now ≡ length aig.now.latches }
-    ensures { result ≡ true
+    ensures so { result ≡ true
         → ReadsAs aig.now held.now.positions.now reads.now place latch.now lit }
+    ensures only { ReadsAs aig.now held.now.positions.now reads.now place latch.now lit
+        → result ≡ true }
 {
     if lit == own_literal(aig, place) {
         return true;
@@ -73,7 +78,8 @@ fn reads_as(
 /// literals if that isn't the number of latches.
 pub(crate) fn first_misread(aig: &Aig, held: &Held<'_>, reads: &[Lit]) -> Option<usize>
     requires { length held.now.marks.items ≡ length aig.now.latches }
-    ensures { IfNone result (IsReading aig.now held.now.positions.now reads.now) }
+    ensures reading { IfNone result (IsReading aig.now held.now.positions.now reads.now) }
+    ensures misread { IfSome result (IsMisread aig.now held.now.positions.now reads.now) }
 {
     if reads.len() != aig.latches().len() {
         return Some(reads.len());

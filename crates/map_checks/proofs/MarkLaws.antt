@@ -1,5 +1,5 @@
 -- Marks of the parts of a step.
-use Rattle.std.proofs.Common.{◌⊎◌, inl, inr, ℕ, ◌<◌, ◌≤◌, ◌≡◌, ◌≢◌, Bool, true, false, List, [], ◌∷◌, ◌++◌, length, get_or, take, drop, slice_set, Option, Some, None, IfNone, arith, ap, sym, ◌∙◌, subst}
+use Rattle.std.proofs.Common.{◌⊎◌, inl, inr, ℕ, ◌<◌, ◌≤◌, ◌≡◌, ◌≢◌, Bool, true, false, List, [], ◌∷◌, ◌++◌, length, get_or, take, drop, slice_set, Option, Some, None, IfNone, IfSome, arith, ap, sym, ◌∙◌, subst}
 use Rattle.std.proofs.lemmas.Bool.{cases_eq, cases_lt, false≢true}
 use Rattle.std.proofs.lemmas.List.{get_or-set_other, get_or-set_same, get_or_append_left, get_or_past, get_or_push, length_push}
 use Rattle.std.proofs.Math.Seq.{take-append_seam}
@@ -48,3 +48,8 @@ written-back n back items same = ap (λ (m : ℕ). take m (back ++ drop (length 
 pub if-none : {A P Q : Type 0} (o : Option A) → (P → Q) → IfNone o P → IfNone o Q
 if-none None f p = f p
 if-none (Some x) f p = tt
+
+-- what is shown of a value, if there is one
+pub if-some : {A : Type 0} {P Q : A → Type 0} (o : Option A) → ((x : A) → P x → Q x) → IfSome o P → IfSome o Q
+if-some None f p = tt
+if-some (Some x) f p = f x p

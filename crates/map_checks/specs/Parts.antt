@@ -66,6 +66,10 @@ AreEqualAt k f lits others place = (values : ℕ → Bool) → Respects k values
 abbrev pub AreMarkedEqual : Gates → Equal → List ℕ → List ℕ → List Bool → Type 0
 AreMarkedEqual k f lits others marks = (place : ℕ) → IsMarked marks place → AreEqualAt k f lits others place
 
+-- each pair has a mark, and those that are marked have one value
+abbrev pub ArePairMarks : Gates → Equal → List ℕ → List ℕ → List Bool → Type 0
+ArePairMarks k f lits others marks = (length marks ≡ length lits) × AreMarkedEqual k f lits others marks
+
 -- if these literals of the first circuit are 1, the substitute of a variable has its value
 abbrev pub AssumesCase : Gates → Netlist → List ℕ → Equal → Equal → Type 0
 AssumesCase k c lits e f = (values : ℕ → Bool) (x : Digits) (s : State) → Views k e c.aig x s values → AreOne (in_first c x s) lits → IsRight f values

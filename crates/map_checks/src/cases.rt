@@ -1,11 +1,11 @@
 //! One case: a step in which some inputs and latches of the first circuit have given values. Gates
 //! are shared anew in it, since other gates are one if a variable is a constant. What the map's
 //! constraints say is learnt anew too.
-ghost use Rattle.std.specs.Prelude.{◌≡◌, ◌≤◌, [], IfOk, OnOk, length};
-ghost use Rattle.aig_graph.specs.Gates.{Gates};
+ghost use Rattle.std.specs.Prelude.{◌≡◌, ◌≤◌, [], IfOk, IfSome, OnOk, length};
+ghost use Rattle.aig_graph.specs.Gates.{Gates, gates_of};
 ghost use Rattle.aig_graph.specs.Graph.{first_gate};
 ghost use Rattle.map_checks.specs.Answers.{AreFitting};
-ghost use Rattle.map_checks.specs.Parts.{AreMarkedEqual, AreShownWhere, AssumesCase};
+ghost use Rattle.map_checks.specs.Parts.{AreMarkedEqual, ArePairMarks, AreShownWhere, AssumesCase};
 
 use crate::choosing::chosen;
 use crate::comparing::{first_unmarked, is_marked, mark_equal};
@@ -14,6 +14,7 @@ use crate::refuting::mark_refuted;
 use aig_graph::{Aig, Circuit, Lit, NoMemory};
 use gate_sharing::{Equalities, SharedGates, SharingError};
 use std::alloc::Global;
+use unit_refutations::Propagation;
 
 /// What is shown in a case.
 pub(crate) struct Asked {
@@ -33,17 +34,13 @@ impl Drop for Asked {
     }
 }
 
-impl Asked {
-    /// Returns the marks.
-    pub(crate) fn into_marks(self) -> Vec<bool>
-        ensures { result ≡ self.marks }
-    {
-        let Asked {
-            marks,
-            split: _split,
-        } = self;
-        marks
-    }
+/// What is shown with no case.
+#[derive(Drop)]
+pub(crate) struct Look {
+    /// By part, whether propagation shows it, or probing.
+    pub(crate) marks: Vec<bool>,
+    /// What propagation alone shows, if a part is open: the first one is asked for.
+    pub(crate) asked: Option<Asked>,
 }
 
 /// Takes the literals of a case for 1, as far as they are of inputs and latches.
@@ -58,41 +55,76 @@ fn assume_case(equal: &mut Equalities, first: &Circuit, case: &[Lit]) -> Result<
     Ok(())
 }
 
-/// Returns an input or latch to make cases of for this part, if there is one and it is open.
-fn split_for(
+/// Asks which of these pairs propagation alone shows to be equal. Returns also an input or latch to
+/// make cases of if this part is open.
+fn propagated(
     alloc: Global,
+    propagation: &mut Propagation,
     aig: &Aig,
     equal: &mut Equalities,
     pairs: &Pairs,
-    marks: &[bool],
-    part: Option<usize>,
-) -> Result<Option<Lit>, NoMemory> {
-    match part {
-        Some(part) if !is_marked(marks, part) => chosen(alloc, aig, equal, pairs, marks, part),
-        _ => Ok(None),
-    }
+    part: usize,
+) -> Result<Asked, NoMemory>
+    requires long { length pairs.now.lits.items ≡ length pairs.now.others.items }
+    ensures long { IfOk result (λ asked. length asked.marks.items ≡ length pairs.now.lits.items) }
+    ensures equal { IfOk result (λ asked. AreMarkedEqual (gates_of aig.now) equal.old
+        pairs.now.lits.items pairs.now.others.items asked.marks.items) }
+{
+    let (lits, others) = (pairs.lits.as_slice(), pairs.others.as_slice());
+    let marks = mark_refuted(alloc, propagation, aig, equal, lits, others, false)?;
+    let split = if is_marked(marks.as_slice(), part) {
+        None
+    } else {
+        chosen(alloc, aig, equal, pairs, marks.as_slice(), part)?
+    };
+    Ok(Asked { marks, split })
 }
 
-/// Asks which of these pairs propagation shows to be equal, by probing too if no part is asked for.
-/// Returns also an input or latch to go on with if that is open.
-fn look_further(
+/// Asks which of these pairs propagation shows to be equal, by probing too, and what propagation
+/// alone shows if one stays open.
+fn probed(alloc: Global, aig: &Aig, equal: &mut Equalities, pairs: &Pairs) -> Result<Look, NoMemory>
+    requires long { length pairs.now.lits.items ≡ length pairs.now.others.items }
+    ensures long { IfOk result (λ look. length look.marks.items ≡ length pairs.now.lits.items) }
+    ensures equal { IfOk result (λ look. AreMarkedEqual (gates_of aig.now) equal.old
+        pairs.now.lits.items pairs.now.others.items look.marks.items) }
+    ensures asked { IfOk result (λ look. IfSome look.asked (λ asked. ArePairMarks (gates_of aig.now)
+        equal.old pairs.now.lits.items pairs.now.others.items asked.marks.items)) }
+{
+    let (lits, others) = (pairs.lits.as_slice(), pairs.others.as_slice());
+    let mut propagation = Propagation::of(alloc, aig)?;
+    let marks = mark_refuted(alloc, &mut propagation, aig, equal, lits, others, true)?;
+    let Some(part) = first_unmarked(marks.as_slice()) else {
+        return Ok(Look { marks, asked: None });
+    };
+    let asked = propagated(alloc, &mut propagation, aig, equal, pairs, part)?;
+    Ok(Look {
+        marks,
+        asked: Some(asked),
+    })
+}
+
+/// Asks which of these pairs are equal, and what propagation alone shows if one stays open.
+fn look_of(
     alloc: Global,
     shared: &SharedGates,
     equal: &mut Equalities,
     pairs: &Pairs,
-    part: Option<usize>,
-) -> Result<Asked, NoMemory>
+) -> Result<Look, NoMemory>
     requires first { 1 ≤ shared.now.first }
     requires long { length pairs.now.lits.items ≡ length pairs.now.others.items }
-    ensures long { IfOk result (λ asked. length asked.marks.items ≡ length pairs.now.lits.items) }
-    ensures equal { IfOk result (λ asked. AreMarkedEqual shared.now equal.old pairs.now.lits.items
-        pairs.now.others.items asked.marks.items) }
+    ensures long { IfOk result (λ look. length look.marks.items ≡ length pairs.now.lits.items) }
+    ensures equal { IfOk result (λ look. AreMarkedEqual shared.now equal.old pairs.now.lits.items
+        pairs.now.others.items look.marks.items) }
+    ensures asked { IfOk result (λ look. IfSome look.asked (λ asked. ArePairMarks shared.now equal.old
+        pairs.now.lits.items pairs.now.others.items asked.marks.items)) }
 {
+    let marks = mark_equal(alloc, equal, pairs.lits.as_slice(), pairs.others.as_slice())?;
+    if first_unmarked(marks.as_slice()).is_none() {
+        return Ok(Look { marks, asked: None });
+    }
     let aig = shared.graph(alloc, Vec::new(alloc))?;
-    let (lits, others) = (pairs.lits.as_slice(), pairs.others.as_slice());
-    let marks = mark_refuted(alloc, &aig, equal, lits, others, part.is_none())?;
-    let split = split_for(alloc, &aig, equal, pairs, marks.as_slice(), part)?;
-    Ok(Asked { marks, split })
+    let look = probed(alloc, &aig, equal, pairs)?;
+    Ok(look)
 }
 
 /// Asks which of these pairs are equal. Returns also an input or latch to go on with if this part
@@ -102,7 +134,7 @@ fn asked_of(
     shared: &SharedGates,
     equal: &mut Equalities,
     pairs: &Pairs,
-    part: Option<usize>,
+    part: usize,
 ) -> Result<Asked, NoMemory>
     requires first { 1 ≤ shared.now.first }
     requires long { length pairs.now.lits.items ≡ length pairs.now.others.items }
@@ -114,7 +146,10 @@ fn asked_of(
     if first_unmarked(marks.as_slice()).is_none() {
         return Ok(Asked { marks, split: None });
     }
-    look_further(alloc, shared, equal, pairs, part)
+    let aig = shared.graph(alloc, Vec::new(alloc))?;
+    let mut propagation = Propagation::of(alloc, &aig)?;
+    let asked = propagated(alloc, &mut propagation, &aig, equal, pairs, part)?;
+    Ok(asked)
 }
 
 /// Asks which parts are shown if these literals of the first circuit are 1. Returns also an input
@@ -125,7 +160,7 @@ pub(crate) fn ask(
     second: &Circuit,
     map: &Circuit,
     case: &[Lit],
-    part: Option<usize>,
+    part: usize,
 ) -> Result<Asked, SharingError>
     requires fitting { AreFitting first.now second.now map.now }
     requires latches { map.now.aig.latches ≡ [] }
@@ -140,4 +175,29 @@ pub(crate) fn ask(
     shared.known();
     let asked = asked_of(alloc, &shared, &mut equal, &pairs, part)?;
     Ok(asked)
+}
+
+/// Asks which parts are shown with no case, and what propagation alone shows if one stays open.
+/// Linear.
+pub(crate) fn first_look(
+    alloc: Global,
+    first: &Circuit,
+    second: &Circuit,
+    map: &Circuit,
+) -> Result<Look, SharingError>
+    requires fitting { AreFitting first.now second.now map.now }
+    requires latches { map.now.aig.latches ≡ [] }
+    ensures marks { IfOk result (λ look. AreShownWhere first.now second.now map.now []
+        look.marks.items) }
+    ensures asked { IfOk result (λ look. IfSome look.asked (λ asked. AreShownWhere first.now
+        second.now map.now [] asked.marks.items)) }
+{
+    first.known();
+    let mut shared = SharedGates::after(alloc, first.aig().first_gate());
+    let mut equal = Equalities::none(alloc, 1);
+    assume_case(&mut equal, first, &[])?;
+    let pairs = pairs_of(alloc, &mut shared, &mut equal, first, second, map)?;
+    shared.known();
+    let look = look_of(alloc, &shared, &mut equal, &pairs)?;
+    Ok(look)
 }

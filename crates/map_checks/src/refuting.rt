@@ -46,9 +46,10 @@ fn is_shown(
 }
 
 /// Marks the places at which propagation shows that the substitutes of the literals of two lists
-/// are equal. Linear.
+/// are equal. Once no visit is left, nothing is probed, since that would say no more. Linear.
 pub(crate) fn mark_refuted(
     alloc: Global,
+    propagation: &mut Propagation,
     aig: &Aig,
     equal: &mut Equalities,
     lits: &[Lit],
@@ -62,7 +63,6 @@ pub(crate) fn mark_refuted(
         others.now marks.items) }
 {
     let effort = if probes { &PROBING } else { &PLAIN };
-    let mut propagation = Propagation::of(alloc, aig)?;
     let mut left = effort.all;
     let mut marks = Vec::with_capacity(alloc, lits.len())?;
     for (place, lit) in lits.iter().enumerate() {
@@ -70,7 +70,7 @@ pub(crate) fn mark_refuted(
         let b = equal.find(others[place]);
         let most = left.min(effort.each);
         propagation.allow(most);
-        let yes = is_shown(alloc, &mut propagation, aig, a, b, probes)?;
+        let yes = is_shown(alloc, propagation, aig, a, b, probes && most > 0)?;
         left = left.saturating_sub(most.saturating_sub(propagation.left()));
         marks.push(yes)?;
     }

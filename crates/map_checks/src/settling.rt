@@ -1,11 +1,11 @@
 //! The parts of a step are shown by sharing gates alone if that is enough, as it is for the maps of
 //! this program's retimings. Else they are shown by cases. What cases show beside the part for
 //! which they were made counts too.
-ghost use Rattle.std.specs.Prelude.{◌≡◌, [], IfNone, IfOk, OnOk};
+ghost use Rattle.std.specs.Prelude.{◌≡◌, [], IfNone, IfOk, IfSome, OnOk};
 ghost use Rattle.map_checks.specs.Answers.{AreFitting, KeepsStates};
-ghost use Rattle.map_checks.specs.Parts.{AreShownWhere};
+ghost use Rattle.map_checks.specs.Parts.{AreShownWhere, IsTree};
 
-use crate::cases::ask;
+use crate::cases::{Asked, Look, first_look};
 use crate::comparing::{first_unmarked, is_marked};
 use crate::trees::{Tree, step};
 use aig_graph::Circuit;
@@ -18,29 +18,29 @@ const FOR_ONE: u32 = 100;
 /// How many are asked for all.
 const FOR_ALL: u32 = 400;
 
-/// Marks the parts that cases show, of which there are made as many as this part needs; `left` says
-/// how many more may be.
+/// Asks the cases of a tree for a part, and marks the parts that all of its cases show. Returns how
+/// many cases it may ask yet.
 fn settle(
     alloc: Global,
     first: &Circuit,
     second: &Circuit,
     map: &Circuit,
     part: usize,
+    tree: Tree,
     marks: &mut Vec<bool>,
-    left: &mut u32,
-) -> Result<(), SharingError>
+) -> Result<u32, SharingError>
     requires fitting { AreFitting first.now second.now map.now }
     requires latches { map.now.aig.latches ≡ [] }
+    requires tree { IsTree first.now second.now map.now tree.pending.items tree.shown.items }
     requires shown { AreShownWhere first.now second.now map.now [] marks.old.items }
     ensures { OnOk result (AreShownWhere first.now second.now map.now [] marks.new.items) }
 {
-    let mut tree = Tree::begun(alloc, marks.len(), *left)?;
-    for _ in 0..FOR_ONE {
+    let mut tree = tree;
+    for _ in 0..tree.left {
         step(alloc, first, second, map, part, &mut tree)?;
     }
-    *left = tree.left;
     tree.add_to(marks);
-    Ok(())
+    Ok(tree.left)
 }
 
 /// Returns the first part of a step that isn't shown.
@@ -57,13 +57,19 @@ pub(crate) fn first_open_part(
     first.known();
     second.known();
     map.known();
-    let mut marks = ask(alloc, first, second, map, &[], None)?.into_marks();
+    let Look {
+        mut marks,
+        mut asked,
+    } = first_look(alloc, first, second, map)?;
     let mut left = FOR_ALL;
     for _ in 0..FOR_ALL {
         let Some(part) = first_unmarked(marks.as_slice()) else {
             return Ok(None);
         };
-        settle(alloc, first, second, map, part, &mut marks, &mut left)?;
+        let share = left.min(FOR_ONE);
+        let tree = Tree::of(alloc, marks.len(), share, asked.take())?;
+        let rest = settle(alloc, first, second, map, part, tree, &mut marks)?;
+        left = left.saturating_sub(share).saturating_add(rest);
         if !is_marked(marks.as_slice(), part) {
             return Ok(Some(part));
         }

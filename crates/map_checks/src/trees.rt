@@ -1,6 +1,6 @@
 //! Cases that together cover all values: each is answered, or split into the two values of one more
 //! input or latch.
-ghost use Rattle.std.specs.Prelude.{ℕ, ◌≡◌, ◌++◌, ◌⊎◌, [], ◌∷◌, IfOk, OnOk, length};
+ghost use Rattle.std.specs.Prelude.{ℕ, ◌≡◌, ◌++◌, ◌⊎◌, [], ◌∷◌, IfOk, IfSome, OnOk, length};
 ghost use Rattle.aig_graph.specs.Circuits.{Netlist};
 ghost use Rattle.aig_graph.specs.Graph.{IsGraph};
 ghost use Rattle.map_checks.specs.Answers.{AreFitting};
@@ -88,7 +88,7 @@ fn widen(marks: &mut [bool], shown: &[bool])
 
 impl Tree {
     /// Returns one case, of no variable, for `count` parts.
-    pub(crate) fn begun(alloc: Global, count: usize, left: u32) -> Result<Tree, NoMemory>
+    fn begun(alloc: Global, count: usize, left: u32) -> Result<Tree, NoMemory>
         ensures { IfOk result (λ tree. (c d m : Netlist) → count ≡ parts d m
             → IsTree c d m tree.pending.items tree.shown.items) }
     {
@@ -100,6 +100,42 @@ impl Tree {
             shown,
             left,
         })
+    }
+
+    /// Returns the tree for `count` parts in which the case of no variable is answered.
+    fn answered(alloc: Global, count: usize, left: u32, asked: &Asked) -> Result<Tree, NoMemory>
+        ensures { IfOk result (λ tree. (c d m : Netlist) → count ≡ parts d m → IsGraph c.aig
+            → AreShownWhere c d m [] asked.now.marks.items
+            → IsTree c d m tree.pending.items tree.shown.items) }
+    {
+        let mut tree = Tree {
+            pending: Vec::new(alloc),
+            shown: vec![in alloc; true; count]?,
+            left,
+        };
+        tree.answer(alloc, &[], asked)?;
+        Ok(tree)
+    }
+
+    /// Returns the tree for `count` parts in which `left` cases may be asked. If the case of no
+    /// variable was asked, it is one of them.
+    pub(crate) fn of(
+        alloc: Global,
+        count: usize,
+        left: u32,
+        asked: Option<Asked>,
+    ) -> Result<Tree, NoMemory>
+        ensures { IfOk result (λ tree. (c d m : Netlist) → count ≡ parts d m → IsGraph c.aig
+            → IfSome asked (λ asked. AreShownWhere c d m [] asked.marks.items)
+            → IsTree c d m tree.pending.items tree.shown.items) }
+    {
+        match asked {
+            Some(asked) => Tree::answered(alloc, count, left.saturating_sub(1), &asked),
+            None => {
+                let tree = Tree::begun(alloc, count, left)?;
+                Ok(tree)
+            }
+        }
     }
 
     /// Takes what was shown in the case that was taken out last, or splits it.
@@ -158,7 +194,7 @@ pub(crate) fn step(
     let Some(case) = tree.pending.pop() else {
         return Ok(());
     };
-    let asked = ask(alloc, first, second, map, case.as_slice(), Some(part))?;
+    let asked = ask(alloc, first, second, map, case.as_slice(), part)?;
     tree.answer(alloc, case.as_slice(), &asked)?;
     Ok(())
 }

@@ -72,6 +72,17 @@ impl RunFollower for GrowingMap {
         Ok(cleaned)
     }
 
+    fn clean_over(
+        &mut self,
+        alloc: Global,
+        circuit: Circuit,
+        keep: &Keep,
+    ) -> Result<Cleaned, FollowError> {
+        let cleaned = cleaned_along(alloc, &mut self.parts, &circuit, keep);
+        drop(circuit);
+        Ok(cleaned?)
+    }
+
     fn clean_and_merge(
         &mut self,
         alloc: Global,

@@ -8,19 +8,19 @@ use Rattle.frames.specs.Found.{IsAfterMove}
 use Rattle.frames.proofs.FrameLaws.{after-moving}
 use Rattle.frames.proofs.frame.finished_move.Goals as goal
 
-pub moved_by-requires-clause-closed : goal.moved_by-requires-clause-closed
-moved_by-requires-clause-closed c = c.requires.saves.closed
+pub moved_in-requires-clause-closed : goal.moved_in-requires-clause-closed
+moved_in-requires-clause-closed c = c.requires.saves.closed
 
-pub moved_by-requires-clause-room : goal.moved_by-requires-clause-room
-moved_by-requires-clause-room c =
+pub moved_in-requires-clause-room : goal.moved_in-requires-clause-room
+moved_in-requires-clause-room c =
     let before = c.args.circuit.now in
     room before.aig (border_size (move_of before c.args.keep.now c.args.set.now)) c.known.ensures.graph (omega (arith, c.requires.saves.fewer))
 
-pub moved_by-requires-clause-marked : goal.moved_by-requires-clause-marked
-moved_by-requires-clause-marked c = c.requires.prepared.marks
+pub moved_in-requires-clause-marked : goal.moved_in-requires-clause-marked
+moved_in-requires-clause-marked c = c.requires.prepared.marks
 
 pub returns-in-None : goal.returns-in-None
-returns-in-None c = after-moving c.args.circuit.now c.args.keep.now c.args.set.now c.moved_by.result c.moved_by.ensures.value c.moved_by.ensures.streams
+returns-in-None c = after-moving c.args.circuit.now c.args.keep.now c.args.set.now c.moved_in.result c.moved_in.ensures.value c.moved_in.ensures.streams
 
 pub returns-in-Some : goal.returns-in-Some
 returns-in-Some c =

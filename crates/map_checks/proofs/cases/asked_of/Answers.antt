@@ -1,5 +1,5 @@
-use Rattle.std.proofs.Common.{ℕ, ◌≡◌, ◌∙◌, List, get_or, ap, sym}
-use Rattle.std.proofs.lemmas.Result.{IfOk-weaker}
+use Rattle.std.proofs.Common.{ℕ, ◌∙◌, List, get_or, ap, sym, subst}
+use Rattle.aig_graph.specs.Gates.{Gates, Respects}
 use Rattle.map_checks.proofs.cases.asked_of.Goals as goal
 
 pub returns-then-is_none-clause-equal : goal.returns-then-is_none-clause-equal
@@ -9,5 +9,5 @@ returns-then-is_none-clause-equal c = λ place marked values respects right.
     ∙ ap (λ (lits : List ℕ). values (get_or lits place 0)) c.as_slice-2.ensures.value
 
 pub returns-clause-equal : goal.returns-clause-equal
-returns-clause-equal c = IfOk-weaker c.look_further.result _ _ (λ asked equal place marked values respects right.
-    equal place marked values respects (c.in_ok-marks.ensures.right values respects.negation right)) c.look_further.ensures.equal
+returns-clause-equal c = λ place marked values respects right.
+    c.in_ok-asked.ensures.equal place marked values (subst (λ (k : Gates). Respects k values) (sym c.in_ok-aig.ensures.gates) respects) (c.in_ok-marks.ensures.right values respects.negation right)

@@ -1,4 +1,3 @@
-use Rattle.std.proofs.Common.{refl}
 use Rattle.mapped_answers.proofs.making.with_map.Goals as goal
 
 pub state_map-requires : goal.state_map-requires

@@ -1,4 +1,4 @@
-use Rattle.std.proofs.Common.{ℕ, ◌/◌, ◌*◌, ◌+◌, ◌-◌, ◌<◌, ◌≡◌, ◌^◌, arith}
+use Rattle.std.proofs.Common.{◌/◌, arith}
 use Rattle.mapped_answers.proofs.MapTextLaws.{IsFollowedBy, begins-last, begins-more, begins-none}
 use Rattle.mapped_answers.proofs.map_text.+read_delta.Goals as goal
 

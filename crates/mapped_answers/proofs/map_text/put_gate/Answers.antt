@@ -1,7 +1,6 @@
-use Rattle.std.proofs.Common.{ℕ, ◌-◌, ◌*◌, ◌+◌, ◌≡◌, ◌∙◌, List, ◌∷◌, [], ◌++◌, arith, ap, subst}
+use Rattle.std.proofs.Common.{ℕ, ◌-◌, ◌*◌, List, ◌++◌, arith, subst}
 use Rattle.aig_graph.specs.declared.graph.Gate.{Gate}
 use Rattle.counted_io.specs.Buffered.{Puts}
-use Rattle.counted_io.specs.Line.{line}
 use Rattle.binary_file.specs.Deltas.{delta_of}
 use Rattle.mapped_answers.proofs.MapTextLaws.{gate-begins, gate-ends, gate-row}
 use Rattle.mapped_answers.proofs.map_text.put_gate.Goals as goal

@@ -1,5 +1,4 @@
-use Rattle.std.proofs.Common.{ℕ, ◌+◌, ◌<◌, ◌≤◌, ◌≡◌, ◌∙◌, List, length, drop, take, arith, ap, sym, subst, rules, true}
-use Rattle.aig_graph.specs.declared.graph.Gate.{Gate}
+use Rattle.std.proofs.Common.{ℕ, ◌+◌, ◌<◌, ◌≡◌, ◌∙◌, List, length, drop, arith, ap, subst, rules, true}
 use Rattle.aig_graph.specs.declared.graph.Latch.{Latch}
 use Rattle.aig_graph.specs.Graph.{first_gate}
 use Rattle.counted_io.specs.Buffered.{Puts}
