@@ -4,7 +4,8 @@ reference model.
 
 usage: tests/checker.py IN CERT [--keep NAME]... [--keep-latch PLACE]... [--merge] [--levels N | --no-longer]
 
-Prints a line of the merged latches, if CERT lists them, a line for each block, then how the blocks end. The status is 0 where all merged
+Prints a line of the merged latches, if CERT lists them, a line for each block, then how the blocks end. If latches were merged again where
+blocks end, CERT has parts, one after another: it prints the lines of each, and how the last one ends. The status is 0 where all merged
 latches always have the value of what they read as, and each block shows that its set is least; 5 where one doesn't or blocks follow the
 end, 1 where a file is refused, 3 where one can't be read. Under a bound on levels a set may be least among those whose gates arrive
 within it, and no move makes a path longer than that, or than the longest one of IN. The word `verify` may stand before IN, as in the cases.
@@ -335,14 +336,13 @@ def objection(c, block, bound=None):
     return None if block.count == len(c.border(members)) == len(block.routes) else 'CountDiffers'
 
 
-def verify(c, merged, blocks, bound):
-    """What there is to print, and the status."""
-    lines, c = [], cleaned(c)
-    if merged is not None:
-        line, c = merged_by(c, merged)
-        if c is None:
-            return [line], 5
-        lines, c = [line], cleaned(c)
+class NotShown(Exception):
+    """A merged latch isn't shown, or a block, or blocks follow the end: the line that says so."""
+
+
+def verify_blocks(c, blocks, first, bound):
+    """The lines of the blocks, of which the first has a number; that of their end; and the circuit that they end in."""
+    lines, end = [], []
     for k, block in enumerate(blocks):
         wrong = objection(c, block)
         if wrong and bound is not None and not objection(c, block, bound):
@@ -352,14 +352,31 @@ def verify(c, merged, blocks, bound):
         if after is not c and bound is not None and after.levels() > bound:
             wrong = 'TooLong'
         if wrong:
-            return [*lines, f'block {k}: no, {wrong}'], 5
-        lines.append(f'block {k}: yes, count {block.count}')
-        if block is blocks[-1]:
-            return [*lines, 'end open' if saves else 'end certified'], 0
-        if not saves:
-            return [*lines, 'blocks follow the end'], 5
+            raise NotShown(*lines, f'block {first + k}: no, {wrong}')
+        lines.append(f'block {first + k}: yes, count {block.count}')
+        end = ['end open' if saves else 'end certified']
+        if not saves and block is not blocks[-1]:
+            raise NotShown(*lines, 'blocks follow the end')
         c = cleaned(after)
-    return lines, 0
+    return lines, end, c
+
+
+def verify(c, parts, bound):
+    """What there is to print, and the status. Each part is about the circuit that the one before it ends in; only the last end is printed."""
+    lines, end, number, c = [], [], 0, cleaned(c)
+    try:
+        for part in parts:
+            if part.merged is not None:
+                line, c = merged_by(c, part.merged)
+                if c is None:
+                    raise NotShown(line)
+                lines.append(line)
+                c = cleaned(c)
+            said, end, c = verify_blocks(c, part.blocks, number, bound)
+            lines, number = lines + said, number + len(said)
+    except NotShown as fault:
+        return [*lines, *fault.args], 5
+    return lines + end, 0
 
 
 # The two files.
@@ -489,22 +506,40 @@ class Block:
     routes: list
 
 
-def read_certificates(data):
+@dataclass
+class Part:
     """The merged latches, each with what it reads as, or None where none are listed; and the blocks."""
-    text, merged, blocks = Text(data), None, []
+    merged: list
+    blocks: list
+
+
+def read_certificates(data):
+    """The parts of a file. Where merged latches are listed, a line of their number begins one."""
+    text = Text(data)
     first = text.line() if data else b''
     if first not in (b'fretime-cert 1', b'fretime-cert 2', b'fretime-cert 3'):
         raise Refused('BadHeader at 0')
     if first != b'fretime-cert 1':
         parts(text, rb'choice (greatest|smallest)')
-    if first == b'fretime-cert 3':
-        count = limited(*parts(text, rb'merged (\d+)'), text)
-        merged = [merged_latch(text) for _ in range(count)]
+    lists = first == b'fretime-cert 3'
+    found = [Part(merged_latches(text) if lists else None, [])]
     while text.has_more():
-        count, gates, routes = (limited(digits, text) for digits in parts(text, rb'frame (\d+) (\d+) (\d+)'))
-        gates = [limited(*parts(text, rb'g (\d+)'), text) for _ in range(gates)]
-        blocks.append(Block(count, gates, [route(text) for _ in range(routes)]))
-    return merged, blocks
+        if lists and text.data.startswith(b'merged ', text.at):
+            found.append(Part(merged_latches(text), []))
+        else:
+            found[-1].blocks.append(block(text))
+    return found
+
+
+def merged_latches(text):
+    count = limited(*parts(text, rb'merged (\d+)'), text)
+    return [merged_latch(text) for _ in range(count)]
+
+
+def block(text):
+    count, gates, routes = (limited(digits, text) for digits in parts(text, rb'frame (\d+) (\d+) (\d+)'))
+    gates = [limited(*parts(text, rb'g (\d+)'), text) for _ in range(gates)]
+    return Block(count, gates, [route(text) for _ in range(routes)])
 
 
 def merged_latch(text):
@@ -557,14 +592,14 @@ def main(words):
     names = [os.fsencode(name) for name in given.keep]
     try:
         c, name_of = read(given.circuit, read_circuit)
-        merged, blocks = read(given.certificates, read_certificates)
+        listed = read(given.certificates, read_certificates)
         hold(given.circuit, c, name_of, names, given.keep_latch)
         bound = max(c.levels(), given.levels or 0) if given.no_longer or given.levels is not None else None
-        if given.merge and merged is None:
+        if given.merge and listed[0].merged is None:
             raise Refused(f'{given.certificates}: it lists no merged latches, and none are guessed here')
-        lines, status = verify(c, merged, blocks, bound)
-        if not blocks:
-            print(f'{given.certificates}: no certificate: {"nothing" if merged is None else "no frame"} was checked', file=sys.stderr)
+        lines, status = verify(c, listed, bound)
+        if not any(part.blocks for part in listed):
+            print(f'{given.certificates}: no certificate: {"nothing" if listed[0].merged is None else "no frame"} was checked', file=sys.stderr)
     except Refused as fault:
         lines, status = [], 1
         print(fault, file=sys.stderr)

@@ -1,5 +1,5 @@
 """Random circuits, the files that spell them, stimuli, witnesses, and damaged files, for fuzz.py. A seed gives the same files everywhere."""
-from reference.certificates import read_certificates, written
+from reference.certificates import Part, read_certificates, written
 from reference.circuit import FREE, KINDS, Circuit, delta, header, joined, ordered, property_lines, reset_of, symbol_lines
 from reference.witnesses import bad_places, first_step
 
@@ -293,10 +293,13 @@ def bent(rng, certificates):
     """A certificate file with a thing or two changed: mostly in what it says, else in its bytes."""
     if rng.random() < 0.2:
         return damaged(rng, certificates)
-    lines, blocks = read_certificates(certificates)
+    parts = read_certificates(certificates)
     for _ in range(rng.choice([1, 1, 1, 2])):
-        if lines and rng.random() < 0.5:
-            bent_lines(rng, lines)
+        part = rng.choice(parts)
+        if part.listed and rng.random() < 0.5:
+            bent_lines(rng, part.listed)
         else:
-            bent_blocks(rng, blocks)
-    return written(rng.choice(['greatest', 'smallest']), lines, blocks)
+            bent_blocks(rng, part.blocks)
+    if parts[0].listed is not None and rng.random() < 0.2:
+        bent_list(rng, parts)
+    return written(rng.choice(['greatest', 'smallest']), parts or [Part([], [])])

@@ -21,6 +21,13 @@ class Block:
     routes: list
 
 
+@dataclasses.dataclass
+class Part:
+    """What is said of a round: the lines of merged latches, None where none are listed, and a block for each frame."""
+    listed: list
+    blocks: list
+
+
 def routes_of(c, held, bound):
     """The units of a maximum flow, each followed from the source to the sink along arcs that it uses up."""
     residual = maximum_flow(c, held, bound)[1]
@@ -37,20 +44,26 @@ def routes_of(c, held, bound):
 
 
 def certificates(c, most, names, smallest, merge, bound):
-    """The lines of merged latches, None where none were to be merged; a block for each frame, and one for the last circuit where the limit of
-    frames didn't end the run."""
-    return lines_of_run(c, held_latches(c, names), merge), [
+    """The parts of the file: the lines of merged latches, None where none were to be merged; a block for each frame, and one for the last
+    circuit where the limit of frames didn't end the run."""
+    return [Part(lines_of_run(c, held_latches(c, names), merge), [
         Block(frame.count, sorted(frame.members), routes_of(frame.circuit, frame.held, frame.bound))
-        for frame in frames_of(c, most, names, smallest, merge, bound)]
+        for frame in frames_of(c, most, names, smallest, merge, bound)])]
 
 
-def written(choice, listed, blocks):
-    lines = [f'fretime-cert {2 if listed is None else 3}', f'choice {choice}']
-    lines += [] if listed is None else [f'merged {len(listed)}', *(f'm {v} {lit}' for v, lit in listed)]
-    for block in blocks:
+def written_part(part):
+    lines = [] if part.listed is None else [f'merged {len(part.listed)}', *(f'm {v} {lit}' for v, lit in part.listed)]
+    for block in part.blocks:
         lines.append(f'frame {block.count} {len(block.gates)} {len(block.routes)}')
         lines += [f'g {v}' for v in block.gates]
         lines += [' '.join(['r', *(f'{v}{side}' for v, side in points)]) for points in block.routes]
+    return lines
+
+
+def written(choice, parts):
+    lines = [f'fretime-cert {2 if parts[0].listed is None else 3}', f'choice {choice}']
+    for part in parts:
+        lines += written_part(part)
     return ''.join(f'{line}\n' for line in lines).encode()
 
 
@@ -81,9 +94,22 @@ class Lines:
         return found, line
 
 
+def read_merged(lines):
+    """The lines of merged latches that a part of the third version begins with."""
+    (count,), _ = lines.numbers(rb'merged \d+')
+    return [tuple(lines.numbers(rb'm \d+ \d+', (MOST, MOST_LITERAL))[0]) for _ in range(count)]
+
+
+def read_block(lines):
+    (count, gates, routes), _ = lines.numbers(rb'frame \d+ \d+ \d+')
+    members = [lines.numbers(rb'g \d+')[0][0] for _ in range(gates)]
+    read = [lines.numbers(rb'r( \d+[+-])+') for _ in range(routes)]
+    return Block(count, members, [list(zip(found, re.findall('[+-]', line.decode()))) for found, line in read])
+
+
 def read_certificates(data):
-    """The lines of merged latches, None where the version has none; and the blocks."""
-    lines, listed, blocks = Lines(data), None, []
+    """The parts of a file; there is one where the version lists no merged latches."""
+    lines = Lines(data)
     version = HEADERS.get(lines.take()[0]) if lines.lines else None
     if version is None:
         raise Fault('BadHeader', 0)
@@ -91,15 +117,13 @@ def read_certificates(data):
         line, offset = lines.take()
         if line not in CHOICES:
             raise Fault('BadLine', offset)
-    if version > 2:
-        (count,), _ = lines.numbers(rb'merged \d+')
-        listed = [tuple(lines.numbers(rb'm \d+ \d+', (MOST, MOST_LITERAL))[0]) for _ in range(count)]
+    parts = [Part(read_merged(lines) if version > 2 else None, [])]
     while lines.lines:
-        (count, gates, routes), _ = lines.numbers(rb'frame \d+ \d+ \d+')
-        members = [lines.numbers(rb'g \d+')[0][0] for _ in range(gates)]
-        read = [lines.numbers(rb'r( \d+[+-])+') for _ in range(routes)]
-        blocks.append(Block(count, members, [list(zip(found, re.findall('[+-]', line.decode()))) for found, line in read]))
-    return listed, blocks
+        if version > 2 and lines.lines[0].startswith(b'merged '):
+            parts.append(Part(read_merged(lines), []))
+        else:
+            parts[-1].blocks.append(read_block(lines))
+    return parts
 
 
 def is_route(c, held, inside, points):
@@ -148,33 +172,53 @@ def objection_to_merged(c, held, listed):
     return None if wrong is None else f'NotShown {wrong}'
 
 
-def audit(c, names, listed, blocks, merge, bound):
-    """The printed lines, the status, and the circuit that the blocks end in, None where something speaks against one."""
+class Refused(Exception):
+    """A part is refused: the lines up to what speaks against it."""
+
+
+def audit_of_blocks(c, held, blocks, number, bound):
+    """The lines of the blocks, numbered from a number on; that of their end; and the circuit that they end in with its held latches."""
     lines, known = [], None
-    if listed is None:
-        c, held = start_of(c, held_latches(c, names), merge)
-    else:
-        c, held = cleaned(c, held_latches(c, names))
-        said = objection_to_merged(c, held, listed)
-        if said:
-            return [f'merged: no, {said}'], 5, None
-        lines.append(f'merged: yes, {len(listed)} latches')
-        c, held = cleaned(merged(c, held, listed), held)
     for k, block in enumerate(blocks):
         if known is not None and blocks[k - 1].count >= known:
-            return [*lines, 'blocks follow the end'], 5, None
+            raise Refused([*lines, 'blocks follow the end'])
         if k:
             c, held = cleaned(*moved(c, set(blocks[k - 1].gates), held))
         known, said = c.known_latches(), objection(c, held, block, bound)
         if said != 'Yes':
-            return [*lines, f'block {k}: no, {said}'], 5, None
-        lines.append(f'block {k}: yes, count {block.count}')
+            raise Refused([*lines, f'block {number + k}: no, {said}'])
+        lines.append(f'block {number + k}: yes, count {block.count}')
     if blocks and blocks[-1].count == known:
-        lines.append('end certified')
-    elif blocks:
-        lines.append('end open')
-        c, _ = cleaned(*moved(c, set(blocks[-1].gates), held))
-    return lines, 0, c
+        return lines, ['end certified'], c, held
+    if blocks:
+        return lines, ['end open'], *cleaned(*moved(c, set(blocks[-1].gates), held))
+    return lines, [], c, held
+
+
+def start_of_part(c, held, part, merge):
+    """The line of merged latches, where the part lists them; and the circuit that its blocks begin with, with its held latches."""
+    if part.listed is None:
+        return [], *start_of(c, held, merge)
+    c, held = cleaned(c, held)
+    said = objection_to_merged(c, held, part.listed)
+    if said:
+        raise Refused([f'merged: no, {said}'])
+    return [f'merged: yes, {len(part.listed)} latches'], *cleaned(merged(c, held, part.listed), held)
+
+
+def audit(c, names, parts, merge, bound):
+    """The printed lines, the status, and the circuit that the parts end in, None where something speaks against one. Each part is about the
+    circuit that the part before it ends in; how that one ends isn't printed."""
+    held, lines, end, number = held_latches(c, names), [], [], 0
+    try:
+        for part in parts:
+            said, c, held = start_of_part(c, held, part, merge)
+            lines += said
+            said, end, c, held = audit_of_blocks(c, held, part.blocks, number, bound)
+            lines, number = lines + said, number + len(said)
+    except Refused as refused:
+        return lines + refused.args[0], 5, None
+    return lines + end, 0, c
 
 
 def first_difference(one, other):

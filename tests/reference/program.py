@@ -234,7 +234,7 @@ def classes_of(options):
         return merge_of(options)
     path = options['--classes'][0]
     try:
-        lines, _ = read_certificates(bytes_of(path))
+        lines = read_certificates(bytes_of(path))[0].listed
     except Fault as fault:
         raise Ends(1, f'{source_name(path)}: {fault}') from fault
     if lines is None:
@@ -265,7 +265,7 @@ def retime(paths, options):
     for path in options.get('--map', []):
         write(path, text(state_map(c, *run)[0], letters_of(options, letters)))
     for path in options.get('--cert', []):
-        write(path, written('smallest' if '--near' in options else 'greatest', *certificates(c, *run)))
+        write(path, written('smallest' if '--near' in options else 'greatest', certificates(c, *run)))
     lines = [f'frame {k + 1}: {before} to {after}\n' for k, (before, after) in enumerate(frames)]
     return 0, ''.join(lines) + f'latches {len(c.latches)} to {len(d.latches)}\n'
 
@@ -351,12 +351,12 @@ def same(paths, options):
 def verify(paths, options):
     c, _ = circuit_of(paths[0])
     try:
-        listed, blocks = read_certificates(bytes_of(paths[1]))
+        parts = read_certificates(bytes_of(paths[1]))
     except Fault as fault:
         raise Ends(1, f'{source_name(paths[1])}: {fault}') from fault
     outs = [bytes_of(path) for path in options.get('--out', [])]
     try:
-        lines, status, last = audit(c, held_by(options), listed, blocks, merge_of(options), bound_of(options, c))
+        lines, status, last = audit(c, held_by(options), parts, merge_of(options), bound_of(options, c))
     except NoSuchName as missing:
         raise no_such_name(paths[0], c, missing.args[0]) from missing
     except NoSuchLatch as missing:
@@ -365,8 +365,8 @@ def verify(paths, options):
         at = first_difference(text(last, 'aig' if data[:3] == b'aig' else 'aag'), data)
         lines.append('out same' if at is None else f'out differs at {at}')
         status = 0 if at is None else 5
-    checked_then = 'nothing was checked' if listed is None and not outs else 'no frame was checked'
-    told = '' if blocks else f'{source_name(paths[1])}: no certificate: {checked_then}\n'
+    checked_then = 'nothing was checked' if parts[0].listed is None and not outs else 'no frame was checked'
+    told = '' if any(part.blocks for part in parts) else f'{source_name(paths[1])}: no certificate: {checked_then}\n'
     return status, ''.join(f'{line}\n' for line in lines), told
 
 

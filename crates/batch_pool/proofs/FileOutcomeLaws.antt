@@ -6,14 +6,11 @@ use Rattle.counted_io.specs.Output.{Output}
 use Rattle.file_words.specs.declared.fault.ReadError.{ReadError}
 use Rattle.file_words.specs.declared.fault.ReadError.TheVariants as faults
 use Rattle.aig_binary.specs.Ending.{IsReadError}
-use Rattle.retimed_circuits.specs.declared.report.Retimed.{Retimed}
-use Rattle.retimed_circuits.proofs.MergedRunLaws.{read-latches}
-use Rattle.frames.specs.declared.options.Options.{Options}
-use Rattle.frames.specs.declared.errors.BytesError.{BytesError}
-use Rattle.frames.specs.declared.errors.BytesError.TheVariants.{Read, Retime, Write}
-use Rattle.frames.specs.declared.errors.RetimeError.TheVariants as retiming
-use Rattle.frames.specs.Bounds.{bound_in}
-use Rattle.frames.specs.Named.{holding_in}
+use Rattle.merging_rounds.specs.declared.rounds.Rounds.{Rounds}
+use Rattle.frame_runs.specs.declared.options.Options.{Options}
+use Rattle.frame_runs.specs.declared.errors.BytesError.{BytesError}
+use Rattle.frame_runs.specs.declared.errors.BytesError.TheVariants.{Read, Retime, Write}
+use Rattle.frame_runs.specs.declared.errors.RetimeError.TheVariants as retiming
 use Rattle.frames.specs.Answering.{IsAnswered, IsBytesError, text_for}
 use Rattle.batch_pool.specs.declared.job.Outcome.{Outcome}
 use Rattle.batch_pool.specs.declared.job.Outcome.TheVariants as outcomes
@@ -41,7 +38,7 @@ no_answer bytes options (Retime (retiming.NotShown latch)) old new before after 
 no_answer bytes options (Write e) old new before after known why = tt
 
 -- a text that was written if there was none is the text of the answer
-pub an_answer : (bytes text : List ℕ) (options : Options) (r : Retimed) (old : Input) (before after : Output) → old.bytes ≡ Some bytes → before.bytes ≡ Some [] → after.bytes ≡ Some text
+pub an_answer : (bytes text : List ℕ) (options : Options) (r : Rounds) (old : Input) (before after : Output) → old.bytes ≡ Some bytes → before.bytes ≡ Some [] → after.bytes ≡ Some text
     → IsAnswered old before after options r → IsDone bytes options text r.read_latches (length r.circuit.aig.latches) (length r.frames)
 an_answer bytes text options r old before after known empty full answered =
     let whole = text_for options answered.spelt r in
@@ -50,11 +47,11 @@ an_answer bytes text options r old before after known empty full answered =
       spelt = answered.spelt;
       circuit = answered.read.circuit.bytes bytes known;
       spelling = answered.read.spelling bytes known;
-      retimed = r;
+      rounds = r;
       answer = answered.written.answer;
       text_is = writes;
       reads_back = answered.reads_back bytes known;
-      before_is = read-latches options.merge (bound_in options answered.spelt.circuit) options.choice answered.spelt.circuit (holding_in options) options.max_frames options.certify r answered.written.answer.retimed;
+      before_is = answered.written.answer.rounds.is.read_latches;
       after_is = refl;
       frames_is = refl;
     }

@@ -1,7 +1,7 @@
 -- Outcomes of jobs, by their places.
 use Rattle.std.proofs.Common.{ℕ, ◌≡◌, ◌<◌, List, length, get_or, subst}
 use Rattle.std.proofs.lemmas.Option.{get_or_from_slice_get, slice_get_within}
-use Rattle.frames.specs.declared.options.Options.{Options}
+use Rattle.frame_runs.specs.declared.options.Options.{Options}
 use Rattle.batch_pool.specs.declared.job.Job.{Job}
 use Rattle.batch_pool.specs.declared.job.Outcome.{Outcome}
 use Rattle.batch_pool.specs.Outcomes.{AreOutcomes, IsOutcome}

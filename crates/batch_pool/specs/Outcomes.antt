@@ -5,9 +5,9 @@ use Rattle.file_words.specs.Codes.{is_fault_of_bytes}
 use Rattle.aig_graph.specs.Circuits.{Netlist}
 use Rattle.aig_binary.specs.Spellings.{spelling_of, read_any}
 use Rattle.aig_binary.specs.declared.reading.SpeltCircuit.{SpeltCircuit}
-use Rattle.retimed_circuits.specs.declared.report.Retimed.{Retimed}
-use Rattle.frames.specs.declared.options.Options.{Options}
-use Rattle.frames.specs.Named.{IsFirstMissingBy, IsFirstNoLatchBy}
+use Rattle.merging_rounds.specs.declared.rounds.Rounds.{Rounds}
+use Rattle.frame_runs.specs.declared.options.Options.{Options}
+use Rattle.frame_runs.specs.Named.{IsFirstMissingBy, IsFirstNoLatchBy}
 use Rattle.frames.specs.Answering.{IsAnswer, ReadsBack, text_for}
 use Rattle.batch_pool.specs.declared.job.Job.{Job}
 use Rattle.batch_pool.specs.declared.job.Outcome.{Outcome}
@@ -19,13 +19,13 @@ pub record IsDone (bytes : List ℕ) (options : Options) (text : List ℕ) (befo
   pub spelt : SpeltCircuit
   pub circuit : read_any bytes ≡ Ok spelt.circuit
   pub spelling : spelling_of bytes ≡ Some spelt.spelling
-  pub retimed : Retimed
-  pub answer : IsAnswer options spelt retimed
-  pub text_is : text ≡ text_for options spelt retimed
-  pub reads_back : ReadsBack options spelt retimed
+  pub rounds : Rounds
+  pub answer : IsAnswer options spelt rounds
+  pub text_is : text ≡ text_for options spelt rounds
+  pub reads_back : ReadsBack options spelt rounds
   pub before_is : before ≡ length spelt.circuit.aig.latches
-  pub after_is : after ≡ length retimed.circuit.aig.latches
-  pub frames_is : frames ≡ length retimed.frames
+  pub after_is : after ≡ length rounds.circuit.aig.latches
+  pub frames_is : frames ≡ length rounds.frames
 
 -- the bytes are no circuit, and this is their first fault
 pub record IsRefused (bytes : List ℕ) (fault : ReadError) : Type 0 where

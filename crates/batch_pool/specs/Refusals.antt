@@ -2,9 +2,9 @@
 use Rattle.std.specs.Prelude.{if◌then◌else◌}
 use Rattle.file_words.specs.declared.fault.ReadError.{ReadError}
 use Rattle.file_words.specs.Codes.{is_fault_of_bytes}
-use Rattle.frames.specs.declared.errors.BytesError.{BytesError}
-use Rattle.frames.specs.declared.errors.BytesError.TheVariants.{Read, Retime, Write}
-use Rattle.frames.specs.declared.errors.RetimeError.TheVariants as retiming
+use Rattle.frame_runs.specs.declared.errors.BytesError.{BytesError}
+use Rattle.frame_runs.specs.declared.errors.BytesError.TheVariants.{Read, Retime, Write}
+use Rattle.frame_runs.specs.declared.errors.RetimeError.TheVariants as retiming
 use Rattle.batch_pool.specs.declared.job.Outcome.{Outcome}
 use Rattle.batch_pool.specs.declared.job.Outcome.TheVariants.{Misread, NoMemory, NoSuchLatch, NoSuchName, NotShown, Refused}
 

@@ -5,7 +5,7 @@ ghost use Rattle.batch_pool.specs.Outcomes.{AreOutcomes, IsOutcome};
 use crate::error::BatchError;
 use crate::job::{Job, Outcome, retime_file};
 use crate::pool::run_jobs;
-use frames::Options;
+use frame_runs::Options;
 use pulse::{Crew, PhaseGate};
 use std::alloc::Global;
 use std::thread::Threads;

@@ -4,9 +4,11 @@ ghost use Rattle.batch_pool.specs.declared.job.Outcome.TheVariants.{Done};
 ghost use Rattle.batch_pool.specs.Outcomes.{IsOutcome};
 ghost use Rattle.batch_pool.specs.Refusals.{of_fault, of_error};
 
+use frames::retime_bytes;
 use counted_io::Counted;
 use file_words::ReadError;
-use frames::{BytesError, Options, RetimeError, Retimed, retime_bytes};
+use frame_runs::{BytesError, Options, RetimeError};
+use merging_rounds::Rounds;
 use pulse::{Crew, OpenGate};
 use std::alloc::Global;
 use std::thread::Threads;
@@ -49,15 +51,15 @@ pub enum Outcome {
 }
 
 /// Returns the outcome of a circuit that was retimed, and its text.
-fn done(retimed: Retimed, bytes: Vec<u8>) -> Outcome
-    requires { length retimed.frames < 2 ^ 32 }
-    ensures { result ≡ Done bytes retimed.read_latches (length retimed.circuit.aig.latches)
-        (length retimed.frames) }
+fn done(rounds: Rounds, bytes: Vec<u8>) -> Outcome
+    requires { length rounds.frames < 2 ^ 32 }
+    ensures { result ≡ Done bytes rounds.read_latches (length rounds.circuit.aig.latches)
+        (length rounds.frames) }
 {
-    let before = retimed.read_latches;
-    let after = retimed.circuit.aig().latches().len() as u32;
-    let frames = retimed.frames.as_slice().len() as u32;
-    drop(retimed);
+    let before = rounds.read_latches;
+    let after = rounds.circuit.aig().latches().len() as u32;
+    let frames = rounds.frames.as_slice().len() as u32;
+    drop(rounds);
     Outcome::Done {
         bytes,
         before,
@@ -107,7 +109,7 @@ pub(crate) fn retime_file<R: Threads + Sync>(
     let mut writer = Counted::new(Vec::new(alloc));
     let crew = Crew::new(1, OpenGate);
     match retime_bytes(rt, alloc, &mut reader, &mut writer, options, &crew) {
-        Ok(retimed) => done(retimed, writer.into_inner()),
+        Ok(rounds) => done(rounds, writer.into_inner()),
         Err(error) => of_error(error),
     }
 }

@@ -15,6 +15,7 @@ use Rattle.path_levels.proofs.BoundedLaws.{bounded-law}
 use Rattle.certificate_audits.specs.declared.outcome.Audit.{Audit}
 use Rattle.certificate_audits.specs.declared.outcome.End.{End}
 use Rattle.certificate_audits.specs.declared.outcome.End.TheVariants.{NoBlocks, Certified, Open, BlocksFollow, Objected, Misread, NotShown}
+use Rattle.certificate_audits.specs.declared.moving.Stage.{Stage}
 use Rattle.certificate_audits.specs.declared.outcome.Replay.{Replay}
 use Rattle.certificate_audits.specs.Audits.{Audits, IsConfirmed, IsVerdictBy, Saves, IsNext, IsAudit, no_blocks, objected, open_end, certified_end, past_end, goes_on}
 use Rattle.certificate_audits.specs.Findings.{EndsWith, GoesOn, IsLastOf}
@@ -48,7 +49,7 @@ pub record LeadsTo (bound : Option ℕ) (held : List ℕ) (first : Netlist) (blo
   -- if there are blocks, there is one at place k
   pub another : 0 < length blocks → k < length blocks
   -- what the blocks from k on end in, all blocks end in
-  pub makes : (e : Netlist) → EndIn bound now circuit (drop k blocks) e → EndIn bound held first blocks e
+  pub makes : (e : Netlist) (later : List ℕ) → EndIn bound now circuit (drop k blocks) e later → EndIn bound held first blocks e later
 
 -- before the first block the circuit is the first one
 pub leads-first : (bound : Option ℕ) (held : List ℕ) (first : Netlist) (blocks : List Certificate) → All (λ j. j < length first.aig.latches) held → LeadsTo bound held first blocks 0 held first
@@ -56,7 +57,7 @@ leads-first bound held first blocks in_range = record {
   onward = λ n end audits. let same : n ≡ 0 + n = omega arith in subst (λ (m : ℕ). Audits bound held first blocks m end) same audits;
   in_range = in_range;
   another = λ some. some;
-  makes = λ e ends. ends;
+  makes = λ e there ends. ends;
 }
 
 -- the k-th block, and those after it
@@ -76,9 +77,9 @@ leads-next bound held now later first circuit d blocks k block within there goes
       subst (λ (m : ℕ). Audits bound held first blocks m end) same (leads.onward (suc n) end all);
   in_range = in_range;
   another = λ some. omega (arith, filled (drop (k + 1) blocks) goes.follows, length-drop (k + 1) blocks);
-  makes = λ e ends.
+  makes = λ e last ends.
       let rest : List Certificate = drop (k + 1) blocks in
-      leads.makes e (subst (λ (bs : List Certificate). EndIn bound now circuit bs e) (sym (here blocks k block within there)) (after_move now later circuit d e block rest goes.taken next ends));
+      leads.makes e last (subst (λ (bs : List Certificate). EndIn bound now circuit bs e last) (sym (here blocks k block within there)) (after_move now later last circuit d e block rest goes.taken next ends));
 }
 
 -- what the audit finds from this block on ends, with k more confirmed, the audit of all blocks
@@ -107,27 +108,29 @@ ends-audits bound held c block rest n (Misread latch) p = absurd p
 ends-audits bound held c block rest n (NotShown latch) p = absurd p
 
 -- and the circuit at which it ends is what the block and those after it end in
-pub ends-last : (bound : Option ℕ) (held : List ℕ) (c : Netlist) (block : Certificate) (rest : List Certificate) (n : ℕ) (end : End) (made : Option Netlist) → EndsWith bound held c block rest n end
+pub ends-last : (bound : Option ℕ) (held : List ℕ) (c : Netlist) (block : Certificate) (rest : List Certificate) (n : ℕ) (end : End) (made : Option Stage) → EndsWith bound held c block rest n end
     → IsLastOf held c block end made → IsLast bound held c (block ∷ rest) end made
 ends-last bound held c block rest n NoBlocks made p is = absurd p
-ends-last bound held c block rest n Open (Some d) p is = after_move held is.0 c d d block rest p.1 is.1 (subst (λ (bs : List Certificate). EndIn bound is.0 d bs d) (sym p.2) (no_more is.0 d))
+ends-last bound held c block rest n Open (Some s) p is =
+    let d : Netlist = s.circuit in after_move held s.keep s.keep c d d block rest p.1 is (subst (λ (bs : List Certificate). EndIn bound s.keep d bs d s.keep) (sym p.2) (no_more s.keep d))
 ends-last bound held c block rest n Open None p is = is
-ends-last bound held c block rest n Certified (Some d) p is =
-    let P : List Certificate → Netlist → Type 0 = λ bs e. EndIn bound held c (block ∷ bs) e in subst (λ (e : Netlist). P rest e) (sym is) (subst (λ (bs : List Certificate). P bs c) (sym p.2) (at_end held c block p.1))
+ends-last bound held c block rest n Certified (Some s) p is =
+    let P : List Certificate → Netlist → List ℕ → Type 0 = λ bs e js. EndIn bound held c (block ∷ bs) e js in
+    subst (λ (e : Netlist). P rest e s.keep) (sym is.0) (subst (λ (js : List ℕ). P rest c js) (sym is.1) (subst (λ (bs : List Certificate). P bs c held) (sym p.2) (at_end held c block p.1)))
 ends-last bound held c block rest n Certified None p is = is
-ends-last bound held c block rest n BlocksFollow (Some d) p is = absurd is
+ends-last bound held c block rest n BlocksFollow (Some s) p is = absurd is
 ends-last bound held c block rest n BlocksFollow None p is = is
-ends-last bound held c block rest n (Objected objection) (Some d) p is = absurd is
+ends-last bound held c block rest n (Objected objection) (Some s) p is = absurd is
 ends-last bound held c block rest n (Objected objection) None p is = is
 ends-last bound held c block rest n (Misread latch) made p is = absurd p
 ends-last bound held c block rest n (NotShown latch) made p is = absurd p
 
 -- what the blocks from k on end in, all blocks end in, if nothing speaks against one
-all-last : (bound : Option ℕ) (held now : List ℕ) (first circuit : Netlist) (blocks : List Certificate) (k : ℕ) (block : Certificate) (end : End) (made : Option Netlist) → k < length blocks
+all-last : (bound : Option ℕ) (held now : List ℕ) (first circuit : Netlist) (blocks : List Certificate) (k : ℕ) (block : Certificate) (end : End) (made : Option Stage) → k < length blocks
     → block ≡ get_or blocks k block → LeadsTo bound held first blocks k now circuit → IsLast bound now circuit (block ∷ drop (k + 1) blocks) end made → IsLast bound held first blocks end made
 all-last bound held now first circuit blocks k block end None within there leads is = is
-all-last bound held now first circuit blocks k block end (Some d) within there leads is =
-    leads.makes d (subst (λ (bs : List Certificate). EndIn bound now circuit bs d) (sym (here blocks k block within there)) is)
+all-last bound held now first circuit blocks k block end (Some s) within there leads is =
+    leads.makes s.circuit s.keep (subst (λ (bs : List Certificate). EndIn bound now circuit bs s.circuit s.keep) (sym (here blocks k block within there)) is)
 
 -- a replay that ends with the k-th block is that of all blocks
 replays-at : (bound : Option ℕ) (held now : List ℕ) (first circuit : Netlist) (blocks : List Certificate) (k : ℕ) (block : Certificate) (n : ℕ) (end : End) (replay : Replay) → k < length blocks
@@ -151,12 +154,13 @@ replayed-at bound held now first circuit blocks k block n end (Ok replay) within
 replayed-at bound held now first circuit blocks k block n end (Err error) within there ends leads found made = tt
 
 -- if there is no block, they end in the circuit
-pub replays-none : (bound : Option ℕ) (held now : List ℕ) (first circuit : Netlist) (blocks : List Certificate) (k : ℕ) (made : Netlist) → made ≡ circuit → length blocks ≤ k → LeadsTo bound held first blocks k now circuit
+pub replays-none : (bound : Option ℕ) (held now : List ℕ) (first circuit : Netlist) (blocks : List Certificate) (k : ℕ) (made : Stage) → made.circuit ≡ circuit → made.keep ≡ now → length blocks ≤ k → LeadsTo bound held first blocks k now circuit
     → Replays bound held first blocks (record { audit = record { confirmed = 0; end = NoBlocks }; last = Some made })
-replays-none bound held now first circuit blocks k made same past leads = record {
+replays-none bound held now first circuit blocks k made same stand past leads = record {
   audits = none-left bound held now first circuit blocks k past leads;
-  last = subst (λ (d : Netlist). EndIn bound held first blocks d) (sym same)
-      (leads.makes circuit (subst (λ (bs : List Certificate). EndIn bound now circuit bs circuit) (sym (drop_all k blocks past)) (no_more now circuit)));
+  last = subst (λ (d : Netlist). EndIn bound held first blocks d made.keep) (sym same)
+      (subst (λ (js : List ℕ). EndIn bound held first blocks circuit js) (sym stand)
+      (leads.makes circuit now (subst (λ (bs : List Certificate). EndIn bound now circuit bs circuit now) (sym (drop_all k blocks past)) (no_more now circuit))));
 }
 
 -- if the audit is open, the block that ended it saves latches

@@ -14,6 +14,7 @@ use Rattle.retimed_circuits.specs.RetimingLevels.{KeepsLevels}
 use Rattle.certificates.specs.declared.certificate.Certificate.{Certificate}
 use Rattle.certificates.specs.declared.merged.MergedLatch.{MergedLatch}
 use Rattle.certificate_audits.specs.declared.outcome.End.{End}
+use Rattle.certificate_audits.specs.declared.moving.Stage.{Stage}
 use Rattle.certificate_audits.specs.declared.outcome.Replay.{Replay}
 use Rattle.certificate_audits.specs.Audits.{IsNext, IsMoveTaken}
 use Rattle.certificate_audits.specs.Laws.{MergedReplayLevelLaw, ReplayLevelLaw}
@@ -41,25 +42,25 @@ module _ (most : ℕ) where
       } in
       cleans-bounded (held_over held d block.gates) c (moved_over held d block.gates) e next.kept now moved next.cleaned
 
-  end-bounded : (held : List ℕ) (c d : Netlist) (blocks : List Certificate) (e : Netlist) → Bounded c d → EndIn (Some most) held d blocks e → Bounded c e
-  end-bounded _ c _ _ _ before (no_more held d) = before
-  end-bounded _ c _ _ _ before (at_end held d block none) = before
-  end-bounded _ c _ _ _ before (after_move held now d e f block rest taken next more) =
-      end-bounded now c e rest f (next-bounded held c d e block now before taken next) more
+  end-bounded : (held : List ℕ) (c d : Netlist) (blocks : List Certificate) (e : Netlist) (later : List ℕ) → Bounded c d → EndIn (Some most) held d blocks e later → Bounded c e
+  end-bounded _ c _ _ _ _ before (no_more held d) = before
+  end-bounded _ c _ _ _ _ before (at_end held d block none) = before
+  end-bounded _ c _ _ _ _ before (after_move held now later d e f block rest taken next more) =
+      end-bounded now c e rest f later (next-bounded held c d e block now before taken next) more
 
-  last-bounded : (held : List ℕ) (c first : Netlist) (blocks : List Certificate) (end : End) (last : Option Netlist) → Bounded c first → IsLast (Some most) held first blocks end last
-      → IfSome last (KeepsLevels (Some most) c)
+  last-bounded : (held : List ℕ) (c first : Netlist) (blocks : List Certificate) (end : End) (last : Option Stage) → Bounded c first → IsLast (Some most) held first blocks end last
+      → IfSome last (λ s. KeepsLevels (Some most) c s.circuit)
   last-bounded held c first blocks end None before is = tt
-  last-bounded held c first blocks end (Some d) before is = (end-bounded held c first blocks d before is).kept
+  last-bounded held c first blocks end (Some s) before is = (end-bounded held c first blocks s.circuit s.keep before is).kept
 
   replay-bounded : (held : List ℕ) (c start : Netlist) (blocks : List Certificate) (replay : Replay) → Bounded c start → IsReplay (Some most) held start blocks replay
-      → IfSome replay.last (KeepsLevels (Some most) c)
+      → IfSome replay.last (λ s. KeepsLevels (Some most) c s.circuit)
   replay-bounded held c start blocks replay before is =
       last-bounded is.now c is.first blocks replay.audit.end replay.last (cleans-bounded held c start is.first is.kept is.now before is.cleaned) is.replays.last
 
-unbounded : (c : Netlist) (last : Option Netlist) → IfSome last (KeepsLevels None c)
+unbounded : (c : Netlist) (last : Option Stage) → IfSome last (λ s. KeepsLevels None c s.circuit)
 unbounded c None = tt
-unbounded c (Some d) = tt
+unbounded c (Some s) = tt
 
 -- what the blocks of a replay end in keeps the bound
 pub replay-levels : (bound : Option ℕ) (held : List ℕ) (c : Netlist) (blocks : List Certificate) → ReplayLevelLaw bound held c blocks

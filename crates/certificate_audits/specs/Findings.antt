@@ -6,6 +6,7 @@ use Rattle.certificate_audits.specs.declared.judging.Finding.{Finding}
 use Rattle.certificate_audits.specs.declared.judging.Finding.TheVariants.{Objected, Fewer, NotFewer}
 use Rattle.certificate_audits.specs.declared.outcome.End.{End}
 use Rattle.certificate_audits.specs.declared.outcome.End.TheVariants as ends
+use Rattle.certificate_audits.specs.declared.moving.Stage.{Stage}
 use Rattle.certificate_audits.specs.Audits.{IsNext, IsMoveTaken, Objects, SavesNone}
 use Rattle.certificate_audits.specs.Ends.{is_accepted}
 
@@ -34,15 +35,15 @@ EndsWith bound held c block rest n (ends.NotShown latch) = ⊥
 
 -- what the blocks end in, if the audit ends in this way with this block of c: after a last move, or
 -- at c itself
-abbrev pub IsEndOf : List ℕ → Netlist → Certificate → End → Netlist → Type 0
-IsEndOf held c block ends.NoBlocks d = d ≡ c
-IsEndOf held c block ends.Certified d = d ≡ c
-IsEndOf held c block ends.Open d = (now : List ℕ) × IsNext held c block d now
-IsEndOf held c block ends.BlocksFollow d = ⊥
-IsEndOf held c block (ends.Objected objection) d = ⊥
-IsEndOf held c block (ends.Misread latch) d = ⊥
-IsEndOf held c block (ends.NotShown latch) d = ⊥
+abbrev pub IsEndOf : List ℕ → Netlist → Certificate → End → Stage → Type 0
+IsEndOf held c block ends.NoBlocks s = (s.circuit ≡ c) × (s.keep ≡ held)
+IsEndOf held c block ends.Certified s = (s.circuit ≡ c) × (s.keep ≡ held)
+IsEndOf held c block ends.Open s = IsNext held c block s.circuit s.keep
+IsEndOf held c block ends.BlocksFollow s = ⊥
+IsEndOf held c block (ends.Objected objection) s = ⊥
+IsEndOf held c block (ends.Misread latch) s = ⊥
+IsEndOf held c block (ends.NotShown latch) s = ⊥
 
 -- what the blocks end in, or none if something speaks against the block
-abbrev pub IsLastOf : List ℕ → Netlist → Certificate → End → Option Netlist → Type 0
+abbrev pub IsLastOf : List ℕ → Netlist → Certificate → End → Option Stage → Type 0
 IsLastOf held c block end last = MatchOption last (is_accepted end ≡ false) (IsEndOf held c block end)

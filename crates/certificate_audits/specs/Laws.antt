@@ -72,16 +72,16 @@ HasStreamsOf c d = (kept : List ℕ) × SameStreams c d kept
 
 -- what the blocks end in has c's streams
 abbrev pub ReplayLaw : Option ℕ → List ℕ → Netlist → List Certificate → Type 0
-ReplayLaw bound held c blocks = (replay : Replay) → IsGraph c.aig → IsNetlist c → IsReplay bound held c blocks replay → IfSome replay.last (HasStreamsOf c)
+ReplayLaw bound held c blocks = (replay : Replay) → IsGraph c.aig → IsNetlist c → IsReplay bound held c blocks replay → IfSome replay.last (λ s. HasStreamsOf c s.circuit)
 
 -- also if latches were merged first
 abbrev pub MergedReplayLaw : Option ℕ → List ℕ → Netlist → List MergedLatch → List Certificate → Type 0
-MergedReplayLaw bound held c lines blocks = (replay : Replay) → IsGraph c.aig → IsNetlist c → IsMergedReplay bound held c lines blocks replay → IfSome replay.last (HasStreamsOf c)
+MergedReplayLaw bound held c lines blocks = (replay : Replay) → IsGraph c.aig → IsNetlist c → IsMergedReplay bound held c lines blocks replay → IfSome replay.last (λ s. HasStreamsOf c s.circuit)
 
 -- what the blocks end in has no path longer than the bound, but for those that c has
 abbrev pub ReplayLevelLaw : Option ℕ → List ℕ → Netlist → List Certificate → Type 0
-ReplayLevelLaw bound held c blocks = (replay : Replay) → IsGraph c.aig → IsNetlist c → IsReplay bound held c blocks replay → IfSome replay.last (KeepsLevels bound c)
+ReplayLevelLaw bound held c blocks = (replay : Replay) → IsGraph c.aig → IsNetlist c → IsReplay bound held c blocks replay → IfSome replay.last (λ s. KeepsLevels bound c s.circuit)
 
 -- also if latches were merged first
 abbrev pub MergedReplayLevelLaw : Option ℕ → List ℕ → Netlist → List MergedLatch → List Certificate → Type 0
-MergedReplayLevelLaw bound held c lines blocks = (replay : Replay) → IsGraph c.aig → IsNetlist c → IsMergedReplay bound held c lines blocks replay → IfSome replay.last (KeepsLevels bound c)
+MergedReplayLevelLaw bound held c lines blocks = (replay : Replay) → IsGraph c.aig → IsNetlist c → IsMergedReplay bound held c lines blocks replay → IfSome replay.last (λ s. KeepsLevels bound c s.circuit)

@@ -3,3 +3,4 @@ pub mod Audits
 pub mod Findings
 pub mod Replays
 pub mod Laws
+pub mod Parts

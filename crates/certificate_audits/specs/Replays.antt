@@ -7,22 +7,23 @@ use Rattle.retimed_circuits.specs.Frames.{CleansTo}
 use Rattle.retimed_circuits.specs.Merging.{MergesIn}
 use Rattle.certificate_audits.specs.declared.outcome.End.{End}
 use Rattle.certificate_audits.specs.declared.outcome.End.TheVariants.{Misread, NotShown}
+use Rattle.certificate_audits.specs.declared.moving.Stage.{Stage}
 use Rattle.certificate_audits.specs.declared.outcome.Replay.{Replay}
 use Rattle.certificate_audits.specs.Audits.{Audits, IsNext, IsMoveTaken, SavesNone}
 use Rattle.certificate_audits.specs.Ends.{is_accepted}
 
--- d is what c becomes by the blocks, one after another. The latches move over the set of a block
--- that saves latches and keeps the bound, and the circuit is cleaned. A last block that saves none
--- moves nothing.
-pub data EndIn (bound : Option ℕ) : List ℕ → Netlist → List Certificate → Netlist → Type 0 where
-  no_more : (held : List ℕ) (c : Netlist) → EndIn bound held c [] c
-  at_end : (held : List ℕ) (c : Netlist) (block : Certificate) → SavesNone bound held c block → EndIn bound held c (block ∷ []) c
-  after_move : (held now : List ℕ) (c d e : Netlist) (block : Certificate) (rest : List Certificate) → IsMoveTaken bound held c block → IsNext held c block d now → EndIn bound now d rest e
-      → EndIn bound held c (block ∷ rest) e
+-- The last circuit is what c becomes by the blocks, one after another, and then come the positions
+-- of its held latches. The latches move over the set of a block that saves latches and keeps the
+-- bound, and the circuit is cleaned. A last block that saves none moves nothing.
+pub data EndIn (bound : Option ℕ) : List ℕ → Netlist → List Certificate → Netlist → List ℕ → Type 0 where
+  no_more : (held : List ℕ) (c : Netlist) → EndIn bound held c [] c held
+  at_end : (held : List ℕ) (c : Netlist) (block : Certificate) → SavesNone bound held c block → EndIn bound held c (block ∷ []) c held
+  after_move : (held now later : List ℕ) (c d e : Netlist) (block : Certificate) (rest : List Certificate) → IsMoveTaken bound held c block → IsNext held c block d now → EndIn bound now d rest e later
+      → EndIn bound held c (block ∷ rest) e later
 
 -- the circuit that the blocks end in exists if and only if nothing speaks against a block
-abbrev pub IsLast : Option ℕ → List ℕ → Netlist → List Certificate → End → Option Netlist → Type 0
-IsLast bound held c blocks end last = MatchOption last (is_accepted end ≡ false) (EndIn bound held c blocks)
+abbrev pub IsLast : Option ℕ → List ℕ → Netlist → List Certificate → End → Option Stage → Type 0
+IsLast bound held c blocks end last = MatchOption last (is_accepted end ≡ false) (λ s. EndIn bound held c blocks s.circuit s.keep)
 
 -- the audit of blocks, the first of which is for this circuit, and what they end in
 pub record Replays (bound : Option ℕ) (held : List ℕ) (c : Netlist) (blocks : List Certificate) (replay : Replay) : Type 0 where

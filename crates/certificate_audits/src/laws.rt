@@ -2,6 +2,9 @@ ghost use Rattle.std.specs.Prelude.{ℕ, List, Option};
 ghost use Rattle.aig_graph.specs.Circuits.{Netlist};
 ghost use Rattle.certificates.specs.declared.certificate.Certificate.{Certificate as Block};
 ghost use Rattle.certificates.specs.declared.merged.MergedLatch.{MergedLatch};
+ghost use Rattle.certificate_files.specs.declared.file.CertPart.{CertPart};
+ghost use Rattle.certificate_audits.specs.Parts.{PartsLaw, PartsLevelLaw};
+ghost use Rattle.certificate_audits.specs.declared.moving.Stage.{Stage};
 ghost use Rattle.certificate_audits.specs.Laws.{AuditLaw, CertifiedLaw, MergedAuditLaw, MergedCertifiedLaw, MergedReplayLaw, MergedReplayLevelLaw, ReplayLaw, ReplayLevelLaw};
 
 /// States that if an audit ends certified, all blocks are confirmed and each set is least in its
@@ -50,4 +53,13 @@ pub fn replay_laws()
     ensures merged_levels { (bound : Option ℕ) (held : List ℕ) (c : Netlist)
         (lines : List MergedLatch) (blocks : List Block)
         → MergedReplayLevelLaw bound held c lines blocks }
+{}
+
+/// States [`replay_laws`] of the further parts of a file: what they end in behaves as the circuit
+/// that the first of them is about, whoever made them.
+pub fn parts_laws()
+    ensures streams { (bound : Option ℕ) (stage : Stage) (parts : List CertPart)
+        → PartsLaw bound stage parts }
+    ensures levels { (bound : Option ℕ) (stage : Stage) (parts : List CertPart)
+        → PartsLevelLaw bound stage parts }
 {}

@@ -5,6 +5,9 @@
 //!
 //! If a file says which latches were merged before the first frame, that is judged first. No block
 //! is judged if a latch isn't shown to agree with what it reads as.
+//!
+//! A file may have further parts, which merge latches again and take further frames. Each is judged
+//! for the circuit that the parts before it end in.
 #![tactic(auto)]
 
 mod judging;
@@ -12,9 +15,12 @@ mod laws;
 mod merged;
 mod moving;
 mod outcome;
+mod parts;
 mod run;
 
-pub use laws::{audit_law, certified_law, merged_audit_laws, replay_laws};
+pub use laws::{audit_law, certified_law, merged_audit_laws, parts_laws, replay_laws};
 pub use merged::{replay_guessed, replay_merged};
+pub use moving::Stage;
 pub use outcome::{Audit, BlockObjection, End, Replay};
+pub use parts::{PartsReplay, replay_parts};
 pub use run::{audit_blocks, replay_blocks};

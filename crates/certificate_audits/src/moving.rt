@@ -14,20 +14,11 @@ use clean::{Cleaned, clean};
 use rebuild::{MoveMarks, moved_by};
 use std::alloc::Global;
 
-/// The circuit that a block is for, and its held latches.
+/// A circuit that a block is for, or that blocks end in, and its held latches.
 #[derive(Drop)]
-pub(crate) struct Stage {
-    pub(crate) circuit: Circuit,
-    pub(crate) keep: Keep,
-}
-
-/// Returns the circuit, and drops its held latches.
-pub(crate) fn circuit_of(stage: Stage) -> Circuit
-    ensures { result ≡ stage.circuit }
-{
-    let Stage { circuit, keep } = stage;
-    drop(keep);
-    circuit
+pub struct Stage {
+    pub circuit: Circuit,
+    pub keep: Keep,
 }
 
 /// Makes a stage of a cleaned circuit and its held latches.

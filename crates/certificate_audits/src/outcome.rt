@@ -4,7 +4,7 @@ ghost use Rattle.std.specs.Prelude.{◌≡◌};
 ghost use Rattle.certificate_audits.specs.Ends.{block_objection_name};
 ghost use Rattle.certificate_audits.specs.Replays as replays;
 
-use aig_graph::Circuit;
+use crate::moving::Stage;
 use certificates::Objection;
 
 /// Why a block isn't confirmed.
@@ -91,8 +91,9 @@ pub struct Replay {
     /// The outcome of the audit.
     pub audit: Audit,
     /// The circuit after latches moved over the set of each block that saves latches, cleaned after
-    /// each move. `None` if something speaks against a block or a merged latch.
-    pub last: Option<Circuit>,
+    /// each move, and its held latches. `None` if something speaks against a block or a merged
+    /// latch.
+    pub last: Option<Stage>,
 }
 
 /// Returns the replay of certificates that merge a latch as they may not, by this end. None of

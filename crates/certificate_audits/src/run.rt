@@ -7,21 +7,21 @@ ghost use Rattle.certificate_audits.specs.Findings.{IsLastOf};
 ghost use Rattle.certificate_audits.specs.Replays.{IsReplay, Replays};
 
 use crate::judging::end_at;
-use crate::moving::{Stage, after_block, circuit_of, stage_of};
+use crate::moving::{Stage, after_block, stage_of};
 use crate::outcome::{Audit, End, Replay, audit_of};
 use aig_graph::{Circuit, Keep, KeepError, NoMemory, keep_of};
 use certificates::Certificate;
 use clean::clean;
 use std::alloc::Global;
 
-/// Returns the circuit that blocks end in. `block` is the last of them, for the circuit of `stage`,
-/// and the audit ended with `end`.
-fn last_circuit(
+/// Returns the circuit that blocks end in, and its held latches. `block` is the last of them, for
+/// the circuit of `stage`, and the audit ended with `end`.
+fn last_stage(
     alloc: Global,
     stage: Stage,
     block: &Certificate,
     end: End,
-) -> Result<Option<Circuit>, NoMemory>
+) -> Result<Option<Stage>, NoMemory>
     requires in_range { All (λ j. j < length stage.circuit.aig.latches) stage.keep }
     requires saves { end ≡ End.Open
         → (bound : Option ℕ) × Saves bound stage.keep stage.circuit block.now }
@@ -29,10 +29,10 @@ fn last_circuit(
 {
     match end {
         End::Open => match after_block(alloc, stage, block) {
-            Ok(next) => Ok(Some(circuit_of(next))),
+            Ok(next) => Ok(Some(next)),
             Err(error) => Err(error),
         },
-        End::NoBlocks | End::Certified => Ok(Some(circuit_of(stage))),
+        End::NoBlocks | End::Certified => Ok(Some(stage)),
         End::BlocksFollow | End::Objected(_) | End::Misread(_) | End::NotShown(_) => {
             drop(stage);
             Ok(None)
@@ -54,7 +54,7 @@ fn ended_with(
     ensures last { IfOk result (λ replay. IsLastOf stage.keep stage.circuit block.now
         audit.end replay.last) }
 {
-    match last_circuit(alloc, stage, block, audit.end) {
+    match last_stage(alloc, stage, block, audit.end) {
         Ok(last) => Ok(Replay { audit, last }),
         Err(error) => Err(error),
     }
@@ -93,7 +93,7 @@ fn replay_from(
             confirmed: 0,
             end: End::NoBlocks,
         },
-        last: Some(circuit_of(stage)),
+        last: Some(stage),
     })
 }
 

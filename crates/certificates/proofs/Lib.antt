@@ -6,12 +6,3 @@ pub mod PartsLaws
 pub mod DistinctLaws
 pub mod RangeLaws
 pub mod Examples
-pub mod FormLaws
-pub mod WordLaws
-pub mod StepLaws
-pub mod MergedLaws
-pub mod FileLaws
-pub mod RoundTripLaws
-pub mod FileTripLaws
-pub mod ReadLaws
-pub mod FileExamples

@@ -2,9 +2,3 @@ pub mod Routes
 pub mod Verdicts
 pub mod Objections
 pub mod Parts
-pub mod Files
-pub mod Texts
-pub mod Steps
-pub mod Forms
-pub mod Laws
-pub mod Codes

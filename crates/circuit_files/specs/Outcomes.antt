@@ -8,8 +8,8 @@ use Rattle.counted_io.specs.declared.reading.ReadAllError.{ReadAllError}
 use Rattle.counted_io.specs.declared.reading.ReadAllError.TheVariants as whole
 use Rattle.circuit_files.specs.declared.fault.ListError.{ListError}
 use Rattle.circuit_files.specs.declared.fault.ListError.TheVariants as lists
-use Rattle.certificates.specs.declared.fault.CertError.{CertError}
-use Rattle.certificates.specs.declared.fault.CertError.TheVariants as certificates
+use Rattle.certificate_files.specs.declared.fault.CertError.{CertError}
+use Rattle.certificate_files.specs.declared.fault.CertError.TheVariants as certificates
 use Rattle.lane_sim.specs.declared.fault.StimError.{StimError}
 use Rattle.lane_sim.specs.declared.fault.StimError.TheVariants as stimuli
 use Rattle.witnesses.specs.declared.fault.WitnessError.{WitnessError}

@@ -9,9 +9,9 @@ use Rattle.lane_sim.specs.Stimuli.{read_text}
 use Rattle.lane_sim.specs.declared.fault.StimError.{StimError}
 use Rattle.lane_sim.specs.declared.stimulus.InputSequence.{InputSequence}
 use Rattle.aig_binary.specs.Ending.{IsReadError}
-use Rattle.certificates.specs.Files.{read_text as certificates_of}
-use Rattle.certificates.specs.declared.fault.CertError.{CertError}
-use Rattle.certificates.specs.declared.file.CertFile.{CertFile}
+use Rattle.certificate_files.specs.Files.{read_text as certificates_of}
+use Rattle.certificate_files.specs.declared.fault.CertError.{CertError}
+use Rattle.certificate_files.specs.declared.file.CertFile.{CertFile}
 use Rattle.aig_graph.specs.Circuits.{Netlist}
 use Rattle.witnesses.specs.Circuits.{widths_of}
 use Rattle.witnesses.specs.Reading.{read_text as witness_of}

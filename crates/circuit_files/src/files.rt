@@ -10,7 +10,7 @@ ghost use Rattle.counted_io.specs.Streams.{is_stdin, source_name};
 use crate::outcome::Failure;
 use aig_binary::{AnyReader, CircuitReader, SpeltCircuit, read_circuit};
 use aig_graph::Circuit;
-use certificates::{CertFile, read_cert};
+use certificate_files::{CertFile, read_cert};
 use counted_io::{Counted, CountedRead, Source, read_all};
 use file_words::ReadError;
 use lane_sim::{Stimulus, read_stimulus};

@@ -4,7 +4,7 @@ ghost use Rattle.std.specs.Prelude.{◌≡◌};
 ghost use Rattle.circuit_files.specs.Outcomes.{outcome_of, path_of, failure_of_bytes, failure_of_certificates, failure_of_list, failure_of_reading, failure_of_stimulus, failure_of_witness};
 
 use crate::ListError;
-use certificates::CertError;
+use certificate_files::CertError;
 use counted_io::ReadAllError;
 use file_words::ReadError;
 use lane_sim::StimError;

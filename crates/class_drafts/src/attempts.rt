@@ -45,12 +45,12 @@ impl Attempt {
 
     /// Returns the number of latches with a known reset.
     pub fn known_latches(&self) -> u32 {
-        self.made.retimed.circuit.aig().known_latches()
+        self.made.rounds.circuit.aig().known_latches()
     }
 
     /// Returns true if it leaves fewer latches, and no way gets too long.
     fn betters(&self, memory: &mut Memory, scene: &Scene<'_>, limits: Limits) -> bool {
-        scene.is_bettered_by(memory, &self.made.retimed.circuit, limits.levels)
+        scene.is_bettered_by(memory, &self.made.rounds.circuit, limits.levels)
     }
 }
 

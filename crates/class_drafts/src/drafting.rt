@@ -5,8 +5,8 @@ use crate::running::Limits;
 use aig_graph::{Circuit, Keep, Memory, NoMemory, Sequence};
 use backward_sets::{entry, number};
 use class_nets::{GrowingMap, NumberMap, PLANS, Plan, Scene, plan_of, sealed};
-use frames::Retimed;
 use mapped_answers::Made;
+use merging_rounds::Rounds;
 use pulse::{Crew, PhaseGate};
 use sealed_drafts::drawn_map;
 use std::alloc::Global;
@@ -200,12 +200,12 @@ fn all_below(memory: &mut Memory, many: u32) -> Vec<u32> {
 /// Returns what a draft has come to, after an attempt. Before it the free latches were these.
 fn stand_of(memory: &mut Memory, attempt: Attempt, kept_free: &[u32]) -> (Stand, GrowingMap, u32) {
     let (made, map, frames) = attempt.into_parts();
-    let Made { retimed, keep, .. } = made;
-    let Retimed {
+    let Made { rounds, keep, .. } = made;
+    let Rounds {
         circuit,
         kept_free: kept,
         ..
-    } = retimed;
+    } = rounds;
     let kept_free = picked(memory, kept_free, kept.as_slice());
     let stand = Stand {
         circuit,

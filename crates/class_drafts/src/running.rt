@@ -6,7 +6,7 @@ use crate::joining::joined;
 use aig_graph::{Circuit, Memory};
 use backward_sets::{has_mark, number, set_mark};
 use class_nets::{GrowingMap, Net, NumberMap, number_map, sealed};
-use frames::{BytesError, NoWatcher, Options, PathBound, RetimeError};
+use frame_runs::{BytesError, NoWatcher, Options, PathBound, RetimeError};
 use mapped_answers::{AnswerError, Made, made_over};
 use pulse::{Crew, PhaseGate};
 use std::mem;
@@ -128,12 +128,10 @@ impl Progress {
     fn join(&mut self, memory: &mut Memory, net: &mut Net, cut: &Cut, made: &Made) {
         let map = number_map(memory, &made.map);
         self.mark_read(memory, net, cut, &map);
-        let part = &made.retimed.circuit;
+        let part = &made.rounds.circuit;
         let after = joined(memory, net, cut, part, &map, &mut self.growing);
         drop(mem::replace(net, after));
-        self.frames = self
-            .frames
-            .saturating_add(number(made.retimed.frames.len()));
+        self.frames = self.frames.saturating_add(number(made.rounds.frames.len()));
     }
 
     /// Moves the latches of one class. Returns true if that leaves fewer.
@@ -156,7 +154,7 @@ impl Progress {
         let Some(made) = run(rt, memory, circuit, held, &limits, crew) else {
             return false;
         };
-        let fewer = made.retimed.circuit.aig().latches().len() < before;
+        let fewer = made.rounds.circuit.aig().latches().len() < before;
         if fewer {
             self.join(memory, net, &cut, &made);
         }
@@ -205,7 +203,7 @@ impl Progress {
     pub fn into_attempt(mut self, memory: &mut Memory, made: Made, only: Vec<bool>) -> Attempt {
         let map = number_map(memory, &made.map);
         self.growing.follow(memory, &map);
-        let taken = number(made.retimed.frames.len());
+        let taken = number(made.rounds.frames.len());
         let Progress {
             limits: _limits,
             growing,

@@ -1,8 +1,8 @@
 -- The options of a run, by those that a task has.
 use Rattle.std.specs.Prelude.{ℕ, ◌≡◌, Bool}
 use Rattle.command_line.specs.declared.options.RetimingOptions.{RetimingOptions}
-use Rattle.frames.specs.Named.{holding_in}
-use Rattle.frames.specs.declared.options.Options.{Options}
+use Rattle.frame_runs.specs.Named.{holding_in}
+use Rattle.frame_runs.specs.declared.options.Options.{Options}
 use Rattle.command_endings.specs.HeldNames.{holding_of}
 
 -- the options of a run are the task's, with this most frames, and certificates or none

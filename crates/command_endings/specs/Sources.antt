@@ -6,7 +6,7 @@ use Rattle.aig_graph.specs.Graph.{Graph}
 use Rattle.aig_binary.specs.Ending.{Spells}
 use Rattle.aig_binary.specs.declared.reading.SpeltCircuit.{SpeltCircuit}
 use Rattle.lane_sim.specs.declared.stimulus.InputSequence.{InputSequence}
-use Rattle.certificates.specs.declared.file.CertFile.{CertFile}
+use Rattle.certificate_files.specs.declared.file.CertFile.{CertFile}
 use Rattle.witnesses.specs.declared.witness.Witness.{Witness}
 use Rattle.counted_io.specs.Streams.{is_stdin}
 use Rattle.counted_io.specs.declared.source.Source.{Source}

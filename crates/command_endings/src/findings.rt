@@ -10,14 +10,14 @@ ghost use Rattle.circuit_files.specs.declared.outcome.Outcome.TheVariants.{Done,
 ghost use Rattle.command_endings.specs.Objects.{EndsBy, EndsPrintingObject};
 ghost use Rattle.command_endings.specs.Objects as wanted;
 
-use certificates::Certificate;
+use certificate_files::CertPart;
 use circuit_files::{Failure, Outcome};
 use counted_io::CountedWrite;
 use json_reports::{MapCounts, PrintError, ReadLevels, Times};
 use lane_sim::Place;
 use merged_circuits::MergeCounts;
+use merging_rounds::Rounds;
 use reports::{JobReport, Judgement, Remaining, Statistics};
-use retimed_circuits::Retimed;
 use std::alloc::Global;
 
 /// Returns the end of a command that has printed an object, if there was room for it and standard
@@ -38,7 +38,7 @@ fn ended<'a>(printed: Result<(), PrintError>, outcome: Outcome) -> Result<Outcom
 /// measured.
 pub fn print_retiming<'a, W: CountedWrite>(
     alloc: Global,
-    retimed: &Retimed,
+    rounds: &Rounds,
     levels: ReadLevels,
     remaining: &Remaining,
     times: Option<&Times>,
@@ -46,11 +46,11 @@ pub fn print_retiming<'a, W: CountedWrite>(
     writer: &mut W,
 ) -> Result<Outcome, Failure<'a>>
     ensures { EndsPrintingObject Done
-        (retiming_data retimed.now levels remaining.now (option_map (λ t. t.now) times.entry) map)
+        (retiming_data rounds.now levels remaining.now (option_map (λ t. t.now) times.entry) map)
         (W.output writer.old) (W.output writer.new) result }
 {
     let printed = json_reports::print_retiming(
-        alloc, retimed, levels, remaining, times, map, writer,
+        alloc, rounds, levels, remaining, times, map, writer,
     );
     ended(printed, Outcome::Done)
 }
@@ -104,19 +104,19 @@ pub fn print_shapes_differ<'a, W: CountedWrite>(
     ended(printed, Outcome::ShapesDiffer)
 }
 
-/// Prints a judgement of a file's blocks. The run then ends so.
+/// Prints a judgement of a file's parts. The run then ends so.
 pub fn print_audit<'a, W: CountedWrite>(
     alloc: Global,
-    blocks: &[Certificate],
+    parts: &[CertPart],
     judgement: &Judgement,
     outcome: Outcome,
     writer: &mut W,
 ) -> Result<Outcome, Failure<'a>>
-    ensures { EndsPrintingObject outcome (audit_data blocks.now judgement.now (status_of outcome))
+    ensures { EndsPrintingObject outcome (audit_data parts.now judgement.now (status_of outcome))
         (W.output writer.old) (W.output writer.new) result }
 {
     let status = outcome.status();
-    let printed = json_reports::print_audit(alloc, blocks, judgement, status, writer);
+    let printed = json_reports::print_audit(alloc, parts, judgement, status, writer);
     ended(printed, outcome)
 }
 

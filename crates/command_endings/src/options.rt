@@ -4,7 +4,7 @@ ghost use Rattle.command_endings.specs.RunOptions.{AreOptionsOf};
 
 use crate::names::bytes_of_names;
 use command_line::RetimingOptions;
-use frames::Options;
+use frame_runs::Options;
 use std::alloc::{AllocError, Global};
 
 /// Returns the options of a run of at most `max_frames` frames, which makes certificates or none.

@@ -12,7 +12,7 @@ use aig_graph::Aig;
 use backward_moves::{MoveStage, MoveWatcher};
 use command_line::Shown;
 use counted_io::CountedWrite;
-use frames::{FrameWatcher, Stage};
+use frame_runs::{FrameWatcher, Stage};
 use json_reports::Times;
 pub use lines::{Frame, State};
 use std::alloc::Global;

@@ -12,8 +12,8 @@ use Rattle.counted_io.specs.declared.source.Source.{Source}
 use Rattle.counted_io.specs.declared.target.Target.{Target}
 use Rattle.aig_graph.specs.declared.choice.Choice.{Choice}
 use Rattle.aig_graph.specs.declared.choice.Choice.TheVariants.{Greatest, Smallest}
-use Rattle.frames.specs.declared.bound.PathBound.{PathBound}
-use Rattle.frames.specs.declared.bound.PathBound.TheVariants as bounds
+use Rattle.frame_runs.specs.declared.bound.PathBound.{PathBound}
+use Rattle.frame_runs.specs.declared.bound.PathBound.TheVariants as bounds
 use Rattle.command_line.specs.declared.options.RetimingOptions.{RetimingOptions}
 use Rattle.command_line.specs.declared.task.Shown.{Shown}
 use Rattle.command_line.specs.declared.task.Shown.TheVariants.{OnTerminal, EachFrame, Nothing}

@@ -7,7 +7,7 @@ use aig_graph::Choice;
 use clap::ArgMatches;
 use counted_io::Source;
 use file_words::Spelling;
-use frames::PathBound;
+use frame_runs::PathBound;
 use std::alloc::{AllocError, Global};
 
 /// How latches are moved. An option that a command doesn't have is as if it weren't given.

@@ -9,7 +9,7 @@ use aig_graph::Choice;
 use clap::ArgMatches;
 use counted_io::{Source, Target};
 use file_words::Spelling;
-use frames::PathBound;
+use frame_runs::PathBound;
 use std::alloc::{AllocError, Global};
 
 /// Returns the source of the argument with this id, a path that is read.

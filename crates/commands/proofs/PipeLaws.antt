@@ -12,13 +12,13 @@ use Rattle.aig_binary.specs.Spellings.{text_in}
 use Rattle.aig_binary.specs.declared.reading.SpeltCircuit.{SpeltCircuit}
 use Rattle.aig_binary.proofs.LimitLaws.{reads-within}
 use Rattle.counted_io.specs.Output.{Output, WritesAll}
-use Rattle.retimed_circuits.specs.declared.report.Retimed.{Retimed}
-use Rattle.frames.specs.declared.errors.BytesError.{BytesError}
-use Rattle.frames.specs.declared.errors.BytesError.TheVariants.{Read, Retime, Write}
-use Rattle.frames.specs.declared.errors.RetimeError.TheVariants.{Misread, NoMemory, NoSuchLatch, NoSuchName, NotShown}
-use Rattle.frames.specs.declared.options.Options.{Options}
+use Rattle.merging_rounds.specs.declared.rounds.Rounds.{Rounds}
+use Rattle.frame_runs.specs.declared.errors.BytesError.{BytesError}
+use Rattle.frame_runs.specs.declared.errors.BytesError.TheVariants.{Read, Retime, Write}
+use Rattle.frame_runs.specs.declared.errors.RetimeError.TheVariants.{Misread, NoMemory, NoSuchLatch, NoSuchName, NotShown}
+use Rattle.frame_runs.specs.declared.options.Options.{Options}
 use Rattle.frames.specs.Answering.{IsAnswer, IsStop, IsWritten, ReadsBack, text_for}
-use Rattle.frames.specs.Retiming.{IsRetimedHeld}
+use Rattle.merging_rounds.specs.Following.{AreRoundsOf}
 use Rattle.mapped_answers.specs.Mapping.{IsMappedOf, IsMappingStop}
 use Rattle.mapped_answers.specs.declared.making.Made.{Made}
 use Rattle.mapped_answers.specs.declared.errors.AnswerError.{AnswerError}
@@ -59,29 +59,29 @@ stopped_mapped task options spelt before after (Bytes e) f is p = stopped task o
 stopped_mapped task options spelt before after MapTooLarge f is p = failing_after f before after p
 
 -- an answer is that of the run, with its held latches
-pub is_answer : (task : Retiming) (options : Options) (spelt : SpeltCircuit) (old new : Output) (r : Retimed) (keep : List ℕ) (answer : Answered) → answer.retimed ≡ r → answer.keep ≡ keep
+pub is_answer : (task : Retiming) (options : Options) (spelt : SpeltCircuit) (old new : Output) (r : Rounds) (keep : List ℕ) (answer : Answered) → answer.rounds ≡ r → answer.keep ≡ keep
     → answer.levels ≡ levels_reported task spelt.circuit → answer.spelling ≡ unwrap_or options.spelling spelt.spelling → IsMapOf spelt.circuit r answer.map → is_some answer.map ≡ is_some task.map
-    → IsRetimedHeld options spelt.circuit r keep → IsWritten options spelt old new r → IsAnswerTo task options spelt old new answer
+    → AreRoundsOf options spelt.circuit r keep → IsWritten options spelt old new r → IsAnswerTo task options spelt old new answer
 is_answer task options spelt old new r keep answer retimed same levels spelling map has_map held w = record {
   of = record {
     is = subst (IsAnswer options spelt) (sym retimed) w.answer;
-    held = subst (λ (x : Retimed). IsRetimedHeld options spelt.circuit x answer.keep) (sym retimed) (subst (IsRetimedHeld options spelt.circuit r) (sym same) held);
+    held = subst (λ (x : Rounds). AreRoundsOf options spelt.circuit x answer.keep) (sym retimed) (subst (AreRoundsOf options spelt.circuit r) (sym same) held);
     reads_back = λ within. subst (ReadsBack options spelt) (sym retimed) (w.reads_back within);
     levels_are = levels;
     spelling_is = spelling;
-    map_is = subst (λ (x : Retimed). IsMapOf spelt.circuit x answer.map) (sym retimed) map;
+    map_is = subst (λ (x : Rounds). IsMapOf spelt.circuit x answer.map) (sym retimed) map;
     has_map = has_map;
   };
-  writes = subst (λ (x : Retimed). WritesAll old new (text_for options spelt x)) (sym retimed) w.writes;
+  writes = subst (λ (x : Rounds). WritesAll old new (text_for options spelt x)) (sym retimed) w.writes;
 }
 
 -- an answer with its map is the answer of the run
-pub mapped_answer : (task : Retiming) (options : Options) (spelt : SpeltCircuit) (old new : Output) (made : Made) (answer : Answered) → answer.retimed ≡ made.retimed → answer.keep ≡ made.keep
+pub mapped_answer : (task : Retiming) (options : Options) (spelt : SpeltCircuit) (old new : Output) (made : Made) (answer : Answered) → answer.rounds ≡ made.rounds → answer.keep ≡ made.keep
     → answer.levels ≡ levels_reported task spelt.circuit → answer.spelling ≡ unwrap_or options.spelling spelt.spelling → answer.map ≡ Some made.map → is_some task.map ≡ true
     → IsMappedOf options spelt old new made → IsAnswerTo task options spelt old new answer
 mapped_answer task options spelt old new made answer retimed same levels spelling map asked is =
-    let map_is = subst (λ (m : Option Netlist). IsMapOf spelt.circuit made.retimed m) (sym map) (is.mapped.map, is.mapped.free) in
-    is_answer task options spelt old new made.retimed made.keep answer retimed same levels spelling map_is (ap is_some map ∙ sym asked) is.mapped.held is.written
+    let map_is = subst (λ (m : Option Netlist). IsMapOf spelt.circuit made.rounds m) (sym map) (is.mapped.map, is.mapped.free) in
+    is_answer task options spelt old new made.rounds made.keep answer retimed same levels spelling map_is (ap is_some map ∙ sym asked) is.rounds is.written
 
 -- what goes to no standard output leaves it as it was
 map_aside : (FileGiven : List ℕ → List ℕ → Type 0) (target : Option Target) (spelling : Spelling) (made : Option Netlist) (old new : Output) → writes_stdout target ≡ false
@@ -96,15 +96,15 @@ certificates_aside FileGiven (Some target) text old new aside written = of_file 
 
 -- a pipe is given the answer of what it reads, and nothing else
 pub answers_pipe : (FileGiven : List ℕ → List ℕ → Type 0) (task : Retiming) (input : Input) (old new : Output) (answer : Answered)
-    → IsPipe task → WritesRetiming FileGiven task input old new answer → AnswersPipe task input old new answer.retimed answer.levels
+    → IsPipe task → WritesRetiming FileGiven task input old new answer → AnswersPipe task input old new answer.rounds answer.levels
 answers_pipe FileGiven task input old new answer pipe all =
     let made = all.circuit in
     let at = made.at in
     let beside = all.beside in
     let spells = made.read pipe.stdin in
-    let same : new ≡ all.between = certificates_aside FileGiven task.certificates (blocks_text task answer.retimed) beside.between new pipe.alone beside.certificates_go
+    let same : new ≡ all.between = certificates_aside FileGiven task.certificates (blocks_text task answer.rounds) beside.between new pipe.alone beside.certificates_go
     ∙ map_aside FileGiven task.map answer.spelling answer.map all.between beside.between pipe.map_aside beside.map_goes in
-    subst (λ (s : Output). AnswersPipe task input old s answer.retimed answer.levels) (sym same) (record {
+    subst (λ (s : Output). AnswersPipe task input old s answer.rounds answer.levels) (sym same) (record {
       options = made.options;
       are_options = made.are_options;
       answered = record {
@@ -112,7 +112,7 @@ answers_pipe FileGiven task input old new answer pipe all =
         read = spells;
         written = record {
           answer = at.of.is;
-          writes = of_stdout FileGiven task.output old all.between (text_for made.options made.spelt answer.retimed) pipe.stdout at.writes;
+          writes = of_stdout FileGiven task.output old all.between (text_for made.options made.spelt answer.rounds) pipe.stdout at.writes;
           reads_back = at.of.reads_back;
         };
         reads_back = λ left known. at.of.reads_back (reads-within left made.spelt.circuit (spells.circuit.bytes left known));
@@ -177,9 +177,9 @@ writes_pipe FileGiven task input old mid new answer result ended written aside =
     let still : IsPipe task → new ≡ mid = λ pipe. stays_quiet mid mid new result (aside (pipe_takes_stdout task pipe)) in
     if_done ended (IsPipe task → WritesPipe task input old new)
     (λ pipe. record {
-      retimed = answer.retimed;
+      rounds = answer.rounds;
       levels = answer.levels;
-      answers = subst (λ (s : Output). AnswersPipe task input old s answer.retimed answer.levels) (sym (still pipe)) (answers_pipe FileGiven task input old mid answer pipe written);
+      answers = subst (λ (s : Output). AnswersPipe task input old s answer.rounds answer.levels) (sym (still pipe)) (answers_pipe FileGiven task input old mid answer pipe written);
     })
 
 -- the frames are printed after the circuit and the certificates are written

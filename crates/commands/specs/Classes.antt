@@ -1,21 +1,27 @@
 -- Merged latches that are given to a retiming, as certificates list them.
-use Rattle.std.specs.Prelude.{◌≡◌, true, List, Option, Some, None, is_some}
-use Rattle.certificates.specs.declared.file.CertFile.{CertFile}
+use Rattle.std.specs.Prelude.{◌≡◌, true, List, [], ◌∷◌, Option, Some, None, is_some}
+use Rattle.certificate_files.specs.declared.file.CertFile.{CertFile}
+use Rattle.certificate_files.specs.declared.file.CertPart.{CertPart}
 use Rattle.certificates.specs.declared.merged.MergedLatch.{MergedLatch}
 use Rattle.counted_io.specs.Input.{Input}
 use Rattle.counted_io.specs.declared.source.Source.{Source}
-use Rattle.frames.specs.declared.options.Options.{Options}
+use Rattle.frame_runs.specs.declared.options.Options.{Options}
 use Rattle.command_endings.specs.Sources.{AreCertificatesAt}
 
 -- a file lists merged latches
 abbrev pub ListsLatches : Option (List MergedLatch) → Type 0
 ListsLatches merged = is_some merged ≡ true
 
--- they are those of the certificates that are read there
+-- the merged latches of the first part, if it lists them
+abbrev pub first_listed : List CertPart → Option (List MergedLatch)
+first_listed [] = None
+first_listed (part ∷ parts) = part.merged
+
+-- they are those of the first part of the certificates that are read there
 pub record AreListedAt (source : Source) (old new : Input) (classes : Option (List MergedLatch)) : Type 0 where
   pub file : CertFile
   pub read : AreCertificatesAt source old new file
-  pub are : classes ≡ file.merged
+  pub are : classes ≡ first_listed file.parts
   pub listed : ListsLatches classes
 
 -- so if a file of them is given; else there are none, and nothing is read

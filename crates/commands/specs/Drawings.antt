@@ -13,11 +13,11 @@ use Rattle.circuit_files.specs.declared.outcome.Failure.TheVariants as fails
 use Rattle.circuit_files.specs.declared.outcome.Outcome.{Outcome}
 use Rattle.circuit_files.specs.declared.outcome.Outcome.TheVariants.{Done}
 use Rattle.retimed_circuits.specs.declared.report.Retimed.{Retimed}
-use Rattle.frames.specs.Bounds.{bound_in}
-use Rattle.frames.specs.Retiming.{IsNextSet, IsRetimedHeld}
-use Rattle.frames.specs.declared.follower.NoFollower.{NoFollower}
-use Rattle.frames.specs.declared.options.Options.{Options}
-use Rattle.frames.specs.declared.run.Run.{Run}
+use Rattle.frame_runs.specs.Bounds.{bound_in}
+use Rattle.frame_runs.specs.Retiming.{IsNextSet, IsRetimedHeld}
+use Rattle.frame_runs.specs.declared.follower.NoFollower.{NoFollower}
+use Rattle.frame_runs.specs.declared.options.Options.{Options}
+use Rattle.frame_runs.specs.declared.run.Run.{Run}
 use Rattle.pictures.specs.Looks.{everything}
 use Rattle.pictures.specs.Near.{has_node, is_centre, is_near}
 use Rattle.pictures.specs.Pictures.{picture}

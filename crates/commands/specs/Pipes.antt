@@ -9,17 +9,17 @@ use Rattle.aig_binary.specs.declared.reading.SpeltCircuit.{SpeltCircuit}
 use Rattle.aig_binary.specs.Ending.{Spells}
 use Rattle.aig_graph.specs.Circuits.{Netlist}
 use Rattle.state_maps.specs.MapCircuits.{FreeStay, IsMapCircuit}
-use Rattle.retimed_circuits.specs.declared.report.Retimed.{Retimed}
+use Rattle.merging_rounds.specs.declared.rounds.Rounds.{Rounds}
+use Rattle.merging_rounds.specs.Following.{AreRoundsOf}
 use Rattle.frames.specs.Answering.{IsAnswer, IsAnswered, ReadsBack, text_for}
-use Rattle.frames.specs.Retiming.{IsRetimedHeld}
-use Rattle.frames.specs.declared.options.Options.{Options}
+use Rattle.frame_runs.specs.declared.options.Options.{Options}
 use Rattle.counted_io.specs.Streams.{is_stdin, is_stdout}
 use Rattle.counted_io.specs.declared.source.Source.{Source}
 use Rattle.counted_io.specs.declared.target.Target.{Target}
 use Rattle.command_line.specs.StreamUses.{takes_stdout, writes_stdout}
 use Rattle.command_line.specs.declared.task.Retiming.{Retiming}
 use Rattle.commands.specs.OtherSpelling.{spelling_for}
-use Rattle.certificates.specs.Texts.{file_text as certificates_text}
+use Rattle.certificate_files.specs.Texts.{file_text as certificates_text}
 use Rattle.json_reports.specs.declared.times.Times.{Times}
 use Rattle.json_reports.specs.declared.counts.ReadLevels.{ReadLevels}
 use Rattle.circuit_files.specs.WrittenFiles.{IsTargetGiven}
@@ -39,7 +39,7 @@ pub record IsPipe (task : Retiming) : Type 0 where
 
 -- A map, if there is one, is that of the run: from the circuit that was read to the one that is
 -- written. The free latches of the latter stay.
-abbrev pub IsMapOf : Netlist → Retimed → Option Netlist → Type 0
+abbrev pub IsMapOf : Netlist → Rounds → Option Netlist → Type 0
 IsMapOf c r None = Unit {0}
 IsMapOf c r (Some m) = IsMapCircuit c r.circuit r.kept_free m × FreeStay c r.circuit m
 
@@ -47,23 +47,23 @@ IsMapOf c r (Some m) = IsMapCircuit c r.circuit r.kept_free m × FreeStay c r.ci
 -- latches are at `keep`, and the levels of the circuit that was read are reported. Its map is made
 -- if that is asked for.
 pub record IsAnswerOf (task : Retiming) (options : Options) (spelt : SpeltCircuit) (answer : Answer) : Type 0 where
-  pub is : IsAnswer options spelt answer.retimed
-  pub held : IsRetimedHeld options spelt.circuit answer.retimed answer.keep
-  pub reads_back : IsWithinLimits spelt.circuit → ReadsBack options spelt answer.retimed
+  pub is : IsAnswer options spelt answer.rounds
+  pub held : AreRoundsOf options spelt.circuit answer.rounds answer.keep
+  pub reads_back : IsWithinLimits spelt.circuit → ReadsBack options spelt answer.rounds
   pub levels_are : answer.levels ≡ levels_reported task spelt.circuit
   pub spelling_is : answer.spelling ≡ unwrap_or options.spelling spelt.spelling
-  pub map_is : IsMapOf spelt.circuit answer.retimed answer.map
+  pub map_is : IsMapOf spelt.circuit answer.rounds answer.map
   pub has_map : is_some answer.map ≡ is_some task.map
 
 -- it was written, and nothing else
 pub record IsAnswerTo (task : Retiming) (options : Options) (spelt : SpeltCircuit) (old new : Output) (answer : Answer) : Type 0 where
   pub of : IsAnswerOf task options spelt answer
-  pub writes : WritesAll old new (text_for options spelt answer.retimed)
+  pub writes : WritesAll old new (text_for options spelt answer.rounds)
 
 -- it was written to what the task writes
 pub record IsAnswerAt (FileGiven : List ℕ → List ℕ → Type 0) (task : Retiming) (options : Options) (spelt : SpeltCircuit) (old new : Output) (answer : Answer) : Type 0 where
   pub of : IsAnswerOf task options spelt answer
-  pub writes : IsTargetGiven FileGiven task.output old new (text_for options spelt answer.retimed)
+  pub writes : IsTargetGiven FileGiven task.output old new (text_for options spelt answer.rounds)
 
 -- So was the answer, by the options of the task, of what it reads: of standard input, of the bytes
 -- that were left. Merged latches that are given are read after the circuit.
@@ -85,7 +85,7 @@ WritesMap FileGiven (Some target) spelling None old new = new ≡ old
 WritesMap FileGiven None spelling made old new = new ≡ old
 
 -- the text of a retiming's certificates, with the latches that were merged, if they were to be
-abbrev pub blocks_text : Retiming → Retimed → List ℕ
+abbrev pub blocks_text : Retiming → Rounds → List ℕ
 blocks_text task r = certificates_text (file_of task.options.choice r)
 
 -- so were the certificates
@@ -97,7 +97,7 @@ WritesCertificates FileGiven None text old new = new ≡ old
 pub record WritesBeside (FileGiven : List ℕ → List ℕ → Type 0) (task : Retiming) (answer : Answer) (old new : Output) : Type 0 where
   pub between : Output
   pub map_goes : WritesMap FileGiven task.map answer.spelling answer.map old between
-  pub certificates_go : WritesCertificates FileGiven task.certificates (blocks_text task answer.retimed) between new
+  pub certificates_go : WritesCertificates FileGiven task.certificates (blocks_text task answer.rounds) between new
 
 -- all that a retiming writes was written: the answer of what the task reads, its map, and its
 -- certificates
@@ -121,17 +121,17 @@ pub record PrintsRetiming (FileGiven : List ℕ → List ℕ → Type 0) (task :
 
 -- The answer by the options of the task was written, and nothing else. It is of the bytes that
 -- standard input had left. The levels are those of the circuit of the bytes.
-pub record AnswersPipe (task : Retiming) (input : Input) (old new : Output) (retimed : Retimed) (levels : ReadLevels) : Type 0 where
+pub record AnswersPipe (task : Retiming) (input : Input) (old new : Output) (rounds : Rounds) (levels : ReadLevels) : Type 0 where
   pub options : Options
   pub are_options : AreOptionsFor task options
-  pub answered : IsAnswered input old new options retimed
+  pub answered : IsAnswered input old new options rounds
   pub levels_are : levels ≡ levels_reported task answered.spelt.circuit
 
 -- that is so of some retiming
 pub record WritesPipe (task : Retiming) (input : Input) (old new : Output) : Type 0 where
-  pub retimed : Retimed
+  pub rounds : Rounds
   pub levels : ReadLevels
-  pub answers : AnswersPipe task input old new retimed levels
+  pub answers : AnswersPipe task input old new rounds levels
 
 -- The circuit that is read was written in the chosen spelling, else in the one that wasn't read. Of
 -- standard input it is that of the bytes that were left.

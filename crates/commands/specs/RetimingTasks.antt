@@ -9,12 +9,12 @@ use Rattle.command_line.specs.declared.options.RetimingOptions.{RetimingOptions}
 use Rattle.command_line.specs.declared.task.Retiming.{Retiming}
 use Rattle.mapped_answers.specs.declared.errors.AnswerError.{AnswerError}
 use Rattle.mapped_answers.specs.declared.errors.AnswerError.TheVariants.{Bytes, MapTooLarge}
-use Rattle.frames.specs.declared.errors.BytesError.{BytesError}
-use Rattle.frames.specs.declared.errors.BytesError.TheVariants.{Read, Retime, Write}
-use Rattle.frames.specs.declared.errors.RetimeError.{RetimeError}
-use Rattle.frames.specs.declared.errors.RetimeError.TheVariants.{Misread, NoMemory, NoSuchLatch, NoSuchName, NotShown}
+use Rattle.frame_runs.specs.declared.errors.BytesError.{BytesError}
+use Rattle.frame_runs.specs.declared.errors.BytesError.TheVariants.{Read, Retime, Write}
+use Rattle.frame_runs.specs.declared.errors.RetimeError.{RetimeError}
+use Rattle.frame_runs.specs.declared.errors.RetimeError.TheVariants.{Misread, NoMemory, NoSuchLatch, NoSuchName, NotShown}
 use Rattle.counted_io.specs.Output.{Output}
-use Rattle.retimed_circuits.specs.declared.report.Retimed.{Retimed}
+use Rattle.merging_rounds.specs.declared.rounds.Rounds.{Rounds}
 use Rattle.path_levels.specs.Levels.{levels}
 use Rattle.reports.specs.RemainingCounts.{remaining}
 use Rattle.reports.specs.declared.remaining_counts.Remaining.{Remaining}
@@ -32,8 +32,8 @@ use Rattle.command_endings.specs.Objects.{EndsPrintingObject}
 use Rattle.command_endings.specs.HeldNames.{OfSource}
 use Rattle.command_endings.specs.RunOptions.{AreOptionsOf}
 use Rattle.command_endings.specs.Printing.{EndsPrinting}
-use Rattle.frames.specs.Bounds.{bound_for}
-use Rattle.frames.specs.declared.options.Options.{Options}
+use Rattle.frame_runs.specs.Bounds.{bound_for}
+use Rattle.frame_runs.specs.declared.options.Options.{Options}
 use Rattle.commands.specs.declared.answer.Answer.{Answer}
 
 -- the options of a run are the task's, which makes certificates if they are asked for
@@ -71,7 +71,7 @@ HasFailed (Some target) failure = (outcome_of failure ≡ Device) × IsAbout (ta
 
 -- What the task's retiming leaves under a bound, or without one. It is the circuit, with its held
 -- latches at these positions. Fewer frames than the limit end if no set leaves fewer.
-abbrev pub remaining_of : Retiming → Option ℕ → Retimed → List ℕ → Remaining
+abbrev pub remaining_of : Retiming → Option ℕ → Rounds → List ℕ → Remaining
 remaining_of task bound r held = remaining r.circuit held bound (nat_lt (length r.frames) task.options.frames)
 
 -- the levels of the circuit that is read, which an object tells, and the bound that its run has
@@ -84,8 +84,8 @@ counts_of m = record { gates = length m.aig.gates; constraints = length m.props.
 
 -- how printing an answer ends, as an object of JSON if that is asked for, else in lines
 abbrev pub EndsPrintingFrames : Bool → Retiming → Answer → Option Times → Output → Output → Result Outcome Failure → Type 0
-EndsPrintingFrames true task a times old new result = EndsPrintingObject Done (retiming_data a.retimed a.levels (remaining_of task a.levels.bound a.retimed a.keep) times (option_map counts_of a.map)) old new result
-EndsPrintingFrames false task a times old new result = EndsPrinting Done (retiming_text a.retimed) old new result
+EndsPrintingFrames true task a times old new result = EndsPrintingObject Done (retiming_data a.rounds a.levels (remaining_of task a.levels.bound a.rounds a.keep) times (option_map counts_of a.map)) old new result
+EndsPrintingFrames false task a times old new result = EndsPrinting Done (retiming_text a.rounds) old new result
 
 -- it was printed so, and nobody asks how that ended
 pub record SaysFrames (task : Retiming) (a : Answer) (times : Option Times) (old new : Output) : Type 0 where

@@ -1,20 +1,20 @@
--- What is printed of an audit, and of a file that is compared with what its blocks end in. The run
+-- What is printed of an audit, and of a file that is compared with what its parts end in. The run
 -- ends by it.
 use Rattle.std.specs.Prelude.{ℕ, ◌≡◌, Bool, true, false, List, Option, Some, None, Result}
 use Rattle.aig_graph.specs.Circuits.{Netlist}
 use Rattle.aig_binary.specs.declared.reading.SpeltCircuit.{SpeltCircuit}
 use Rattle.counted_io.specs.Input.{Input}
 use Rattle.counted_io.specs.Output.{Output, WritesAll}
-use Rattle.certificates.specs.declared.certificate.Certificate.{Certificate}
-use Rattle.certificates.specs.declared.file.CertFile.{CertFile}
+use Rattle.certificate_files.specs.declared.file.CertFile.{CertFile}
+use Rattle.certificate_files.specs.declared.file.CertPart.{CertPart}
 use Rattle.certificate_audits.specs.declared.outcome.End.{End}
 use Rattle.certificate_audits.specs.declared.outcome.End.TheVariants.{NoBlocks, Certified, Open, BlocksFollow, Objected, Misread, NotShown}
-use Rattle.certificate_audits.specs.declared.outcome.Replay.{Replay}
-use Rattle.reports.specs.Audits.{audit_text}
+use Rattle.certificate_audits.specs.declared.parts.PartsReplay.{PartsReplay}
+use Rattle.reports.specs.Audits.{audit_text, last_end}
 use Rattle.reports.specs.declared.agreement.Agreement.{Agreement}
 use Rattle.reports.specs.declared.agreement.Agreement.TheVariants.{Same, DiffersAt}
 use Rattle.reports.specs.declared.judgement.Judgement.{Judgement}
-use Rattle.frames.specs.Bounds.{bound_for}
+use Rattle.frame_runs.specs.Bounds.{bound_for}
 use Rattle.json_reports.specs.Audits.{audit_data}
 use Rattle.json_reports.specs.Lines.{json_line}
 use Rattle.command_line.specs.declared.task.Verification.{Verification}
@@ -46,31 +46,31 @@ outcome_by (Some (DiffersAt offset)) end = Unconfirmed
 
 -- how a run ends by the end of an audit and the compared file: unconfirmed if that differs
 abbrev pub outcome_of_judgement : Judgement → Outcome
-outcome_of_judgement judgement = outcome_by judgement.agreement judgement.audit.end
+outcome_of_judgement judgement = outcome_by judgement.agreement (last_end judgement.audits)
 
 -- the object of a judgement after which the run ends so
-abbrev pub EndsWithObject : List Certificate → Judgement → Outcome → Output → Output → Result Outcome Failure → Type 0
-EndsWithObject blocks judgement outcome old new result =
-    EndsPrintingObject outcome (audit_data blocks judgement (status_of outcome)) old new result
+abbrev pub EndsWithObject : List CertPart → Judgement → Outcome → Output → Output → Result Outcome Failure → Type 0
+EndsWithObject parts judgement outcome old new result =
+    EndsPrintingObject outcome (audit_data parts judgement (status_of outcome)) old new result
 
 -- what is printed of a judgement: an object on a line if that is asked for, else lines
-abbrev pub printed_audit : Bool → List Certificate → Judgement → List ℕ
-printed_audit true blocks judgement = json_line (audit_data blocks judgement (status_of (outcome_of_judgement judgement)))
-printed_audit false blocks judgement = audit_text blocks judgement
+abbrev pub printed_audit : Bool → List CertPart → Judgement → List ℕ
+printed_audit true parts judgement = json_line (audit_data parts judgement (status_of (outcome_of_judgement judgement)))
+printed_audit false parts judgement = audit_text parts judgement
 
 -- the judgement is printed in this form, and the run ends by it
-pub record EndsWithAudit (json : Bool) (blocks : List Certificate) (judgement : Judgement) (old new : Output) (ended : Outcome) : Type 0 where
-  pub prints : WritesAll old new (printed_audit json blocks judgement)
+pub record EndsWithAudit (json : Bool) (parts : List CertPart) (judgement : Judgement) (old new : Output) (ended : Outcome) : Type 0 where
+  pub prints : WritesAll old new (printed_audit json parts judgement)
   pub ends : ended ≡ outcome_of_judgement judgement
 
--- what the blocks of the file end in for c, with the latches held that the task names
-abbrev pub IsReplayOf : Verification → Netlist → CertFile → Replay → Type 0
+-- what the parts of the file end in for c, with the latches held that the task names
+abbrev pub IsReplayOf : Verification → Netlist → CertFile → PartsReplay → Type 0
 IsReplayOf task c file replay = IsReplayFor task.options.bound task.options.merge (held_by task.options c) c file replay
 
--- The audit of the file for this circuit, with the latches held that the task names. Also the
--- outcome of comparing these bytes with what its blocks end in.
+-- The audits of the file's parts for this circuit, with the latches held that the task names. Also
+-- the outcome of comparing these bytes with what they end in.
 pub record IsJudgedBy (task : Verification) (c : Netlist) (file : CertFile) (bytes : Option (List ℕ)) (judgement : Judgement) : Type 0 where
-  pub replay : Replay
+  pub replay : PartsReplay
   pub replays : IsReplayOf task c file replay
   pub judges : IsJudgement (bound_for task.options.bound c) (merged_count file) bytes replay judgement
 
@@ -78,7 +78,7 @@ pub record IsJudgedBy (task : Verification) (c : Netlist) (file : CertFile) (byt
 pub record PrintsAudit (task : Verification) (c : Netlist) (file : CertFile) (bytes : Option (List ℕ)) (ended : Outcome) (old new : Output) : Type 0 where
   pub judgement : Judgement
   pub judged : IsJudgedBy task c file bytes judgement
-  pub printed : EndsWithAudit task.json file.blocks judgement old new ended
+  pub printed : EndsWithAudit task.json file.parts judgement old new ended
 
 -- that of the file that is read, if one is compared
 pub record PrintsAuditBeside (task : Verification) (c : Netlist) (file : CertFile) (before after : Input) (old new : Output) (ended : Outcome) : Type 0 where

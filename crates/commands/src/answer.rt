@@ -5,7 +5,7 @@ ghost use Rattle.aig_binary.specs.Spellings.{text_in};
 ghost use Rattle.counted_io.specs.Streams.{is_stdout, target_name};
 ghost use Rattle.counted_io.specs.declared.target.Target.{Target};
 ghost use Rattle.frames.specs.Answering.{IsWritten};
-ghost use Rattle.frames.specs.Retiming.{IsRetimedHeld};
+ghost use Rattle.merging_rounds.specs.Following.{AreRoundsOf};
 ghost use Rattle.mapped_answers.specs.Mapping.{IsMappedOf, IsMappingStop};
 ghost use Rattle.circuit_files.specs.Outcomes.{outcome_of};
 ghost use Rattle.circuit_files.specs.WrittenFiles.{IsFileGiven, IsTargetGiven};
@@ -17,14 +17,16 @@ ghost use Rattle.commands.specs.RetimingTasks.{AreOptionsFor, HasFailed, IsFailu
 
 use aig_binary::{Spelling, SpeltCircuit};
 use aig_graph::{Circuit, Keep, NoMemory};
+use frames::run_spelt;
 use circuit_files::{Failure, OutputFiles, close, file_at};
 use command_endings::{missing_latch, missing_name};
 use command_line::{Retiming, RetimingOptions};
 use counted_io::{CountedWrite, Source, Target, WriteError};
 use file_words::ReadError;
-use frames::{BytesError, FrameWatcher, NoFollower, Options, RetimeError, Retimed, Run, run_spelt};
+use frame_runs::{BytesError, FrameWatcher, NoFollower, Options, RetimeError};
 use json_reports::{MapCounts, ReadLevels};
 use mapped_answers::{AnswerError, Made, StateMap, retime_spelt_mapped, write_state_map};
+use merging_rounds::{Rounds, RoundsRun};
 use path_levels::levels;
 use pulse::{Crew, OpenGate};
 use std::alloc::Global;
@@ -36,7 +38,7 @@ const MOST_WORKERS: u32 = 64;
 /// A retiming whose circuit is written.
 #[derive(Drop)]
 pub(crate) struct Answer {
-    pub retimed: Retimed,
+    pub rounds: Rounds,
     /// The held latches of the written circuit.
     pub keep: Keep,
     /// The levels of the circuit that was read.
@@ -150,10 +152,10 @@ fn plain_to<'a, R: Threads + Sync, W: CountedWrite, V: FrameWatcher>(
     spelt: SpeltCircuit,
     writer: &mut W,
     watcher: &mut V,
-) -> Result<Run<NoFollower>, Failure<'a>>
+) -> Result<RoundsRun<NoFollower>, Failure<'a>>
     ensures written { IfOk result (λ run. IsWritten options.now spelt (W.output writer.old)
-        (W.output writer.new) run.retimed) }
-    ensures held { IfOk result (λ run. IsRetimedHeld options.now spelt.circuit run.retimed
+        (W.output writer.new) run.rounds) }
+    ensures held { IfOk result (λ run. AreRoundsOf options.now spelt.circuit run.rounds
         run.keep) }
     ensures prints { IfErr result (λ failure. Prints (outcome_of failure) (W.output writer.old)
         (W.output writer.new)) }
@@ -185,16 +187,16 @@ fn mapped_to<R: Threads + Sync, W: CountedWrite, V: FrameWatcher>(
 }
 
 /// Makes an answer of a run without a map.
-fn plain_answer(run: Run<NoFollower>, levels: ReadLevels, spelling: Spelling) -> Answer
-    ensures retimed { result.retimed ≡ run.retimed }
+fn plain_answer(run: RoundsRun<NoFollower>, levels: ReadLevels, spelling: Spelling) -> Answer
+    ensures rounds { result.rounds ≡ run.rounds }
     ensures keep { result.keep ≡ run.keep }
     ensures levels { result.levels ≡ levels }
     ensures spelling { result.spelling ≡ spelling }
     ensures map { result.map ≡ None }
 {
-    let Run { retimed, keep, .. } = run;
+    let RoundsRun { rounds, keep, .. } = run;
     Answer {
-        retimed,
+        rounds,
         keep,
         levels,
         spelling,
@@ -204,15 +206,15 @@ fn plain_answer(run: Run<NoFollower>, levels: ReadLevels, spelling: Spelling) ->
 
 /// Makes an answer of a retiming with its map.
 fn mapped_answer(made: Made, levels: ReadLevels, spelling: Spelling) -> Answer
-    ensures retimed { result.retimed ≡ made.retimed }
+    ensures rounds { result.rounds ≡ made.rounds }
     ensures keep { result.keep ≡ made.keep }
     ensures levels { result.levels ≡ levels }
     ensures spelling { result.spelling ≡ spelling }
     ensures map { result.map ≡ Some made.map }
 {
-    let Made { retimed, keep, map } = made;
+    let Made { rounds, keep, map } = made;
     Answer {
-        retimed,
+        rounds,
         keep,
         levels,
         spelling,

@@ -1,33 +1,47 @@
 //! Merged latches that are given to `retime`, as certificates list them.
 ghost use Rattle.std.specs.Prelude.{◌≡◌, IfErr, IfOk};
 ghost use Rattle.circuit_files.specs.Outcomes.{IsAbout};
-ghost use Rattle.commands.specs.Classes.{AreClassesAt, ListsLatches};
+ghost use Rattle.commands.specs.Classes.{AreClassesAt, ListsLatches, first_listed};
 ghost use Rattle.commands.specs.Classes as wanted;
 ghost use Rattle.commands.specs.RetimingTasks.{classes_source};
 ghost use Rattle.counted_io.specs.Streams.{source_name};
 
 use aig_graph::Sequence;
-use certificates::{CertError, CertFile, MergedLatch};
+use certificate_files::{CertError, CertFile, CertPart};
+use certificates::MergedLatch;
 use circuit_files::{Failure, certificates_at};
 use command_line::Retiming;
 use counted_io::{CountedRead, Source};
-use frames::Options;
+use frame_runs::Options;
 use std::alloc::Global;
 use std::mem;
 use std::rt::Files;
 
-/// Returns the merged latches of a file. One that lists none is refused as one with another first
-/// line.
+/// Returns the merged latches of the first part, if it lists them.
+fn first_listed(parts: Sequence<CertPart>) -> Option<Sequence<MergedLatch>>
+    ensures { result ≡ first_listed parts }
+{
+    let mut parts = parts.into_vec();
+    if parts.is_empty() {
+        return None;
+    }
+    let CertPart { merged, blocks } = parts.remove(0);
+    drop(blocks);
+    drop(parts);
+    merged
+}
+
+/// Returns the merged latches of a file's first part. A file that lists none is refused as one with
+/// another first line.
 fn listed<'a>(
     file: CertFile,
     source: Source<'a>,
 ) -> Result<Option<Sequence<MergedLatch>>, Failure<'a>>
-    ensures classes { IfOk result (λ classes. (classes ≡ file.merged) × ListsLatches classes) }
+    ensures classes { IfOk result (λ classes. (classes ≡ first_listed file.parts)
+        × ListsLatches classes) }
     ensures named { IfErr result (IsAbout (source_name source.entry)) }
 {
-    let CertFile { merged, blocks, .. } = file;
-    drop(blocks);
-    match merged {
+    match first_listed(file.parts) {
         Some(lines) => Ok(Some(lines)),
         None => Err(Failure::RefusedCertificates(source.name(), CertError::BadHeader(0))),
     }

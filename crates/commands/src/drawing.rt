@@ -14,7 +14,7 @@ use aig_graph::NoMemory;
 use circuit_files::{Failure, Outcome, OutputFiles, close, file_at};
 use command_line::Drawing;
 use counted_io::{CountedRead, CountedWrite, Streams, Target, write_all};
-use frames::PathBound;
+use frame_runs::PathBound;
 use pictures::{View, write_dot};
 use std::alloc::Global;
 use std::rt::Files;

@@ -1,6 +1,6 @@
 //! The command `retime`.
 ghost use Rattle.std.specs.Prelude.{◌≡◌, ◌⊎◌, true, false, IfErr, IfOk, Ok, OnOk};
-ghost use Rattle.certificates.specs.Texts.{file_text};
+ghost use Rattle.certificate_files.specs.Texts.{file_text};
 ghost use Rattle.counted_io.specs.Streams.{is_stdout};
 ghost use Rattle.command_line.specs.StreamUses.{takes_stdout, writes_stdout};
 ghost use Rattle.circuit_files.specs.Outcomes.{outcome_of};
@@ -15,15 +15,16 @@ ghost use Rattle.command_line.specs.declared.task.Shown.TheVariants.{Nothing};
 use crate::answer::{Answer, map_counts, map_written, retime_to};
 use crate::classes::{classes_at, with_classes};
 use aig_binary::SpeltCircuit;
-use aig_graph::{NoMemory, Sequence};
-use certificates::{CertFile, Choice, write_cert};
+use aig_graph::{Choice, NoMemory, Sequence};
+use certificate_files::{CertFile, write_cert};
 use circuit_files::{Failure, Outcome, OutputFiles, circuit_at, close, file_at};
 use command_endings::{Progress, ended, run_options};
 use command_line::{Retiming, Shown};
 use counted_io::{CountedRead, CountedWrite, Streams, Target, WriteError};
-use frames::{FrameWatcher, Options, Retimed};
+use frame_runs::{FrameWatcher, Options};
 use hold_counts::{Holding, print_holding};
 use json_reports::Times;
+use merging_rounds::Rounds;
 use reports::{Remaining, print_remaining, print_retiming};
 use std::alloc::Global;
 use std::mem;
@@ -126,24 +127,22 @@ fn retimed<
 }
 
 /// Takes the certificates of a retiming by `choice` out of it, with the latches that it merged.
-fn file_of(alloc: Global, choice: Choice, retimed: &mut Retimed) -> CertFile
-    ensures file { result ≡ file_of choice retimed.old }
-    ensures left { retimed.new ≡ without_file retimed.old }
+fn file_of(alloc: Global, choice: Choice, rounds: &mut Rounds) -> CertFile
+    ensures file { result ≡ file_of choice rounds.old }
+    ensures left { rounds.new ≡ without_file rounds.old }
 {
     CertFile {
         choice,
-        merged: mem::replace(&mut retimed.merged, None),
-        blocks: mem::replace(&mut retimed.certificates, Sequence::empty(alloc)),
+        parts: mem::replace(&mut rounds.parts, Sequence::empty(alloc)),
     }
 }
 
 /// Puts a file of certificates back into the retiming that it was taken out of.
-fn put_back(file: CertFile, retimed: &mut Retimed)
-    ensures { retimed.new ≡ with_file file retimed.old }
+fn put_back(file: CertFile, rounds: &mut Rounds)
+    ensures { rounds.new ≡ with_file file rounds.old }
 {
-    let CertFile { merged, blocks, .. } = file;
-    drop(mem::replace(&mut retimed.merged, merged));
-    drop(mem::replace(&mut retimed.certificates, blocks));
+    let CertFile { parts, .. } = file;
+    drop(mem::replace(&mut rounds.parts, parts));
 }
 
 /// Writes a file of certificates to `target`.
@@ -174,23 +173,23 @@ fn certify<'a, R: OutputFiles, O: CountedWrite>(
     rt: &R,
     alloc: Global,
     task: &Retiming<'a>,
-    retimed: &mut Retimed,
+    rounds: &mut Rounds,
     out: &mut O,
 ) -> Result<(), Failure<'a>>
     ensures written { OnOk result (WritesCertificates (IsFileGiven R.Output.contents R.is_made R.is_let_go)
-        task.now.certificates (blocks_text task.now retimed.old) (O.output out.old)
+        task.now.certificates (blocks_text task.now rounds.old) (O.output out.old)
         (O.output out.new)) }
     ensures file { writes_stdout task.now.certificates ≡ false
         → O.output out.new ≡ O.output out.old }
-    ensures retimed { retimed.new ≡ retimed.old }
+    ensures rounds { rounds.new ≡ rounds.old }
     ensures err { IfErr result (HasFailed task.now.certificates) }
 {
     let Some(target) = task.certificates else {
         return Ok(());
     };
-    let file = file_of(alloc, task.options.choice, retimed);
+    let file = file_of(alloc, task.options.choice, rounds);
     let written = write_certificates(rt, &file, target, out);
-    put_back(file, retimed);
+    put_back(file, rounds);
     match written {
         Ok(()) => Ok(()),
         Err(_) => Err(Failure::Device(target.name())),
@@ -213,7 +212,7 @@ fn write_beside<'a, R: OutputFiles, O: CountedWrite>(
     ensures err { IfErr result (λ failure. HasFailed task.now.map failure ⊎ HasFailed task.now.certificates failure) }
 {
     map_written(rt, task, answer, out)?;
-    certify(rt, alloc, task, &mut answer.retimed, out)
+    certify(rt, alloc, task, &mut answer.rounds, out)
 }
 
 /// An answer that was written, and how long each part took, if that was measured.
@@ -281,16 +280,16 @@ fn certified<
 /// Counts the circuit that the retiming leaves, and why its latches don't move.
 fn remaining(alloc: Global, task: &Retiming<'_>, answer: &Answer) -> Result<Remaining, NoMemory>
     ensures { IfOk result (λ left. left ≡ remaining_of task.now answer.now.levels.bound
-        answer.now.retimed answer.now.keep) }
+        answer.now.rounds answer.now.keep) }
 {
     let Answer {
-        retimed,
+        rounds,
         keep,
         levels,
         ..
     } = answer;
-    let is_least = retimed.frames.len() < task.options.frames as usize;
-    Remaining::of(alloc, &retimed.circuit, keep, levels.bound, is_least)
+    let is_least = rounds.frames.len() < task.options.frames as usize;
+    Remaining::of(alloc, &rounds.circuit, keep, levels.bound, is_least)
 }
 
 /// Prints the frames that were taken as an object of JSON.
@@ -307,7 +306,7 @@ fn print_object<'a, W: CountedWrite>(
     match remaining(alloc, task, answer) {
         Ok(left) => command_endings::print_retiming(
             alloc,
-            &answer.retimed,
+            &answer.rounds,
             answer.levels,
             &left,
             times.as_ref(),
@@ -333,13 +332,13 @@ fn print_as<'a, W: CountedWrite>(
     if json {
         print_object(alloc, task, timed, writer)
     } else {
-        ended(print_retiming(&timed.answer.retimed, writer), Outcome::Done)
+        ended(print_retiming(&timed.answer.rounds, writer), Outcome::Done)
     }
 }
 
 /// Tells how many registers hold of those that are left, if one does.
 fn tell_holding<E: CountedWrite>(alloc: Global, answer: &Answer, err: &mut E) {
-    if let Ok(holding) = Holding::of(alloc, answer.retimed.circuit.aig(), &answer.keep) {
+    if let Ok(holding) = Holding::of(alloc, answer.rounds.circuit.aig(), &answer.keep) {
         let _ = print_holding(&holding, err);
     }
 }

@@ -11,7 +11,7 @@ use circuit_files::{Failure, circuit_at};
 use command_endings::{held_latches, run_options};
 use command_line::Drawing;
 use counted_io::CountedRead;
-use frames::{NoFollower, NoWatcher, Options, Retimed, Run, next_set, run_watched};
+use frame_runs::{NoFollower, NoWatcher, Options, Retimed, Run, next_set, run_watched};
 use pulse::{Crew, OpenGate};
 use std::alloc::Global;
 use std::rt::Files;

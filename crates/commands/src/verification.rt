@@ -10,13 +10,13 @@ ghost use Rattle.commands.specs.Verifying.{EndsWithAudit, EndsWithObject, IsJudg
 
 use crate::replaying::{judged, merged_count, replay_of, retimed_at};
 use aig_graph::Circuit;
-use certificate_audits::{End, Replay};
-use certificates::{CertFile, Certificate};
+use certificate_audits::{End, PartsReplay};
+use certificate_files::{CertFile, CertPart};
 use circuit_files::{Failure, Outcome, certificates_at, circuit_at};
 use command_endings::{ended, held_latches};
 use command_line::Verification;
 use counted_io::{CountedRead, CountedWrite};
-use reports::{Agreement, Judgement, print_audit};
+use reports::{Agreement, Judgement, last_end, print_audit};
 use std::alloc::Global;
 use std::fmt::Write;
 use std::rt::Files;
@@ -27,7 +27,7 @@ fn replayed<'a>(
     circuit: &Circuit,
     file: &CertFile,
     task: &Verification<'a>,
-) -> Result<Replay, Failure<'a>>
+) -> Result<PartsReplay, Failure<'a>>
     ensures { IfOk result (IsReplayOf task.now circuit.now file.now) }
 {
     let options = &task.options;
@@ -84,52 +84,52 @@ fn outcome_of(judgement: &Judgement) -> Outcome
 {
     match judgement.agreement {
         Some(Agreement::DiffersAt(_)) => Outcome::Unconfirmed,
-        Some(Agreement::Same) | None => outcome_at(judgement.audit.end),
+        Some(Agreement::Same) | None => outcome_at(last_end(judgement.audits.as_slice())),
     }
 }
 
 fn print_outcome<'a, O: CountedWrite>(
-    blocks: &[Certificate],
+    parts: &[CertPart],
     judgement: &Judgement,
     out: &mut O,
 ) -> Result<Outcome, Failure<'a>>
     ensures { EndsPrinting (outcome_of_judgement judgement.now)
-        (audit_text blocks.now judgement.now)
+        (audit_text parts.now judgement.now)
         (O.output out.old) (O.output out.new) result }
 {
-    let printed = print_audit(blocks, judgement, out);
+    let printed = print_audit(parts, judgement, out);
     ended(printed, outcome_of(judgement))
 }
 
 /// Prints a judgement of certificates as an object of JSON.
 fn print_object<'a, O: CountedWrite>(
     alloc: Global,
-    blocks: &[Certificate],
+    parts: &[CertPart],
     judgement: &Judgement,
     out: &mut O,
 ) -> Result<Outcome, Failure<'a>>
-    ensures { EndsWithObject blocks.now judgement.now (outcome_of_judgement judgement.now)
+    ensures { EndsWithObject parts.now judgement.now (outcome_of_judgement judgement.now)
         (O.output out.old) (O.output out.new) result }
 {
-    command_endings::print_audit(alloc, blocks, judgement, outcome_of(judgement), out)
+    command_endings::print_audit(alloc, parts, judgement, outcome_of(judgement), out)
 }
 
 /// Prints a judgement of certificates as an object of JSON or in lines.
 fn print_as<'a, O: CountedWrite>(
     alloc: Global,
-    blocks: &[Certificate],
+    parts: &[CertPart],
     judgement: &Judgement,
     json: bool,
     out: &mut O,
 ) -> Result<Outcome, Failure<'a>>
-    ensures audit { IfOk result (EndsWithAudit json blocks.now judgement.now (O.output out.old)
+    ensures audit { IfOk result (EndsWithAudit json parts.now judgement.now (O.output out.old)
         (O.output out.new)) }
     ensures prints { Prints (ending result) (O.output out.old) (O.output out.new) }
 {
     if json {
-        print_object(alloc, blocks, judgement, out)
+        print_object(alloc, parts, judgement, out)
     } else {
-        print_outcome(blocks, judgement, out)
+        print_outcome(parts, judgement, out)
     }
 }
 
@@ -147,7 +147,9 @@ fn print_judged<'a, O: CountedWrite>(
     ensures prints { Prints (ending result) (O.output out.old) (O.output out.new) }
 {
     let judgement = judged_by(alloc, circuit, file, bytes, task)?;
-    print_as(alloc, file.blocks.as_slice(), &judgement, task.json, out)
+    let printed = print_as(alloc, file.parts.as_slice(), &judgement, task.json, out);
+    drop(judgement);
+    printed
 }
 
 /// Reads the file to compare, if there is one. Prints what the certificates show, and whether they
@@ -203,11 +205,27 @@ fn certificates_of<'a, R: Files, I: CountedRead>(
     certificates_at(rt, alloc, task.certificates, stdin)
 }
 
+/// Returns true if no part of a file has a block.
+fn has_no_block(file: &CertFile) -> bool {
+    file.parts
+        .as_slice()
+        .iter()
+        .all(|part| part.blocks.is_empty())
+}
+
+/// Returns true if a part of a file lists merged latches.
+fn lists_latches(file: &CertFile) -> bool {
+    file.parts
+        .as_slice()
+        .iter()
+        .any(|part| part.merged.is_some())
+}
+
 /// Says that a file has no certificate, and what was checked then. A failed write changes nothing.
 fn tell_of_none<M: Write>(task: &Verification<'_>, file: &CertFile, message: &mut M) {
     let _ = message.write_str(task.certificates.name());
     let _ = message.write_str(": no certificate: ");
-    let _ = message.write_str(if task.retimed.is_some() | file.merged.is_some() {
+    let _ = message.write_str(if task.retimed.is_some() | lists_latches(file) {
         "no frame was checked\n"
     } else {
         "nothing was checked\n"
@@ -232,7 +250,7 @@ fn print_file<'a, R: Files, I: CountedRead, O: CountedWrite, M: Write>(
     match certificates_of(rt, alloc, task, stdin) {
         Ok(file) => {
             let printed = print_beside(rt, alloc, circuit, &file, task, stdin, out);
-            if printed.is_ok() & file.blocks.is_empty() {
+            if printed.is_ok() & has_no_block(&file) {
                 tell_of_none(task, &file, message);
             }
             drop(file);

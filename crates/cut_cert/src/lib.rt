@@ -36,10 +36,9 @@ mod walk;
 
 ghost use Rattle.cut_cert.specs.Cuts.{NearSideIsSmallest, SmallestCutIsSmallestSet};
 
-pub use certificates::{
-    CertError, CertFile, Certificate, Choice, MergedLatch, Objection, Routes, Verdict, check,
-    read_cert, write_cert,
-};
+pub use aig_graph::Choice;
+pub use certificate_files::{CertError, CertFile, CertPart, read_cert, write_cert};
+pub use certificates::{Certificate, MergedLatch, Objection, Routes, Verdict, check};
 pub use certifying::certificate_of;
 pub use chosen::{chosen_of_network, shown_by_network};
 pub use gathering::routes;

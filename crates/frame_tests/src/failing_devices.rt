@@ -4,7 +4,8 @@ use crate::circuits::{CHAINS, options};
 use aag_text::{
     Counted, CountedRead, CountedWrite, FailAfter, Failure, OneByte, ReadError, WriteError,
 };
-use frames::{BytesError, Options, retime_bytes};
+use frames::retime_bytes;
+use frame_runs::{BytesError, Options};
 use pulse::{Crew, OpenGate};
 use std::alloc::Global;
 use std::test::*;

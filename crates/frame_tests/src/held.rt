@@ -3,7 +3,7 @@
 use crate::circuits::options;
 use aag_text::read_aag;
 use aig_graph::{Circuit, HoldError, hold, keep_of};
-use frames::{NoWatcher, Options, RetimeError, run_watched};
+use frame_runs::{NoWatcher, Options, RetimeError, run_watched};
 use pulse::{Crew, OpenGate};
 use std::alloc::Global;
 use std::test::*;

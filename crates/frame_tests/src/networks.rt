@@ -5,7 +5,7 @@ ghost use Rattle.std.specs.Prelude.{⊤};
 use crate::circuits::options;
 use aag_text::read_aag;
 use aig_graph::Circuit;
-use frames::{FrameReport, FrameWatcher, Retimed, Stage, run_watched};
+use frame_runs::{FrameReport, FrameWatcher, Retimed, Stage, run_watched};
 use pulse::{Crew, OpenGate};
 use std::alloc::Global;
 use std::test::*;

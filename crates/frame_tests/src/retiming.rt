@@ -5,7 +5,7 @@ use crate::meeting_gates::MeetingGate;
 use aag_text::read_aag;
 use aig_graph::{Choice, Circuit, Keep};
 use chosen_cuts::{Records, chosen_least_along};
-use frames::{FrameReport, Retimed, retime};
+use frame_runs::{FrameReport, Retimed, retime};
 use pulse::{Crew, OpenGate};
 use std::alloc::Global;
 use std::mem;

@@ -7,14 +7,14 @@ use Rattle.file_words.specs.declared.fault.ReadError.{ReadError}
 use Rattle.file_words.specs.declared.spelling.Spelling.{Spelling}
 use Rattle.aig_binary.specs.declared.reading.SpeltCircuit.{SpeltCircuit}
 use Rattle.aig_binary.specs.Ending.{Spells}
-use Rattle.retimed_circuits.specs.Certified.{IsSameRetiming}
-use Rattle.retimed_circuits.proofs.MergedRunLaws.{retiming-with-one}
-use Rattle.frames.specs.declared.options.Options.{Options}
-use Rattle.frames.specs.Bounds.{bound_in}
-use Rattle.frames.specs.Named.{holding_in}
+use Rattle.frame_runs.specs.declared.options.Options.{Options}
+use Rattle.frame_runs.specs.Bounds.{bound_in}
+use Rattle.frame_runs.specs.Named.{holding_in}
 use Rattle.aig_binary.specs.Spellings.{text_in}
+use Rattle.merging_rounds.specs.Following.{AreRoundsOf}
+use Rattle.merging_rounds.specs.Laws.{AreSameRounds}
+use Rattle.merging_rounds.proofs.OneLaws.{rounds-one}
 use Rattle.frames.specs.Answering.{IsOneAnswer}
-use Rattle.frames.specs.Retiming.{IsRetimedBy}
 
 same_circuit : (c d : Netlist) → ◌≡◌ {A = Result Netlist ReadError} (Ok c) (Ok d) → c ≡ d
 same_circuit c d e = cc
@@ -33,7 +33,11 @@ one-spelt bytes input other a b first second p q =
 pub one-answer : (bytes : List ℕ) (options : Options) → IsOneAnswer bytes options
 one-answer bytes options certify input other old new before after r s first second p q alike =
     let spelt : p.spelt ≡ q.spelt = one-spelt bytes input other p.spelt q.spelt first second p.read q.read in
-    let P : SpeltCircuit → Type 0 = λ a. IsRetimedBy options a.circuit r in
-    let same : IsSameRetiming options.certify certify r s =
-    retiming-with-one options.merge (bound_in options q.spelt.circuit) options.choice q.spelt.circuit (holding_in options) options.max_frames options.certify certify r s (subst P spelt p.written.answer.retimed) q.written.answer.retimed alike in
-    (same, ap₂ (λ (a : SpeltCircuit) (d : Netlist). text_in (unwrap_or options.spelling a.spelling) d) spelt same.circuit)
+    let a = p.written.answer in
+    let b = q.written.answer in
+    let P : SpeltCircuit → Type 0 = λ x. AreRoundsOf options x.circuit r a.now in
+    let one : AreRoundsOf options q.spelt.circuit r a.now = subst P spelt a.rounds in
+    let same : AreSameRounds options.certify certify r s =
+    rounds-one options.merge (bound_in options q.spelt.circuit) options.choice q.spelt.circuit (holding_in options) options.max_frames options.certify certify one.runs b.rounds.runs r s a.now b.now
+    one.is b.rounds.is alike in
+    (same, ap₂ (λ (x : SpeltCircuit) (d : Netlist). text_in (unwrap_or options.spelling x.spelling) d) spelt same.circuit)

@@ -1,11 +1,2 @@
-pub mod CertificateLaws
-pub mod FrameLaws
-pub mod LookLaws
-pub mod AnswerLaws
 pub mod StopLaws
-pub mod MergedLaws
-pub mod StageLaws
-pub mod FollowingLaws
-pub mod BeginningLaws
-pub mod HoldLaws
-pub mod LimitLaws
+pub mod AnswerLaws

@@ -3,16 +3,16 @@ use Rattle.std.proofs.Common.{ℕ, ◌≡◌, Result, Ok, Err, refl, sym, subst}
 use Rattle.std.specs.Result.{IfErr, IfOk, IsErrAnd, OnOk}
 use Rattle.counted_io.specs.Input.{Input}
 use Rattle.counted_io.specs.Output.{Output}
-use Rattle.retimed_circuits.specs.declared.report.Retimed.{Retimed}
+use Rattle.merging_rounds.specs.declared.rounds.Rounds.{Rounds}
 use Rattle.aig_binary.specs.declared.reading.SpeltCircuit.{SpeltCircuit}
 use Rattle.aig_binary.specs.Ending.{ReadsToEnd, Spells}
-use Rattle.frames.specs.declared.errors.BytesError.{BytesError}
-use Rattle.frames.specs.declared.errors.BytesError.TheVariants.{Read, Retime, Write}
-use Rattle.frames.specs.declared.errors.RetimeError.{RetimeError}
-use Rattle.frames.specs.declared.errors.RetimeError.TheVariants.{Misread, NoMemory, NoSuchLatch, NoSuchName, NotShown}
-use Rattle.frames.specs.declared.options.Options.{Options}
+use Rattle.frame_runs.specs.declared.errors.BytesError.{BytesError}
+use Rattle.frame_runs.specs.declared.errors.BytesError.TheVariants.{Read, Retime, Write}
+use Rattle.frame_runs.specs.declared.errors.RetimeError.{RetimeError}
+use Rattle.frame_runs.specs.declared.errors.RetimeError.TheVariants.{Misread, NoMemory, NoSuchLatch, NoSuchName, NotShown}
+use Rattle.frame_runs.specs.declared.options.Options.{Options}
 use Rattle.frames.specs.Answering.{AfterReading, AreOfCircuit, BeforeWriting, IsAnswered, IsBytesError, IsStop, KeepsLevelsOf, RetimesBytes}
-use Rattle.frames.specs.Named.{IsFirstMissingBy, IsFirstNoLatchBy}
+use Rattle.frame_runs.specs.Named.{IsFirstMissingBy, IsFirstNoLatchBy}
 
 -- what is so of an error is so of the result that has it
 pub at-error : {T E : Type 0} (r : Result T E) (e : E) (P : E → Type 0) → IsErrAnd r (λ x. x ≡ e) → P e → IfErr r P
@@ -37,24 +37,24 @@ stops-answering options old new before after spelt (Retime e) read spells stop =
 stops-answering options old new before after spelt (Write e) read spells stop = record { read = read; spelt = spelt; spells = spells; stop = stop }
 
 -- what is so of every error is so of the one that a result has
-pub of_error : (r : Result Retimed BytesError) (e : BytesError) (P : BytesError → Type 0) → IfErr r P → r ≡ Err e → P e
-of_error r e P all is = subst (λ (s : Result Retimed BytesError). IfErr s P) is all
+pub of_error : (r : Result Rounds BytesError) (e : BytesError) (P : BytesError → Type 0) → IfErr r P → r ≡ Err e → P e
+of_error r e P all is = subst (λ (s : Result Rounds BytesError). IfErr s P) is all
 
 -- one statement of all errors, as a clause for each fact
 module _ (options : Options) (old new : Input) (before after : Output) where
-  read-of : (r : Result Retimed BytesError) → OnOk r (ReadsToEnd old new) → IfErr r (IsBytesError options old new before after) → AfterReading r (ReadsToEnd old new)
+  read-of : (r : Result Rounds BytesError) → OnOk r (ReadsToEnd old new) → IfErr r (IsBytesError options old new before after) → AfterReading r (ReadsToEnd old new)
   read-of (Ok r) read why = read
   read-of (Err (Read e)) read why = tt
   read-of (Err (Retime e)) read why = why.read
   read-of (Err (Write e)) read why = why.read
 
-  circuit-of : (r : Result Retimed BytesError) → IfOk r (IsAnswered old before after options) → IfErr r (IsBytesError options old new before after) → AfterReading r (AreOfCircuit old)
+  circuit-of : (r : Result Rounds BytesError) → IfOk r (IsAnswered old before after options) → IfErr r (IsBytesError options old new before after) → AfterReading r (AreOfCircuit old)
   circuit-of (Ok r) answer why = record { spelt = answer.spelt; spells = answer.read }
   circuit-of (Err (Read e)) answer why = tt
   circuit-of (Err (Retime e)) answer why = record { spelt = why.spelt; spells = why.spells }
   circuit-of (Err (Write e)) answer why = record { spelt = why.spelt; spells = why.spells }
 
-  unwritten-of : (r : Result Retimed BytesError) → IfErr r (IsBytesError options old new before after) → BeforeWriting r (after ≡ before)
+  unwritten-of : (r : Result Rounds BytesError) → IfErr r (IsBytesError options old new before after) → BeforeWriting r (after ≡ before)
   unwritten-of (Ok r) why = tt
   unwritten-of (Err (Read e)) why = why.1
   unwritten-of (Err (Retime NoMemory)) why = why.stop
@@ -65,7 +65,7 @@ module _ (options : Options) (old new : Input) (before after : Output) where
   unwritten-of (Err (Write e)) why = tt
 
   -- what an answer and an error mean gives each clause of what retiming bytes ensures
-  pub facts_of : (r : Result Retimed BytesError) → OnOk r (ReadsToEnd old new) → IfOk r (IsAnswered old before after options)
+  pub facts_of : (r : Result Rounds BytesError) → OnOk r (ReadsToEnd old new) → IfOk r (IsAnswered old before after options)
       → IfOk r (KeepsLevelsOf options old) → IfErr r (IsBytesError options old new before after) → RetimesBytes options old new before after r
   facts_of r read answer levels why = record {
     read = read-of r read why;

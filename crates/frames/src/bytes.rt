@@ -1,45 +1,39 @@
 //! Retiming from the bytes of a reader to those of a writer.
-ghost use Rattle.std.specs.Prelude.{◌≡◌, ℕ, [], ◌∷◌, ◌++◌, IfOk, OnOk, IfErr, IsErrOf, unwrap_or};
+ghost use Rattle.std.specs.Prelude.{◌≡◌, ℕ, [], ◌∷◌, IfOk, OnOk, IfErr, IsErrOf, unwrap_or};
 ghost use Rattle.aig_binary.specs.Ending.{IsReadError, ReadsToEnd, Spells};
 ghost use Rattle.counted_io.specs.Output.{Writes};
 ghost use Rattle.aig_graph.specs.Circuits.{IsNetlist};
 ghost use Rattle.aig_graph.specs.Graph.{IsGraph};
 ghost use Rattle.aig_binary.specs.Spellings.{text_in};
 ghost use Rattle.frames.specs.Answering.{AfterReading, AreOfCircuit, BeforeWriting, IsAnswered, IsCutOff, IsMissingIn, IsNoLatchIn, IsStop, IsWritten, KeepsLevelsOf, RetimesBytes};
-ghost use Rattle.frames.specs.Bounds.{bound_in};
-ghost use Rattle.frames.specs.Retiming.{IsRetimedHeld};
-ghost use Rattle.frames.specs.Stages.{Notifies, Writing, stages_of};
-ghost use Rattle.retimed_circuits.specs.RetimingLevels.{KeepsLevels};
-ghost use Rattle.frames.specs.declared.errors.RetimeError.TheVariants.{NoSuchLatch, NoSuchName};
+ghost use Rattle.frame_runs.specs.Stages.{Cleaning, Writing};
+ghost use Rattle.merging_rounds.specs.Following.{AreRoundsSeen};
+ghost use Rattle.frame_runs.specs.declared.errors.RetimeError.TheVariants.{NoSuchLatch, NoSuchName};
 
-use crate::errors::BytesError;
-use crate::follower::NoFollower;
-use crate::options::Options;
-use crate::run::Run;
-use crate::runs::{retimed_of, run_over};
-use crate::watcher::{FrameWatcher, NoWatcher, Stage};
+use crate::runs::{rounds_of, run_over};
 use aig_binary::{AnyReader, CircuitReader, Spelling, SpeltCircuit, read_circuit, write};
 use aig_graph::Circuit;
 use counted_io::{CountedRead, CountedWrite, WriteError};
 use file_words::ReadError;
+use frame_runs::{BytesError, FrameWatcher, NoFollower, NoWatcher, Options, Stage};
+use merging_rounds::{Rounds, RoundsRun};
 use pulse::{Crew, PhaseGate};
-use retimed_circuits::Retimed;
 use std::alloc::Global;
 use std::thread::Threads;
 
 /// Writes the retimed circuit in the spelling that the options choose, or in `fallback` if they
 /// choose none.
 fn write_answer<W: CountedWrite>(
-    retimed: &Retimed,
+    rounds: &Rounds,
     fallback: Spelling,
     writer: &mut W,
     options: &Options,
 ) -> Result<(), WriteError>
     ensures { Writes (W.output writer.old) (W.output writer.new) result
-        (text_in (unwrap_or options.now.spelling fallback) retimed.now.circuit) }
+        (text_in (unwrap_or options.now.spelling fallback) rounds.now.circuit) }
 {
     let spelling = options.spelling.unwrap_or(fallback);
-    write(&retimed.circuit, spelling, writer)
+    write(&rounds.circuit, spelling, writer)
 }
 
 /// Tells the prover that the circuit's literals and names are in range. Costs nothing.
@@ -67,23 +61,19 @@ pub fn run_spelt<W: CountedWrite, G: PhaseGate, V: FrameWatcher>(
     options: &Options,
     crew: &Crew<G>,
     watcher: &mut V,
-) -> Result<Run<NoFollower>, BytesError>
+) -> Result<RoundsRun<NoFollower>, BytesError>
     ensures ok { IfOk result (λ run. IsWritten options.now spelt (W.output writer.old)
-        (W.output writer.new) run.retimed) }
-    ensures held { IfOk result (λ run. IsRetimedHeld options.now spelt.circuit run.retimed
-        run.keep) }
-    ensures levels { IfOk result (λ run. KeepsLevels (bound_in options.now spelt.circuit)
-        spelt.circuit run.retimed.circuit) }
+        (W.output writer.new) run.rounds) }
+    ensures held { IfOk result (λ run. AreRoundsSeen V.was_notified (Cleaning ∷ [])
+        (Writing ∷ []) options.now spelt.circuit run.rounds run.keep watcher.old watcher.new) }
     ensures err { IfErr result (IsStop options.now spelt (W.output writer.old)
         (W.output writer.new)) }
-    ensures notified { IfOk result (λ run. Notifies V.was_notified watcher.old watcher.new
-        (stages_of options.now.max_frames run.retimed ++ Writing ∷ [])) }
 {
     let SpeltCircuit { circuit, spelling } = spelt;
     let run = run_over(rt, alloc, circuit, options, crew, watcher)?;
-    in_range(&run.retimed.circuit);
+    in_range(&run.rounds.circuit);
     watcher.enter(Stage::Writing);
-    match write_answer(&run.retimed, spelling, writer, options) {
+    match write_answer(&run.rounds, spelling, writer, options) {
         Ok(()) => Ok(run),
         Err(error) => {
             drop(run);
@@ -113,13 +103,13 @@ fn read_and_write<R: CountedRead, W: CountedWrite, G: PhaseGate>(
     writer: &mut W,
     options: &Options,
     crew: &Crew<G>,
-) -> Result<Retimed, BytesError>
+) -> Result<Rounds, BytesError>
     ensures { RetimesBytes options.now (R.input reader.old) (R.input reader.new)
         (W.output writer.old) (W.output writer.new) result }
 {
     let spelt = read_by(reader, AnyReader::new(alloc))?;
     match run_spelt(rt, alloc, spelt, writer, options, crew, &mut NoWatcher) {
-        Ok(run) => Ok(retimed_of(run)),
+        Ok(run) => Ok(rounds_of(run)),
         Err(error) => Err(error),
     }
 }
@@ -149,7 +139,7 @@ pub fn retime_bytes<R: CountedRead, W: CountedWrite, G: PhaseGate>(
     writer: &mut W,
     options: &Options,
     crew: &Crew<G>,
-) -> Result<Retimed, BytesError>
+) -> Result<Rounds, BytesError>
     ensures read { AfterReading result (ReadsToEnd (R.input reader.old) (R.input reader.new)) }
     ensures circuit { AfterReading result (AreOfCircuit (R.input reader.old)) }
     ensures answer { IfOk result (IsAnswered (R.input reader.old) (W.output writer.old)

@@ -1,7 +1,7 @@
 -- How the circuits of a batch are retimed, and what is printed of it, by how it ends.
 use Rattle.std.specs.Prelude.{ℕ, ◌≡◌, ◌⊎◌, Bool, true, false, List, fold}
 use Rattle.counted_io.specs.Output.{Output, WritesAll}
-use Rattle.frames.specs.declared.options.Options.{Options}
+use Rattle.frame_runs.specs.declared.options.Options.{Options}
 use Rattle.batch_pool.specs.Outcomes.{AreOutcomes}
 use Rattle.batch_pool.specs.declared.job.Job.{Job}
 use Rattle.batch_pool.specs.declared.job.Outcome.{Outcome as JobOutcome}

@@ -4,7 +4,7 @@ use circuit_files::{Fault, Outcome, tell_page, tell_spelling};
 use command_line::{Shown, Task, Verification};
 use counted_io::{Buffered, CountedWrite, Target};
 use file_words::Spelling;
-use frames::PathBound;
+use frame_runs::PathBound;
 use std::rt::Files;
 
 /// Returns the options of `retime` that bear on certificates and that 'verify' wasn't given, or

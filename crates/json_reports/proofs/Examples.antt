@@ -41,22 +41,22 @@ stat_example : json_line (statistics_data (record { counts = two_latches; passab
 unfolding serde_json_on_literals digits
 stat_example = refl
 
-audit_example : json_line (audit_data [] (record { bound = Some 3; merged = None; audit = record { confirmed = 0; end = Objected (Fails BadRoute) }; agreement = None }) 5)
+audit_example : json_line (audit_data [] (record { bound = Some 3; merged = None; audits = record { confirmed = 0; end = Objected (Fails BadRoute) } ∷ []; agreement = None }) 5)
     ≡ codes "{\"bound\":3,\"command\":\"verify\",\"counts\":[],\"end\":\"Objected\",\"objection\":\"BadRoute\",\"out\":null,\"status\":5}\n"
 unfolding serde_json_on_literals digits
 audit_example = refl
 
-compared_example : json_line (audit_data [] (record { bound = None; merged = None; audit = record { confirmed = 0; end = NoBlocks }; agreement = Some (DiffersAt 17) }) 5)
+compared_example : json_line (audit_data [] (record { bound = None; merged = None; audits = record { confirmed = 0; end = NoBlocks } ∷ []; agreement = Some (DiffersAt 17) }) 5)
     ≡ codes "{\"bound\":null,\"command\":\"verify\",\"counts\":[],\"end\":\"NoBlocks\",\"objection\":null,\"out\":{\"offset\":17,\"result\":\"Differs\"},\"status\":5}\n"
 unfolding serde_json_on_literals digits
 compared_example = refl
 
-merged_example : json_line (audit_data [] (record { bound = None; merged = Some 2; audit = record { confirmed = 0; end = NoBlocks }; agreement = None }) 0)
+merged_example : json_line (audit_data [] (record { bound = None; merged = Some 2; audits = record { confirmed = 0; end = NoBlocks } ∷ []; agreement = None }) 0)
     ≡ codes "{\"bound\":null,\"command\":\"verify\",\"counts\":[],\"end\":\"NoBlocks\",\"merged\":{\"latch\":null,\"latches\":2,\"objection\":null},\"objection\":null,\"out\":null,\"status\":0}\n"
 unfolding serde_json_on_literals digits
 merged_example = refl
 
-refused_example : json_line (audit_data [] (record { bound = None; merged = Some 2; audit = record { confirmed = 0; end = NotShown 7 }; agreement = None }) 5)
+refused_example : json_line (audit_data [] (record { bound = None; merged = Some 2; audits = record { confirmed = 0; end = NotShown 7 } ∷ []; agreement = None }) 5)
     ≡ codes "{\"bound\":null,\"command\":\"verify\",\"counts\":[],\"end\":\"NotShown\",\"merged\":{\"latch\":7,\"latches\":2,\"objection\":\"NotShown\"},\"objection\":null,\"out\":null,\"status\":5}\n"
 unfolding serde_json_on_literals digits
 refused_example = refl

@@ -3,3 +3,5 @@ mod PutLaws
 mod MergedLaws
 pub mod PlainLaws
 mod Examples
+pub mod MergedLineLaws
+mod CountLaws

@@ -11,12 +11,14 @@ use Rattle.certificates.specs.declared.certificate.Certificate.{Certificate}
 use Rattle.certificate_audits.specs.declared.outcome.End.{End}
 use Rattle.counted_io.specs.Output.{Output}
 use Rattle.lane_sim.specs.declared.difference.Place.{Place}
+use Rattle.certificate_files.specs.declared.file.CertPart.{CertPart}
+use Rattle.reports.specs.Audits.{last_end}
 use Rattle.reports.specs.declared.agreement.Agreement.{Agreement}
 use Rattle.reports.specs.declared.judgement.Judgement.{Judgement}
 use Rattle.reports.specs.declared.agreement.Agreement.TheVariants.{Same, DiffersAt}
 use Rattle.reports.specs.declared.batch.JobReport.{JobReport}
 use Rattle.reports.specs.declared.batch.JobReport.TheVariants.{Done, Misread, NoMemory, NoSuchLatch, NoSuchName, NotShown, Refused}
-use Rattle.retimed_circuits.specs.declared.report.Retimed.{Retimed}
+use Rattle.merging_rounds.specs.declared.rounds.Rounds.{Rounds}
 use Rattle.serde_json.specs.Data.{Data, null, string, object, Members, member, no_members, depth, items_depth, members_depth}
 use Rattle.serde_json.specs.View.{items_of, view}
 use Rattle.serde_json.specs.declared.value.Value.{Value}
@@ -125,11 +127,11 @@ plain-held_back h is_least =
     (plain-member (plain-count h.read_elsewhere) (plain-member (plain-or_null count plain-count h.too_long) plain-none))))))
 
 -- of a retiming
-pub retiming : (r : Retimed) (levels : ReadLevels) (left : Remaining) (times : Option Times) (mapped : Option MapCounts) → IsPlain (retiming_data r levels left times mapped)
+pub retiming : (r : Rounds) (levels : ReadLevels) (left : Remaining) (times : Option Times) (mapped : Option MapCounts) → IsPlain (retiming_data r levels left times mapped)
 retiming r levels left times mapped =
     is_plain {n = 4} (omega arith) (plain-object (plain-member (plain-circuit left.counts) (plain-member (plain-object (plain-member (plain-count r.read_latches) (plain-member (plain-or_null count plain-count levels.counted) plain-none)))
     (plain-member (plain-or_null count plain-count levels.bound) (plain-member (plain-string _) (plain-member (plain-array frame_data r.frames plain-frame) (plain-member (plain-array count r.kept_free plain-count) (plain-member (plain-held_back left.held_back left.is_least)
-    (plain-member (plain-or_null map_data plain-map mapped) (plain-member (plain-or_null merge_data plain-merge (merged_counts r.merged)) (plain-member (plain-or_null times_data plain-times times)
+    (plain-member (plain-or_null map_data plain-map mapped) (plain-member (plain-or_null merge_data plain-merge (merged_counts r.parts)) (plain-member (plain-or_null times_data plain-times times)
     (plain-member (plain-or_null count plain-count (networks_of times)) (plain-member (plain-count 0) plain-none)))))))))))))
 
 plain-agreement : {n : ℕ} (agreement : Agreement) → Plain (suc n) (agreement_data agreement)
@@ -145,10 +147,10 @@ plain-before None end p = p
 plain-before (Some latches) end p = plain-member (plain-merged latches end) p
 
 -- of an audit
-pub audit : (blocks : List Certificate) (j : Judgement) (status : ℕ) → IsPlain (audit_data blocks j status)
-audit blocks j status =
+pub audit : (parts : List CertPart) (j : Judgement) (status : ℕ) → IsPlain (audit_data parts j status)
+audit parts j status =
     is_plain {n = 3} (omega arith) (plain-object (plain-member (plain-or_null count plain-count j.bound) (plain-member (plain-string _) (plain-member (plain-array block_data _ (λ b. plain-count b.count))
-    (plain-member (plain-string _) (plain-before j.merged j.audit.end (plain-member (plain-or_null (λ o. string (block_objection_name o)) (λ o. plain-string _) (objection_at j.audit.end))
+    (plain-member (plain-string _) (plain-before j.merged (last_end j.audits) (plain-member (plain-or_null (λ o. string (block_objection_name o)) (λ o. plain-string _) (objection_at (last_end j.audits)))
     (plain-member (plain-or_null agreement_data plain-agreement j.agreement) (plain-member (plain-count status) plain-none)))))))))
 
 plain-job : (report : JobReport) → Plain 2 (job_data report)

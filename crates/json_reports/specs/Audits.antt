@@ -1,10 +1,13 @@
 -- An audit of certificates, as an object.
-use Rattle.std.specs.Prelude.{ℕ, List, Option, Some, None, take, codes}
+use Rattle.std.specs.Prelude.{ℕ, List, [], ◌∷◌, ◌++◌, Option, Some, None, take, codes}
 use Rattle.certificates.specs.declared.certificate.Certificate.{Certificate}
+use Rattle.certificate_files.specs.declared.file.CertPart.{CertPart}
 use Rattle.certificate_audits.specs.Ends.{block_objection_name, refused_latch}
+use Rattle.certificate_audits.specs.declared.outcome.Audit.{Audit}
 use Rattle.certificate_audits.specs.declared.outcome.BlockObjection.{BlockObjection}
 use Rattle.certificate_audits.specs.declared.outcome.End.{End}
 use Rattle.certificate_audits.specs.declared.outcome.End.TheVariants.{NoBlocks, Certified, Open, BlocksFollow, Objected, Misread, NotShown}
+use Rattle.reports.specs.Audits.{last_end}
 use Rattle.reports.specs.declared.agreement.Agreement.{Agreement}
 use Rattle.reports.specs.declared.agreement.Agreement.TheVariants.{Same, DiffersAt}
 use Rattle.reports.specs.declared.judgement.Judgement.{Judgement}
@@ -51,6 +54,12 @@ abbrev pub merged_before : Option ℕ → End → Members → Members
 merged_before None end members = members
 merged_before (Some latches) end members = member (codes "merged") (merged_data latches end) members
 
+-- the confirmed blocks of the parts that were judged, in order
+unfoldable pub confirmed_blocks : List CertPart → List Audit → List Certificate
+confirmed_blocks [] audits = []
+confirmed_blocks (part ∷ parts) [] = []
+confirmed_blocks (part ∷ parts) (audit ∷ audits) = take audit.confirmed part.blocks ++ confirmed_blocks parts audits
+
 abbrev pub block_data : Certificate → Data
 block_data block = count block.count
 
@@ -66,20 +75,21 @@ with_merged None end members = members
 with_merged (Some latches) end members = put (codes "merged") (merged_data latches end) members
 
 -- The bound on levels, if there is one, and the counts of the confirmed blocks, in order. Also how
--- the audit ended, merged latches, if the file has them, and the outcome of comparing a file.
-abbrev pub audit_members : List Certificate → Judgement → ℕ → Members
-audit_members blocks judgement status =
+-- the last part that was judged ended, merged latches, if the file has them, and the outcome of
+-- comparing a file.
+abbrev pub audit_members : List CertPart → Judgement → ℕ → Members
+audit_members parts judgement status =
     member (codes "bound") (or_null count judgement.bound)
     (member (codes "command") (string (codes "verify"))
-    (member (codes "counts") (array_of block_data (take judgement.audit.confirmed blocks))
-    (member (codes "end") (string (end_name judgement.audit.end))
-    (merged_before judgement.merged judgement.audit.end
-    (member (codes "objection") (or_null (λ objection. string (block_objection_name objection)) (objection_at judgement.audit.end))
+    (member (codes "counts") (array_of block_data (confirmed_blocks parts judgement.audits))
+    (member (codes "end") (string (end_name (last_end judgement.audits)))
+    (merged_before judgement.merged (last_end judgement.audits)
+    (member (codes "objection") (or_null (λ objection. string (block_objection_name objection)) (objection_at (last_end judgement.audits)))
     (member (codes "out") (or_null agreement_data judgement.agreement)
     (member (codes "status") (count status) no_members)))))))
 
-abbrev pub audit_data : List Certificate → Judgement → ℕ → Data
-audit_data blocks judgement status = object (audit_members blocks judgement status)
+abbrev pub audit_data : List CertPart → Judgement → ℕ → Data
+audit_data parts judgement status = object (audit_members parts judgement status)
 
 -- the judgement, as if the file had no merged latches
 abbrev pub without_merged : Judgement → Judgement

@@ -3,7 +3,7 @@ use Rattle.std.specs.Prelude.{ℕ, List, Option, None, codes}
 use Rattle.file_words.specs.Codes as circuits
 use Rattle.lane_sim.specs.Codes as stimuli
 use Rattle.circuit_files.specs.ListCodes as lists
-use Rattle.certificates.specs.Codes as certificates
+use Rattle.certificate_files.specs.Codes as certificates
 use Rattle.witnesses.specs.Codes as witnesses
 use Rattle.serde_json.specs.Data.{Data, string, object, member, no_members}
 use Rattle.json_reports.specs.Members.{count, or_null}

@@ -1,12 +1,14 @@
 -- A retimed circuit and its frames, as an object.
-use Rattle.std.specs.Prelude.{ℕ, Bool, List, Option, codes, option_map}
+use Rattle.std.specs.Prelude.{ℕ, Bool, false, List, [], ◌∷◌, Option, Some, None, codes, if◌then◌else◌, is_some, option_map, unwrap_or}
+use Rattle.std.specs.List.{flat_map}
+use Rattle.certificate_files.specs.declared.file.CertPart.{CertPart}
 use Rattle.certificates.specs.declared.merged.MergedLatch.{MergedLatch}
 use Rattle.merged_circuits.specs.Counts.{counts_of}
 use Rattle.merged_circuits.specs.declared.counts.MergeCounts.{MergeCounts}
 use Rattle.reports.specs.declared.held_back.HeldBack.{HeldBack}
 use Rattle.reports.specs.declared.remaining_counts.Remaining.{Remaining}
+use Rattle.merging_rounds.specs.declared.rounds.Rounds.{Rounds}
 use Rattle.retimed_circuits.specs.declared.report.FrameReport.{FrameReport}
-use Rattle.retimed_circuits.specs.declared.report.Retimed.{Retimed}
 use Rattle.serde_json.specs.Data.{Data, boolean, string, object, member, no_members}
 use Rattle.json_reports.specs.Counts.{circuit_data, map_data, merge_data}
 use Rattle.json_reports.specs.Members.{count, array_of, or_null}
@@ -39,13 +41,26 @@ held_back_data h is_least =
 abbrev pub networks_of : Option Times → Option ℕ
 networks_of times = option_map (λ t. t.networks) times
 
--- the number of merged latches, if latches were to be merged
-abbrev pub merged_counts : Option (List MergedLatch) → Option MergeCounts
-merged_counts merged = option_map counts_of merged
+-- the latches that a round merged
+abbrev pub lines_in : CertPart → List MergedLatch
+lines_in part = unwrap_or part.merged []
+
+-- and those that all rounds did
+abbrev pub merged_lines : List CertPart → List MergedLatch
+merged_lines parts = flat_map lines_in parts
+
+-- whether latches were to be merged, as the first round tells
+abbrev pub are_merged : List CertPart → Bool
+are_merged [] = false
+are_merged (part ∷ parts) = is_some part.merged
+
+-- the number of merged latches of all rounds, if latches were to be merged
+abbrev pub merged_counts : List CertPart → Option MergeCounts
+merged_counts parts = if are_merged parts then Some (counts_of (merged_lines parts)) else None
 
 -- Each frame, what the written circuit has, the latches that were read and the free latches that
 -- stayed. Also what holds latches, and the time of each part.
-abbrev pub retiming_data : Retimed → ReadLevels → Remaining → Option Times → Option MapCounts → Data
+abbrev pub retiming_data : Rounds → ReadLevels → Remaining → Option Times → Option MapCounts → Data
 retiming_data r levels left times mapped =
     object (member (codes "after") (circuit_data left.counts)
     (member (codes "before") (before_data r.read_latches levels.counted)
@@ -55,7 +70,7 @@ retiming_data r levels left times mapped =
     (member (codes "free_kept") (array_of count r.kept_free)
     (member (codes "held_back") (held_back_data left.held_back left.is_least)
     (member (codes "map") (or_null map_data mapped)
-    (member (codes "merged") (or_null merge_data (merged_counts r.merged))
+    (member (codes "merged") (or_null merge_data (merged_counts r.parts))
     (member (codes "microseconds") (or_null times_data times)
     (member (codes "network") (or_null count (networks_of times))
     (member (codes "status") (count 0) no_members))))))))))))

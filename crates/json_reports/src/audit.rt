@@ -1,16 +1,18 @@
-//! An audit of certificates, and what came of comparing a file with the circuit that they end in.
-ghost use Rattle.std.specs.Prelude.{◌≡◌, IfOk, OnOk, take};
+//! A judgement of certificates, and what came of comparing a file with the circuit that they end
+//! in.
+ghost use Rattle.std.specs.Prelude.{◌≡◌, ◌++◌, IfOk, OnOk, map, take};
 ghost use Rattle.serde_json.specs.View.{members_view, view};
 ghost use Rattle.certificate_audits.specs.Ends.{block_objection_name};
-ghost use Rattle.json_reports.specs.Audits.{agreement_data, audit_data, audit_members, block_data, latch_objection, merged_data, objection_at, with_merged, without_merged};
+ghost use Rattle.json_reports.specs.Audits.{agreement_data, audit_data, audit_members, block_data, confirmed_blocks, latch_objection, merged_data, objection_at, with_merged, without_merged};
 ghost use Rattle.json_reports.specs.Audits as names;
 ghost use Rattle.json_reports.specs.Members.{array_of, or_null, scalar_data};
 ghost use Rattle.serde_json.specs.Data.{no_members, object, string};
 
 use crate::members::{Scalar, put_made, put_scalars, scalars_object, wide};
-use certificate_audits::End;
+use certificate_audits::{Audit, End};
+use certificate_files::CertPart;
 use certificates::Certificate;
-use reports::{Agreement, Judgement};
+use reports::{Agreement, Judgement, last_end};
 use serde_json::{Map, Value};
 use std::alloc::{AllocError, Global};
 
@@ -38,16 +40,6 @@ fn objection_value(alloc: Global, end: End) -> Result<Value, AllocError>
     }
 }
 
-fn counts_array(alloc: Global, blocks: &[Certificate]) -> Result<Value, AllocError>
-    ensures { IfOk result (λ v. view v ≡ array_of block_data blocks.now) }
-{
-    let mut list = Vec::new(alloc);
-    for block in blocks {
-        serde_json::push(&mut list, Value::from(block.count))?;
-    }
-    Ok(Value::Array(list))
-}
-
 /// Returns the first `confirmed` blocks.
 fn first_blocks(blocks: &[Certificate], confirmed: usize) -> &[Certificate]
     ensures { result.now ≡ take confirmed blocks.now }
@@ -57,6 +49,29 @@ fn first_blocks(blocks: &[Certificate], confirmed: usize) -> &[Certificate]
     } else {
         blocks
     }
+}
+
+fn push_counts(list: &mut Vec<Value>, blocks: &[Certificate]) -> Result<(), AllocError>
+    ensures { OnOk result (map view list.new.items
+        ≡ map view list.old.items ++ map block_data blocks.now) }
+{
+    for block in blocks {
+        serde_json::push(list, Value::from(block.count))?;
+    }
+    Ok(())
+}
+
+/// Returns the counts of the confirmed blocks of parts, in order.
+fn counts_array(alloc: Global, parts: &[CertPart], audits: &[Audit]) -> Result<Value, AllocError>
+    ensures { IfOk result (λ v. view v
+        ≡ array_of block_data (confirmed_blocks parts.now audits.now)) }
+{
+    let mut list = Vec::new(alloc);
+    for place in 0..parts.len().min(audits.len()) {
+        let blocks = parts[place].blocks.as_slice();
+        push_counts(&mut list, first_blocks(blocks, audits[place].confirmed))?;
+    }
+    Ok(Value::Array(list))
 }
 
 fn agreement_object(alloc: Global, agreement: Agreement) -> Result<Value, AllocError>
@@ -129,24 +144,19 @@ fn put_merged(
 fn put_audit(
     members: &mut Map<String, Value>,
     alloc: Global,
-    blocks: &[Certificate],
+    parts: &[CertPart],
     judgement: &Judgement,
     status: u8,
 ) -> Result<(), AllocError>
     ensures { OnOk result (members_view members.old.entries ≡ no_members
         → members_view members.new.entries
-        ≡ audit_members blocks.now (without_merged judgement.now) status) }
+        ≡ audit_members parts.now (without_merged judgement.now) status) }
 {
-    let audit = judgement.audit;
+    let audits = judgement.audits.as_slice();
+    let end = last_end(audits);
     let agreement = judgement.agreement;
-    let confirmed = first_blocks(blocks, audit.confirmed);
-    put_made(members, alloc, "counts", counts_array(alloc, confirmed))?;
-    put_made(
-        members,
-        alloc,
-        "objection",
-        objection_value(alloc, audit.end),
-    )?;
+    put_made(members, alloc, "counts", counts_array(alloc, parts, audits))?;
+    put_made(members, alloc, "objection", objection_value(alloc, end))?;
     put_made(members, alloc, "out", agreement_value(alloc, agreement))?;
     put_scalars(
         members,
@@ -154,28 +164,28 @@ fn put_audit(
         &[
             ("bound", Scalar::CountIfAny(wide(judgement.bound))),
             ("command", Scalar::Text("verify")),
-            ("end", Scalar::Text(end_name(audit.end))),
+            ("end", Scalar::Text(end_name(end))),
             ("status", Scalar::Count(u64::from(status))),
         ],
     )
 }
 
-/// Returns what `verify` prints of a judgement of a file's blocks. It ends with this status.
+/// Returns what `verify` prints of a judgement of a file's parts. It ends with this status.
 ///
 /// # Errors
 ///
 /// Memory is refused.
 pub fn audit_object(
     alloc: Global,
-    blocks: &[Certificate],
+    parts: &[CertPart],
     judgement: &Judgement,
     status: u8,
 ) -> Result<Value, AllocError>
-    ensures { IfOk result (λ v. view v ≡ audit_data blocks.now judgement.now status) }
+    ensures { IfOk result (λ v. view v ≡ audit_data parts.now judgement.now status) }
 {
     let mut members = Map::new(alloc);
-    put_audit(&mut members, alloc, blocks, judgement, status)?;
-    let end = judgement.audit.end;
+    put_audit(&mut members, alloc, parts, judgement, status)?;
+    let end = last_end(judgement.audits.as_slice());
     put_merged(&mut members, alloc, judgement.merged, end)?;
     Ok(Value::Object(members))
 }

@@ -16,12 +16,12 @@ use crate::printing::{PrintError, print_made};
 use crate::refusal::{Refusal, refusal_object};
 use crate::retiming::retiming_object;
 use crate::times::Times;
-use certificates::Certificate;
+use certificate_files::CertPart;
 use counted_io::CountedWrite;
 use lane_sim::Place;
 use merged_circuits::MergeCounts;
+use merging_rounds::Rounds;
 use reports::{JobReport, Judgement, Remaining, Statistics};
-use retimed_circuits::Retimed;
 use std::alloc::Global;
 
 /// Prints what [`retiming_object`] makes, on a line.
@@ -32,7 +32,7 @@ use std::alloc::Global;
 /// object.
 pub fn print_retiming<W: CountedWrite>(
     alloc: Global,
-    retimed: &Retimed,
+    rounds: &Rounds,
     levels: ReadLevels,
     remaining: &Remaining,
     times: Option<&Times>,
@@ -40,12 +40,12 @@ pub fn print_retiming<W: CountedWrite>(
     writer: &mut W,
 ) -> Result<(), PrintError>
     ensures { PrintsLine
-        (retiming_data retimed.now levels remaining.now (option_map (λ t. t.now) times.entry) map)
+        (retiming_data rounds.now levels remaining.now (option_map (λ t. t.now) times.entry) map)
         (W.output writer.old) (W.output writer.new) result }
 {
     print_made(
         alloc,
-        retiming_object(alloc, retimed, levels, remaining, times, map),
+        retiming_object(alloc, rounds, levels, remaining, times, map),
         writer,
     )
 }
@@ -104,19 +104,15 @@ pub fn print_shapes_differ<W: CountedWrite>(alloc: Global, writer: &mut W) -> Re
 /// object.
 pub fn print_audit<W: CountedWrite>(
     alloc: Global,
-    blocks: &[Certificate],
+    parts: &[CertPart],
     judgement: &Judgement,
     status: u8,
     writer: &mut W,
 ) -> Result<(), PrintError>
-    ensures { PrintsLine (audit_data blocks.now judgement.now status)
+    ensures { PrintsLine (audit_data parts.now judgement.now status)
         (W.output writer.old) (W.output writer.new) result }
 {
-    print_made(
-        alloc,
-        audit_object(alloc, blocks, judgement, status),
-        writer,
-    )
+    print_made(alloc, audit_object(alloc, parts, judgement, status), writer)
 }
 
 /// Prints what [`batch_object`] makes, on a line.

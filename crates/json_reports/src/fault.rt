@@ -5,7 +5,7 @@ ghost use Rattle.serde_json.specs.View.{view};
 ghost use Rattle.json_reports.specs.Faults.{fault_data};
 
 use crate::members::{Scalar, scalars_object};
-use certificates::CertError;
+use certificate_files::CertError;
 use circuit_files::ListError;
 use file_words::ReadError;
 use lane_sim::StimError;

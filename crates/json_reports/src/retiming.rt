@@ -1,5 +1,5 @@
 //! The frames of a retiming.
-ghost use Rattle.std.specs.Prelude.{◌≡◌, IfOk, OnOk, option_map};
+ghost use Rattle.std.specs.Prelude.{◌≡◌, ◌++◌, IfOk, OnOk, option_map};
 ghost use Rattle.serde_json.specs.Data.{no_members, object};
 ghost use Rattle.serde_json.specs.View.{members_view, view};
 ghost use Rattle.json_reports.specs.Members.{array_of, count};
@@ -9,11 +9,12 @@ ghost use Rattle.json_reports.specs.Retimings as told;
 use crate::counts::{MapCounts, ReadLevels, circuit_object, map_value, merged_value};
 use crate::members::{Scalar, put_made, put_scalars, scalars_object, wide};
 use crate::times::{Times, times_value};
-use aig_graph::Sequence;
+use certificate_files::CertPart;
 use certificates::MergedLatch;
 use merged_circuits::{MergeCounts, counts_of};
+use merging_rounds::Rounds;
 use reports::{HeldBack, Remaining};
-use retimed_circuits::{FrameReport, Retimed};
+use retimed_circuits::FrameReport;
 use serde_json::{Map, Value};
 use std::alloc::{AllocError, Global};
 
@@ -94,13 +95,50 @@ fn networks_of(times: Option<&Times>) -> Option<u32>
     }
 }
 
-/// Counts the merged latches, if latches were to be merged.
-fn counts_of_merged(merged: &Option<Sequence<MergedLatch>>) -> Option<MergeCounts>
-    ensures { result ≡ told.merged_counts merged.now }
+/// Appends the latches that a round merged.
+fn with_lines(
+    lines: Vec<MergedLatch>,
+    part: &CertPart,
+) -> Result<Vec<MergedLatch>, AllocError>
+    ensures { IfOk result (λ all. all.items ≡ lines.items ++ told.lines_in part.now) }
 {
-    match merged {
-        Some(lines) => Some(counts_of(lines.as_slice())),
-        None => None,
+    let mut all = lines;
+    if let Some(more) = &part.merged {
+        all.extend_from_slice(more.as_slice())?;
+    }
+    Ok(all)
+}
+
+/// Returns the latches that all rounds merged.
+fn merged_lines(alloc: Global, parts: &[CertPart]) -> Result<Vec<MergedLatch>, AllocError>
+    ensures { IfOk result (λ lines. lines.items ≡ told.merged_lines parts.now) }
+{
+    let mut all = Vec::new(alloc);
+    for part in parts {
+        all = with_lines(all, part)?;
+    }
+    Ok(all)
+}
+
+/// Returns true if latches were to be merged: the first round says which were.
+fn are_merged(parts: &[CertPart]) -> bool
+    ensures { result ≡ told.are_merged parts.now }
+{
+    match parts.first() {
+        Some(part) => part.merged.is_some(),
+        None => false,
+    }
+}
+
+/// Counts the merged latches of all rounds, if latches were to be merged.
+fn counts_of_merged(alloc: Global, parts: &[CertPart]) -> Result<Option<MergeCounts>, AllocError>
+    ensures { IfOk result (λ counts. counts ≡ told.merged_counts parts.now) }
+{
+    if are_merged(parts) {
+        let lines = merged_lines(alloc, parts)?;
+        Ok(Some(counts_of(lines.as_slice())))
+    } else {
+        Ok(None)
     }
 }
 
@@ -108,7 +146,7 @@ fn counts_of_merged(merged: &Option<Sequence<MergedLatch>>) -> Option<MergeCount
 fn put_retiming(
     members: &mut Map<String, Value>,
     alloc: Global,
-    retimed: &Retimed,
+    rounds: &Rounds,
     levels: ReadLevels,
     remaining: &Remaining,
     times: Option<&Times>,
@@ -116,20 +154,20 @@ fn put_retiming(
 ) -> Result<(), AllocError>
     ensures { OnOk result (members_view members.old.entries ≡ no_members
         → object (members_view members.new.entries)
-        ≡ retiming_data retimed.now levels remaining.now (option_map (λ t. t.now) times.entry) map) }
+        ≡ retiming_data rounds.now levels remaining.now (option_map (λ t. t.now) times.entry) map) }
 {
-    let frames = retimed.frames.as_slice();
-    let free_kept = retimed.kept_free.as_slice();
+    let frames = rounds.frames.as_slice();
+    let free_kept = rounds.kept_free.as_slice();
     let after = &remaining.counts;
     put_made(members, alloc, "after", circuit_object(alloc, after))?;
-    let before = before_object(alloc, retimed.read_latches, levels.counted);
+    let before = before_object(alloc, rounds.read_latches, levels.counted);
     put_made(members, alloc, "before", before)?;
     put_made(members, alloc, "frames", frames_array(alloc, frames))?;
     put_made(members, alloc, "free_kept", numbers_array(alloc, free_kept))?;
     let held_back = held_back_object(alloc, &remaining.held_back, remaining.is_least);
     put_made(members, alloc, "held_back", held_back)?;
     put_made(members, alloc, "map", map_value(alloc, map))?;
-    let merged = counts_of_merged(&retimed.merged);
+    let merged = counts_of_merged(alloc, rounds.parts.as_slice())?;
     put_made(members, alloc, "merged", merged_value(alloc, merged))?;
     put_made(members, alloc, "microseconds", times_value(alloc, times))?;
     put_scalars(
@@ -155,16 +193,16 @@ fn put_retiming(
 /// Memory is refused.
 pub fn retiming_object(
     alloc: Global,
-    retimed: &Retimed,
+    rounds: &Rounds,
     levels: ReadLevels,
     remaining: &Remaining,
     times: Option<&Times>,
     map: Option<MapCounts>,
 ) -> Result<Value, AllocError>
     ensures { IfOk result (λ v. view v
-        ≡ retiming_data retimed.now levels remaining.now (option_map (λ t. t.now) times.entry) map) }
+        ≡ retiming_data rounds.now levels remaining.now (option_map (λ t. t.now) times.entry) map) }
 {
     let mut members = Map::new(alloc);
-    put_retiming(&mut members, alloc, retimed, levels, remaining, times, map)?;
+    put_retiming(&mut members, alloc, rounds, levels, remaining, times, map)?;
     Ok(Value::Object(members))
 }

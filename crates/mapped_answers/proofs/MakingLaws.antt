@@ -4,18 +4,18 @@ use Rattle.aig_graph.specs.Circuits.{IsNetlist, Netlist}
 use Rattle.aig_graph.specs.Graph.{IsGraph}
 use Rattle.counted_io.specs.Output.{Output, WritesAll, WritesPart}
 use Rattle.aig_binary.specs.declared.reading.SpeltCircuit.{SpeltCircuit}
-use Rattle.frames.specs.declared.errors.BytesError.TheVariants.{Read, Retime, Write}
-use Rattle.frames.specs.declared.errors.RetimeError.{RetimeError}
-use Rattle.frames.specs.declared.errors.RetimeError.TheVariants.{Misread, NoMemory, NoSuchLatch, NoSuchName, NotShown}
-use Rattle.frames.specs.declared.options.Options.{Options}
+use Rattle.frame_runs.specs.declared.errors.BytesError.TheVariants.{Read, Retime, Write}
+use Rattle.frame_runs.specs.declared.errors.RetimeError.{RetimeError}
+use Rattle.frame_runs.specs.declared.errors.RetimeError.TheVariants.{Misread, NoMemory, NoSuchLatch, NoSuchName, NotShown}
+use Rattle.frame_runs.specs.declared.options.Options.{Options}
 use Rattle.frames.specs.Answering.{StopsWriting}
-use Rattle.frames.specs.Bounds.{bound_in}
-use Rattle.frames.specs.Named.{IsFirstMissingBy, IsFirstNoLatchBy, holding_in}
+use Rattle.frame_runs.specs.Bounds.{bound_in}
+use Rattle.frame_runs.specs.Named.{IsFirstMissingBy, IsFirstNoLatchBy, holding_in}
 use Rattle.std.specs.Option.{unwrap_or}
 use Rattle.file_words.specs.declared.spelling.Spelling.{Spelling}
 use Rattle.aig_binary.specs.Spellings.{text_in}
 use Rattle.aig_binary.proofs.SpellingLaws.{the_spelling_law}
-use Rattle.frames.proofs.LimitLaws.{stays-within}
+use Rattle.merging_rounds.proofs.LimitLaws.{runs-limits}
 use Rattle.map_circuits.specs.declared.errors.MapError.TheVariants as maps
 use Rattle.mapped_answers.specs.declared.making.Made.{Made}
 use Rattle.mapped_answers.specs.declared.errors.AnswerError.{AnswerError}
@@ -53,22 +53,23 @@ makes-nothing options spelt out (Bytes (Write e)) is = absurd is
 
 -- what was made is written as the answer
 pub written-answer : (options : Options) (spelt : SpeltCircuit) (made : Made) (spelling : Spelling) (old new : Output) → spelling ≡ unwrap_or options.spelling spelt.spelling
-    → IsMade options spelt.circuit made → IsGraph made.retimed.circuit.aig → IsNetlist made.retimed.circuit → WritesAll old new (text_in spelling made.retimed.circuit) → IsMappedOf options spelt old new made
+    → IsMade options spelt.circuit made → IsGraph made.rounds.circuit.aig → IsNetlist made.rounds.circuit → WritesAll old new (text_in spelling made.rounds.circuit) → IsMappedOf options spelt old new made
 written-answer options spelt made spelling old new same is graph netlist writes = record {
   written = record {
-    answer = record { latches = is.latches; names = is.names; retimed = is.mapped.held.retimed };
-    writes = subst (λ (s : Spelling). WritesAll old new (text_in s made.retimed.circuit)) same writes;
-    reads_back = λ within. (the_spelling_law (unwrap_or options.spelling spelt.spelling) made.retimed.circuit).read graph netlist
-        (stays-within options.merge (bound_in options spelt.circuit) options.choice spelt.circuit (holding_in options) options.max_frames options.certify made.retimed is.mapped.held.retimed within);
+    answer = record { latches = is.latches; names = is.names; now = made.keep; rounds = is.rounds };
+    writes = subst (λ (s : Spelling). WritesAll old new (text_in s made.rounds.circuit)) same writes;
+    reads_back = λ within. (the_spelling_law (unwrap_or options.spelling spelt.spelling) made.rounds.circuit).read graph netlist
+        (runs-limits options.merge (bound_in options spelt.circuit) options.choice spelt.circuit (holding_in options) options.max_frames options.certify is.rounds.runs made.rounds.circuit made.rounds.kept_free made.keep
+        is.rounds.is.after within);
   };
   mapped = is.mapped;
 }
 
 -- or a beginning of it
 pub cut_off-answer : (options : Options) (spelt : SpeltCircuit) (made : Made) (spelling : Spelling) (old new : Output) → spelling ≡ unwrap_or options.spelling spelt.spelling
-    → IsMade options spelt.circuit made → WritesPart old new (text_in spelling made.retimed.circuit) → StopsWriting options spelt old new
+    → IsMade options spelt.circuit made → WritesPart old new (text_in spelling made.rounds.circuit) → StopsWriting options spelt old new
 cut_off-answer options spelt made spelling old new same is part = record {
-  retimed = made.retimed;
-  answer = record { latches = is.latches; names = is.names; retimed = is.mapped.held.retimed };
-  writes = subst (λ (s : Spelling). WritesPart old new (text_in s made.retimed.circuit)) same part;
+  rounds = made.rounds;
+  answer = record { latches = is.latches; names = is.names; now = made.keep; rounds = is.rounds };
+  writes = subst (λ (s : Spelling). WritesPart old new (text_in s made.rounds.circuit)) same part;
 }

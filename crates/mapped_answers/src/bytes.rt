@@ -2,20 +2,21 @@
 //!
 //! The map is made before anything is written. So if memory is refused for it, or it is too large,
 //! the writer's bytes stay as they were.
-ghost use Rattle.std.specs.Prelude.{[], ◌∷◌, ◌++◌, IfErr, IfOk};
+ghost use Rattle.std.specs.Prelude.{[], ◌∷◌, IfErr, IfOk};
 ghost use Rattle.aig_graph.specs.Circuits.{IsNetlist};
 ghost use Rattle.aig_graph.specs.Graph.{IsGraph};
 ghost use Rattle.aig_binary.specs.Spellings.{text_in};
 ghost use Rattle.counted_io.specs.Output.{Writes};
-ghost use Rattle.frames.specs.Stages.{Notifies, Writing, stages_of};
+ghost use Rattle.frame_runs.specs.Stages.{Cleaning, Writing};
 ghost use Rattle.mapped_answers.specs.Mapping.{IsMappedOf, IsMappingStop};
+ghost use Rattle.merging_rounds.specs.Following.{AreRoundsSeen};
 
 use crate::errors::AnswerError;
 use crate::making::{Made, made_over};
 use aig_binary::{Spelling, SpeltCircuit, write};
 use aig_graph::Circuit;
 use counted_io::{CountedWrite, WriteError};
-use frames::{BytesError, FrameWatcher, Options, Stage};
+use frame_runs::{BytesError, FrameWatcher, Options, Stage};
 use pulse::{Crew, PhaseGate};
 use std::alloc::Global;
 use std::thread::Threads;
@@ -58,14 +59,14 @@ pub fn retime_spelt_mapped<W: CountedWrite, G: PhaseGate, V: FrameWatcher>(
         (W.output writer.new)) }
     ensures err { IfErr result (IsMappingStop options.now spelt (W.output writer.old)
         (W.output writer.new)) }
-    ensures notified { IfOk result (λ made. Notifies V.was_notified watcher.old watcher.new
-        (stages_of options.now.max_frames made.retimed ++ Writing ∷ [])) }
+    ensures seen { IfOk result (λ made. AreRoundsSeen V.was_notified (Cleaning ∷ [])
+        (Writing ∷ []) options.now spelt.circuit made.rounds made.keep watcher.old watcher.new) }
 {
     let SpeltCircuit { circuit, spelling } = spelt;
     let made = made_over(rt, alloc, circuit, options, crew, watcher)?;
     watcher.enter(Stage::Writing);
     match write_in(
-        &made.retimed.circuit,
+        &made.rounds.circuit,
         options.spelling.unwrap_or(spelling),
         writer,
     ) {

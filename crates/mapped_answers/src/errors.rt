@@ -2,7 +2,7 @@
 ghost use Rattle.std.specs.Prelude.{◌≡◌};
 
 use aig_graph::NoMemory;
-use frames::{BytesError, RetimeError};
+use frame_runs::{BytesError, RetimeError};
 use retiming_maps::MapError;
 use thiserror::Error;
 
@@ -18,7 +18,7 @@ pub enum AnswerError {
 }
 
 impl From<RetimeError> for AnswerError {
-    ghost use Rattle.frames.specs.declared.errors.BytesError.TheVariants.{Retime};
+    ghost use Rattle.frame_runs.specs.declared.errors.BytesError.TheVariants.{Retime};
     ghost use Rattle.mapped_answers.specs.declared.errors.AnswerError.TheVariants.{Bytes};
 
     ghost from_gives = { λ error e. e ≡ Bytes (Retime error) };
@@ -33,9 +33,9 @@ impl From<RetimeError> for AnswerError {
 pub(crate) enum FollowError {
     /// There is no memory for it, or it would be too large.
     Map(MapError),
-    /// As `frames::RetimeError::Misread`.
+    /// As `frame_runs::RetimeError::Misread`.
     Misread(u32),
-    /// As `frames::RetimeError::NotShown`.
+    /// As `frame_runs::RetimeError::NotShown`.
     NotShown(u32),
 }
 

@@ -7,7 +7,7 @@ use crate::errors::FollowError;
 use aig_graph::{Circuit, ClosedSet, Keep};
 use certificates::MergedLatch;
 use clean::Cleaned;
-use frames::{Options, RunFollower};
+use frame_runs::{Options, RunFollower};
 use latch_merging::{GivenStart, MergedStart};
 use rebuild::MoveMarks;
 use retiming_maps::{MapParts, cleaned_along, follow_move, start_along, start_along_by};

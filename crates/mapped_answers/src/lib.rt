@@ -1,5 +1,5 @@
 //! Retiming with a map of states beside the answer, from a circuit that was read to a writer's
-//! bytes. The circuit is retimed as `frames` does it, and the map is written too.
+//! bytes. The circuit is retimed as `answers` does it, and the map is written too.
 #![tactic(auto)]
 
 mod bytes;

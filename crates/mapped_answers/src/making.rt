@@ -1,52 +1,46 @@
 //! A circuit retimed, with its map.
-ghost use Rattle.std.specs.Prelude.{◌≡◌, IfErr, IfOk};
-ghost use Rattle.frames.specs.Following.{IsRetimedFollowed};
-ghost use Rattle.frames.specs.Named.{kept_by};
-ghost use Rattle.frames.specs.Stages.{Notifies, looks_of, stages_of};
-ghost use Rattle.mapped_answers.specs.Mapping.{IsMade, IsMakingError, IsRetimedMapped};
+ghost use Rattle.std.specs.Prelude.{◌≡◌, ◌∷◌, [], IfErr, IfOk};
+ghost use Rattle.frame_runs.specs.Named.{kept_by};
+ghost use Rattle.frame_runs.specs.Stages.{Cleaning};
+ghost use Rattle.mapped_answers.specs.Mapping.{IsMade, IsMakingError, IsMapped};
+ghost use Rattle.merging_rounds.specs.Following.{AreRoundsSeen};
+ghost use Rattle.retiming_maps.specs.Mapping.{IsMapTo};
 
 use crate::errors::{AnswerError, FollowError};
 use crate::following::GrowingMap;
 use aig_graph::{Circuit, Keep, NoMemory};
-use frames::{FrameWatcher, Options, Retimed, Run, RunFollower, Stage, begin, finish, hold_by};
+use frame_runs::{FrameWatcher, Options, Stage, begin, hold_by};
+use merging_rounds::{Rounds, RoundsRun, finish_rounds};
 use pulse::{Crew, PhaseGate};
 use retiming_maps::{MapError, StateMap, identity, state_map};
 use std::alloc::Global;
 use std::thread::Threads;
 
-/// A retiming with its map.
+/// A retiming in rounds with its map.
 #[derive(Drop)]
 pub struct Made {
-    pub retimed: Retimed,
+    pub rounds: Rounds,
     /// The held latches of the retimed circuit.
     pub keep: Keep,
     /// The map from the states of the circuit that was read to those of the retimed one.
     pub map: StateMap,
 }
 
-/// Makes the map of `circuit` to the circuit at the run's end, and puts it beside that circuit.
-fn with_map(
-    alloc: Global,
-    circuit: &Circuit,
-    end: Run<GrowingMap>,
-    options: &Options,
-) -> Result<Made, MapError>
-    requires { IsRetimedFollowed ⟦<GrowingMap as RunFollower>⟧.has_come options.now circuit.now
-        end.retimed end.keep end.follower }
-    ensures made { IfOk result (IsRetimedMapped options.now circuit.now) }
-    ensures same { IfOk result (λ made. made.retimed ≡ end.retimed) }
+/// Makes the map of `circuit` to the circuit at the rounds' end, and puts it beside that circuit.
+fn with_map(alloc: Global, circuit: &Circuit, end: RoundsRun<GrowingMap>) -> Result<Made, MapError>
+    requires { IsMapTo circuit.now end.rounds.circuit end.rounds.kept_free end.follower.parts }
+    ensures mapped { IfOk result (IsMapped circuit.now) }
+    ensures same { IfOk result (λ made. (made.rounds ≡ end.rounds) × (made.keep ≡ end.keep)) }
 {
-    let _options = options;
-    let Run {
-        retimed,
+    let RoundsRun {
+        rounds,
         keep,
         follower,
-        ..
     } = end;
-    match state_map(alloc, follower.parts, circuit, &retimed.circuit) {
-        Ok(map) => Ok(Made { retimed, keep, map }),
+    match state_map(alloc, follower.parts, circuit, &rounds.circuit) {
+        Ok(map) => Ok(Made { rounds, keep, map }),
         Err(NoMemory) => {
-            drop(retimed);
+            drop(rounds);
             drop(keep);
             Err(MapError::NoMemory)
         }
@@ -64,21 +58,23 @@ fn made_kept<G: PhaseGate, V: FrameWatcher>(
     watcher: &mut V,
 ) -> Result<Made, FollowError>
     requires { keep.now ≡ kept_by options.now circuit.now }
-    ensures made { IfOk result (IsRetimedMapped options.now circuit.now) }
-    ensures notified { IfOk result (λ made. Notifies V.was_notified watcher.old watcher.new
-        (looks_of options.now.max_frames made.retimed)) }
+    ensures mapped { IfOk result (IsMapped circuit.now) }
+    ensures seen { IfOk result (λ made. AreRoundsSeen V.was_notified [] [] options.now circuit.now
+        made.rounds made.keep watcher.old watcher.new) }
 {
+    // Tells the prover that it is a circuit.
+    circuit.known();
     let map = GrowingMap {
         parts: identity(alloc, circuit)?,
     };
     let begun = begin(alloc, circuit, keep, options, map)?;
-    let end = finish(rt, alloc, begun, options, crew, watcher)?;
-    let made = with_map(alloc, circuit, end, options)?;
+    let end = finish_rounds(rt, alloc, begun, options, crew, watcher)?;
+    let made = with_map(alloc, circuit, end)?;
     Ok(made)
 }
 
-/// Retimes the circuit and makes its map. Latches that always agree are merged first if the options
-/// ask for it.
+/// Retimes the circuit and makes its map. Latches that always agree are merged if the options ask
+/// for it.
 fn made_of<G: PhaseGate, V: FrameWatcher>(
     rt: &(impl Threads + Sync),
     alloc: Global,
@@ -89,8 +85,8 @@ fn made_of<G: PhaseGate, V: FrameWatcher>(
 ) -> Result<Made, AnswerError>
     ensures ok { IfOk result (IsMade options.now circuit.now) }
     ensures err { IfErr result (IsMakingError options.now circuit.now) }
-    ensures notified { IfOk result (λ made. Notifies V.was_notified watcher.old watcher.new
-        (stages_of options.now.max_frames made.retimed)) }
+    ensures seen { IfOk result (λ made. AreRoundsSeen V.was_notified (Cleaning ∷ []) [] options.now
+        circuit.now made.rounds made.keep watcher.old watcher.new) }
 {
     watcher.enter(Stage::Cleaning);
     let keep = hold_by(alloc, circuit, options)?;
@@ -99,7 +95,7 @@ fn made_of<G: PhaseGate, V: FrameWatcher>(
 }
 
 /// Retimes the circuit, makes its map, and drops the circuit. Latches that always agree are merged
-/// first if the options ask for it.
+/// if the options ask for it.
 pub fn made_over<G: PhaseGate, V: FrameWatcher>(
     rt: &(impl Threads + Sync),
     alloc: Global,
@@ -110,8 +106,8 @@ pub fn made_over<G: PhaseGate, V: FrameWatcher>(
 ) -> Result<Made, AnswerError>
     ensures ok { IfOk result (IsMade options.now circuit) }
     ensures err { IfErr result (IsMakingError options.now circuit) }
-    ensures notified { IfOk result (λ made. Notifies V.was_notified watcher.old watcher.new
-        (stages_of options.now.max_frames made.retimed)) }
+    ensures seen { IfOk result (λ made. AreRoundsSeen V.was_notified (Cleaning ∷ []) [] options.now
+        circuit made.rounds made.keep watcher.old watcher.new) }
 {
     let made = made_of(rt, alloc, &circuit, options, crew, watcher);
     drop(circuit);

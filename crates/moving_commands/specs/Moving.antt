@@ -4,7 +4,7 @@ use Rattle.counted_io.specs.Input.{Input}
 use Rattle.counted_io.specs.Output.{Output}
 use Rattle.aig_binary.specs.Spellings.{text_in}
 use Rattle.aig_binary.specs.declared.reading.SpeltCircuit.{SpeltCircuit}
-use Rattle.frames.specs.Bounds.{levels_named}
+use Rattle.frame_runs.specs.Bounds.{levels_named}
 use Rattle.reports.specs.CircuitCounts.{counts}
 use Rattle.aig_graph.specs.Circuits.{Netlist}
 use Rattle.backward_circuits.specs.Drawn.{HasOtherLatches}

@@ -1,7 +1,7 @@
 -- What the commands `backward` and `enables` print.
 use Rattle.std.specs.Prelude.{ℕ, Bool, true, false, List, [], ◌∷◌, ◌++◌, Option, Some, None, Result, length, decimal, codes, nat_eq, if◌then◌else◌}
-use Rattle.frames.specs.declared.bound.PathBound.{PathBound}
-use Rattle.frames.specs.declared.bound.PathBound.TheVariants as bounds
+use Rattle.frame_runs.specs.declared.bound.PathBound.{PathBound}
+use Rattle.frame_runs.specs.declared.bound.PathBound.TheVariants as bounds
 use Rattle.aig_graph.specs.Circuits.{Netlist}
 use Rattle.counted_io.specs.Line.{numbered_lines}
 use Rattle.counted_io.specs.Output.{Output}

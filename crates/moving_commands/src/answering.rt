@@ -1,7 +1,7 @@
 //! What a move answers.
 ghost use Rattle.std.specs.Prelude.{IfOk};
 ghost use Rattle.command_endings.specs.HeldNames.{held_by};
-ghost use Rattle.frames.specs.Bounds.{levels_named};
+ghost use Rattle.frame_runs.specs.Bounds.{levels_named};
 ghost use Rattle.moving_commands.specs.Moving.{AnswersTask, IsMoveAnswerOf, IsMovedBy};
 
 use crate::engines::{MovedCircuit, moved_by};

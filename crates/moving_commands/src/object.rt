@@ -11,7 +11,7 @@ use crate::answering::Answer;
 use crate::engines::Report;
 use backward_moves::{FrameCounts, Staying};
 use command_line::Moving;
-use frames::PathBound;
+use frame_runs::PathBound;
 use json_reports::{circuit_object, count_value, wide};
 use reports::Counts;
 use serde_json::{Map, Value};

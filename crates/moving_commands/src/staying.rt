@@ -7,7 +7,7 @@ use crate::engines::Report;
 use backward_moves::Staying;
 use command_line::{Moving, Shown};
 use counted_io::{Buffered, CountedWrite};
-use frames::PathBound;
+use frame_runs::PathBound;
 
 /// Puts how many latches stay for a reason.
 fn put_reason<W: CountedWrite>(out: &mut Buffered<'_, W>, reason: &[u8], count: u32) {

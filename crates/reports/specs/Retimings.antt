@@ -1,8 +1,8 @@
 -- What is printed of a retimed circuit.
 use Rattle.std.specs.Prelude.{ℕ, List, [], ◌∷◌, ◌++◌, length, decimal, codes}
 use Rattle.counted_io.specs.Line.{numbered_lines}
+use Rattle.merging_rounds.specs.declared.rounds.Rounds.{Rounds}
 use Rattle.retimed_circuits.specs.declared.report.FrameReport.{FrameReport}
-use Rattle.retimed_circuits.specs.declared.report.Retimed.{Retimed}
 
 -- two numbers with "to" between, which end a line
 abbrev pub change : ℕ → ℕ → List ℕ
@@ -17,5 +17,5 @@ abbrev pub frame_lines : List FrameReport → List ℕ
 frame_lines frames = numbered_lines frame_line 1 frames
 
 -- a line for each frame, and the numbers of all latches that were read and that are left
-abbrev pub retiming_text : Retimed → List ℕ
+abbrev pub retiming_text : Rounds → List ℕ
 retiming_text r = frame_lines r.frames ++ codes "latches " ++ change r.read_latches (length r.circuit.aig.latches)

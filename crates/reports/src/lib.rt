@@ -18,7 +18,7 @@ mod trace;
 mod waves;
 
 pub use agreement::{Agreement, compare};
-pub use audit::print_audit;
+pub use audit::{last_end, print_audit};
 pub use batch::{JobReport, print_job};
 pub use counts::print_counts;
 pub use difference::{print_difference, print_shapes_differ};

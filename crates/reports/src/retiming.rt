@@ -4,7 +4,8 @@ ghost use Rattle.counted_io.specs.Output.{Writes};
 ghost use Rattle.reports.specs.Retimings.{change, frame_line, frame_lines, retiming_text};
 
 use counted_io::{Buffered, CountedWrite, WriteError};
-use retimed_circuits::{FrameReport, Retimed};
+use merging_rounds::Rounds;
+use retimed_circuits::FrameReport;
 
 /// Puts two numbers with `to` between, and the newline.
 pub(crate) fn put_change<W: CountedWrite>(out: &mut Buffered<'_, W>, before: u64, after: u64)
@@ -36,13 +37,13 @@ fn put_frames<W: CountedWrite>(out: &mut Buffered<'_, W>, frames: &[FrameReport]
 }
 
 /// Puts all lines.
-fn put_retiming<W: CountedWrite>(out: &mut Buffered<'_, W>, retimed: &Retimed)
-    ensures { Puts W.output out.old out.new (retiming_text retimed.now) }
+fn put_retiming<W: CountedWrite>(out: &mut Buffered<'_, W>, rounds: &Rounds)
+    ensures { Puts W.output out.old out.new (retiming_text rounds.now) }
 {
-    let left = retimed.circuit.aig().latches().len() as u64;
-    put_frames(out, retimed.frames.as_slice());
+    let left = rounds.circuit.aig().latches().len() as u64;
+    put_frames(out, rounds.frames.as_slice());
     out.put(b"latches ");
-    put_change(out, u64::from(retimed.read_latches), left);
+    put_change(out, u64::from(rounds.read_latches), left);
 }
 
 /// Prints a line for each frame, and one with the numbers of all latches that were read and that
@@ -54,11 +55,11 @@ fn put_retiming<W: CountedWrite>(out: &mut Buffered<'_, W>, retimed: &Retimed)
 ///
 /// `Device` if a write failed: a beginning of the text was written then, and the writer isn't
 /// called again.
-pub fn print_retiming<W: CountedWrite>(retimed: &Retimed, writer: &mut W) -> Result<(), WriteError>
+pub fn print_retiming<W: CountedWrite>(rounds: &Rounds, writer: &mut W) -> Result<(), WriteError>
     ensures { Writes (W.output writer.old) (W.output writer.new) result
-        (retiming_text retimed.now) }
+        (retiming_text rounds.now) }
 {
     let mut out = Buffered::new(writer);
-    put_retiming(&mut out, retimed);
+    put_retiming(&mut out, rounds);
     out.flush()
 }

@@ -6,9 +6,9 @@ use Rattle.aig_graph.specs.Laws.{all_free}
 use Rattle.aig_binary.specs.declared.reading.SpeltCircuit.{SpeltCircuit}
 use Rattle.cleaned_circuits.specs.Cleaned.{Cleans}
 use Rattle.retimed_circuits.specs.declared.report.Retimed.{Retimed}
-use Rattle.frames.specs.declared.options.Options.{Options}
-use Rattle.frames.specs.Named.{names_in}
-use Rattle.frames.specs.Retiming.{IsRetimedBy}
+use Rattle.frame_runs.specs.declared.options.Options.{Options}
+use Rattle.frame_runs.specs.Named.{names_in}
+use Rattle.frame_runs.specs.Retiming.{IsRetimedBy}
 use Rattle.reports.specs.Differences.{shapes_text}
 use Rattle.witnesses.specs.Circuits.{widths_of}
 use Rattle.witnesses.specs.Confirming.{IsConfirmedBack}

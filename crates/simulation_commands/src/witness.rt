@@ -14,7 +14,7 @@ use clean::{Cleaned, all_places, clean};
 use command_endings::ended;
 use command_line::Carrying;
 use counted_io::{CountedRead, CountedWrite};
-use frames::{Options, Retimed, retime};
+use frame_runs::{Options, Retimed, retime};
 use pulse::{Crew, OpenGate};
 use reports::print_shapes_differ;
 use std::alloc::Global;

@@ -2,8 +2,8 @@
 use Rattle.std.specs.Prelude.{ℕ, ◌≡◌, ◌==◌, ◌-◌, ◌/◌, ◌^◌, ◌++◌, min, Bool, false, Option, Some, None, List, [], ◌∷◌, slice_get, if◌then◌else◌}
 use Rattle.std.specs.Option.{option_to_list}
 use Rattle.std.specs.Time.{instant_nanos}
-use Rattle.frames.specs.declared.watcher.Stage.{Stage}
-use Rattle.frames.specs.declared.watcher.Stage.TheVariants as stages
+use Rattle.frame_runs.specs.declared.watcher.Stage.{Stage}
+use Rattle.frame_runs.specs.declared.watcher.Stage.TheVariants as stages
 use Rattle.json_reports.specs.declared.times.FrameTimes.{FrameTimes}
 use Rattle.json_reports.specs.declared.times.Times.{Times}
 use Rattle.command_endings.specs.declared.progress.laps.Lap.{Lap}

@@ -5,7 +5,7 @@ ghost use Rattle.std.specs.Option.{option_to_list};
 ghost use Rattle.command_endings.specs.progress.Laps as wanted;
 
 use aig_graph::Sequence;
-use frames::Stage;
+use frame_runs::Stage;
 use json_reports::{FrameTimes, Times};
 use std::alloc::{AllocError, Global};
 

@@ -1,11 +1,11 @@
 //! Takes the time of the parts of a run, and keeps how many sets networks found.
-ghost use Rattle.std.specs.Prelude.{◌≡◌, [], true, false, IfSome};
+ghost use Rattle.std.specs.Prelude.{◌≡◌, ◌+◌, ◌-◌, ◌^◌, [], true, false, IfSome, min};
 ghost use Rattle.std.specs.Duration.{as_nanos};
 ghost use Rattle.command_endings.specs.progress.Laps.{IsEnded, IsStopped, microseconds_of, part_of};
 ghost use Rattle.command_endings.specs.declared.progress.laps.Part.TheVariants.{Reading};
 
 use crate::progress::laps::{Lap, Part, times_of};
-use frames::Stage;
+use frame_runs::Stage;
 use json_reports::Times;
 use std::alloc::Global;
 use std::time::{Clock, Duration, Instant};
@@ -78,13 +78,13 @@ impl Stopwatch {
         self.part = Part::of(stage);
     }
 
-    /// Keeps how many sets networks found.
+    /// Adds how many sets networks found in a round.
     pub(crate) fn count_networks(&mut self, networks: u32)
-        ensures networks { self.new.networks ≡ networks }
+        ensures networks { self.new.networks ≡ min (self.old.networks + networks) (2 ^ 32 - 1) }
         ensures laps { self.new.laps ≡ self.old.laps }
         ensures failed { self.new.has_failed ≡ self.old.has_failed }
     {
-        self.networks = networks;
+        self.networks = self.networks.saturating_add(networks);
     }
 
     /// Ends the last part.

@@ -11,7 +11,7 @@ returns-in-Ok g c =
     let known = ap (λ b. Some b.now) c.new-reader.ensures.inner in
     let empty = ap (λ v. Some v.items) c.new-writer.ensures.inner ∙ ap Some c.new.ensures.items in
     let full = ap (λ v. Some v.items) (sym c.into_inner.ensures) in
-    subst O (sym c.done.ensures) (an_answer c.args.bytes.now c.into_inner.result.items c.args.options.now c.in-Ok.retimed _ _ _ known empty full c.in-Ok.ensures.answer)
+    subst O (sym c.done.ensures) (an_answer c.args.bytes.now c.into_inner.result.items c.args.options.now c.in-Ok.rounds _ _ _ known empty full c.in-Ok.ensures.answer)
 
 pub returns-in-Err : goal.returns-in-Err
 returns-in-Err g c =

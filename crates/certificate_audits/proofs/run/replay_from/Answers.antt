@@ -1,4 +1,4 @@
-use Rattle.std.proofs.Common.{◌+◌, ◌∷◌, List, Option, arith, drop, subst}
+use Rattle.std.proofs.Common.{◌+◌, ◌∷◌, List, Option, arith, drop, refl, subst}
 use Rattle.std.specs.Option.{MatchOption}
 use Rattle.std.proofs.lemmas.List.{length-drop, take_rest}
 use Rattle.certificates.specs.declared.certificate.Certificate.{Certificate}
@@ -86,5 +86,5 @@ loop-place-init c = leads-first c.args.bound c.args.first.keep c.args.first.circ
 pub returns : goal.returns
 returns c =
     let stage = c.loop-place.stage in
-    replays-none c.args.bound c.args.first.keep stage.keep c.args.first.circuit stage.circuit c.args.blocks.now c.loop-place.place c.circuit_of.result c.circuit_of.ensures
+    replays-none c.args.bound c.args.first.keep stage.keep c.args.first.circuit stage.circuit c.args.blocks.now c.loop-place.place stage refl refl
     (omega (arith, c.loop-place-test.false)) c.loop-place.invariant

@@ -6,4 +6,4 @@ use Rattle.commands.proofs.retiming.remaining.Goals as goal
 pub returns : goal.returns
 returns c =
     let answer = c.args.answer.now in
-    IfOk-weaker c.of.result _ _ (λ left is. is ∙ remaining_is c.args.task.now answer.levels.bound answer.retimed answer.keep c.len.result c.len.ensures) c.of.ensures
+    IfOk-weaker c.of.result _ _ (λ left is. is ∙ remaining_is c.args.task.now answer.levels.bound answer.rounds answer.keep c.len.result c.len.ensures) c.of.ensures

@@ -1,6 +1,6 @@
 use Rattle.std.proofs.Common.{ap, subst, sym}
 use Rattle.std.proofs.lemmas.Result.{IfOk-weaker}
-use Rattle.frames.specs.declared.options.Options.{Options}
+use Rattle.frame_runs.specs.declared.options.Options.{Options}
 use Rattle.commands.specs.Classes.{AreClassesAt}
 use Rattle.commands.specs.RetimingTasks.{AreOptionsFor}
 use Rattle.commands.proofs.retiming.retime_read.Goals as goal

@@ -1,11 +1,11 @@
 use Rattle.std.proofs.Common.{Ok, Err, refl, sym, subst}
 use Rattle.aig_binary.proofs.LimitLaws.{reads-within}
 use Rattle.std.proofs.lemmas.Result.{IfOk-from_err}
-use Rattle.frames.specs.declared.errors.BytesError.TheVariants.{Read}
-use Rattle.retimed_circuits.specs.declared.report.Retimed.{Retimed}
+use Rattle.frame_runs.specs.declared.errors.BytesError.TheVariants.{Read}
+use Rattle.merging_rounds.specs.declared.rounds.Rounds.{Rounds}
 use Rattle.retimed_circuits.specs.RetimingLevels.{KeepsLevels}
 use Rattle.frames.specs.Answering.{IsBytesError, IsWritten}
-use Rattle.frames.specs.Bounds.{bound_in}
+use Rattle.frame_runs.specs.Bounds.{bound_in}
 use Rattle.frames.proofs.StopLaws.{at-error, facts_of, stops-answering}
 use Rattle.frames.proofs.bytes.read_and_write.Goals as goal
 
@@ -31,9 +31,9 @@ returns-in-Ok g c =
     let after = g.W.CountedWrite.output c.run_spelt.new.writer in
     let spelt = c.in_ok-spelt.spelt in
     let read = c.in_ok-spelt.ensures.circuit in
-    let written = subst (IsWritten options spelt before after) (sym c.retimed_of.ensures) c.in-Ok.ensures.ok in
-    let levels = subst (λ (r : Retimed). KeepsLevels (bound_in options spelt.circuit) spelt.circuit r.circuit) (sym c.retimed_of.ensures) c.in-Ok.ensures.levels in
-    facts_of options old new before after (Ok c.retimed_of.result) c.in_ok-spelt.ensures.read
+    let written = subst (IsWritten options spelt before after) (sym c.rounds_of.ensures) c.in-Ok.ensures.ok in
+    let levels = subst (λ (r : Rounds). KeepsLevels (bound_in options spelt.circuit) spelt.circuit r.circuit) (sym c.rounds_of.ensures) c.in-Ok.ensures.held.levels in
+    facts_of options old new before after (Ok c.rounds_of.result) c.in_ok-spelt.ensures.read
     (record { spelt = spelt; read = read; written = written; reads_back = λ left known. written.reads_back (reads-within left spelt.circuit (read.circuit.bytes left known)) })
     (record { spelt = spelt; spells = read; levels = levels })
     tt

@@ -6,5 +6,5 @@ use Rattle.frames.proofs.bytes.write_answer.Goals as goal
 
 pub returns : goal.returns
 returns g c =
-    let P : Spelling → Type 0 = λ spelling. Writes (g.W.CountedWrite.output c.args.writer.now) (g.W.CountedWrite.output c.write.new.writer) c.write.result (text_in spelling c.args.retimed.now.circuit) in
+    let P : Spelling → Type 0 = λ spelling. Writes (g.W.CountedWrite.output c.args.writer.now) (g.W.CountedWrite.output c.write.new.writer) c.write.result (text_in spelling c.args.rounds.now.circuit) in
     subst P c.unwrap_or-spelling.ensures c.write.ensures

@@ -1,8 +1,24 @@
 use Rattle.std.proofs.Common.{Err, ap}
-use Rattle.frames.specs.declared.errors.RetimeError.{RetimeError}
-use Rattle.frames.specs.Named.{IsFirstMissingBy, IsFirstNoLatchBy}
-use Rattle.frames.proofs.HoldLaws.{at-latch, never-latch, never-name}
+use Rattle.std.proofs.lemmas.List.FromFn.{length-range_with_len}
+use Rattle.aig_graph.specs.Graph.{free_latches}
+use Rattle.aig_graph.specs.Laws.{all_free}
+use Rattle.frame_runs.specs.declared.errors.RetimeError.{RetimeError}
+use Rattle.frame_runs.specs.Named.{IsFirstMissingBy, IsFirstNoLatchBy}
+use Rattle.frame_runs.proofs.HoldLaws.{at-latch, never-latch, never-name}
 use Rattle.frames.proofs.runs.begin_plain.Goals as goal
+
+pub begin-requires-clause-there : goal.begin-requires-clause-there
+begin-requires-clause-there c =
+    let d = c.args.circuit.now in (d, all_free d.aig, record { places = length-range_with_len 0 (free_latches d.aig); come = tt })
+
+pub returns-clause-begun : goal.returns-clause-begun
+returns-clause-begun c =
+    let d = c.args.circuit.now in
+    record {
+      graph = c.known.ensures.graph;
+      netlist = c.known.ensures.netlist;
+      starts = c.in_ok-begun.ensures d (all_free d.aig) (record { places = length-range_with_len 0 (free_latches d.aig); come = tt });
+    }
 
 pub begin-requires-clause-keep : goal.begin-requires-clause-keep
 begin-requires-clause-keep c = c.in_ok-keep.ensures.keep

@@ -1,7 +1,10 @@
+use Rattle.merging_rounds.proofs.SeenLaws.{ended-rounds}
 use Rattle.frames.proofs.runs.finish_plain.Goals as goal
 
-pub returns-clause-retimed : goal.returns-clause-retimed
-returns-clause-retimed g c = λ d begun. (c.in_ok-end.ensures.retimed d begun).held
+pub finish_rounds-requires-after_bounds : goal.finish_rounds-requires-after_bounds
+finish_rounds-requires-after_bounds g c κs within = c.requires
 
-pub returns-clause-notified : goal.returns-clause-notified
-returns-clause-notified g c = c.in_ok-end.ensures.notified
+pub returns : goal.returns
+returns g c = λ d begun.
+    let end = c.in_ok-end.end in
+    ended-rounds _ g.V.FrameWatcher.was_notified c.args.options.now c.args.begun.run.bound d end.rounds end.keep end.follower c.args.watcher.now c.finish_rounds.new.watcher (c.in_ok-end.ensures d begun)

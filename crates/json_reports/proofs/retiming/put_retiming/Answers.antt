@@ -8,7 +8,7 @@ returns c =
     where_done c.put_scalars.result c.put_scalars.ensures
     (λ scalars empty. ap object (rw (
       (and_then _ _ _ (c.in_ok-put_made-8.ensures _ c.times_value.ensures)
-          (and_then _ _ _ (c.in_ok-put_made-7.ensures _ (rw c.counts_of_merged-merged.ensures at c.merged_value.ensures))
+          (and_then _ _ _ (c.in_ok-put_made-7.ensures _ (rw (c.in_ok-merged.ensures, c.as_slice.ensures) at c.merged_value.ensures))
           (and_then _ _ _ (c.in_ok-put_made-6.ensures _ c.map_value.ensures)
           (and_then _ _ _ (c.in_ok-put_made-5.ensures _ c.held_back_object-held_back.ensures)
           (and_then _ _ _ (c.in_ok-put_made-4.ensures _ (rw c.as_slice-free_kept.ensures at c.numbers_array.ensures))

@@ -1,8 +1,8 @@
 use Rattle.std.proofs.Common.{[], ◌∷◌}
 use Rattle.std.proofs.lemmas.Result.{IfOk-from_err}
-use Rattle.frames.specs.Stages.{Writing, stages_of}
-use Rattle.frames.proofs.StageLaws.{notifies-then}
+use Rattle.frame_runs.specs.Stages.{Cleaning, Writing}
 use Rattle.frames.proofs.StopLaws.{at-error}
+use Rattle.merging_rounds.proofs.SeenLaws.{seen-after}
 use Rattle.mapped_answers.specs.Mapping.{IsMappingStop}
 use Rattle.mapped_answers.proofs.MakingLaws.{cut_off-answer, makes-nothing, written-answer}
 use Rattle.mapped_answers.proofs.bytes.retime_spelt_mapped.Goals as goal
@@ -28,10 +28,11 @@ returns-in_err-made-clause-err g c =
 pub returns-in_err-made-clause-ok : goal.returns-in_err-made-clause-ok
 returns-in_err-made-clause-ok g c = IfOk-from_err c.from_residual.result _ c.from_residual.ensures.0
 
-pub returns-in-Ok-clause-notified : goal.returns-in-Ok-clause-notified
-returns-in-Ok-clause-notified g c =
-    notifies-then g.V.FrameWatcher.was_notified c.args.watcher.now c.made_over.new.watcher c.enter.new.self (stages_of c.args.options.now.max_frames c.in_ok-made.made.retimed) (Writing ∷ [])
-    c.in_ok-made.ensures.notified c.enter.ensures
+pub returns-in-Ok-clause-seen : goal.returns-in-Ok-clause-seen
+returns-in-Ok-clause-seen g c =
+    let made = c.in_ok-made.made in
+    seen-after g.V.FrameWatcher.was_notified c.args.options.now c.args.spelt.circuit made.rounds made.keep c.args.watcher.now c.made_over.new.watcher c.enter.new.self (Cleaning ∷ []) (Writing ∷ [])
+    c.in_ok-made.ensures.seen c.enter.ensures
 
-pub returns-in_err-made-clause-notified : goal.returns-in_err-made-clause-notified
-returns-in_err-made-clause-notified g c = IfOk-from_err c.from_residual.result _ c.from_residual.ensures.0
+pub returns-in_err-made-clause-seen : goal.returns-in_err-made-clause-seen
+returns-in_err-made-clause-seen g c = IfOk-from_err c.from_residual.result _ c.from_residual.ensures.0

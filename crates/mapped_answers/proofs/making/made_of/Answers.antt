@@ -1,9 +1,9 @@
 use Rattle.std.proofs.Common.{Err, ap, [], ◌∷◌}
-use Rattle.frames.specs.declared.errors.BytesError.TheVariants.{Retime}
-use Rattle.frames.specs.declared.errors.RetimeError.{RetimeError}
-use Rattle.frames.specs.Stages.{Cleaning, looks_of}
-use Rattle.frames.proofs.StageLaws.{notifies-then}
+use Rattle.frame_runs.specs.declared.errors.BytesError.TheVariants.{Retime}
+use Rattle.frame_runs.specs.declared.errors.RetimeError.{RetimeError}
+use Rattle.frame_runs.specs.Stages.{Cleaning}
 use Rattle.frames.proofs.StopLaws.{at-error}
+use Rattle.merging_rounds.proofs.SeenLaws.{seen-before}
 use Rattle.mapped_answers.specs.declared.errors.AnswerError.TheVariants.{Bytes}
 use Rattle.mapped_answers.specs.Mapping.{IsMakingError, of_follow_error}
 use Rattle.mapped_answers.proofs.MakingLaws.{unheld, unmapped}
@@ -13,12 +13,14 @@ pub made_kept-requires-after_bounds : goal.made_kept-requires-after_bounds
 made_kept-requires-after_bounds g c κs within = c.in_ok-keep.ensures.keep
 
 pub returns-clause-ok : goal.returns-clause-ok
-returns-clause-ok g c = record { latches = c.in_ok-keep.ensures.latches; names = c.in_ok-keep.ensures.none_missing; mapped = c.in_ok-made.ensures.made }
+returns-clause-ok g c =
+    record { latches = c.in_ok-keep.ensures.latches; names = c.in_ok-keep.ensures.none_missing; rounds = c.in_ok-made.ensures.seen.rounds; mapped = c.in_ok-made.ensures.mapped }
 
-pub returns-clause-notified : goal.returns-clause-notified
-returns-clause-notified g c =
-    notifies-then g.V.FrameWatcher.was_notified c.args.watcher.now c.enter.new.self c.made_kept.new.watcher (Cleaning ∷ []) (looks_of c.args.options.now.max_frames c.in_ok-made.made.retimed)
-    c.enter.ensures c.in_ok-made.ensures.notified
+pub returns-clause-seen : goal.returns-clause-seen
+returns-clause-seen g c =
+    let made = c.in_ok-made.made in
+    seen-before g.V.FrameWatcher.was_notified c.args.options.now c.args.circuit.now made.rounds made.keep c.args.watcher.now c.enter.new.self c.made_kept.new.watcher (Cleaning ∷ []) c.enter.ensures
+    c.in_ok-made.ensures.seen
 
 pub returns-in_err-keep-clause-err : goal.returns-in_err-keep-clause-err
 returns-in_err-keep-clause-err g c =

@@ -1,6 +1,6 @@
 use Rattle.std.proofs.Common.{◌∙◌}
 use Rattle.std.proofs.lemmas.Result.{IfOk-weaker}
-use Rattle.frames.proofs.MergedLaws.{given-none, given-some}
+use Rattle.frame_runs.proofs.MergedLaws.{given-none, given-some}
 use Rattle.mapped_answers.proofs.following.GrowingMapRunFollower.clean_and_merge.Goals as goal
 
 pub returns-in-Some-clause-merges : goal.returns-in-Some-clause-merges

@@ -1,0 +1,9 @@
+pub mod FormLaws
+pub mod WordLaws
+pub mod StepLaws
+pub mod MergedLaws
+pub mod FileLaws
+pub mod RoundTripLaws
+pub mod FileTripLaws
+pub mod ReadLaws
+pub mod FileExamples

@@ -1,5 +1,0 @@
-use Rattle.file_words.proofs.AnsweringLaws.{Gives-fault}
-use Rattle.certificates.proofs.reading.read_cert.Goals as goal
-
-pub returns-clause-err : goal.returns-clause-err
-returns-clause-err c = Gives-fault _ _ _ c.read.ensures

@@ -1,0 +1,9 @@
+pub mod CertificateLaws
+pub mod FrameLaws
+pub mod LookLaws
+pub mod MergedLaws
+pub mod StageLaws
+pub mod FollowingLaws
+pub mod BeginningLaws
+pub mod HoldLaws
+pub mod LimitLaws

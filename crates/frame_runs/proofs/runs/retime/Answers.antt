@@ -1,0 +1,22 @@
+use Rattle.std.proofs.Common.{Err, ap, refl, sym, subst}
+use Rattle.retimed_circuits.specs.declared.report.Retimed.{Retimed}
+use Rattle.retimed_circuits.specs.RetimingLevels.{KeepsLevels}
+use Rattle.frame_runs.specs.declared.errors.RetimeError.{RetimeError}
+use Rattle.frame_runs.specs.Bounds.{bound_in}
+use Rattle.frame_runs.specs.Named.{IsFirstNoLatchBy}
+use Rattle.frame_runs.specs.Retiming.{IsRetimedBy}
+use Rattle.frame_runs.proofs.HoldLaws.{at-latch}
+use Rattle.frame_runs.proofs.runs.retime.Goals as goal
+
+pub returns-in-Ok-clause-retimed : goal.returns-in-Ok-clause-retimed
+returns-in-Ok-clause-retimed g c = subst (IsRetimedBy c.args.options.now c.args.circuit.now) (sym c.retimed_of.ensures) c.in-Ok.ensures.retimed.retimed
+
+pub returns-in-Ok-clause-levels : goal.returns-in-Ok-clause-levels
+returns-in-Ok-clause-levels g c =
+    let before = c.args.circuit.now in
+    subst (λ (r : Retimed). KeepsLevels (bound_in c.args.options.now before) before r.circuit) (sym c.retimed_of.ensures) c.in-Ok.ensures.levels
+
+pub returns-in-Err-clause-no_latch : goal.returns-in-Err-clause-no_latch
+returns-in-Err-clause-no_latch g c =
+    at-latch {T = Retimed} (Err c.in-Err.error) c.in-Err.error (IsFirstNoLatchBy c.args.options.now c.args.circuit.now) refl
+    (λ place is. c.in-Err.ensures.no_latch place (ap (λ (x : RetimeError). Err x) is))

@@ -1,0 +1,13 @@
+pub mod Codes
+pub mod Defaults
+pub mod Named
+pub mod Bounds
+pub mod Retiming
+pub mod Certified
+pub mod Found
+pub mod Underway
+pub mod Merging
+pub mod Following
+pub mod Beginning
+pub mod Stages
+pub mod Limits

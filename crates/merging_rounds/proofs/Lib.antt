@@ -1,0 +1,11 @@
+pub mod HeldLaws
+pub mod RunLaws
+pub mod RoundLaws
+pub mod NormalisedLaws
+pub mod UnmergedLaws
+pub mod StageLaws
+pub mod StepLaws
+pub mod AgainLaws
+pub mod LimitLaws
+pub mod OneLaws
+pub mod SeenLaws

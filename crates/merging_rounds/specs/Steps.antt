@@ -1,0 +1,96 @@
+-- A step from round to round.
+use Rattle.std.specs.Prelude.{ℕ, ◌-◌, ◌<◌, ◌≡◌, ⊤, Bool, List, [], ◌∷◌, ◌++◌, Option, Some, None, length}
+use Rattle.aig_graph.specs.Circuits.{Netlist}
+use Rattle.retimed_circuits.specs.declared.report.Retimed.{Retimed}
+use Rattle.frame_runs.specs.Beginning.{IsRunBegun}
+use Rattle.frame_runs.specs.Following.{IsRetimedFollowed}
+use Rattle.frame_runs.specs.Stages.{Cleaning, Notification, Notifies, looks_of, stages_of}
+use Rattle.frame_runs.specs.declared.options.Options.{Options}
+use Rattle.frame_runs.specs.declared.run.Begun.{Begun}
+use Rattle.frame_runs.specs.declared.run.ReadCircuit.{ReadCircuit}
+use Rattle.merging_rounds.specs.Asking.{AreRoundOptions, Guesses}
+use Rattle.merging_rounds.specs.Following.{AreRoundsFollowed, last_cleaning, later_stages}
+use Rattle.merging_rounds.specs.Joining.{IsJoined}
+use Rattle.merging_rounds.specs.Rounds.{MergesSome, frames_of}
+use Rattle.merging_rounds.specs.declared.joining.Report.{Report}
+use Rattle.merging_rounds.specs.declared.rounds.Rounds.{Rounds}
+use Rattle.merging_rounds.specs.declared.rounds.RoundsRun.{RoundsRun}
+use Rattle.merging_rounds.specs.declared.running.BegunAgain.{BegunAgain}
+use Rattle.merging_rounds.specs.declared.running.BegunAgain.TheVariants.{Merges, Nothing}
+use Rattle.merging_rounds.specs.declared.running.Further.{Further}
+use Rattle.merging_rounds.specs.declared.running.Further.TheVariants.{Ended, Round}
+
+-- a latch was merged before the first frame
+abbrev pub HasLines : Option ReadCircuit → Type 0
+HasLines None = ⊥
+HasLines (Some read) = 0 < length read.merged
+
+-- if latches were to be merged, none was
+abbrev pub HasNoLine : Option ReadCircuit → Type 0
+HasNoLine None = ⊤
+HasNoLine (Some read) = read.merged ≡ []
+
+-- A run of c by its own options, after rounds of which this is reported, and their report with it.
+-- It merged a latch. The follower came from b.
+pub record IsFinishedAgain {F W : Type 0} (has_come : F → Netlist → Netlist → List ℕ → Type 0) (was_notified : W → List Notification → Type 0) (asked : Options) (b : Netlist) (report : Report)
+    (c : Netlist) (next : RoundsRun F) (old new : W) : Type 0 where
+  pub run : Retimed
+  pub merges : MergesSome run
+  pub followed : IsRetimedFollowed has_come asked b report.kept_free c run next.keep next.follower
+  pub is_joined : IsJoined report run next.rounds
+  pub notified : Notifies was_notified old new (looks_of asked.max_frames run)
+
+-- rounds that are to go on, and the options of the next one
+pub record IsRoundAsked {F : Type 0} (has_come : F → Netlist → Netlist → List ℕ → Type 0) (options : Options) (bound : Option ℕ) (c : Netlist) (runs : List Retimed) (state : RoundsRun F)
+    (asked : Options) : Type 0 where
+  pub guesses : Guesses options
+  pub followed : AreRoundsFollowed has_come options bound c runs state.rounds state.keep state.follower
+  pub asked_are : AreRoundOptions options bound state.keep (options.max_frames - length state.rounds.frames) asked
+
+-- what is reported of rounds
+pub record IsReportOf (r : Rounds) (report : Report) : Type 0 where
+  pub kept_free : report.kept_free ≡ r.kept_free
+  pub read_latches : report.read_latches ≡ r.read_latches
+  pub frames : report.frames ≡ r.frames
+  pub parts : report.parts ≡ r.parts
+
+-- a round after others that was begun, and merged a latch
+pub record HasBegunAgain {F : Type 0} (has_come : F → Netlist → Netlist → List ℕ → Type 0) (c : Netlist) (state : RoundsRun F) (asked : Options) (report : Report) (begun : Begun F) : Type 0 where
+  pub merges : HasLines begun.read
+  pub reported : IsReportOf state.rounds report
+  pub begins : IsRunBegun has_come asked begun.run.bound c report.kept_free state.rounds.circuit begun.read begun.run.retimed begun.run.keep begun.run.follower
+
+-- a round after others, or the others if it finds nothing to merge
+abbrev pub IsBegunAgain : {F : Type 0} → (F → Netlist → Netlist → List ℕ → Type 0) → Options → Option ℕ → Netlist → List Retimed → RoundsRun F → Options → BegunAgain F → Type 0
+IsBegunAgain has_come options bound c runs state asked (Merges report begun) = HasBegunAgain has_come c state asked report begun
+IsBegunAgain has_come options bound c runs state asked (Nothing same) = AreRoundsFollowed has_come options bound c runs same.rounds same.keep same.follower
+
+-- the rounds with one run more, and the watcher was notified of its stages
+pub record IsNextRound {F W : Type 0} (has_come : F → Netlist → Netlist → List ℕ → Type 0) (was_notified : W → List Notification → Type 0) (options : Options) (bound : Option ℕ) (c : Netlist)
+    (runs : List Retimed) (next : RoundsRun F) (old new : W) : Type 0 where
+  pub run : Retimed
+  pub followed : AreRoundsFollowed has_come options bound c (runs ++ run ∷ []) next.rounds next.keep next.follower
+  pub notified : Notifies was_notified old new (stages_of (options.max_frames - length (frames_of runs)) run)
+
+-- the same rounds, and the watcher was notified of a cleaning alone
+pub record IsLastRound {F W : Type 0} (has_come : F → Netlist → Netlist → List ℕ → Type 0) (was_notified : W → List Notification → Type 0) (options : Options) (bound : Option ℕ) (c : Netlist)
+    (runs : List Retimed) (last : RoundsRun F) (old new : W) : Type 0 where
+  pub followed : AreRoundsFollowed has_come options bound c runs last.rounds last.keep last.follower
+  pub notified : Notifies was_notified old new (Cleaning ∷ [])
+
+-- what becomes of a further round
+abbrev pub IsFurther : {F W : Type 0} → (F → Netlist → Netlist → List ℕ → Type 0) → (W → List Notification → Type 0) → Options → Option ℕ → Netlist → List Retimed → Further F → W → W → Type 0
+IsFurther has_come was_notified options bound c runs (Round next) old new = IsNextRound has_come was_notified options bound c runs next old new
+IsFurther has_come was_notified options bound c runs (Ended last) old new = IsLastRound has_come was_notified options bound c runs last old new
+
+-- Rounds with more runs, and the watcher was notified of their stages. At the end a further round
+-- may have found nothing to merge.
+pub record AreMoreRounds {F W : Type 0} (has_come : F → Netlist → Netlist → List ℕ → Type 0) (was_notified : W → List Notification → Type 0) (options : Options) (bound : Option ℕ) (c : Netlist)
+    (runs : List Retimed) (nothing : Bool) (state : RoundsRun F) (old new : W) : Type 0 where
+  pub more : List Retimed
+  pub followed : AreRoundsFollowed has_come options bound c (runs ++ more) state.rounds state.keep state.follower
+  pub notified : Notifies was_notified old new (later_stages (options.max_frames - length (frames_of runs)) more ++ last_cleaning nothing)
+
+abbrev pub EndsInMoreRounds : {F W : Type 0} → (F → Netlist → Netlist → List ℕ → Type 0) → (W → List Notification → Type 0) → Options → Option ℕ → Netlist → List Retimed → RoundsRun F → W → W → Type 0
+EndsInMoreRounds has_come was_notified options bound c runs end old new =
+    (nothing : Bool) × AreMoreRounds has_come was_notified options bound c runs nothing end old new
