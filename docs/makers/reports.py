@@ -9,7 +9,7 @@ from marks import TOP, NotMade
 SCHEMA = 'docs/reports.schema.json'
 KINDS = {'null': '`null`', 'string': 'a text', 'boolean': '`true` or `false`', 'integer': 'a number', 'object': 'an object'}
 # The crates whose files of faults have those of commands with --json, and those faults of json_reports that other commands alone have.
-WITH_FAULTS = ('file_words', 'lane_sim', 'circuit_files', 'certificates', 'json_reports')
+WITH_FAULTS = ('file_words', 'lane_sim', 'circuit_files', 'certificate_files', 'json_reports')
 OF_OTHERS = {'TooManyNodes': ['dot'], 'NotAMap': ['check', 'miter', 'product', 'lift'], 'NoSuchLiteral': ['lift']}
 
 

@@ -1,5 +1,6 @@
 """One promise, unrolled: the clauses of a public call as they stand in its source, and below them the definitions of the words that they
-cite, and of the words that these cite, as they stand in specs/. A word that only gives a name to others is no level of its own."""
+cite, and of the words that these cite, as they stand in specs/. A word that only gives a name to others is no level of its own. Past the last
+level stand those alone that say what a round is."""
 import collections
 
 import tree
@@ -9,6 +10,8 @@ from marks import NotMade
 CALL = ('frames', 'retime')
 LEVELS = 2
 TITLES = ['What the clauses cite', 'What these cite', 'What these cite in turn']
+# The files whose words say what a round is, as far as the promise reaches them.
+OF_ROUNDS = {('frame_runs', 'Retiming'), ('retimed_circuits', 'Retiming'), ('retimed_circuits', 'Merging'), ('retimed_circuits', 'Frames')}
 
 
 class Words:
@@ -78,5 +81,7 @@ def promise():
     lines = ['## The clauses', '', f'`{path.relative_to(tree.TOP)}`', '', *block(signature(path, CALL[1]))]
     for number, title in enumerate(TITLES[:LEVELS + 1]):
         lines += [f'## {title}', '', *level(words, [it for it, at in levels.items() if at == number])]
-    past = sorted({f'`{it.name}` (`{it.crate}/{it.file.replace(".", "/")}`)' for it, at in levels.items() if at == LEVELS + 1})
+    of_rounds = [it for it, at in levels.items() if at > LEVELS and (it.crate, it.file) in OF_ROUNDS]
+    lines += ['## What a round is', '', *level(words, of_rounds)]
+    past = sorted({f'`{it.name}` (`{it.crate}/{it.file.replace(".", "/")}`)' for it, at in levels.items() if at == LEVELS + 1 and it not in of_rounds})
     return '\n'.join([*lines, '## Where it goes on', '', f'These cite {", ".join(past)}. Each stands in `crates/CRATE/specs/FILE.antt`.'])

@@ -88,7 +88,7 @@ def claims():
         Claim('docs/FORMAT.md', r'J, F past (2\^\d+): `TooLarge`', power(constant('ascii_file', 'MAX_PROPERTIES'))),
         Claim('docs/FORMAT.md', r'sum of the sizes past (2\^\d+)', power(constant('aag_text', 'MAX_JUSTICE_LITERALS'))),
         Claim('docs/FORMAT.md', r'sequence number (2\^\d+), from 0', power(constant('lane_sim', 'MAX_SEQUENCES'))),
-        Claim('docs/FORMAT.md', r'a number above (2\^\d+ - 1)', power(constant('certificates', 'MAX_NUMBER'))),
+        Claim('docs/FORMAT.md', r'a number above (2\^\d+ - 1)', power(constant('certificate_files', 'MAX_NUMBER'))),
         Claim('docs/DEFINITIONS.md', r'`MAX_VARIABLES` \((2\^\d+)\)', power(constant('aig_graph', 'MAX_VARIABLES'))),
         Claim('docs/DECISIONS.md', r'links, ([\d.]+) MB', megabytes_of_release()),
     ]

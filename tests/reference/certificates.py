@@ -3,9 +3,9 @@ import dataclasses
 import re
 
 from reference.cleaning import cleaned
-from reference.merging import lines_of_run, merged, misread, not_shown, start_of
+from reference.merging import merged, misread, not_shown, start_of
 from reference.reading import Fault, number
-from reference.retiming import arcs_of, border, frames_of, held_latches, maximum_flow, moved, passable, read_outside
+from reference.retiming import arcs_of, border, held_latches, maximum_flow, moved, passable, read_outside, rounds_of
 
 MOST, MOST_LITERAL = 2**28 - 1, 2**29 - 1
 HEADERS = {b'fretime-cert 1': 1, b'fretime-cert 2': 2, b'fretime-cert 3': 3}
@@ -44,11 +44,11 @@ def routes_of(c, held, bound):
 
 
 def certificates(c, most, names, smallest, merge, bound):
-    """The parts of the file: the lines of merged latches, None where none were to be merged; a block for each frame, and one for the last
-    circuit where the limit of frames didn't end the run."""
-    return [Part(lines_of_run(c, held_latches(c, names), merge), [
-        Block(frame.count, sorted(frame.members), routes_of(frame.circuit, frame.held, frame.bound))
-        for frame in frames_of(c, most, names, smallest, merge, bound)])]
+    """The parts of the file, one for each round: the lines of merged latches, None where none were to be merged; a block for each frame, and
+    one for the round's last circuit where the limit of frames didn't end the run."""
+    return [Part(one.listed, [
+        Block(frame.count, sorted(frame.members), routes_of(frame.circuit, frame.held, frame.bound)) for frame in one.frames])
+        for one in rounds_of(c, most, names, smallest, merge, bound)]
 
 
 def written_part(part):

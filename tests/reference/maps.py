@@ -5,8 +5,8 @@ it, and a new latch's is that of its gate over those of the latches before the m
 value of what is read in its place: these equalities are the constraints."""
 from reference.circuit import Circuit, ordered
 from reference.cleaning import cleaned_once, left_after
-from reference.merging import merged, merged_lines
-from reference.retiming import frames_of, held_latches, latched_after, moved
+from reference.merging import merged
+from reference.retiming import held_latches, latched_after, moved, rounds_of
 
 
 class StateMap:
@@ -51,11 +51,11 @@ class StateMap:
                 return d, positions
             c, held = d, positions
 
-    def merge(self, c, held, merge):
-        reads = dict(merged_lines(c, held, merge))
+    def merge(self, c, held, listed):
+        reads = dict(listed)
         self.equate(c, reads)
         self.functions = [self.function(c, reads.get(v, 2 * v)) for v in range(c.first_latch(), c.first_gate())]
-        return merged(c, held, merge)
+        return merged(c, held, listed), held
 
     def move(self, c, members, held):
         staying, new = latched_after(c, members, held)
@@ -75,9 +75,9 @@ def state_map(c, most=None, names=(), smallest=False, merge=False, bound=None):
     """The map of the retiming of c, and what it is retimed to."""
     m = StateMap(c)
     d, held = m.clean(c, held_latches(c, names))
-    if merge is not False:
-        d, held = m.clean(m.merge(d, held, merge), held)
-    for frame in frames_of(c, most, names, smallest, merge, bound):
-        if frame.saves():
+    for one in rounds_of(c, most, names, smallest, merge, bound):
+        if one.listed is not None:
+            d, held = m.clean(*m.merge(d, held, one.listed))
+        for frame in one.taken():
             d, held = m.clean(*m.move(d, frame.members, held))
     return m.circuit(c.symbols['l'], d.symbols['l']), d

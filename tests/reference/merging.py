@@ -121,12 +121,7 @@ def start_of(c, held=frozenset(), merge=False):
     return (c, held) if merge is False else cleaned(merged(c, held, merge), held)
 
 
-def lines_of_run(c, held, merge):
-    """The lines that a file of certificates has of merged latches, or None."""
-    return None if merge is False else merged_lines(*cleaned(c, held), merge)
-
-
 def merge_counts(c, merge):
     """How many latches of the cleaned circuit read as another or as a constant, and how many as a constant."""
-    lines = lines_of_run(c, frozenset(), merge)
+    lines = merged_lines(*cleaned(c, frozenset()), merge)
     return len(lines), sum(lit < 2 for _, lit in lines)

@@ -14,7 +14,7 @@ from reference.merging import merge_counts
 from reference.miters import miter, product
 from reference.pictures import MOST_NODES, middle, neighbourhood, nodes, picture
 from reference.reading import Fault, read
-from reference.retiming import NoSuchLatch, NoSuchName, frames_of, held_latches, passable, retimed
+from reference.retiming import NoSuchLatch, NoSuchName, held_latches, passable, retimed, rounds_of
 from reference.side_by_side import compared
 from reference.simulation import difference_text, is_too_long, random_stimulus, read_kept, read_stimulus, trace, trace_text
 from reference.waves import dump
@@ -223,13 +223,19 @@ def no_such_latch(path, place):
 
 
 def merge_of(options):
-    """False, True, or the lines that say which latches are merged."""
+    """False, True, or for each round the lines that say which latches are merged."""
     lines = options.get('--merge', False)
     return True if lines == [''] else lines
 
 
+def first_merge_of(options):
+    """What the first round merges: False, True, or lines."""
+    merge = merge_of(options)
+    return merge if isinstance(merge, bool) else merge[0]
+
+
 def classes_of(options):
-    """What latches are merged by the options: as `merge_of` says, or by the lines that are given."""
+    """What latches are merged by the options: as `merge_of` says, or by the lines that are given, in one round."""
     if '--classes' not in options:
         return merge_of(options)
     path = options['--classes'][0]
@@ -239,7 +245,7 @@ def classes_of(options):
         raise Ends(1, f'{source_name(path)}: {fault}') from fault
     if lines is None:
         raise Ends(1, f'{source_name(path)}: BadHeader at 0')
-    return lines
+    return [lines]
 
 
 def judge(c, options, lines):
@@ -249,13 +255,18 @@ def judge(c, options, lines):
         raise Ends(1, f'{source_name(options["--classes"][0])}: {said}')
 
 
+def run_of(c, options):
+    """What a circuit is retimed by: the most frames, the held latches, whether each set is the smallest, what is merged, and the bound."""
+    most = int(options['--frames'][0]) if '--frames' in options else None
+    return most, held_by(options), '--near' in options, classes_of(options), bound_of(options, c)
+
+
 def retime(paths, options):
     c, letters = circuit_of(paths[0])
-    most = int(options['--frames'][0]) if '--frames' in options else None
-    run = most, held_by(options), '--near' in options, classes_of(options), bound_of(options, c)
+    run = run_of(c, options)
     try:
         if '--classes' in options:
-            judge(c, options, run[3])
+            judge(c, options, run[3][0])
         d, frames = retimed(c, *run)
     except NoSuchName as missing:
         raise no_such_name(paths[0], c, missing.args[0]) from missing
@@ -300,7 +311,6 @@ def say(line):
 def batch(paths, options):
     entries = entries_of(paths[0])
     jobs = [bytes_of_file(input_path) for input_path, _ in entries]
-    most = int(options['--frames'][0]) if '--frames' in options else None
     ended = 0
     for k, (data, (_, output_path)) in enumerate(zip(jobs, entries)):
         try:
@@ -309,7 +319,7 @@ def batch(paths, options):
             ended = ended or 1
             say(f'{k + 1} refused {fault}\n')
             continue
-        d, _ = retimed(c, most, [], '--near' in options, merge_of(options), bound_of(options, c))
+        d, _ = retimed(c, *run_of(c, options))
         write_file(output_path, text(d, letters_of(options, letters)))
         say(f'{k + 1} done {len(c.latches)} to {len(d.latches)}\n')
     return ended, ''
@@ -323,7 +333,7 @@ def stat(paths, options):
         'passable': len(passable(c)),
     }
     if '--merge' in options:
-        counts['merged'], counts['constant'] = merge_counts(c, merge_of(options))
+        counts['merged'], counts['constant'] = merge_counts(c, first_merge_of(options))
     return 0, ''.join(f'{name} {count}\n' for name, count in counts.items())
 
 
@@ -356,7 +366,7 @@ def verify(paths, options):
         raise Ends(1, f'{source_name(paths[1])}: {fault}') from fault
     outs = [bytes_of(path) for path in options.get('--out', [])]
     try:
-        lines, status, last = audit(c, held_by(options), parts, merge_of(options), bound_of(options, c))
+        lines, status, last = audit(c, held_by(options), parts, first_merge_of(options), bound_of(options, c))
     except NoSuchName as missing:
         raise no_such_name(paths[0], c, missing.args[0]) from missing
     except NoSuchLatch as missing:
@@ -429,7 +439,7 @@ def drawn_circuit(c, path, options):
         held = held_latches(c, names)
         if '--frame' not in options:
             return c, held, None
-        frame = frames_of(c, 1, names, merge=merge_of(options), bound=bound_of(options, c))[0]
+        frame = next(rounds_of(c, 1, names, merge=merge_of(options), bound=bound_of(options, c))).frames[0]
     except NoSuchName as missing:
         raise no_such_name(path, c, missing.args[0]) from missing
     except NoSuchLatch as missing:
@@ -456,7 +466,7 @@ def dot(paths, options):
 def witness(paths, options):
     c, d = circuit_of(paths[0])[0], circuit_of(paths[1])[0]
     try:
-        said, status = carried_text(c, d, bytes_of(paths[2]), merge_of(options))
+        said, status = carried_text(c, d, bytes_of(paths[2]), first_merge_of(options))
     except Fault as fault:
         raise Ends(1, f'{source_name(paths[2])}: {fault}') from fault
     return status, said
@@ -467,7 +477,8 @@ COMMANDS = {'retime': retime, 'batch': batch, 'stat': stat, 'convert': convert, 
 
 
 def run(words, merged=None):
-    """The status, and the texts of standard output and standard error. With `--merge` these latches are merged, where they are given."""
+    """The status, and the texts of standard output and standard error. With `--merge` these latches are merged, round by round, where they are
+    given."""
     try:
         command, paths, options = parsed(words)
         if merged is not None and '--merge' in options:

@@ -1,10 +1,11 @@
-"""Retiming by definition: closed sets of gates, least ones found in two ways, latches moved over them, frame by frame."""
+"""Retiming by definition: closed sets of gates, least ones found in two ways, latches moved over them, frame by frame; and rounds of these,
+each of which merges latches first. `merge` is False, True, or the lines of each round, where these are given."""
 import dataclasses
 import itertools
 
 from reference.circuit import FREE, Circuit, ordered
 from reference.cleaning import cleaned
-from reference.merging import start_of
+from reference.merging import merged, merged_lines
 
 MOST_ENUMERATED = 9
 
@@ -236,22 +237,65 @@ def frame_of(c, held, smallest, bound):
     return Frame(c, held, *least_set(c, held, bound), bound)
 
 
-def frames_of(c, most=None, names=(), smallest=False, merge=False, bound=None):
-    """The frames, and the look at the last circuit, where the limit of frames didn't end the run."""
-    found = []
-    c, held = start_of(c, held_latches(c, names), merge)
-    while most is None or len(found) < most:
-        found.append(frame_of(c, held, smallest, bound))
-        if not found[-1].saves():
+@dataclasses.dataclass
+class Round:
+    """The cleaned circuit that it begins with, and its held latches; the lines of merged latches, None where none were to be merged; and the
+    frames from there, with the look at the last circuit where the limit of frames didn't end the run."""
+    circuit: Circuit
+    held: set
+    listed: list
+    frames: list = dataclasses.field(default_factory=list)
+
+    def start(self):
+        """The circuit before the first frame, and its held latches."""
+        c, held = self.circuit, self.held
+        return (c, held) if self.listed is None else cleaned(merged(c, held, self.listed), held)
+
+    def taken(self):
+        """The frames that move latches."""
+        return [frame for frame in self.frames if frame.saves()]
+
+    def end(self):
+        """The circuit after the last frame, and its held latches."""
+        taken = self.taken()
+        return taken[-1].taken() if taken else self.start()
+
+    def take_frames(self, most, smallest, bound):
+        """Takes frames while they save latches, at most so many."""
+        c, held = self.start()
+        while most is None or len(self.frames) < most:
+            self.frames.append(frame_of(c, held, smallest, bound))
+            if not self.frames[-1].saves():
+                break
+            c, held = self.frames[-1].taken()
+
+
+def lines_of_round(c, held, merge, number):
+    """The latches that a round merges in a cleaned circuit; none where lines are given, but not for this round."""
+    if merge is False:
+        return None
+    if merge is True:
+        return merged_lines(c, held, True)
+    return merge[number] if number < len(merge) else []
+
+
+def rounds_of(c, most=None, names=(), smallest=False, merge=False, bound=None):
+    """The rounds, one by one: a further one where the one before took a frame and then a latch can be merged. The limit is that of all frames."""
+    c, held = cleaned(c, held_latches(c, names))
+    for number in itertools.count():
+        listed = lines_of_round(c, held, merge, number)
+        if number and not listed:
             break
-        c, held = found[-1].taken()
-    return found
+        found = Round(c, held, listed)
+        found.take_frames(most, smallest, bound)
+        yield found
+        if not found.taken():
+            break
+        most = None if most is None else most - len(found.taken())
+        c, held = found.end()
 
 
 def retimed(c, most=None, names=(), smallest=False, merge=False, bound=None):
     """The retimed circuit, and for each frame its known latches before and the count of its set."""
-    found = frames_of(c, most, names, smallest, merge, bound)
-    frames = [(frame.circuit.known_latches(), frame.count) for frame in found if frame.saves()]
-    if not found:
-        return start_of(c, held_latches(c, names), merge)[0], frames
-    return (found[-1].taken()[0] if found[-1].saves() else found[-1].circuit), frames
+    rounds = list(rounds_of(c, most, names, smallest, merge, bound))
+    return rounds[-1].end()[0], [(frame.circuit.known_latches(), frame.count) for one in rounds for frame in one.taken()]

@@ -5,10 +5,10 @@ use Rattle.aig_graph.specs.Graph.{free_latches}
 use Rattle.aig_graph.specs.Laws.{all_free}
 use Rattle.aig_binary.specs.declared.reading.SpeltCircuit.{SpeltCircuit}
 use Rattle.cleaned_circuits.specs.Cleaned.{Cleans}
-use Rattle.retimed_circuits.specs.declared.report.Retimed.{Retimed}
 use Rattle.frame_runs.specs.declared.options.Options.{Options}
 use Rattle.frame_runs.specs.Named.{names_in}
-use Rattle.frame_runs.specs.Retiming.{IsRetimedBy}
+use Rattle.merging_rounds.specs.Following.{AreRoundsOf}
+use Rattle.merging_rounds.specs.declared.rounds.Rounds.{Rounds}
 use Rattle.reports.specs.Differences.{shapes_text}
 use Rattle.witnesses.specs.Circuits.{widths_of}
 use Rattle.witnesses.specs.Confirming.{IsConfirmedBack}
@@ -53,9 +53,10 @@ pub record AreMergeOptions (options : Options) : Type 0 where
 pub record AreLeftMerged (c : Netlist) (free : ℕ) (places : Option (List ℕ)) : Type 0 where
   pub options : Options
   pub are_options : AreMergeOptions options
-  pub retimed : Retimed
-  pub is : IsRetimedBy options c retimed
-  pub are : places ≡ if_many (free_latches retimed.circuit.aig) retimed.kept_free free
+  pub rounds : Rounds
+  pub now : List ℕ
+  pub is : AreRoundsOf options c rounds now
+  pub are : places ≡ if_many (free_latches rounds.circuit.aig) rounds.kept_free free
 
 abbrev pub AreLeftFor : Bool → Netlist → ℕ → Option (List ℕ) → Type 0
 AreLeftFor false c free places = AreLeft c free places

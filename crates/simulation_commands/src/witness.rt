@@ -14,7 +14,7 @@ use clean::{Cleaned, all_places, clean};
 use command_endings::ended;
 use command_line::Carrying;
 use counted_io::{CountedRead, CountedWrite};
-use frame_runs::{Options, Retimed, retime};
+use frames::{Options, Rounds, retime};
 use pulse::{Crew, OpenGate};
 use reports::print_shapes_differ;
 use std::alloc::Global;
@@ -66,16 +66,16 @@ fn places_left(cleaned: Cleaned, free: u32) -> Option<Sequence<u32>>
 }
 
 /// Returns the places that a retiming leaves if `free` is their number.
-fn places_of(retimed: Retimed, free: u32) -> Option<Sequence<u32>>
-    ensures { result ≡ if_many (graphs.free_latches retimed.circuit.aig) retimed.kept_free free }
+fn places_of(rounds: Rounds, free: u32) -> Option<Sequence<u32>>
+    ensures { result ≡ if_many (graphs.free_latches rounds.circuit.aig) rounds.kept_free free }
 {
-    let Retimed {
+    let Rounds {
         circuit,
         kept_free,
-        certificates,
+        parts,
         ..
-    } = retimed;
-    drop(certificates);
+    } = rounds;
+    drop(parts);
     let many = circuit.aig().free_latches();
     drop(circuit);
     if_many(many, kept_free, free)
@@ -104,7 +104,7 @@ fn places_merged<R: Threads + Sync>(
 {
     let options = merge_options(alloc);
     match retime(rt, alloc, circuit, &options, &Crew::new(1, OpenGate)) {
-        Ok(retimed) => Ok(places_of(retimed, free)),
+        Ok(rounds) => Ok(places_of(rounds, free)),
         Err(_) => Err(NoMemory),
     }
 }

@@ -4,7 +4,8 @@ pub returns-in-Ok : goal.returns-in-Ok
 returns-in-Ok g c = record {
   options = c.merge_options-options.result;
   are_options = c.merge_options-options.ensures;
-  retimed = c.in-Ok.retimed;
-  is = c.in-Ok.ensures.retimed;
+  rounds = c.in-Ok.rounds;
+  now = c.in-Ok.ensures.retimed.0;
+  is = c.in-Ok.ensures.retimed.1;
   are = c.places_of.ensures;
 }
