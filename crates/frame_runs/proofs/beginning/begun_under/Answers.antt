@@ -1,4 +1,4 @@
-use Rattle.std.proofs.Common.{ℕ, ◌≡◌, ◌∙◌, List, ap, subst, sym}
+use Rattle.std.proofs.Common.{ℕ, ◌∙◌, List, ap, subst, sym}
 use Rattle.std.specs.Result.{IfOk}
 use Rattle.aig_graph.specs.Circuits.{Netlist}
 use Rattle.frame_runs.specs.Beginning.{IsRunBegun}
