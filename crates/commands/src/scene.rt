@@ -12,7 +12,9 @@ use circuit_files::{Failure, circuit_at};
 use command_endings::{held_latches, run_options};
 use command_line::Drawing;
 use counted_io::CountedRead;
-use frame_runs::{Begun, NoFollower, Options, RetimeError, Retimed, Run, begin, hold_by, next_set};
+use frame_runs::{
+    Begun, GivenCircuit, NoFollower, Options, RetimeError, Retimed, Run, begin, hold_by, next_set,
+};
 use pulse::{Crew, OpenGate};
 use std::alloc::Global;
 use std::rt::Files;
@@ -37,7 +39,8 @@ fn begun_by(
     ensures { IfOk result (λ begun. IsRunBy options.now circuit.now begun.read begun.run) }
 {
     let keep = hold_by(alloc, circuit, options)?;
-    let begun = begin(alloc, circuit, &keep, options, NoFollower)?;
+    let lent = GivenCircuit::Lent(circuit);
+    let begun = begin(alloc, lent, &keep, options, NoFollower)?;
     Ok(begun)
 }
 
