@@ -1,9 +1,9 @@
-use Rattle.simulation_commands.proofs.witness.places_merged.Goals as goal
+use Rattle.simulation_commands.proofs.witness.places_after.Goals as goal
 
 pub returns-in-Ok : goal.returns-in-Ok
 returns-in-Ok g c = record {
-  options = c.merge_options-options.result;
-  are_options = c.merge_options-options.ensures;
+  options = c.frame_options-options.result;
+  are_options = c.frame_options-options.ensures;
   rounds = c.in-Ok.rounds;
   now = c.in-Ok.ensures.retimed.0;
   is = c.in-Ok.ensures.retimed.1;
