@@ -1,12 +1,13 @@
-use Rattle.std.proofs.Common.{ℕ, ◌≡◌, ◌∙◌, Err, ap, refl, subst, sym}
-use Rattle.std.specs.Result.{OnOk}
+use Rattle.std.proofs.Common.{◌≡◌, ◌∙◌, Result, Err, ap, refl, subst}
 use Rattle.std.proofs.lemmas.List.FromFn.{length-range_with_len}
 use Rattle.aig_graph.specs.Circuits.{IsNetlist, Netlist}
+use Rattle.aig_graph.specs.declared.keep.Keep.{Keep}
 use Rattle.aig_graph.specs.Graph.{IsGraph, free_latches}
 use Rattle.aig_graph.specs.Laws.{all_free}
 use Rattle.frame_runs.specs.declared.follower.NoFollower.{NoFollower}
 use Rattle.frame_runs.specs.declared.run.Begun.{Begun}
 use Rattle.frame_runs.specs.declared.errors.RetimeError.{RetimeError}
+use Rattle.frame_runs.specs.declared.errors.RetimeError.TheVariants.{NoSuchName}
 use Rattle.frame_runs.specs.Given.{circuit_of}
 use Rattle.frame_runs.specs.Named.{AreLatchesBy, IsFirstMissingBy, IsFirstNoLatchBy, NoneMissingBy, kept_by}
 use Rattle.frame_runs.proofs.HoldLaws.{at-latch, never-latch, never-name}
@@ -19,8 +20,8 @@ begin-requires-clause-there c =
 pub begin-requires-clause-keep : goal.begin-requires-clause-keep
 begin-requires-clause-keep c = c.in-Ok.ensures.keep ∙ ap (kept_by c.args.options.now) c.circuit-lent.ensures
 
-pub returns-in-Ok-clause-begun : goal.returns-in-Ok-clause-begun
-returns-in-Ok-clause-begun c =
+pub returns-in_ok-begun-in-Ok-clause-begun : goal.returns-in_ok-begun-in-Ok-clause-begun
+returns-in_ok-begun-in-Ok-clause-begun c =
     let d = circuit_of c.args.given in
     record {
       graph = subst (λ (e : Netlist). IsGraph e.aig) c.circuit-lent.ensures c.known.ensures.graph;
@@ -28,11 +29,11 @@ returns-in-Ok-clause-begun c =
       starts = c.in_ok-begun-in-Ok.ensures d (all_free d.aig) (record { places = length-range_with_len 0 (free_latches d.aig); come = tt });
     }
 
-pub returns-in-Ok-clause-latches : goal.returns-in-Ok-clause-latches
-returns-in-Ok-clause-latches c = subst (AreLatchesBy c.args.options.now) c.circuit-lent.ensures c.in-Ok.ensures.latches
+pub returns-in_ok-begun-in-Ok-clause-latches : goal.returns-in_ok-begun-in-Ok-clause-latches
+returns-in_ok-begun-in-Ok-clause-latches c = subst (AreLatchesBy c.args.options.now) c.circuit-lent.ensures c.in-Ok.ensures.latches
 
-pub returns-in-Ok-clause-none_missing : goal.returns-in-Ok-clause-none_missing
-returns-in-Ok-clause-none_missing c = subst (NoneMissingBy c.args.options.now) c.circuit-lent.ensures c.in-Ok.ensures.none_missing
+pub returns-in_ok-begun-in-Ok-clause-none_missing : goal.returns-in_ok-begun-in-Ok-clause-none_missing
+returns-in_ok-begun-in-Ok-clause-none_missing c = subst (NoneMissingBy c.args.options.now) c.circuit-lent.ensures c.in-Ok.ensures.none_missing
 
 pub returns-in-Err-clause-no_latch : goal.returns-in-Err-clause-no_latch
 returns-in-Err-clause-no_latch c =
@@ -41,7 +42,8 @@ returns-in-Err-clause-no_latch c =
 
 pub returns-in-Err-clause-missing : goal.returns-in-Err-clause-missing
 returns-in-Err-clause-missing c = λ place is.
-    subst (λ (d : Netlist). IsFirstMissingBy c.args.options.now d place) c.circuit-lent.ensures (c.in-Err.ensures.missing place is)
+    let same : ◌≡◌ {A = Result Keep RetimeError} (Err c.in-Err.error) (Err (NoSuchName place)) = cc in
+    subst (λ (d : Netlist). IsFirstMissingBy c.args.options.now d place) c.circuit-lent.ensures (c.in-Err.ensures.missing place same)
 
 pub returns-in_err-begun-in-Ok-clause-no_latch : goal.returns-in_err-begun-in-Ok-clause-no_latch
 returns-in_err-begun-in-Ok-clause-no_latch c =
