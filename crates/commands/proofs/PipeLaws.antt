@@ -77,10 +77,10 @@ is_answer task options spelt old new r keep answer retimed same levels spelling 
 -- an answer with its map is the answer of the run
 pub mapped_answer : (task : Retiming) (options : Options) (spelt : SpeltCircuit) (old new : Output) (made : Made) (answer : Answered) → answer.rounds ≡ made.rounds → answer.keep ≡ made.keep
     → answer.levels ≡ levels_reported task spelt.circuit → answer.spelling ≡ unwrap_or options.spelling spelt.spelling → answer.map ≡ Some made.map → is_some task.map ≡ true
-    → IsMappedOf options spelt old new made → IsAnswerTo task options spelt old new answer
-mapped_answer task options spelt old new made answer retimed same levels spelling map asked is =
+    → AreRoundsOf options spelt.circuit made.rounds made.keep → IsMappedOf options spelt old new made → IsAnswerTo task options spelt old new answer
+mapped_answer task options spelt old new made answer retimed same levels spelling map asked held is =
     let map_is = subst (λ (m : Option Netlist). IsMapOf spelt.circuit made.rounds m) (sym map) (is.mapped.map, is.mapped.free) in
-    is_answer task options spelt old new made.rounds made.keep answer retimed same levels spelling map_is (ap is_some map ∙ sym asked) is.rounds is.written
+    is_answer task options spelt old new made.rounds made.keep answer retimed same levels spelling map_is (ap is_some map ∙ sym asked) held is.written
 
 -- what goes to no standard output leaves it as it was
 map_aside : (FileGiven : List ℕ → List ℕ → Type 0) (target : Option Target) (spelling : Spelling) (made : Option Netlist) (old new : Output) → writes_stdout target ≡ false

@@ -179,6 +179,8 @@ fn mapped_to<R: Threads + Sync, W: CountedWrite, V: FrameWatcher>(
 ) -> Result<Made, AnswerError>
     ensures ok { IfOk result (IsMappedOf options.now spelt (W.output writer.old)
         (W.output writer.new)) }
+    ensures held { IfOk result (λ made. AreRoundsOf options.now spelt.circuit made.rounds
+        made.keep) }
     ensures err { IfErr result (IsMappingStop options.now spelt (W.output writer.old)
         (W.output writer.new)) }
 {

@@ -12,7 +12,7 @@ pub returns-in-Ok-mapped_to-clause-answer : goal.returns-in-Ok-mapped_to-clause-
 returns-in-Ok-mapped_to-clause-answer g c =
     let made = c.mapped_answer.ensures in
     mapped_answer c.args.task.now c.args.options.now c.args.spelt _ _ c.in-Ok-mapped_to.made c.mapped_answer.result
-    made.rounds made.keep (made.levels ∙ c.in-Ok.ensures) (made.spelling ∙ c.unwrap_or-spelling.ensures) made.map (ap is_some c.in-Some.is) c.in-Ok-mapped_to.ensures.ok
+    made.rounds made.keep (made.levels ∙ c.in-Ok.ensures) (made.spelling ∙ c.unwrap_or-spelling.ensures) made.map (ap is_some c.in-Some.is) c.in-Ok-mapped_to.ensures.held c.in-Ok-mapped_to.ensures.ok
 
 pub returns-in-Err-clause-prints : goal.returns-in-Err-clause-prints
 returns-in-Err-clause-prints g c =
