@@ -3,7 +3,7 @@
 use crate::circuits::TWO_LATCHES;
 use aag_text::{Counted, read_aag};
 use aig_graph::{Circuit, Keep};
-use cut_cert::{CertError, CertFile, Objection, Verdict, check, read_cert, write_cert};
+use cut_cert::{CertError, CertFile, CertPart, Objection, Verdict, check, read_cert, write_cert};
 use std::alloc::Global;
 use std::test::*;
 
@@ -52,10 +52,16 @@ fn reads_and_writes_each_version_and_numbers_faults_and_objections(rt: HostRunti
 /// The set of the gate of two latches, along the first.
 const ONE_GATE: &[u8] = b"fretime-cert 1\nframe 1 1 1\ng 5\nr 3+ 5- 5+\n";
 
-/// Returns true if the first certificate of the file passes all tests, no latch held.
-fn passes(alloc: Global, circuit: &Circuit, file: &CertFile) -> bool {
-    let blocks = file.blocks.as_slice();
+/// Returns true if the first certificate of the part passes all tests, no latch held.
+fn first_passes(alloc: Global, circuit: &Circuit, part: &CertPart) -> bool {
+    let blocks = part.blocks.as_slice();
     !blocks.is_empty() && check(alloc, circuit, &blocks[0], &Keep::none()) == Ok(Verdict::Yes)
+}
+
+/// Returns true if that of the file's first part does.
+fn passes(alloc: Global, circuit: &Circuit, file: &CertFile) -> bool {
+    let parts = file.parts.as_slice();
+    !parts.is_empty() && first_passes(alloc, circuit, &parts[0])
 }
 
 /// Returns true if it does as it is read.
