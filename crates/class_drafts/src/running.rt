@@ -7,7 +7,7 @@ use aig_graph::{Circuit, Memory};
 use backward_sets::{has_mark, number, set_mark};
 use class_nets::{GrowingMap, Net, NumberMap, number_map, sealed};
 use frame_runs::{BytesError, NoWatcher, Options, PathBound, RetimeError};
-use mapped_answers::{AnswerError, Made, made_over};
+use mapped_answers::{AnswerError, Made, made_of};
 use pulse::{Crew, PhaseGate};
 use std::mem;
 use std::thread::Threads;
@@ -69,7 +69,9 @@ pub(crate) fn run<G: PhaseGate>(
 ) -> Option<Made> {
     let mut options = options_of(memory, limits);
     options.keep_latches = held;
-    match made_over(rt, memory.alloc(), circuit, &options, crew, &mut NoWatcher) {
+    let made = made_of(rt, memory.alloc(), &circuit, &options, crew, &mut NoWatcher);
+    drop(circuit);
+    match made {
         Ok(made) => Some(made),
         Err(error) => {
             let refused = match error {

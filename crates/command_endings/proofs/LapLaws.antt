@@ -1,26 +1,22 @@
 -- The laps of a run, one after another.
-use Rattle.std.proofs.Common.{ℕ, ◌+◌, ◌<◌, ◌≤◌, ◌≡◌, ◌++◌, true, false, List, [], ◌∷◌, drop, length, get_or, slice_get, Option, Some, None, option_copied, refl, ap, append_assoc, append-nil, subst, sym, ◌∙◌}
+use Rattle.std.proofs.Common.{ℕ, ◌+◌, ◌<◌, ◌≤◌, ◌≡◌, ◌++◌, List, [], ◌∷◌, drop, length, get_or, slice_get, Option, Some, None, option_copied, refl, ap, append_assoc, append-nil, subst, sym, ◌∙◌}
 use Rattle.std.specs.Borrow.{Bor}
 use Rattle.std.specs.Option.{option_to_list}
-use Rattle.std.proofs.lemmas.Bool.{cond-true, cond-false}
 use Rattle.std.proofs.lemmas.List.{at_drop_more, at_drop_all}
 use Rattle.json_reports.specs.declared.times.FrameTimes.{FrameTimes}
 use Rattle.command_endings.specs.declared.progress.laps.Lap.{Lap}
 use Rattle.command_endings.specs.declared.progress.laps.Part.{Part}
-use Rattle.command_endings.specs.progress.Laps.{look_of, frames_in, is_part, moving_first, moving_in, moving_of, time_in}
+use Rattle.command_endings.specs.declared.progress.laps.Part.TheVariants.{Moving}
+use Rattle.command_endings.specs.progress.Laps.{look_of, frames_in, moving_first, moving_of, time_of, total_in}
 
--- an empty list, and a list of one and more, of which the first is of the kind, or isn't
-time-none : (part : Part) → time_in part [] ≡ 0
-unfolding time_in
-time-none part = refl
+-- an empty list, and a list of one and more
+total-none : (part : Part) → total_in part [] ≡ 0
+unfolding total_in
+total-none part = refl
 
-time-here : (part : Part) (lap : Lap) (laps : List Lap) → is_part lap.part part ≡ true → time_in part (lap ∷ laps) ≡ lap.microseconds
-unfolding time_in
-time-here part lap laps is = cond-true (is_part lap.part part) lap.microseconds (time_in part laps) is
-
-time-later : (part : Part) (lap : Lap) (laps : List Lap) → is_part lap.part part ≡ false → time_in part (lap ∷ laps) ≡ time_in part laps
-unfolding time_in
-time-later part lap laps isnt = cond-false (is_part lap.part part) lap.microseconds (time_in part laps) isnt
+total-step : (part : Part) (lap : Lap) (laps : List Lap) → total_in part (lap ∷ laps) ≡ time_of part lap + total_in part laps
+unfolding total_in
+total-step part lap laps = refl
 
 frames-none : frames_in [] ≡ []
 unfolding frames_in
@@ -32,13 +28,9 @@ frames-step lap laps = refl
 
 -- the lap at a place, and those after it
 module _ (laps : List Lap) (i : ℕ) (none : Lap) (within : i < length laps) where
-  -- where the lap at a place is of the part, its time is that of the part in the laps from there on
-  pub time-at : (part : Part) → is_part (get_or laps i none).part part ≡ true → time_in part (drop i laps) ≡ (get_or laps i none).microseconds
-  time-at part is = at_drop_more (time_in part) laps i none within ∙ time-here part (get_or laps i none) (drop (i + 1) laps) is
-
-  -- a lap of another part leaves the part's time to the laps after it
-  pub time-past : (part : Part) → is_part (get_or laps i none).part part ≡ false → time_in part (drop i laps) ≡ time_in part (drop (i + 1) laps)
-  time-past part isnt = at_drop_more (time_in part) laps i none within ∙ time-later part (get_or laps i none) (drop (i + 1) laps) isnt
+  -- the time of a part in the laps from a place on is that of the lap there, and of those after it
+  pub total-more : (part : Part) → total_in part (drop i laps) ≡ time_of part (get_or laps i none) + total_in part (drop (i + 1) laps)
+  total-more part = at_drop_more (total_in part) laps i none within ∙ total-step part (get_or laps i none) (drop (i + 1) laps)
 
   -- the times so far, with those of a look at this lap, are those of all frames with what later
   -- laps have
@@ -52,8 +44,8 @@ module _ (laps : List Lap) (i : ℕ) (none : Lap) (within : i < length laps) whe
       ∙ ap (λ (frames : List FrameTimes). done ++ frames) (sym (at_drop_more frames_in laps i none within ∙ frames-step lap rest)) ∙ so_far
 
 -- past the last one
-pub time-end : (part : Part) (laps : List Lap) (i : ℕ) → length laps ≤ i → time_in part (drop i laps) ≡ 0
-time-end part laps i past = at_drop_all (time_in part) laps i past ∙ time-none part
+pub total-end : (part : Part) (laps : List Lap) (i : ℕ) → length laps ≤ i → total_in part (drop i laps) ≡ 0
+total-end part laps i past = at_drop_all (total_in part) laps i past ∙ total-none part
 
 -- past the last lap the times so far are those of all frames
 pub frames-end : (done : List FrameTimes) (laps : List Lap) (i : ℕ) → length laps ≤ i → done ++ frames_in (drop i laps) ≡ frames_in laps → done ≡ frames_in laps
@@ -61,7 +53,7 @@ frames-end done laps i past so_far =
     sym (ap (λ (frames : List FrameTimes). done ++ frames) (at_drop_all frames_in laps i past ∙ frames-none) ∙ append-nil done) ∙ so_far
 
 -- the first part, if there is one
-pub moving-some : (laps : List Lap) (first : Option (Bor Lap)) (lap : Bor Lap) → first ≡ Some lap → option_copied first ≡ slice_get laps 0 → moving_in lap.now ≡ moving_first laps
+pub moving-some : (laps : List Lap) (first : Option (Bor Lap)) (lap : Bor Lap) → first ≡ Some lap → option_copied first ≡ slice_get laps 0 → time_of Moving lap.now ≡ moving_first laps
 moving-some laps first lap is value = ap moving_of (subst (λ (o : Option (Bor Lap)). option_copied o ≡ slice_get laps 0) is value)
 
 -- where there is no lap, latches moved for no time

@@ -43,11 +43,11 @@ fn show_for(shown: Shown, is_terminal: bool) -> Show
 }
 
 /// Returns the frame after `taken` frames, whose set is looked for in the graph.
-fn frame_of(taken: usize, aig: &Aig) -> Frame
+fn frame_of(taken: u64, aig: &Aig) -> Frame
     ensures { result ≡ wanted.frame_of taken aig.now }
 {
     Frame {
-        number: (taken as u64).saturating_add(1),
+        number: taken.saturating_add(1),
         latches: aig.known_latches(),
         gates: aig.gates().len() as u64,
     }
@@ -62,6 +62,8 @@ pub struct Progress<'a, R, E> {
     clock: &'a R,
     began: Option<Instant>,
     err: &'a mut E,
+    /// The frames that were taken, in all rounds.
+    taken: u64,
     frame: Option<Frame>,
     on_line: bool,
     watch: Option<Stopwatch>,
@@ -88,6 +90,7 @@ impl<'a, R: Clock, E: CountedWrite> Progress<'a, R, E> {
             clock,
             began: Instant::now(clock).ok(),
             err,
+            taken: 0,
             frame: None,
             on_line: false,
             watch,
@@ -106,16 +109,19 @@ impl<'a, R: Clock, E: CountedWrite> Progress<'a, R, E> {
     }
 
     /// Returns what the run does in this stage; it moves over the set of the frame that was looked
-    /// for last.
+    /// for last. A further round counts its frames anew, so they are counted here.
     fn state_in(&mut self, stage: Stage<'_>) -> Option<State> {
         match stage {
             Stage::Cleaning => Some(State::Cleaning),
-            Stage::Looking { taken, aig } => {
-                let frame = frame_of(taken, aig);
+            Stage::Looking { aig, .. } => {
+                let frame = frame_of(self.taken, aig);
                 self.frame = Some(frame);
                 Some(State::Looking(frame))
             }
-            Stage::Moving => Some(State::Moving(self.frame?)),
+            Stage::Moving => {
+                self.taken = self.taken.saturating_add(1);
+                Some(State::Moving(self.frame?))
+            }
             Stage::Writing => Some(State::Writing),
         }
     }

@@ -1,5 +1,5 @@
 -- How printing a retiming ends, by the form that is asked for.
-use Rattle.std.proofs.Common.{◌≡◌, ◌∙◌, ℕ, Bool, true, false, refl, List, Option, Result, length, nat_lt, sym, subst, ap}
+use Rattle.std.proofs.Common.{◌≡◌, ℕ, Bool, true, List, Option, Result, length, nat_lt, sym, subst, ap}
 use Rattle.std.specs.Prelude.{option_map}
 use Rattle.reports.specs.RemainingCounts.{remaining}
 use Rattle.counted_io.specs.Output.{Output}

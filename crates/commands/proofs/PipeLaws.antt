@@ -34,7 +34,6 @@ use Rattle.circuit_files.specs.declared.outcome.Outcome.TheVariants.{Device, Don
 use Rattle.circuit_files.specs.declared.outcome.Failure.{Failure}
 use Rattle.circuit_files.specs.declared.outcome.Failure.TheVariants as fails
 use Rattle.json_reports.specs.declared.times.Times.{Times}
-use Rattle.json_reports.specs.declared.counts.ReadLevels.{ReadLevels}
 use Rattle.commands.specs.declared.answer.Answer.{Answer as Answered}
 use Rattle.commands.specs.Pipes.{AnswersPipe, IsAnswerTo, IsMapOf, IsPipe, PrintsRetiming, WritesAnswer, WritesBeside, WritesCertificates, WritesMap, WritesPipe, WritesRetiming, blocks_text}
 use Rattle.command_endings.specs.Printing.{EndsAside, Prints, ending}

@@ -1,8 +1,9 @@
 -- What a picture shows.
-use Rattle.std.specs.Prelude.{ℕ, ◌≡◌, ◌<◌, ◌≤◌, ◌+◌, Bool, true, false, List, length, map, Option, Some, None, option_map}
+use Rattle.std.specs.Prelude.{ℕ, ⊤, ◌≡◌, ◌<◌, ◌≤◌, ◌+◌, Bool, true, false, List, length, Option, Some, None, option_map}
 use Rattle.std.specs.Borrow.{Bor}
 use Rattle.aig_graph.specs.Graph.{variables_end}
 use Rattle.aig_graph.specs.Circuits.{Netlist}
+use Rattle.aig_graph.specs.Laws.{all_free}
 use Rattle.aig_binary.specs.declared.reading.SpeltCircuit.{SpeltCircuit}
 use Rattle.counted_io.specs.Input.{Input}
 use Rattle.counted_io.specs.Output.{Output}
@@ -12,11 +13,11 @@ use Rattle.circuit_files.specs.declared.outcome.Failure.{Failure}
 use Rattle.circuit_files.specs.declared.outcome.Failure.TheVariants as fails
 use Rattle.circuit_files.specs.declared.outcome.Outcome.{Outcome}
 use Rattle.circuit_files.specs.declared.outcome.Outcome.TheVariants.{Done}
-use Rattle.retimed_circuits.specs.declared.report.Retimed.{Retimed}
-use Rattle.frame_runs.specs.Bounds.{bound_in}
-use Rattle.frame_runs.specs.Retiming.{IsNextSet, IsRetimedHeld}
+use Rattle.frame_runs.specs.Beginning.{IsRunBegun}
+use Rattle.frame_runs.specs.Retiming.{IsNextSet}
 use Rattle.frame_runs.specs.declared.follower.NoFollower.{NoFollower}
 use Rattle.frame_runs.specs.declared.options.Options.{Options}
+use Rattle.frame_runs.specs.declared.run.ReadCircuit.{ReadCircuit}
 use Rattle.frame_runs.specs.declared.run.Run.{Run}
 use Rattle.pictures.specs.Looks.{everything}
 use Rattle.pictures.specs.Near.{has_node, is_centre, is_near}
@@ -50,10 +51,14 @@ abbrev pub IsRefusal : Option (Bor (List ℕ)) → Netlist → Source → Failur
 IsRefusal (Some name) c input failure = (has_node c name.now ≡ false) × OfSource input (λ path. failure ≡ fails.NoSuchName path name)
 IsRefusal None c input failure = (2000 < nodes c) × OfSource input (λ path. failure ≡ fails.TooManyNodes path)
 
--- the run of c by the options, which has taken all its frames, under the bound for c
-pub record IsRunBy (options : Options) (c : Netlist) (run : Run NoFollower) : Type 0 where
-  pub is : IsRetimedHeld options c run.retimed run.keep
-  pub bound : run.bound ≡ bound_in options c
+-- nothing follows a run, so its follower has come from any circuit to any
+abbrev pub comes_anyhow : NoFollower → Netlist → Netlist → List ℕ → Type 0
+comes_anyhow follower c d kept = ⊤
+
+-- the run of c by the options before its first frame, under the bound for c, with what is reported
+-- of c if its latches were merged
+abbrev pub IsRunBy : Options → Netlist → Option ReadCircuit → Run NoFollower → Type 0
+IsRunBy options c read run = IsRunBegun comes_anyhow options run.bound c (all_free c.aig) c read run.retimed run.keep run.follower
 
 -- what a run came to, its held latches, and the set that its next frame takes
 pub record IsShownOf (options : Options) (run : Run NoFollower) (scene : Scene) : Type 0 where
@@ -67,8 +72,9 @@ pub record IsShownOf (options : Options) (run : Run NoFollower) (scene : Scene) 
 pub record IsNextShown (task : Drawing) (c : Netlist) (scene : Scene) : Type 0 where
   pub options : Options
   pub are : AreOptionsOf task.options 0 false options
+  pub read : Option ReadCircuit
   pub run : Run NoFollower
-  pub is : IsRunBy options c run
+  pub is : IsRunBy options c read run
   pub shown : IsShownOf options run scene
 
 -- What is shown of c: itself with the latches that the task holds. If the next frame is asked for,

@@ -1,5 +1,5 @@
 -- What the task of a retiming makes of its options, of an error, and of a retiming.
-use Rattle.std.specs.Prelude.{ℕ, ◌≡◌, ◌||◌, Bool, true, false, List, Option, Some, None, Result, is_some, option_map, map, length, nat_lt, slice_get, unwrap_or, if◌then◌else◌}
+use Rattle.std.specs.Prelude.{ℕ, ◌≡◌, Bool, true, false, List, Option, Some, None, Result, is_some, option_map, map, length, nat_lt, slice_get, unwrap_or, if◌then◌else◌}
 use Rattle.std.specs.Borrow.{Bor}
 use Rattle.aig_graph.specs.Circuits.{Netlist}
 use Rattle.counted_io.specs.Streams.{target_name}

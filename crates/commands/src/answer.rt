@@ -17,13 +17,13 @@ ghost use Rattle.commands.specs.RetimingTasks.{AreOptionsFor, HasFailed, IsFailu
 
 use aig_binary::{Spelling, SpeltCircuit};
 use aig_graph::{Circuit, Keep, NoMemory};
-use frames::run_spelt;
 use circuit_files::{Failure, OutputFiles, close, file_at};
 use command_endings::{missing_latch, missing_name};
 use command_line::{Retiming, RetimingOptions};
 use counted_io::{CountedWrite, Source, Target, WriteError};
 use file_words::ReadError;
 use frame_runs::{BytesError, FrameWatcher, NoFollower, Options, RetimeError};
+use frames::run_spelt;
 use json_reports::{MapCounts, ReadLevels};
 use mapped_answers::{AnswerError, Made, StateMap, retime_spelt_mapped, write_state_map};
 use merging_rounds::{Rounds, RoundsRun};

@@ -1,8 +1,9 @@
 //! The scene that `dot` draws: the circuit that is read, or the circuit before the next frame and
 //! that frame's set.
-ghost use Rattle.std.specs.Prelude.{◌≡◌, IfOk, false};
+ghost use Rattle.std.specs.Prelude.{◌≡◌, IfOk, Option, false};
 ghost use Rattle.command_endings.specs.RunOptions.{AreOptionsOf};
 ghost use Rattle.commands.specs.Drawings.{IsNextShown, IsRunBy, IsSceneOf, IsShownFor, IsShownOf};
+ghost use Rattle.frame_runs.specs.declared.run.ReadCircuit.{ReadCircuit};
 
 use crate::answer::failure_of_run;
 use crate::drawable::check_drawable;
@@ -11,7 +12,9 @@ use circuit_files::{Failure, circuit_at};
 use command_endings::{held_latches, run_options};
 use command_line::Drawing;
 use counted_io::CountedRead;
-use frame_runs::{NoFollower, NoWatcher, Options, Retimed, Run, next_set, run_watched};
+use frame_runs::{
+    Begun, GivenCircuit, NoFollower, Options, RetimeError, Retimed, Run, begin, hold_by, next_set,
+};
 use pulse::{Crew, OpenGate};
 use std::alloc::Global;
 use std::rt::Files;
@@ -27,42 +30,41 @@ pub(crate) struct Scene {
     pub(crate) set: Option<ClosedSet>,
 }
 
-/// Returns the run under `bound`.
-fn under(run: Run<NoFollower>, bound: Option<u32>) -> Run<NoFollower>
-    ensures retimed { result.retimed ≡ run.retimed }
-    ensures keep { result.keep ≡ run.keep }
-    ensures bound { result.bound ≡ bound }
+/// Begins a run of the circuit, up to its first frame. Nothing follows it.
+fn begun_by(
+    alloc: Global,
+    circuit: &Circuit,
+    options: &Options,
+) -> Result<Begun<NoFollower>, RetimeError>
+    ensures { IfOk result (λ begun. IsRunBy options.now circuit.now begun.read begun.run) }
 {
-    let Run {
-        retimed,
-        keep,
-        follower,
-        ..
-    } = run;
-    Run {
-        retimed,
-        keep,
-        follower,
-        bound,
-    }
+    let keep = hold_by(alloc, circuit, options)?;
+    let lent = GivenCircuit::Lent(circuit);
+    let begun = begin(alloc, lent, &keep, options, NoFollower)?;
+    Ok(begun)
+}
+
+/// Returns a run that has begun, and drops what is reported of the circuit that was read.
+fn run_of(begun: Begun<NoFollower>) -> Run<NoFollower>
+    ensures { result ≡ begun.run }
+{
+    let Begun { run, read } = begun;
+    drop(read);
+    run
 }
 
 /// Runs the circuit up to its first frame.
-fn run_by<'a, R: Threads + Sync>(
-    rt: &R,
+fn run_by<'a>(
     alloc: Global,
     circuit: &Circuit,
     options: &Options,
     task: &Drawing<'a>,
 ) -> Result<Run<NoFollower>, Failure<'a>>
-    ensures { IfOk result (IsRunBy options.now circuit.now) }
+    ensures { IfOk result (λ run. (read : Option ReadCircuit)
+        × IsRunBy options.now circuit.now read run) }
 {
-    let Ok(bound) = options.bound.for_circuit(alloc, circuit) else {
-        return Err(Failure::Memory);
-    };
-    let crew = Crew::new(1, OpenGate);
-    match run_watched(rt, alloc, circuit, options, &crew, &mut NoWatcher) {
-        Ok(run) => Ok(under(run, bound)),
+    match begun_by(alloc, circuit, options) {
+        Ok(begun) => Ok(run_of(begun)),
         Err(error) => Err(failure_of_run(error, task.input, task.input, &task.options)),
     }
 }
@@ -113,7 +115,7 @@ fn shown_by<'a, R: Threads + Sync>(
     requires { AreOptionsOf task.now.options 0 false options.now }
     ensures { IfOk result (IsNextShown task.now circuit.now) }
 {
-    let run = run_by(rt, alloc, circuit, options, task)?;
+    let run = run_by(alloc, circuit, options, task)?;
     shown_of(rt, alloc, run, options)
 }
 

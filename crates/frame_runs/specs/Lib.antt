@@ -2,6 +2,7 @@ pub mod Codes
 pub mod Defaults
 pub mod Named
 pub mod Bounds
+pub mod Given
 pub mod Retiming
 pub mod Certified
 pub mod Found

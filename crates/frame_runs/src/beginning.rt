@@ -1,15 +1,20 @@
 //! The start of a run: the circuit that was read is cleaned. If the options ask for it, it is
 //! merged and cleaned again.
 //!
-//! After that nobody needs the circuit that was read, so a caller that owns it may drop it.
+//! After that the run doesn't need the circuit that was read. A caller that doesn't need it either
+//! gives it up as the run begins.
 ghost use Rattle.std.specs.Prelude.{ℕ, ◌≡◌, ◌<◌, false, All, IfOk, [], List, None, length, true};
 ghost use Rattle.aig_graph.specs.Circuits.{Netlist};
+ghost use Rattle.cleaned_circuits.specs.Cleaned.{Cleans};
+ghost use Rattle.cleaned_circuits.specs.Held.{HeldAfter};
 ghost use Rattle.frame_runs.specs.Beginning.{IsRunBegun, IsCleanedRun, IsMergedFrom};
 ghost use Rattle.frame_runs.specs.Bounds.{bound_in};
-ghost use Rattle.frame_runs.specs.Following.{HasComeFrom, HasComeTo};
+ghost use Rattle.frame_runs.specs.Following.{ComesOn, HasComeFrom, HasComeTo};
+ghost use Rattle.frame_runs.specs.Given.{circuit_of};
 ghost use Rattle.frame_runs.specs.Named.{kept_by};
 
 use crate::follower::RunFollower;
+use crate::given::GivenCircuit;
 use crate::options::Options;
 use crate::run::{Begun, ReadCircuit, Run};
 use aig_graph::{Circuit, Keep, Sequence};
@@ -57,53 +62,60 @@ fn begun<F>(
     }
 }
 
-/// Cleans `circuit` by `follower`, which has come to it, and returns the run that starts there.
-fn cleaned_run<F: RunFollower + Drop>(
+/// The least number of gates of a circuit that is cleaned in its own tables as a run begins. A
+/// smaller one is copied as it is cleaned, and its tables are let go. Then the C library keeps such
+/// room for the frames. Else it would give pages back in each frame, and ask for them in the next.
+const LARGE: usize = 131_072;
+
+/// Cleans the circuit that a run begins with by `follower`, which has come to it.
+fn first_cleaned<F: RunFollower>(
     alloc: Global,
-    follower: F,
-    circuit: &Circuit,
+    follower: &mut F,
+    given: GivenCircuit<'_>,
     keep: &Keep,
-    bound: Option<u32>,
-    options: &Options,
-) -> Result<Run<F>, F::Stop>
-    requires there { HasComeTo F.has_come follower circuit.now }
-    requires in_range { All (λ j. j < length circuit.now.aig.latches) keep.now }
-    ensures { IfOk result (λ run. IsCleanedRun F.has_come options.now bound circuit.now keep.now
-        follower run.follower run.retimed run.keep × (run.bound ≡ bound)) }
+) -> Result<Cleaned, F::Stop>
+    requires there { HasComeTo F.has_come follower.old (circuit_of given) }
+    requires in_range { All (λ j. j < length (circuit_of given).aig.latches) keep.now }
+    ensures cleaned { IfOk result (λ d. Cleans d.circuit keep.now (circuit_of given.entry)
+        d.kept_free) }
+    ensures held { IfOk result (λ d. HeldAfter d.circuit d.keep keep.now
+        (circuit_of given.entry)) }
+    ensures comes { IfOk result (λ d. ComesOn F.has_come follower.old follower.new
+        (circuit_of given.entry) d.circuit d.kept_free) }
 {
-    let _options = options;
-    circuit.known();
-    let mut follower = follower;
-    let read_latches = circuit.aig().latches().len() as u32;
-    match follower.clean(alloc, circuit, keep) {
-        Ok(cleaned) => Ok(begun(alloc, cleaned, read_latches, follower, bound)),
-        Err(error) => {
-            drop(follower);
-            Err(error)
-        }
+    let lent = given.circuit();
+    let large = lent.aig().gates().len() >= LARGE;
+    if large {
+        follower.clean(alloc, given, keep)
+    } else {
+        let cleaned = follower.clean(alloc, GivenCircuit::Lent(lent), keep);
+        drop(given);
+        cleaned
     }
 }
 
-/// Cleans `circuit` as [`cleaned_run`] does, and drops it or uses its own tables.
-fn cleaned_run_over<F: RunFollower + Drop>(
+/// Cleans the circuit by `follower`, which has come to it, and returns the run that starts there.
+fn cleaned_run<F: RunFollower + Drop>(
     alloc: Global,
     follower: F,
-    circuit: Circuit,
+    given: GivenCircuit<'_>,
     keep: &Keep,
     bound: Option<u32>,
     options: &Options,
 ) -> Result<Run<F>, F::Stop>
-    requires there { HasComeTo F.has_come follower circuit }
-    requires in_range { All (λ j. j < length circuit.aig.latches) keep.now }
-    ensures { IfOk result (λ run. IsCleanedRun F.has_come options.now bound circuit keep.now
-        follower run.follower run.retimed run.keep × (run.bound ≡ bound)) }
+    requires there { HasComeTo F.has_come follower (circuit_of given) }
+    requires in_range { All (λ j. j < length (circuit_of given).aig.latches) keep.now }
+    ensures { IfOk result (λ run. IsCleanedRun F.has_come options.now bound
+        (circuit_of given.entry) keep.now follower run.follower run.retimed run.keep
+        × (run.bound ≡ bound)) }
 {
     let _options = options;
-    circuit.known();
+    let lent = given.circuit();
+    lent.known();
     let mut follower = follower;
-    let read_latches = circuit.aig().latches().len() as u32;
-    match follower.clean_over(alloc, circuit, keep) {
-        Ok(start) => Ok(begun(alloc, start, read_latches, follower, bound)),
+    let read_latches = lent.aig().latches().len() as u32;
+    match first_cleaned(alloc, &mut follower, given, keep) {
+        Ok(cleaned) => Ok(begun(alloc, cleaned, read_latches, follower, bound)),
         Err(error) => {
             drop(follower);
             Err(error)
@@ -115,47 +127,23 @@ fn cleaned_run_over<F: RunFollower + Drop>(
 fn begun_as_is<F: RunFollower + Drop>(
     alloc: Global,
     follower: F,
-    circuit: &Circuit,
+    given: GivenCircuit<'_>,
     keep: &Keep,
     bound: Option<u32>,
     options: &Options,
 ) -> Result<Begun<F>, F::Stop>
     requires there { (b : Netlist) × (before : List ℕ)
-        × HasComeFrom F.has_come follower b before circuit.now }
-    requires keep { keep.now ≡ kept_by options.now circuit.now }
-    requires bound { bound ≡ bound_in options.now circuit.now }
+        × HasComeFrom F.has_come follower b before (circuit_of given) }
+    requires keep { keep.now ≡ kept_by options.now (circuit_of given) }
+    requires bound { bound ≡ bound_in options.now (circuit_of given) }
     requires merge { options.now.merge ≡ false }
     ensures { IfOk result (λ begun. (b : Netlist) (before : List ℕ)
-        → HasComeFrom F.has_come follower b before circuit.now
-        → IsRunBegun F.has_come options.now begun.run.bound b before circuit.now begun.read
-        begun.run.retimed begun.run.keep begun.run.follower) }
+        → HasComeFrom F.has_come follower b before (circuit_of given.entry)
+        → IsRunBegun F.has_come options.now begun.run.bound b before (circuit_of given.entry)
+        begun.read begun.run.retimed begun.run.keep begun.run.follower) }
 {
-    circuit.known();
-    let run = cleaned_run(alloc, follower, circuit, keep, bound, options)?;
-    Ok(Begun { run, read: None })
-}
-
-/// Begins a run that merges no latches, of a circuit that nobody else needs.
-fn begun_as_is_over<F: RunFollower + Drop>(
-    alloc: Global,
-    follower: F,
-    circuit: Circuit,
-    keep: &Keep,
-    bound: Option<u32>,
-    options: &Options,
-) -> Result<Begun<F>, F::Stop>
-    requires there { (b : Netlist) × (before : List ℕ)
-        × HasComeFrom F.has_come follower b before circuit }
-    requires keep { keep.now ≡ kept_by options.now circuit }
-    requires bound { bound ≡ bound_in options.now circuit }
-    requires merge { options.now.merge ≡ false }
-    ensures { IfOk result (λ begun. (b : Netlist) (before : List ℕ)
-        → HasComeFrom F.has_come follower b before circuit
-        → IsRunBegun F.has_come options.now begun.run.bound b before circuit begun.read
-        begun.run.retimed begun.run.keep begun.run.follower) }
-{
-    circuit.known();
-    let run = cleaned_run_over(alloc, follower, circuit, keep, bound, options)?;
+    given.circuit().known();
+    let run = cleaned_run(alloc, follower, given, keep, bound, options)?;
     Ok(Begun { run, read: None })
 }
 
@@ -180,7 +168,8 @@ fn merged_run<F: RunFollower + Drop>(
         kept_free,
         merged,
     } = start;
-    let run = cleaned_run_over(alloc, follower, circuit, &keep, bound, options)?;
+    let owned = GivenCircuit::Owned(circuit);
+    let run = cleaned_run(alloc, follower, owned, &keep, bound, options)?;
     Ok(Begun {
         run,
         read: Some(ReadCircuit {
@@ -226,112 +215,60 @@ fn begun_merged<F: RunFollower + Drop>(
 fn begun_under<F: RunFollower + Drop>(
     alloc: Global,
     follower: F,
-    circuit: &Circuit,
+    given: GivenCircuit<'_>,
     keep: &Keep,
     bound: Option<u32>,
     options: &Options,
 ) -> Result<Begun<F>, F::Stop>
     requires there { (b : Netlist) × (before : List ℕ)
-        × HasComeFrom F.has_come follower b before circuit.now }
-    requires keep { keep.now ≡ kept_by options.now circuit.now }
-    requires bound { bound ≡ bound_in options.now circuit.now }
+        × HasComeFrom F.has_come follower b before (circuit_of given) }
+    requires keep { keep.now ≡ kept_by options.now (circuit_of given) }
+    requires bound { bound ≡ bound_in options.now (circuit_of given) }
     ensures { IfOk result (λ begun. (b : Netlist) (before : List ℕ)
-        → HasComeFrom F.has_come follower b before circuit.now
-        → IsRunBegun F.has_come options.now begun.run.bound b before circuit.now begun.read
-        begun.run.retimed begun.run.keep begun.run.follower) }
+        → HasComeFrom F.has_come follower b before (circuit_of given.entry)
+        → IsRunBegun F.has_come options.now begun.run.bound b before (circuit_of given.entry)
+        begun.read begun.run.retimed begun.run.keep begun.run.follower) }
 {
     if options.merge {
-        begun_merged(alloc, follower, circuit, keep, bound, options)
+        let begun = begun_merged(alloc, follower, given.circuit(), keep, bound, options);
+        drop(given);
+        begun
     } else {
-        begun_as_is(alloc, follower, circuit, keep, bound, options)
+        begun_as_is(alloc, follower, given, keep, bound, options)
     }
 }
 
-/// Begins a run of `circuit`, up to its first frame. [`finish`](crate::finish) takes the frames.
+/// Begins a run of a circuit, up to its first frame. [`finish`](crate::finish) takes the frames.
 ///
-/// `follower` has come to `circuit`, from there or from another one. `keep` has the latches that the
-/// options hold ([`hold_by`](crate::hold_by)).
+/// `follower` has come to the circuit, from there or from another one. `keep` has the latches that
+/// the options hold ([`hold_by`](crate::hold_by)).
+///
+/// A circuit that is owned is let go. If it is large and no latches are merged, it is cleaned in
+/// its own tables.
 ///
 /// # Errors
 ///
 /// An error of the follower; `NoMemory` if memory is refused.
 pub fn begin<F: RunFollower + Drop>(
     alloc: Global,
-    circuit: &Circuit,
+    given: GivenCircuit<'_>,
     keep: &Keep,
     options: &Options,
     follower: F,
 ) -> Result<Begun<F>, F::Stop>
     requires there { (b : Netlist) × (before : List ℕ)
-        × HasComeFrom F.has_come follower b before circuit.now }
-    requires keep { keep.now ≡ kept_by options.now circuit.now }
+        × HasComeFrom F.has_come follower b before (circuit_of given) }
+    requires keep { keep.now ≡ kept_by options.now (circuit_of given) }
     ensures { IfOk result (λ begun. (b : Netlist) (before : List ℕ)
-        → HasComeFrom F.has_come follower b before circuit.now
-        → IsRunBegun F.has_come options.now begun.run.bound b before circuit.now begun.read
-        begun.run.retimed begun.run.keep begun.run.follower) }
+        → HasComeFrom F.has_come follower b before (circuit_of given.entry)
+        → IsRunBegun F.has_come options.now begun.run.bound b before (circuit_of given.entry)
+        begun.read begun.run.retimed begun.run.keep begun.run.follower) }
 {
-    match options.bound.for_circuit(alloc, circuit) {
-        Ok(bound) => begun_under(alloc, follower, circuit, keep, bound, options),
+    match options.bound.for_circuit(alloc, given.circuit()) {
+        Ok(bound) => begun_under(alloc, follower, given, keep, bound, options),
         Err(error) => {
             drop(follower);
-            Err(F::Stop::from(error))
-        }
-    }
-}
-
-/// Begins a run under `bound`, merged if the options ask for it, and lets the circuit go.
-fn begun_over<F: RunFollower + Drop>(
-    alloc: Global,
-    follower: F,
-    circuit: Circuit,
-    keep: &Keep,
-    bound: Option<u32>,
-    options: &Options,
-) -> Result<Begun<F>, F::Stop>
-    requires there { (b : Netlist) × (before : List ℕ)
-        × HasComeFrom F.has_come follower b before circuit }
-    requires keep { keep.now ≡ kept_by options.now circuit }
-    requires bound { bound ≡ bound_in options.now circuit }
-    ensures { IfOk result (λ begun. (b : Netlist) (before : List ℕ)
-        → HasComeFrom F.has_come follower b before circuit
-        → IsRunBegun F.has_come options.now begun.run.bound b before circuit begun.read
-        begun.run.retimed begun.run.keep begun.run.follower) }
-{
-    if options.merge {
-        let begun = begun_merged(alloc, follower, &circuit, keep, bound, options);
-        drop(circuit);
-        begun
-    } else {
-        begun_as_is_over(alloc, follower, circuit, keep, bound, options)
-    }
-}
-
-/// Begins a run as [`begin`] does, of a circuit that nobody else needs: a run that merges nothing
-/// cleans it in its own tables.
-///
-/// # Errors
-///
-/// Those of [`begin`].
-pub fn begin_over<F: RunFollower + Drop>(
-    alloc: Global,
-    circuit: Circuit,
-    keep: &Keep,
-    options: &Options,
-    follower: F,
-) -> Result<Begun<F>, F::Stop>
-    requires there { (b : Netlist) × (before : List ℕ)
-        × HasComeFrom F.has_come follower b before circuit }
-    requires keep { keep.now ≡ kept_by options.now circuit }
-    ensures { IfOk result (λ begun. (b : Netlist) (before : List ℕ)
-        → HasComeFrom F.has_come follower b before circuit
-        → IsRunBegun F.has_come options.now begun.run.bound b before circuit begun.read
-        begun.run.retimed begun.run.keep begun.run.follower) }
-{
-    match options.bound.for_circuit(alloc, &circuit) {
-        Ok(bound) => begun_over(alloc, follower, circuit, keep, bound, options),
-        Err(error) => {
-            drop(follower);
-            drop(circuit);
+            drop(given);
             Err(F::Stop::from(error))
         }
     }

@@ -19,9 +19,11 @@ ghost use Rattle.retimed_circuits.specs.Merging.{MergesIn};
 ghost use Rattle.retimed_circuits.specs.Names.{StayHeld};
 ghost use Rattle.latch_merging.specs.Starts.{IsStart};
 ghost use Rattle.frame_runs.specs.Following.{ComesOn, ComesWhole, HasComeTo};
+ghost use Rattle.frame_runs.specs.Given.{circuit_of};
 ghost use Rattle.frame_runs.specs.Merging.{AreGivenLines};
 
 use crate::errors::RunError;
+use crate::given::GivenCircuit;
 use crate::options::Options;
 use aig_graph::{Circuit, ClosedSet, Keep, NoMemory};
 use certificates::MergedLatch;
@@ -39,34 +41,22 @@ pub trait RunFollower {
     /// second, its place among the free latches of the first.
     ghost has_come: { Self → Netlist → Netlist → List ℕ → Type 0 };
 
-    /// Cleans the circuit that the run has come to, as `clean::clean` does.
+    /// Cleans the circuit that the run has come to, as `clean::clean` does. One that is owned is
+    /// cleaned in its own tables, or dropped.
     fn clean(
         &mut self,
         alloc: Global,
-        circuit: &Circuit,
+        given: GivenCircuit<'_>,
         keep: &Keep,
     ) -> Result<Cleaned, Self::Stop>
-        requires there { HasComeTo has_come self.old circuit.now }
-        requires in_range { All (λ j. j < length circuit.now.aig.latches) keep.now }
-        ensures cleaned { IfOk result (λ d. Cleans d.circuit keep.now circuit.now d.kept_free) }
-        ensures held { IfOk result (λ d. HeldAfter d.circuit d.keep keep.now circuit.now) }
-        ensures comes { IfOk result (λ d. ComesOn has_come self.old self.new circuit.now d.circuit
-            d.kept_free) };
-
-    /// Cleans the circuit that the run has come to as [`clean`](RunFollower::clean) does, and drops
-    /// it, or cleans it in its own tables.
-    fn clean_over(
-        &mut self,
-        alloc: Global,
-        circuit: Circuit,
-        keep: &Keep,
-    ) -> Result<Cleaned, Self::Stop>
-        requires there { HasComeTo has_come self.old circuit }
-        requires in_range { All (λ j. j < length circuit.aig.latches) keep.now }
-        ensures cleaned { IfOk result (λ d. Cleans d.circuit keep.now circuit d.kept_free) }
-        ensures held { IfOk result (λ d. HeldAfter d.circuit d.keep keep.now circuit) }
-        ensures comes { IfOk result (λ d. ComesOn has_come self.old self.new circuit d.circuit
-            d.kept_free) };
+        requires there { HasComeTo has_come self.old (circuit_of given) }
+        requires in_range { All (λ j. j < length (circuit_of given).aig.latches) keep.now }
+        ensures cleaned { IfOk result (λ d. Cleans d.circuit keep.now (circuit_of given.entry)
+            d.kept_free) }
+        ensures held { IfOk result (λ d. HeldAfter d.circuit d.keep keep.now
+            (circuit_of given.entry)) }
+        ensures comes { IfOk result (λ d. ComesOn has_come self.old self.new
+            (circuit_of given.entry) d.circuit d.kept_free) };
 
     /// Cleans the circuit that was read and merges its latches that always agree. They are the
     /// classes of the options, as `latch_merging::start_by` merges them. Without classes they are
@@ -104,6 +94,24 @@ pub trait RunFollower {
         requires room { moved_size (move_of circuit.now keep.now set.now) ≤ MAX_VARIABLES }
         ensures { OnOk result (ComesWhole has_come self.old self.new circuit.now
             (moved_of (move_of circuit.now keep.now set.now))) };
+}
+
+/// Cleans a circuit, in its own tables if it is owned.
+fn cleaned_given(
+    alloc: Global,
+    given: GivenCircuit<'_>,
+    keep: &Keep,
+) -> Result<Cleaned, NoMemory>
+    requires { All (λ j. j < length (circuit_of given).aig.latches) keep.now }
+    ensures cleaned { IfOk result (λ d. Cleans d.circuit keep.now (circuit_of given.entry)
+        d.kept_free) }
+    ensures held { IfOk result (λ d. HeldAfter d.circuit d.keep keep.now
+        (circuit_of given.entry)) }
+{
+    match given {
+        GivenCircuit::Lent(circuit) => clean(alloc, circuit, keep),
+        GivenCircuit::Owned(circuit) => clean_over(alloc, circuit, keep),
+    }
 }
 
 /// Cleans the circuit, and merges its latches that always agree.
@@ -148,20 +156,10 @@ impl RunFollower for NoFollower {
     fn clean(
         &mut self,
         alloc: Global,
-        circuit: &Circuit,
+        given: GivenCircuit<'_>,
         keep: &Keep,
     ) -> Result<Cleaned, RunError> {
-        let cleaned = clean(alloc, circuit, keep)?;
-        Ok(cleaned)
-    }
-
-    fn clean_over(
-        &mut self,
-        alloc: Global,
-        circuit: Circuit,
-        keep: &Keep,
-    ) -> Result<Cleaned, RunError> {
-        let cleaned = clean_over(alloc, circuit, keep)?;
+        let cleaned = cleaned_given(alloc, given, keep)?;
         Ok(cleaned)
     }
 

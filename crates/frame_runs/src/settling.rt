@@ -8,6 +8,7 @@ ghost use Rattle.frame_runs.specs.Following.{HasComeTo, IsCleanedFollowed};
 ghost use Rattle.clean.specs.Normalised.{AreLowNormalised, IsNormalised};
 
 use crate::follower::RunFollower;
+use crate::given::GivenCircuit;
 use aig_graph::{Circuit, Keep, NoMemory};
 use clean::{Cleaned, all_places, are_low_normalised};
 use std::alloc::Global;
@@ -46,7 +47,7 @@ fn cleaned_over<F: RunFollower>(
 {
     // Tells the prover that it is a circuit.
     circuit.known();
-    let cleaned = follower.clean_over(alloc, circuit, &keep);
+    let cleaned = follower.clean(alloc, GivenCircuit::Owned(circuit), &keep);
     drop(keep);
     cleaned
 }

@@ -1,7 +1,7 @@
 //! Circuits that several tests read, their texts, sets of gates, and how circuits are retimed.
 use aag_text::{Counted, write_aag};
 use aig_graph::{Circuit, ClosedSet, NoMemory};
-use frame_runs::Options;
+use frames::Options;
 use std::alloc::Global;
 
 /// Two inputs, a latch at each, and the gate of the latches, which is variable 5 and the output.

@@ -3,7 +3,7 @@ use aag_text::{ReadError, WriteError};
 use aig_graph::{BuildError, HoldError, KeepError, NoMemory};
 use batch_pool::BatchError;
 use circuit_files::ListError;
-use frame_runs::{BytesError, RetimeError};
+use frames::{BytesError, RetimeError};
 use lane_sim::{SimError, StimError};
 use pulse::PulseError;
 use std::alloc::Global;

@@ -4,8 +4,7 @@ use crate::circuits::{CHAINS, options};
 use aag_text::{
     Counted, CountedRead, CountedWrite, FailAfter, Failure, OneByte, ReadError, WriteError,
 };
-use frames::retime_bytes;
-use frame_runs::{BytesError, Options};
+use frames::{BytesError, Options, retime_bytes};
 use pulse::{Crew, OpenGate};
 use std::alloc::Global;
 use std::test::*;

@@ -3,7 +3,7 @@
 use crate::circuits::options;
 use aag_text::read_aag;
 use aig_graph::{Circuit, HoldError, hold, keep_of};
-use frame_runs::{NoWatcher, Options, RetimeError, run_watched};
+use frames::{GivenCircuit, NoWatcher, Options, RetimeError, run_watched};
 use pulse::{Crew, OpenGate};
 use std::alloc::Global;
 use std::test::*;
@@ -68,7 +68,8 @@ fn ends_at<R: Threads + Sync>(
     options: &Options,
 ) -> Result<u32, RetimeError> {
     let crew = Crew::new(1, OpenGate);
-    match run_watched(rt, alloc, circuit, options, &crew, &mut NoWatcher) {
+    let lent = GivenCircuit::Lent(circuit);
+    match run_watched(rt, alloc, lent, options, &crew, &mut NoWatcher) {
         Ok(run) => {
             let place = run.keep.positions().first().copied().unwrap_or(9);
             drop(run);

@@ -5,7 +5,7 @@ ghost use Rattle.std.specs.Prelude.{⊤};
 use crate::circuits::options;
 use aag_text::read_aag;
 use aig_graph::Circuit;
-use frame_runs::{FrameReport, FrameWatcher, Retimed, Stage, run_watched};
+use frames::{FrameReport, FrameWatcher, GivenCircuit, Rounds, Stage, run_watched};
 use pulse::{Crew, OpenGate};
 use std::alloc::Global;
 use std::test::*;
@@ -34,8 +34,8 @@ impl FrameWatcher for Networks {
 }
 
 /// Returns whether there were two frames, from 33 to 26 latches and to 23.
-fn has_two_frames(retimed: &Retimed) -> bool {
-    match retimed.frames.as_slice() {
+fn has_two_frames(rounds: &Rounds) -> bool {
+    match rounds.frames.as_slice() {
         [first, second] => is_frame(first, 33, 26) & is_frame(second, 26, 23),
         _ => false,
     }
@@ -50,10 +50,11 @@ fn takes_frames<R: Threads + Sync>(rt: &R, alloc: Global, circuit: &Circuit, wor
     let crew = Crew::new(workers.clamp(1, 64), OpenGate);
     let mut networks = Networks { found: None };
     let options = options(alloc, 1 << 28);
-    let run = run_watched(rt, alloc, circuit, &options, &crew, &mut networks);
+    let lent = GivenCircuit::Lent(circuit);
+    let run = run_watched(rt, alloc, lent, &options, &crew, &mut networks);
     drop(options);
     let taken = match &run {
-        Ok(run) => has_two_frames(&run.retimed),
+        Ok(run) => has_two_frames(&run.rounds),
         Err(_) => false,
     };
     drop(run);

@@ -5,7 +5,7 @@ use crate::meeting_gates::MeetingGate;
 use aag_text::read_aag;
 use aig_graph::{Choice, Circuit, Keep};
 use chosen_cuts::{Records, chosen_least_along};
-use frame_runs::{FrameReport, Retimed, retime};
+use frames::{FrameReport, Rounds, retime};
 use pulse::{Crew, OpenGate};
 use std::alloc::Global;
 use std::mem;
@@ -23,7 +23,7 @@ fn over_one_gate(before: u32) -> FrameReport {
 }
 
 /// Returns true if two latches are left, after two frames. `tests/cases/frames` has the text.
-fn has_two_latches(retimed: &Retimed) -> bool {
+fn has_two_latches(retimed: &Rounds) -> bool {
     (retimed.frames.as_slice() == [over_one_gate(4), over_one_gate(3)].as_slice())
         & (retimed.circuit.aig().latches().len() == 2)
         & (retimed.read_latches == 4)

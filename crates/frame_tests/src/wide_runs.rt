@@ -3,7 +3,7 @@ use crate::circuits::options;
 use crate::meeting_gates::MeetingGate;
 use crate::wide_circuits::{PAIR, Units};
 use aig_graph::Circuit;
-use frame_runs::retime;
+use frames::retime;
 use pulse::Crew;
 use std::alloc::Global;
 use std::test::*;

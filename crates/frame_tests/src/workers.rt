@@ -5,7 +5,7 @@ use crate::circuits::{TWO_LATCHES, options};
 use crate::held_gate::HeldGate;
 use aag_text::read_aag;
 use aig_graph::Circuit;
-use frame_runs::retime;
+use frames::retime;
 use pulse::Crew;
 use std::alloc::Global;
 use std::test::*;

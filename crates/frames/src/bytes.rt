@@ -10,12 +10,12 @@ ghost use Rattle.frame_runs.specs.Stages.{Cleaning, Writing};
 ghost use Rattle.merging_rounds.specs.Following.{AreRoundsSeen};
 ghost use Rattle.frame_runs.specs.declared.errors.RetimeError.TheVariants.{NoSuchLatch, NoSuchName};
 
-use crate::runs::{rounds_of, run_over};
+use crate::runs::{rounds_of, run_watched};
 use aig_binary::{AnyReader, CircuitReader, Spelling, SpeltCircuit, read_circuit, write};
 use aig_graph::Circuit;
 use counted_io::{CountedRead, CountedWrite, WriteError};
 use file_words::ReadError;
-use frame_runs::{BytesError, FrameWatcher, NoFollower, NoWatcher, Options, Stage};
+use frame_runs::{BytesError, FrameWatcher, GivenCircuit, NoFollower, NoWatcher, Options, Stage};
 use merging_rounds::{Rounds, RoundsRun};
 use pulse::{Crew, PhaseGate};
 use std::alloc::Global;
@@ -70,7 +70,8 @@ pub fn run_spelt<W: CountedWrite, G: PhaseGate, V: FrameWatcher>(
         (W.output writer.new)) }
 {
     let SpeltCircuit { circuit, spelling } = spelt;
-    let run = run_over(rt, alloc, circuit, options, crew, watcher)?;
+    let owned = GivenCircuit::Owned(circuit);
+    let run = run_watched(rt, alloc, owned, options, crew, watcher)?;
     in_range(&run.rounds.circuit);
     watcher.enter(Stage::Writing);
     match write_answer(&run.rounds, spelling, writer, options) {

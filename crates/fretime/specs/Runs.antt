@@ -1,5 +1,5 @@
 -- What a run may have given standard output, by how it ended.
-use Rattle.std.specs.Prelude.{ℕ, ◌≡◌, ◌⊎◌, Bool, true, false, List, Result, Ok, Err}
+use Rattle.std.specs.Prelude.{ℕ, ◌⊎◌, Bool, true, false, List, Result, Ok, Err}
 use Rattle.counted_io.specs.Input.{Input}
 use Rattle.counted_io.specs.Output.{Output, WritesAll}
 use Rattle.reports.specs.Differences.{shapes_text}

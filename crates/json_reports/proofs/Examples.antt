@@ -14,7 +14,7 @@ use Rattle.reports.specs.declared.statistics.Counts.{Counts}
 use Rattle.aig_graph.specs.Circuits.{Netlist}
 use Rattle.aig_graph.specs.declared.graph.Reset.TheVariants.{Zero}
 use Rattle.serde_json.proofs.OnLiterals.{serde_json_on_literals}
-use Rattle.json_reports.specs.Audits.{audit_data}
+use Rattle.json_reports.specs.Audits.{audit_data, confirmed_blocks}
 use Rattle.json_reports.specs.Batches.{batch_data}
 use Rattle.json_reports.specs.Counts.{statistics_data}
 use Rattle.json_reports.specs.Differences.{difference_data}
@@ -43,22 +43,22 @@ stat_example = refl
 
 audit_example : json_line (audit_data [] (record { bound = Some 3; merged = None; audits = record { confirmed = 0; end = Objected (Fails BadRoute) } ∷ []; agreement = None }) 5)
     ≡ codes "{\"bound\":3,\"command\":\"verify\",\"counts\":[],\"end\":\"Objected\",\"objection\":\"BadRoute\",\"out\":null,\"status\":5}\n"
-unfolding serde_json_on_literals digits
+unfolding serde_json_on_literals digits confirmed_blocks
 audit_example = refl
 
 compared_example : json_line (audit_data [] (record { bound = None; merged = None; audits = record { confirmed = 0; end = NoBlocks } ∷ []; agreement = Some (DiffersAt 17) }) 5)
     ≡ codes "{\"bound\":null,\"command\":\"verify\",\"counts\":[],\"end\":\"NoBlocks\",\"objection\":null,\"out\":{\"offset\":17,\"result\":\"Differs\"},\"status\":5}\n"
-unfolding serde_json_on_literals digits
+unfolding serde_json_on_literals digits confirmed_blocks
 compared_example = refl
 
 merged_example : json_line (audit_data [] (record { bound = None; merged = Some 2; audits = record { confirmed = 0; end = NoBlocks } ∷ []; agreement = None }) 0)
     ≡ codes "{\"bound\":null,\"command\":\"verify\",\"counts\":[],\"end\":\"NoBlocks\",\"merged\":{\"latch\":null,\"latches\":2,\"objection\":null},\"objection\":null,\"out\":null,\"status\":0}\n"
-unfolding serde_json_on_literals digits
+unfolding serde_json_on_literals digits confirmed_blocks
 merged_example = refl
 
 refused_example : json_line (audit_data [] (record { bound = None; merged = Some 2; audits = record { confirmed = 0; end = NotShown 7 } ∷ []; agreement = None }) 5)
     ≡ codes "{\"bound\":null,\"command\":\"verify\",\"counts\":[],\"end\":\"NotShown\",\"merged\":{\"latch\":7,\"latches\":2,\"objection\":\"NotShown\"},\"objection\":null,\"out\":null,\"status\":5}\n"
-unfolding serde_json_on_literals digits
+unfolding serde_json_on_literals digits confirmed_blocks
 refused_example = refl
 
 batch_example : json_line (batch_data (Done 2 1 ∷ Refused (BadHeader 0) ∷ []) 1)
@@ -86,8 +86,15 @@ one_left = record {
   is_least = true;
 }
 
-retime_example : json_line (retiming_data (record { circuit = one_latch; kept_free = []; read_latches = 2; merged = None; frames = record { before = 2; after = 1; moved = 1 } ∷ []; certificates = [] }) (record { counted = Some 1; bound = Some 2 }) one_left (Some (record { reading = 120; cleaning = 7; frames = record { looking = 40; moving = 5 } ∷ []; writing = 60; networks = 0 })) (Some (record { gates = 3; constraints = 2 })))
-    ≡ codes "{\"after\":{\"bad\":0,\"constraints\":0,\"fairness\":0,\"free\":0,\"gates\":1,\"inputs\":2,\"justice\":0,\"known\":1,\"latches\":1,\"levels\":1,\"outputs\":1},\"before\":{\"latches\":2,\"levels\":1},\"bound\":2,\"command\":\"retime\",\"frames\":[{\"after\":1,\"before\":2,\"gates\":1}],\"free_kept\":[],\"held_back\":{\"free\":0,\"held\":0,\"least\":true,\"passable\":0,\"read_elsewhere\":1,\"too_long\":0},\"map\":{\"constraints\":2,\"gates\":3},\"merged\":null,\"microseconds\":{\"cleaning\":7,\"frames\":[{\"looking\":40,\"moving\":5}],\"reading\":120,\"writing\":60},\"network\":0,\"status\":0}\n"
+-- A round merges a constant latch and takes a frame, and another merges a latch.
+retime_example : json_line (retiming_data (record {
+  circuit = one_latch;
+  kept_free = [];
+  read_latches = 4;
+  frames = record { before = 3; after = 2; moved = 1 } ∷ [];
+  parts = record { merged = Some (record { latch = 3; reads = 0 } ∷ []); blocks = [] } ∷ record { merged = Some (record { latch = 4; reads = 6 } ∷ []); blocks = [] } ∷ [];
+}) (record { counted = Some 1; bound = Some 2 }) one_left (Some (record { reading = 120; cleaning = 7; frames = record { looking = 40; moving = 5 } ∷ record { looking = 3; moving = 0 } ∷ []; writing = 60; networks = 0 })) (Some (record { gates = 3; constraints = 2 })))
+    ≡ codes "{\"after\":{\"bad\":0,\"constraints\":0,\"fairness\":0,\"free\":0,\"gates\":1,\"inputs\":2,\"justice\":0,\"known\":1,\"latches\":1,\"levels\":1,\"outputs\":1},\"before\":{\"latches\":4,\"levels\":1},\"bound\":2,\"command\":\"retime\",\"frames\":[{\"after\":2,\"before\":3,\"gates\":1}],\"free_kept\":[],\"held_back\":{\"free\":0,\"held\":0,\"least\":true,\"passable\":0,\"read_elsewhere\":1,\"too_long\":0},\"map\":{\"constraints\":2,\"gates\":3},\"merged\":{\"constant\":1,\"latches\":2},\"microseconds\":{\"cleaning\":7,\"frames\":[{\"looking\":40,\"moving\":5},{\"looking\":3,\"moving\":0}],\"reading\":120,\"writing\":60},\"network\":0,\"status\":0}\n"
 unfolding serde_json_on_literals digits
 retime_example = refl
 

@@ -7,7 +7,6 @@ use Rattle.reports.specs.declared.held_back.HeldBack.{HeldBack}
 use Rattle.reports.specs.declared.remaining_counts.Remaining.{Remaining}
 use Rattle.reports.specs.declared.statistics.Counts.{Counts}
 use Rattle.reports.specs.declared.statistics.Statistics.{Statistics}
-use Rattle.certificates.specs.declared.certificate.Certificate.{Certificate}
 use Rattle.certificate_audits.specs.declared.outcome.End.{End}
 use Rattle.counted_io.specs.Output.{Output}
 use Rattle.lane_sim.specs.declared.difference.Place.{Place}

@@ -96,10 +96,7 @@ fn networks_of(times: Option<&Times>) -> Option<u32>
 }
 
 /// Appends the latches that a round merged.
-fn with_lines(
-    lines: Vec<MergedLatch>,
-    part: &CertPart,
-) -> Result<Vec<MergedLatch>, AllocError>
+fn with_lines(lines: Vec<MergedLatch>, part: &CertPart) -> Result<Vec<MergedLatch>, AllocError>
     ensures { IfOk result (λ all. all.items ≡ lines.items ++ told.lines_in part.now) }
 {
     let mut all = lines;

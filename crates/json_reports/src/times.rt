@@ -23,14 +23,16 @@ pub struct FrameTimes {
 pub struct Times {
     /// Reading the file, to a circuit.
     pub reading: u64,
-    /// Cleaning it.
+    /// Cleaning before the first frame of each round, and merging there, over all rounds. A round
+    /// that found no latch to merge counts too.
     pub cleaning: u64,
-    /// Those of each circuit of which a set was looked for. They are of the frames, and of the last
-    /// circuit unless the limit of frames ended the run.
+    /// Those of each circuit of which a set was looked for, in all rounds. They are of the frames,
+    /// and of the last circuit of each round unless the limit of frames ended it.
     pub frames: Sequence<FrameTimes>,
     /// Writing the circuit.
     pub writing: u64,
-    /// How many sets a maximum flow of a network found, since no flow of units showed them.
+    /// How many sets a maximum flow of a network found in all rounds, since no flow of units showed
+    /// them.
     pub networks: u32,
 }
 

@@ -1,11 +1,10 @@
 -- Cases: what both values of a literal show is shown, and what all cases show that are left.
-use Rattle.std.proofs.Common.{◌⊎◌, inl, inr, ℕ, ◌/◌, ◌%◌, ◌<◌, ◌≡◌, ◌≢◌, Bool, true, false, not, List, [], ◌∷◌, ◌++◌, length, replicate, Some, refl, ap, sym, ◌∙◌, subst}
+use Rattle.std.proofs.Common.{◌⊎◌, inl, inr, ℕ, ◌/◌, ◌%◌, ◌≡◌, ◌≢◌, Bool, true, false, not, List, [], ◌∷◌, ◌++◌, length, replicate, Some, refl, ap, ◌∙◌, subst}
 use Rattle.std.specs.List.{All}
 use Rattle.std.proofs.lemmas.List.{length-replicate}
 use Rattle.std.proofs.lemmas.List.Elements.{All-cons, All-head, All-nil, All-pop, All-push}
 use Rattle.aig_graph.specs.Circuits.{Netlist}
 use Rattle.aig_graph.specs.Graph.{IsGraph}
-use Rattle.state_maps.specs.States.{Digits, State}
 use Rattle.state_maps.proofs.WithinLaws.{within_laws}
 use Rattle.map_checks.specs.Images.{in_first}
 use Rattle.map_checks.specs.Parts.{AreShownWhere, IsMarked, IsShownWhere, IsTree, parts}

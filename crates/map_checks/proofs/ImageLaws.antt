@@ -6,7 +6,7 @@ use Rattle.std.proofs.lemmas.List.{get_or-map, get_or_append_left, get_or_push, 
 use Rattle.aig_graph.specs.declared.graph.Latch.{Latch}
 use Rattle.aig_graph.specs.Circuits.{Netlist, IsNetlist}
 use Rattle.aig_graph.specs.Graph.{Graph, IsGraph, first_gate, first_latch, variable, variables_end}
-use Rattle.aig_graph.specs.Value.{next_value, signed, signed_as, value_within}
+use Rattle.aig_graph.specs.Value.{next_value, signed, value_within}
 use Rattle.aig_graph.proofs.KindLaws.{element}
 use Rattle.aig_graph.proofs.SignLaws.{value_signed, value_signed_as}
 use Rattle.state_maps.specs.States.{Digits, State, after_step}

@@ -1,5 +1,5 @@
 -- The shared literals of the parts of a step have the parts' values.
-use Rattle.std.proofs.Common.{ℕ, ◌+◌, ◌<◌, ◌≡◌, suc, zero, Bool, true, not, List, [], ◌∷◌, ◌++◌, length, map, replicate, refl, arith, ap, ap₂, sym, ◌∙◌, subst, length-append}
+use Rattle.std.proofs.Common.{ℕ, ◌+◌, ◌<◌, ◌≡◌, suc, zero, Bool, true, not, List, ◌∷◌, ◌++◌, length, map, replicate, refl, arith, ap, ap₂, ◌∙◌, length-append}
 use Rattle.std.specs.List.{All}
 use Rattle.std.proofs.lemmas.List.{length-map, length-replicate, map-append}
 use Rattle.aig_graph.specs.Circuits.{ArePropsOf, IsNetlist, Netlist}

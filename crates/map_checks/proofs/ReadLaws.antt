@@ -1,6 +1,6 @@
 -- Properties of two circuits have equal values, kind by kind, if all their values in one list are
 -- equal.
-use Rattle.std.proofs.Common.{ℕ, ◌+◌, ◌≡◌, suc, Bool, List, [], ◌∷◌, ◌++◌, length, map, refl, arith, ap, ap₂, sym, ◌∙◌, length-append}
+use Rattle.std.proofs.Common.{ℕ, ◌+◌, ◌≡◌, Bool, List, [], ◌∷◌, ◌++◌, length, map, refl, arith, ap₂, sym, ◌∙◌, length-append}
 use Rattle.std.specs.List.{flat_map}
 use Rattle.std.proofs.lemmas.List.{length-map, map-append}
 use Rattle.aig_graph.specs.declared.properties.Props.{Props}

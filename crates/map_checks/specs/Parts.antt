@@ -3,7 +3,6 @@ use Rattle.std.specs.Prelude.{ℕ, ◌+◌, ◌≡◌, ◌++◌, Bool, true, fal
 use Rattle.std.specs.List.{slice_index_or}
 use Rattle.aig_graph.specs.Circuits.{Netlist}
 use Rattle.aig_graph.specs.Gates.{AreOne, Gates, Respects}
-use Rattle.aig_graph.specs.Graph.{Graph}
 use Rattle.aig_graph.specs.Streams.{property_literals}
 use Rattle.state_maps.specs.States.{Digits, State}
 use Rattle.state_maps.specs.MapCircuits.{is_kept}

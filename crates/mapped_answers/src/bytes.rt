@@ -12,7 +12,7 @@ ghost use Rattle.mapped_answers.specs.Mapping.{IsMappedOf, IsMappingStop};
 ghost use Rattle.merging_rounds.specs.Following.{AreRoundsSeen};
 
 use crate::errors::AnswerError;
-use crate::making::{Made, made_over};
+use crate::making::{Made, made_of};
 use aig_binary::{Spelling, SpeltCircuit, write};
 use aig_graph::Circuit;
 use counted_io::{CountedWrite, WriteError};
@@ -63,7 +63,9 @@ pub fn retime_spelt_mapped<W: CountedWrite, G: PhaseGate, V: FrameWatcher>(
         (Writing ∷ []) options.now spelt.circuit made.rounds made.keep watcher.old watcher.new) }
 {
     let SpeltCircuit { circuit, spelling } = spelt;
-    let made = made_over(rt, alloc, circuit, options, crew, watcher)?;
+    let mapped = made_of(rt, alloc, &circuit, options, crew, watcher);
+    drop(circuit);
+    let made = mapped?;
     watcher.enter(Stage::Writing);
     match write_in(
         &made.rounds.circuit,

@@ -7,7 +7,7 @@ use crate::errors::FollowError;
 use aig_graph::{Circuit, ClosedSet, Keep};
 use certificates::MergedLatch;
 use clean::Cleaned;
-use frame_runs::{Options, RunFollower};
+use frame_runs::{GivenCircuit, Options, RunFollower};
 use latch_merging::{GivenStart, MergedStart};
 use rebuild::MoveMarks;
 use retiming_maps::{MapParts, cleaned_along, follow_move, start_along, start_along_by};
@@ -65,21 +65,12 @@ impl RunFollower for GrowingMap {
     fn clean(
         &mut self,
         alloc: Global,
-        circuit: &Circuit,
+        given: GivenCircuit<'_>,
         keep: &Keep,
     ) -> Result<Cleaned, FollowError> {
-        let cleaned = cleaned_along(alloc, &mut self.parts, circuit, keep)?;
-        Ok(cleaned)
-    }
-
-    fn clean_over(
-        &mut self,
-        alloc: Global,
-        circuit: Circuit,
-        keep: &Keep,
-    ) -> Result<Cleaned, FollowError> {
-        let cleaned = cleaned_along(alloc, &mut self.parts, &circuit, keep);
-        drop(circuit);
+        let lent = given.circuit();
+        let cleaned = cleaned_along(alloc, &mut self.parts, lent, keep);
+        drop(given);
         Ok(cleaned?)
     }
 

@@ -9,7 +9,7 @@ ghost use Rattle.retiming_maps.specs.Mapping.{IsMapTo};
 use crate::errors::{AnswerError, FollowError};
 use crate::following::GrowingMap;
 use aig_graph::{Circuit, Keep, NoMemory};
-use frame_runs::{FrameWatcher, Options, Stage, begin, hold_by};
+use frame_runs::{FrameWatcher, GivenCircuit, Options, Stage, begin, hold_by};
 use merging_rounds::{Rounds, RoundsRun, finish_rounds};
 use pulse::{Crew, PhaseGate};
 use retiming_maps::{MapError, StateMap, identity, state_map};
@@ -67,7 +67,7 @@ fn made_kept<G: PhaseGate, V: FrameWatcher>(
     let map = GrowingMap {
         parts: identity(alloc, circuit)?,
     };
-    let begun = begin(alloc, circuit, keep, options, map)?;
+    let begun = begin(alloc, GivenCircuit::Lent(circuit), keep, options, map)?;
     let end = finish_rounds(rt, alloc, begun, options, crew, watcher)?;
     let made = with_map(alloc, circuit, end)?;
     Ok(made)
@@ -75,7 +75,7 @@ fn made_kept<G: PhaseGate, V: FrameWatcher>(
 
 /// Retimes the circuit and makes its map. Latches that always agree are merged if the options ask
 /// for it.
-fn made_of<G: PhaseGate, V: FrameWatcher>(
+pub fn made_of<G: PhaseGate, V: FrameWatcher>(
     rt: &(impl Threads + Sync),
     alloc: Global,
     circuit: &Circuit,
@@ -92,24 +92,4 @@ fn made_of<G: PhaseGate, V: FrameWatcher>(
     let keep = hold_by(alloc, circuit, options)?;
     let made = made_kept(rt, alloc, circuit, &keep, options, crew, watcher)?;
     Ok(made)
-}
-
-/// Retimes the circuit, makes its map, and drops the circuit. Latches that always agree are merged
-/// if the options ask for it.
-pub fn made_over<G: PhaseGate, V: FrameWatcher>(
-    rt: &(impl Threads + Sync),
-    alloc: Global,
-    circuit: Circuit,
-    options: &Options,
-    crew: &Crew<G>,
-    watcher: &mut V,
-) -> Result<Made, AnswerError>
-    ensures ok { IfOk result (IsMade options.now circuit) }
-    ensures err { IfErr result (IsMakingError options.now circuit) }
-    ensures seen { IfOk result (λ made. AreRoundsSeen V.was_notified (Cleaning ∷ []) [] options.now
-        circuit made.rounds made.keep watcher.old watcher.new) }
-{
-    let made = made_of(rt, alloc, &circuit, options, crew, watcher);
-    drop(circuit);
-    made
 }

@@ -13,7 +13,9 @@ use crate::asking::round_options;
 use crate::joining::{Report, of_first, report_of, with_run};
 use crate::rounds::RoundsRun;
 use aig_graph::NoMemory;
-use frame_runs::{Begun, FrameWatcher, Options, ReadCircuit, Run, RunFollower, Stage, begin, finish};
+use frame_runs::{
+    Begun, FrameWatcher, GivenCircuit, Options, ReadCircuit, Run, RunFollower, Stage, begin, finish,
+};
 use pulse::{Crew, PhaseGate};
 use std::alloc::Global;
 use std::thread::Threads;
@@ -182,7 +184,8 @@ fn begun_again<F: RunFollower + Drop>(
         keep,
         follower,
     } = state;
-    match begin(alloc, &rounds.circuit, &keep, asked, follower) {
+    let lent = GivenCircuit::Lent(&rounds.circuit);
+    match begin(alloc, lent, &keep, asked, follower) {
         Ok(begun) => {
             if merges_some(&begun.read) {
                 drop(keep);

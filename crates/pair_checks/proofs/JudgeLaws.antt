@@ -1,9 +1,8 @@
 -- What the judge's answers say.
 use Rattle.std.proofs.Common.{ℕ, ◌<◌, ◌≡◌, false, List, length, map, get_or, arith, sym, ◌∙◌}
-use Rattle.std.specs.List.{All}
 use Rattle.std.proofs.lemmas.List.{ext_get_or, get_or-map, length-map}
 use Rattle.aig_graph.specs.Circuits.{IsNetlist, Netlist}
-use Rattle.aig_graph.specs.Graph.{Graph, IsGraph, first_latch, variables_end, variable}
+use Rattle.aig_graph.specs.Graph.{Graph, IsGraph, first_latch}
 use Rattle.aig_graph.specs.Streams.{AreKept, SameShape, property_literals}
 use Rattle.aig_graph.specs.Value.{value_within}
 use Rattle.aig_graph.proofs.PropsLaws.{literals_within}

@@ -1,16 +1,15 @@
 -- How the latches of two circuits begin, and what they read as then.
-use Rattle.std.proofs.Common.{◌⊎◌, inl, inr, ℕ, ◌+◌, ◌-◌, ◌*◌, ◌%◌, ◌<◌, ◌≤◌, ◌≡◌, Bool, true, false, not, nat_lt, List, length, map, get_or, slice_get, Some, refl, arith, ap, sym, ◌∙◌, length-append, ◌++◌, if◌then◌else◌, zero-add}
+use Rattle.std.proofs.Common.{inl, inr, ℕ, ◌+◌, ◌-◌, ◌*◌, ◌%◌, ◌<◌, ◌≤◌, ◌≡◌, Bool, true, false, not, nat_lt, List, length, get_or, slice_get, refl, arith, ap, sym, ◌∙◌, length-append, if◌then◌else◌, zero-add}
 use Rattle.std.proofs.lemmas.Bool.{cases_lt, cond-true, cond-false, lt-ltb, le-ltb}
 use Rattle.std.proofs.lemmas.List.{get_or_append_left, get_or-append-add}
 use Rattle.std.proofs.lemmas.List.FromFn.{get_or-range_with_len}
-use Rattle.std.proofs.lemmas.Option.{slice_get_within}
 use Rattle.aig_graph.specs.declared.graph.Latch.{Latch}
 use Rattle.aig_graph.specs.declared.graph.Reset.{Reset}
 use Rattle.aig_graph.specs.declared.graph.Reset.TheVariants.{Zero, One, Free}
 use Rattle.aig_graph.specs.Graph.{Graph, first_latch, free_before, free_latches, is_free, variable}
 use Rattle.aig_graph.specs.Laws.{all_free}
 use Rattle.aig_graph.specs.Streams.{chosen}
-use Rattle.aig_graph.specs.Value.{Choice, opening, opening_at, opening_literal, signed, signed_as}
+use Rattle.aig_graph.specs.Value.{Choice, opening, opening_at, opening_literal, signed}
 use Rattle.aig_graph.proofs.KindLaws.{element}
 use Rattle.aig_graph.proofs.SignLaws.{signed-even, signed-odd, value_signed_as}
 use Rattle.aig_graph.proofs.TableLaws.{length-table, table-at}

@@ -1,6 +1,6 @@
 -- A step from a state in which latches hold what they read as, if the graph of both circuits is
 -- asked.
-use Rattle.std.proofs.Common.{◌⊎◌, inl, inr, ℕ, ◌+◌, ◌-◌, ◌*◌, ◌%◌, ◌<◌, ◌≤◌, ◌≡◌, suc, zero, Bool, true, false, not, List, ◌++◌, length, map, take, drop, get_or, slice_get, Option, Some, refl, arith, ap, sym, ◌∙◌, length-append}
+use Rattle.std.proofs.Common.{◌⊎◌, inl, inr, ℕ, ◌+◌, ◌-◌, ◌*◌, ◌%◌, ◌<◌, ◌≡◌, suc, zero, Bool, false, not, List, ◌++◌, length, map, take, drop, get_or, slice_get, Option, Some, refl, arith, ap, sym, ◌∙◌, length-append}
 use Rattle.std.proofs.lemmas.Bool.{cases_lt}
 use Rattle.std.proofs.Math.Bool.{not-not}
 use Rattle.std.proofs.lemmas.List.{get_or-drop, get_or-take, length-drop, length-map, length-take-le}
@@ -11,13 +11,13 @@ use Rattle.aig_graph.specs.declared.graph.Reset.TheVariants.{Zero, One, Free}
 use Rattle.aig_graph.specs.Gates.{AreEqualIn, Respects, gates_of}
 use Rattle.aig_graph.specs.Graph.{Graph, IsGraph, first_gate, first_latch, free_before, variable, variables_end}
 use Rattle.aig_graph.specs.Laws.{all_free}
-use Rattle.aig_graph.specs.Value.{next_value, opening_literal, signed, signed_as, value_within}
+use Rattle.aig_graph.specs.Value.{next_value, opening_literal, signed, value_within}
 use Rattle.aig_graph.proofs.KindLaws.{element}
 use Rattle.aig_graph.proofs.ListLaws.{slice_get-map_some}
 use Rattle.aig_graph.proofs.PlacesLaws.{slice_get-append_left, slice_get-append_right}
 use Rattle.aig_graph.proofs.SignLaws.{signed-even, signed-odd, value_signed, value_signed_as}
 use Rattle.gate_sharing.specs.Circuits.{copied_latch}
-use Rattle.gate_sharing.specs.Copies.{CopiesValues, copied_end, copy_of}
+use Rattle.gate_sharing.specs.Copies.{CopiesValues, copy_of}
 use Rattle.map_checks.proofs.ImageLaws.{graph-respects, latch-value, leaves-follow}
 use Rattle.state_maps.specs.States.{Digits, State, after_step}
 use Rattle.state_maps.proofs.WithinLaws.{within_laws}

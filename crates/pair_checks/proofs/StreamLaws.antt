@@ -1,6 +1,6 @@
 -- Circuits whose latches always hold what they read as, and whose properties are equal if they do,
 -- have the same streams.
-use Rattle.std.proofs.Common.{ℕ, ◌≡◌, suc, zero, Bool, List, map, refl}
+use Rattle.std.proofs.Common.{ℕ, ◌≡◌, suc, zero, List, map}
 use Rattle.aig_graph.specs.Circuits.{Netlist}
 use Rattle.aig_graph.specs.Graph.{Graph}
 use Rattle.aig_graph.specs.Streams.{AreKept, SameShape, SameStreams, chosen, property_literals}

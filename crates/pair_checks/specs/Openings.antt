@@ -1,9 +1,9 @@
 -- How latches begin, as literals: a known latch as a constant, and a free one as a variable of its
 -- own.
-use Rattle.std.specs.Prelude.{ℕ, ◌+◌, ◌-◌, ◌*◌, ◌<◌, ◌≤◌, ◌≡◌, ◌++◌, ◌⊎◌, List, length, map, Option, Some, None, slice_get}
+use Rattle.std.specs.Prelude.{ℕ, ◌+◌, ◌-◌, ◌*◌, ◌<◌, ◌≤◌, ◌≡◌, ◌++◌, List, length, Option, Some, None, slice_get}
 use Rattle.std.specs.List.{slice_index_or}
 use Rattle.aig_graph.specs.declared.graph.Latch.{Latch}
-use Rattle.aig_graph.specs.Graph.{Graph, first_latch, free_before, variable}
+use Rattle.aig_graph.specs.Graph.{Graph, free_before, variable}
 use Rattle.aig_graph.specs.Laws.{all_free}
 use Rattle.aig_graph.specs.Tables.{table}
 use Rattle.aig_graph.specs.Value.{opening_literal, signed_as}

@@ -1,29 +1,21 @@
 -- The verdict on a witness, and what is printed of it.
-use Rattle.std.proofs.Common.{◌≡◌, ◌≢◌, Bool, true, false, Option, Some, List, ℕ, inl, inr, Result, Ok, Err, IfOk, sym, subst}
+use Rattle.std.proofs.Common.{◌≡◌, ◌≢◌, Bool, true, Option, Some, List, ℕ, inl, inr, Result, Ok, Err, IfOk, subst}
 use Rattle.aig_graph.specs.Graph.{free_latches}
 use Rattle.aig_graph.specs.Circuits.{Netlist}
 use Rattle.counted_io.specs.Output.{Output, WritesAll}
 use Rattle.witnesses.specs.declared.witness.Witness.{Witness}
 use Rattle.circuit_files.specs.declared.outcome.Outcome.{Outcome}
 use Rattle.circuit_files.specs.declared.outcome.Failure.{Failure}
-use Rattle.simulation_commands.specs.Verdicts.{AreKept, AreLeft, AreLeftFor, AreLeftMerged, IsVerdict, IsJudged, verdict_text, have_same_widths, outcome_of_verdict}
+use Rattle.simulation_commands.specs.Verdicts.{AreKept, AreLeft, IsVerdict, IsJudged, verdict_text, have_same_widths, outcome_of_verdict}
 use Rattle.command_endings.specs.Printing.{EndsPrinting, Prints, ending}
 use Rattle.simulation_commands.specs.declared.witness.Verdict.{Verdict}
 use Rattle.simulation_commands.specs.declared.witness.Verdict.TheVariants.{Confirmed, Objected, ShapesDiffer}
 use Rattle.command_endings.proofs.PrintingLaws.{lines_print}
 
--- the free latches that are left before the first frame, as the task says
-pub left_merged : {E : Type 0} (merge : Bool) (c : Netlist) (free : ℕ) (r : Result (Option (List ℕ)) E) → merge ≡ true → IfOk r (AreLeftMerged c free) → IfOk r (AreLeftFor merge c free)
-left_merged merge c free r asked left = let P : Bool → Type 0 = λ m. IfOk r (AreLeftFor m c free) in subst P (sym asked) left
-
--- those left if none are merged
-pub left_cleaned : {E : Type 0} (merge : Bool) (c : Netlist) (free : ℕ) (r : Result (Option (List ℕ)) E) → merge ≡ false → IfOk r (AreLeft c free) → IfOk r (AreLeftFor merge c free)
-left_cleaned merge c free r unasked left = let P : Bool → Type 0 = λ m. IfOk r (AreLeftFor m c free) in subst P (sym unasked) left
-
 -- if the circuits don't have as many free latches
 pub left_kept : {E : Type 0} (merge : Bool) (c d : Netlist) (free : ℕ) (r : Result (Option (List ℕ)) E) → free ≡ free_latches d.aig → free_latches c.aig ≢ free_latches d.aig
-    → IfOk r (AreLeftFor merge c free) → IfOk r (AreKept merge c d)
-left_kept merge c d free (Ok places) is apart left = let P : ℕ → Type 0 = λ n. AreLeftFor merge c n places in inr (apart, subst P is left)
+    → IfOk r (AreLeft merge c free) → IfOk r (AreKept merge c d)
+left_kept merge c d free (Ok places) is apart left = let P : ℕ → Type 0 = λ n. AreLeft merge c n places in inr (apart, subst P is left)
 left_kept merge c d free (Err error) is apart left = tt
 
 -- by the free latches that were kept

@@ -1,14 +1,15 @@
 -- The verdict on a witness that is carried back, and what is printed of it.
-use Rattle.std.specs.Prelude.{ℕ, ◌≡◌, ◌≢◌, ◌⊎◌, ◌==◌, ◌&&◌, Bool, true, false, List, [], length, Option, Some, None, Ok, Err, if◌then◌else◌}
+use Rattle.std.specs.Prelude.{ℕ, ◌≡◌, ◌≢◌, ◌⊎◌, ◌==◌, ◌&&◌, ◌^◌, Bool, true, false, List, [], length, Option, Some, None, MatchOption, Ok, Err, if◌then◌else◌}
 use Rattle.aig_graph.specs.Circuits.{Netlist}
 use Rattle.aig_graph.specs.Graph.{free_latches}
 use Rattle.aig_graph.specs.Laws.{all_free}
 use Rattle.aig_binary.specs.declared.reading.SpeltCircuit.{SpeltCircuit}
-use Rattle.cleaned_circuits.specs.Cleaned.{Cleans}
-use Rattle.retimed_circuits.specs.declared.report.Retimed.{Retimed}
+use Rattle.aig_graph.specs.declared.choice.Choice.TheVariants.{Greatest}
+use Rattle.frame_runs.specs.declared.bound.PathBound.TheVariants as bounds
 use Rattle.frame_runs.specs.declared.options.Options.{Options}
 use Rattle.frame_runs.specs.Named.{names_in}
-use Rattle.frame_runs.specs.Retiming.{IsRetimedBy}
+use Rattle.merging_rounds.specs.Following.{AreRoundsOf}
+use Rattle.merging_rounds.specs.declared.rounds.Rounds.{Rounds}
 use Rattle.reports.specs.Differences.{shapes_text}
 use Rattle.witnesses.specs.Circuits.{widths_of}
 use Rattle.witnesses.specs.Confirming.{IsConfirmedBack}
@@ -35,38 +36,38 @@ have_same_widths c d =
 abbrev pub if_many : ℕ → List ℕ → ℕ → Option (List ℕ)
 if_many left places free = if left == free then Some places else None
 
--- the places of the free latches that cleaning leaves, if these are `free`
-pub record AreLeft (c : Netlist) (free : ℕ) (places : Option (List ℕ)) : Type 0 where
-  pub cleaned : Netlist
-  pub kept : List ℕ
-  pub cleans : Cleans cleaned [] c kept
-  pub are : places ≡ if_many (free_latches cleaned.aig) kept free
-
--- the options of a retiming that merges latches, takes no frame and holds no latch
-pub record AreMergeOptions (options : Options) : Type 0 where
-  pub frames : options.max_frames ≡ 0
-  pub merge : options.merge ≡ true
+-- The options of a retiming that takes at most so many frames, each over the greatest least set. It
+-- holds no latch, has no bound on paths, and guesses which latches agree if it merges some.
+pub record AreFrameOptions (merge : Bool) (limit : ℕ) (options : Options) : Type 0 where
+  pub frames : options.max_frames ≡ limit
+  pub merges : options.merge ≡ merge
   pub names : names_in options ≡ []
   pub positions : options.keep_latches.items ≡ []
+  pub choice : options.choice ≡ Greatest
+  pub guessed : options.classes ≡ None
+  pub unbounded : options.bound ≡ bounds.None
 
--- the places of the free latches that cleaning leaves of what c is merged to, if these are `free`
-pub record AreLeftMerged (c : Netlist) (free : ℕ) (places : Option (List ℕ)) : Type 0 where
+-- the places of the free latches that at most so many frames leave of c, if these are `free`
+pub record AreLeftAfter (merge : Bool) (limit : ℕ) (c : Netlist) (free : ℕ) (places : Option (List ℕ)) : Type 0 where
   pub options : Options
-  pub are_options : AreMergeOptions options
-  pub retimed : Retimed
-  pub is : IsRetimedBy options c retimed
-  pub are : places ≡ if_many (free_latches retimed.circuit.aig) retimed.kept_free free
+  pub are_options : AreFrameOptions merge limit options
+  pub rounds : Rounds
+  pub now : List ℕ
+  pub is : AreRoundsOf options c rounds now
+  pub are : places ≡ if_many (free_latches rounds.circuit.aig) rounds.kept_free free
 
-abbrev pub AreLeftFor : Bool → Netlist → ℕ → Option (List ℕ) → Type 0
-AreLeftFor false c free places = AreLeft c free places
-AreLeftFor true c free places = AreLeftMerged c free places
+-- those that are left before the first frame, and else those that all frames leave
+pub record AreLeft (merge : Bool) (c : Netlist) (free : ℕ) (places : Option (List ℕ)) : Type 0 where
+  pub first : Option (List ℕ)
+  pub are_first : AreLeftAfter merge 0 c free first
+  pub are : MatchOption first (AreLeftAfter merge (2 ^ 28) c free places) (λ kept. places ≡ Some kept)
 
 -- The places of d's free latches among c's. They are all if the numbers are equal. Otherwise they
--- are those that cleaning leaves of c, or if latches were merged, of what c is merged to.
+-- are those that a retiming of c leaves, before its first frame or at its end.
 abbrev pub AreKept : Bool → Netlist → Netlist → Option (List ℕ) → Type 0
 AreKept merge c d places =
     ((free_latches c.aig ≡ free_latches d.aig) × (places ≡ Some (all_free c.aig)))
-    ⊎ ((free_latches c.aig ≢ free_latches d.aig) × AreLeftFor merge c (free_latches d.aig) places)
+    ⊎ ((free_latches c.aig ≢ free_latches d.aig) × AreLeft merge c (free_latches d.aig) places)
 
 -- if these free latches were kept
 abbrev pub IsJudged : Netlist → Netlist → List ℕ → Witness → Verdict → Type 0

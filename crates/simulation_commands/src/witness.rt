@@ -3,18 +3,18 @@ ghost use Rattle.std.specs.Prelude.{◌≡◌, IfOk};
 ghost use Rattle.aig_graph.specs.Graph as graphs;
 ghost use Rattle.witnesses.specs.Texts.{whole_text};
 ghost use Rattle.circuit_files.specs.declared.outcome.Outcome.TheVariants.{Done};
-ghost use Rattle.simulation_commands.specs.Verdicts.{AreKept, AreLeft, AreLeftFor, AreLeftMerged, AreMergeOptions, IsCaseOf, IsVerdict, IsJudged, PrintsVerdict, verdict_text, if_many, outcome_of_verdict};
+ghost use Rattle.simulation_commands.specs.Verdicts.{AreFrameOptions, AreKept, AreLeft, AreLeftAfter, IsCaseOf, IsVerdict, IsJudged, PrintsVerdict, verdict_text, if_many, outcome_of_verdict};
 ghost use Rattle.simulation_commands.specs.Verdicts as wanted;
 ghost use Rattle.command_endings.specs.Printing.{EndsPrinting, Prints, ending};
 
 use crate::reading::read_circuit;
-use aig_graph::{Circuit, Keep, NoMemory, Sequence};
+use aig_graph::{Circuit, NoMemory, Sequence};
 use circuit_files::{Failure, Outcome, witness_at};
-use clean::{Cleaned, all_places, clean};
+use clean::all_places;
 use command_endings::ended;
 use command_line::Carrying;
 use counted_io::{CountedRead, CountedWrite};
-use frame_runs::{Options, Retimed, retime};
+use frames::{Options, Rounds, retime};
 use pulse::{Crew, OpenGate};
 use reports::print_shapes_differ;
 use std::alloc::Global;
@@ -51,100 +51,95 @@ fn if_many(many: u32, places: Sequence<u32>, free: u32) -> Option<Sequence<u32>>
     }
 }
 
-/// Returns the places that cleaning leaves if `free` is their number.
-fn places_left(cleaned: Cleaned, free: u32) -> Option<Sequence<u32>>
-    ensures { result ≡ if_many (graphs.free_latches cleaned.circuit.aig) cleaned.kept_free free }
-{
-    let Cleaned {
-        circuit,
-        kept_free,
-        ..
-    } = cleaned;
-    let many = circuit.aig().free_latches();
-    drop(circuit);
-    if_many(many, kept_free, free)
-}
-
 /// Returns the places that a retiming leaves if `free` is their number.
-fn places_of(retimed: Retimed, free: u32) -> Option<Sequence<u32>>
-    ensures { result ≡ if_many (graphs.free_latches retimed.circuit.aig) retimed.kept_free free }
+fn places_of(rounds: Rounds, free: u32) -> Option<Sequence<u32>>
+    ensures { result ≡ if_many (graphs.free_latches rounds.circuit.aig) rounds.kept_free free }
 {
-    let Retimed {
+    let Rounds {
         circuit,
         kept_free,
-        certificates,
+        parts,
         ..
-    } = retimed;
-    drop(certificates);
+    } = rounds;
+    drop(parts);
     let many = circuit.aig().free_latches();
     drop(circuit);
     if_many(many, kept_free, free)
 }
 
-/// Returns the options of a retiming that merges latches and takes no frame.
-fn merge_options(alloc: Global) -> Options
-    ensures { AreMergeOptions result }
+/// Returns the options of a retiming that takes at most this many frames and holds no latch.
+fn frame_options(alloc: Global, merge: bool, max_frames: u32) -> Options
+    ensures { AreFrameOptions merge max_frames result }
 {
     Options {
-        max_frames: 0,
-        merge: true,
+        max_frames,
+        merge,
         ..Options::defaults(alloc)
     }
 }
 
-/// Returns the places of the free latches that are left of a circuit once it is merged and cleaned,
-/// if `free` is their number.
-fn places_merged<R: Threads + Sync>(
+/// Returns the places of the free latches that at most this many frames leave of a circuit, if
+/// `free` is their number.
+fn places_after<R: Threads + Sync>(
     rt: &R,
     alloc: Global,
     circuit: &Circuit,
     free: u32,
+    merge: bool,
+    max_frames: u32,
 ) -> Result<Option<Sequence<u32>>, NoMemory>
-    ensures { IfOk result (AreLeftMerged circuit.now free) }
+    ensures { IfOk result (AreLeftAfter merge max_frames circuit.now free) }
 {
-    let options = merge_options(alloc);
+    let options = frame_options(alloc, merge, max_frames);
     match retime(rt, alloc, circuit, &options, &Crew::new(1, OpenGate)) {
-        Ok(retimed) => Ok(places_of(retimed, free)),
+        Ok(rounds) => Ok(places_of(rounds, free)),
         Err(_) => Err(NoMemory),
     }
 }
 
-/// Returns the places of the free latches that cleaning leaves of a circuit if `free` is their
-/// number.
-fn places_cleaned(
+/// More frames than a retiming takes.
+const MOST_FRAMES: u32 = 1 << 28;
+
+/// Returns the places that are left before the first frame, if there are any. Otherwise they are
+/// those that all frames leave, if `free` is their number.
+fn places_then<R: Threads + Sync>(
+    rt: &R,
     alloc: Global,
     circuit: &Circuit,
     free: u32,
+    merge: bool,
+    first: Option<Sequence<u32>>,
 ) -> Result<Option<Sequence<u32>>, NoMemory>
-    ensures { IfOk result (AreLeft circuit.now free) }
+    requires { AreLeftAfter merge 0 circuit.now free first }
+    ensures { IfOk result (AreLeft merge circuit.now free) }
 {
-    match clean(alloc, circuit, &Keep::none()) {
-        Ok(cleaned) => Ok(places_left(cleaned, free)),
-        Err(error) => Err(error),
+    match first {
+        Some(places) => Ok(Some(places)),
+        None => places_after(rt, alloc, circuit, free, merge, MOST_FRAMES),
     }
 }
 
-/// Returns the places of the free latches that are left of a circuit before the first frame, if
-/// `free` is their number.
-fn places_before<R: Threads + Sync>(
+/// Returns the places of the free latches that a retiming leaves of a circuit, if `free` is their
+/// number before its first frame or at its end.
+fn places_left<R: Threads + Sync>(
     rt: &R,
     alloc: Global,
     circuit: &Circuit,
     free: u32,
     merge: bool,
 ) -> Result<Option<Sequence<u32>>, NoMemory>
-    ensures { IfOk result (AreLeftFor merge circuit.now free) }
+    ensures { IfOk result (AreLeft merge circuit.now free) }
 {
-    if merge {
-        places_merged(rt, alloc, circuit, free)
-    } else {
-        places_cleaned(alloc, circuit, free)
+    match places_after(rt, alloc, circuit, free, merge, 0) {
+        Ok(first) => places_then(rt, alloc, circuit, free, merge, first),
+        Err(error) => Err(error),
     }
 }
 
 /// Returns the places of a retimed circuit's free latches among those of the circuit that it was
 /// made of. They keep their order. So these are all if both circuits have equal numbers of free
-/// latches. Otherwise they are those that are left before the first frame, if they are as many.
+/// latches. Otherwise they are those that are left before the first frame, if they are as many, and
+/// else those that are left at the end.
 fn kept_places<R: Threads + Sync>(
     rt: &R,
     alloc: Global,
@@ -161,7 +156,7 @@ fn kept_places<R: Threads + Sync>(
             Err(error) => Err(error),
         };
     }
-    places_before(rt, alloc, circuit, free, merge)
+    places_left(rt, alloc, circuit, free, merge)
 }
 
 /// Returns true if the circuits have equal numbers of properties and inputs.

@@ -1,5 +1,5 @@
 -- The parts of a run, and what a report says of the time that each took.
-use Rattle.std.specs.Prelude.{ℕ, ◌≡◌, ◌==◌, ◌-◌, ◌/◌, ◌^◌, ◌++◌, min, Bool, false, Option, Some, None, List, [], ◌∷◌, slice_get, if◌then◌else◌}
+use Rattle.std.specs.Prelude.{ℕ, ◌≡◌, ◌==◌, ◌+◌, ◌-◌, ◌/◌, ◌^◌, ◌++◌, min, Bool, false, Option, Some, None, List, [], ◌∷◌, slice_get, if◌then◌else◌}
 use Rattle.std.specs.Option.{option_to_list}
 use Rattle.std.specs.Time.{instant_nanos}
 use Rattle.frame_runs.specs.declared.watcher.Stage.{Stage}
@@ -34,18 +34,23 @@ is_part part other = place_of part == place_of other
 abbrev pub microseconds_of : ℕ → ℕ
 microseconds_of nanos = min (nanos / 1000) (2 ^ 64 - 1)
 
--- how long the first part of this kind took
-unfoldable pub time_in : Part → List Lap → ℕ
-time_in part [] = 0
-time_in part (lap ∷ laps) = if is_part lap.part part then lap.microseconds else time_in part laps
+-- how long a part took that is of this kind; one of another kind counts for nothing
+abbrev pub time_of : Part → Lap → ℕ
+time_of part lap = if is_part lap.part part then lap.microseconds else 0
 
--- how long latches moved in a part; in one of another kind, and if there is none, they didn't
-abbrev pub moving_in : Lap → ℕ
-moving_in lap = if is_part lap.part Moving then lap.microseconds else 0
+-- how long all parts of this kind took together
+unfoldable pub total_in : Part → List Lap → ℕ
+total_in part [] = 0
+total_in part (lap ∷ laps) = time_of part lap + total_in part laps
 
+-- that, 2^64 - 1 at most
+abbrev pub time_in : Part → List Lap → ℕ
+time_in part laps = min (total_in part laps) (2 ^ 64 - 1)
+
+-- how long latches moved in a part, if there is one
 abbrev pub moving_of : Option Lap → ℕ
 moving_of None = 0
-moving_of (Some lap) = moving_in lap
+moving_of (Some lap) = time_of Moving lap
 
 -- how long latches moved, if they did first
 abbrev pub moving_first : List Lap → ℕ

@@ -59,27 +59,26 @@ pub(crate) struct Lap {
     pub microseconds: u64,
 }
 
-/// Returns the time that the first part of this kind took, or 0 if there was none.
-fn time_in(part: Part, laps: &[Lap]) -> u64
-    ensures { result ≡ wanted.time_in part laps.now }
+/// Returns the time that a part of this kind took, or 0 if it is of another kind.
+fn time_of(part: Part, lap: &Lap) -> u64
+    ensures { result ≡ wanted.time_of part lap.now }
 {
-    for lap in laps {
-        if lap.part.is_same(part) {
-            return lap.microseconds;
-        }
-    }
-    0
-}
-
-/// Returns the time that latches moved in a part, or 0 in one of another kind.
-fn moving_in(lap: &Lap) -> u64
-    ensures { result ≡ wanted.moving_in lap.now }
-{
-    if lap.part.is_same(Part::Moving) {
+    if lap.part.is_same(part) {
         lap.microseconds
     } else {
         0
     }
+}
+
+/// Returns the time that all parts of this kind took, `u64::MAX` at most.
+fn time_in(part: Part, laps: &[Lap]) -> u64
+    ensures { result ≡ wanted.time_in part laps.now }
+{
+    let mut total = 0u64;
+    for lap in laps {
+        total = total.saturating_add(time_of(part, lap));
+    }
+    total
 }
 
 /// Returns the time that latches moved, if they did next.
@@ -87,7 +86,7 @@ fn moving_first(laps: &[Lap]) -> u64
     ensures { result ≡ wanted.moving_first laps.now }
 {
     match laps.first() {
-        Some(lap) => moving_in(lap),
+        Some(lap) => time_of(Part::Moving, lap),
         None => 0,
     }
 }

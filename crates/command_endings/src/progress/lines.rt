@@ -20,7 +20,7 @@ pub struct Frame {
 /// What a run does.
 #[derive(Clone, Copy)]
 pub enum State {
-    /// Cleans the circuit that was read.
+    /// Cleans the circuit that was read, or that a round came to.
     Cleaning,
     /// Looks for the set of a frame.
     Looking(Frame),

@@ -1,4 +1,4 @@
-use Rattle.std.proofs.Common.{None, refl}
+use Rattle.std.proofs.Common.{refl}
 use Rattle.commands.specs.Replaying.{listed_on}
 use Rattle.commands.proofs.AuditLaws.{listed-next}
 use Rattle.commands.proofs.replaying.listed_latches.Goals as goal

@@ -31,7 +31,7 @@ returns-in-Ok-clause-ok g c =
 pub returns-in-Ok-clause-held : goal.returns-in-Ok-clause-held
 returns-in-Ok-clause-held g c =
     let run = c.in_ok-run.run' in
-    seen-after g.V.FrameWatcher.was_notified c.args.options.now c.args.spelt.circuit run.rounds run.keep c.args.watcher.now c.run_over.new.watcher c.enter.new.self (Cleaning ∷ []) (Writing ∷ [])
+    seen-after g.V.FrameWatcher.was_notified c.args.options.now c.args.spelt.circuit run.rounds run.keep c.args.watcher.now c.run_watched.new.watcher c.enter.new.self (Cleaning ∷ []) (Writing ∷ [])
     c.in_ok-run.ensures.retimed c.enter.ensures
 
 pub returns-in_err-run-clause-ok : goal.returns-in_err-run-clause-ok

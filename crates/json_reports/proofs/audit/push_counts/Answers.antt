@@ -1,4 +1,4 @@
-use Rattle.std.proofs.Common.{◌∙◌, sym, append-nil}
+use Rattle.std.proofs.Common.{sym, append-nil}
 use Rattle.json_reports.proofs.CountLaws.{counts-pushed, counts-whole}
 use Rattle.json_reports.proofs.audit.push_counts.Goals as goal
 

@@ -1,6 +1,5 @@
-use Rattle.std.proofs.Common.{◌∙◌, List, Option, None, Some, ap, sym}
+use Rattle.std.proofs.Common.{◌∙◌, Option, None, Some, ap, sym}
 use Rattle.std.proofs.lemmas.Bool.{cond-false, cond-true}
-use Rattle.certificates.specs.declared.merged.MergedLatch.{MergedLatch}
 use Rattle.merged_circuits.specs.Counts.{counts_of}
 use Rattle.merged_circuits.specs.declared.counts.MergeCounts.{MergeCounts}
 use Rattle.json_reports.specs.Retimings.{are_merged, merged_lines}

@@ -1,4 +1,4 @@
-use Rattle.std.proofs.Common.{ℕ, ◌≡◌, ◌∙◌, ◌<◌, not, true, subst, sym, arith, ap}
+use Rattle.std.proofs.Common.{◌≡◌, ◌∙◌, ◌<◌, not, true, subst, sym, arith, ap}
 use Rattle.aig_graph.specs.Graph.{Graph, first_gate, variable}
 use Rattle.gate_sharing.specs.Equal.{Equal, IsRight}
 use Rattle.map_checks.specs.Images.{in_first}

@@ -1,8 +1,4 @@
-use Rattle.std.proofs.Common.{ℕ, Bool}
-use Rattle.aig_graph.specs.Gates.{AreOne, Gates}
-use Rattle.state_maps.specs.States.{Digits, State}
-use Rattle.gate_sharing.specs.Equal.{IsRight}
-use Rattle.map_checks.specs.Images.{Views, in_first}
+use Rattle.aig_graph.specs.Gates.{Gates}
 use Rattle.map_checks.specs.Parts.{AssumesCase}
 use Rattle.map_checks.proofs.cases.assume_case.Given as goal
 

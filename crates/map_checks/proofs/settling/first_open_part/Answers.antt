@@ -1,4 +1,4 @@
-use Rattle.std.proofs.Common.{◌∙◌, Bool, List, [], Option, IfSome, length, arith, ap, subst, sym}
+use Rattle.std.proofs.Common.{Bool, List, [], Option, IfSome, length, arith, ap, subst, sym}
 use Rattle.map_checks.specs.declared.cases.Asked.{Asked}
 use Rattle.map_checks.specs.Parts.{AreShownWhere, IsMarked}
 use Rattle.map_checks.proofs.MarkLaws.{if-none}

@@ -31,7 +31,7 @@ returns-in_err-made-clause-ok g c = IfOk-from_err c.from_residual.result _ c.fro
 pub returns-in-Ok-clause-seen : goal.returns-in-Ok-clause-seen
 returns-in-Ok-clause-seen g c =
     let made = c.in_ok-made.made in
-    seen-after g.V.FrameWatcher.was_notified c.args.options.now c.args.spelt.circuit made.rounds made.keep c.args.watcher.now c.made_over.new.watcher c.enter.new.self (Cleaning ∷ []) (Writing ∷ [])
+    seen-after g.V.FrameWatcher.was_notified c.args.options.now c.args.spelt.circuit made.rounds made.keep c.args.watcher.now c.made_of-mapped.new.watcher c.enter.new.self (Cleaning ∷ []) (Writing ∷ [])
     c.in_ok-made.ensures.seen c.enter.ensures
 
 pub returns-in_err-made-clause-seen : goal.returns-in_err-made-clause-seen

@@ -1,4 +1,4 @@
-use Rattle.std.proofs.Common.{ℕ, ◌≡◌, List, subst}
+use Rattle.std.proofs.Common.{◌≡◌, subst}
 use Rattle.aig_graph.specs.Graph.{Graph}
 use Rattle.pair_checks.specs.Openings.{openings}
 use Rattle.pair_checks.specs.Pairs.{IsInductive}

@@ -1,4 +1,4 @@
-use Rattle.std.proofs.Common.{ℕ, ◌+◌, ◌<◌, ◌≡◌, ◌∙◌, All, IfNone, List, Option, length, ap, sym, subst}
+use Rattle.std.proofs.Common.{ℕ, ◌<◌, ◌≡◌, ◌∙◌, All, IfNone, List, Option, length, ap, sym, subst}
 use Rattle.aig_graph.specs.Graph.{variable}
 use Rattle.aig_graph.specs.Streams.{property_literals}
 use Rattle.aig_graph.proofs.PropsLaws.{literals_within}

@@ -1,6 +1,5 @@
-use Rattle.std.proofs.Common.{ℕ, ◌+◌, ◌<◌, ◌≤◌, ◌≡◌, true, length, get_or, arith, ap, subst}
+use Rattle.std.proofs.Common.{ℕ, ◌≡◌, true, length, get_or, arith, subst}
 use Rattle.aig_graph.specs.Gates.{AreEqualIn, gates_of}
-use Rattle.aig_graph.specs.Graph.{variable}
 use Rattle.gate_sharing.specs.Copies.{copy_of}
 use Rattle.pair_checks.specs.declared.pairs.Pair.{Pair}
 use Rattle.pair_checks.proofs.PairLaws.{compare-end, compare-more}

@@ -1,4 +1,4 @@
-use Rattle.std.proofs.Common.{ℕ, ◌≡◌, Bool, true, IfOk, subst}
+use Rattle.std.proofs.Common.{ℕ, ◌≡◌, true, IfOk, subst}
 use Rattle.aig_graph.specs.Gates.{AreEqualIn, gates_of}
 use Rattle.gate_sharing.specs.Copies.{copy_of}
 use Rattle.pair_checks.proofs.comparing.is_equal.Goals as goal

@@ -1,4 +1,4 @@
-use Rattle.std.proofs.Common.{ℕ, ◌≡◌, List, refl, sym, ◌∙◌, subst}
+use Rattle.std.proofs.Common.{ℕ, List, refl, subst}
 use Rattle.aig_graph.specs.Graph.{first_latch}
 use Rattle.pair_checks.specs.Openings.{BeginAlike, openings}
 use Rattle.pair_checks.proofs.JudgeLaws.{inductive}

@@ -1,4 +1,4 @@
-use Rattle.std.proofs.Common.{ℕ, ◌≡◌, get_or, slice_get}
+use Rattle.std.proofs.Common.{◌≡◌, get_or, slice_get}
 use Rattle.aig_graph.specs.Graph.{free_before}
 use Rattle.aig_graph.specs.Tables.{table}
 use Rattle.pair_checks.specs.Openings.{opening_of}

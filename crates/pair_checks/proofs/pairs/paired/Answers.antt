@@ -4,7 +4,6 @@ use Rattle.aig_graph.specs.declared.graph.Latch.{Latch}
 use Rattle.aig_graph.specs.Gates.{Gates, Grows, gates_of}
 use Rattle.aig_graph.specs.Graph.{Graph, first_gate, first_latch}
 use Rattle.gate_sharing.specs.Circuits.{Circuits, copied_latch}
-use Rattle.gate_sharing.specs.Copies.{Copy}
 use Rattle.gate_sharing.proofs.SharedLaws.{grows-itself}
 use Rattle.pair_checks.proofs.PairLaws.{if-some, is-side, read-in}
 use Rattle.pair_checks.proofs.pairs.paired.Goals as goal

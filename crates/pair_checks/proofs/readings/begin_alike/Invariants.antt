@@ -1,4 +1,4 @@
-use Rattle.std.proofs.Common.{ℕ, ◌<◌, ◌≡◌, get_or}
+use Rattle.std.proofs.Common.{ℕ, ◌<◌, get_or}
 use Rattle.pair_checks.specs.Openings.{BeginsAs}
 use Rattle.pair_checks.proofs.readings.begin_alike.Given as goal
 

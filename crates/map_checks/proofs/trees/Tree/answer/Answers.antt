@@ -1,4 +1,4 @@
-use Rattle.std.proofs.Common.{◌≡◌, Bool, List, length, arith, ap, sym, subst}
+use Rattle.std.proofs.Common.{Bool, List, length, arith, ap, sym, subst}
 use Rattle.std.proofs.lemmas.Result.{on_ok_weaker}
 use Rattle.map_checks.specs.Parts.{IsMarked, IsTree}
 use Rattle.map_checks.proofs.CaseLaws.{tree-narrow, tree-split}

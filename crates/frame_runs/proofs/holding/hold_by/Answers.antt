@@ -4,7 +4,7 @@ use Rattle.aig_graph.specs.Keep.{AreLatches, IsFirstNoLatch, NoneMissing, held_o
 use Rattle.aig_graph.specs.declared.holding.HoldError.{HoldError}
 use Rattle.frame_runs.specs.Codes.{of_hold_error}
 use Rattle.frame_runs.proofs.HoldLaws.{at-latch, latch-of}
-use Rattle.frame_runs.proofs.runs.hold_by.Goals as goal
+use Rattle.frame_runs.proofs.holding.hold_by.Goals as goal
 
 pub returns-clause-keep : goal.returns-clause-keep
 returns-clause-keep c =
