@@ -1,7 +1,6 @@
 """The runs of fretime that leave few latches, and the way back over them: of a witness circuit by
 their maps, of a counterexample by simulation."""
 import dataclasses
-import json
 import os
 
 import aiger
@@ -9,19 +8,13 @@ from programs import DIFFERENT, MEMORY, MISSING, REFUSED, Failed
 from runs import started
 
 
-# What `witness` prints if it doesn't know which free latches stayed, as after further rounds of merging.
-UNKNOWN = 'shapes differ\n'
-
-
 @dataclasses.dataclass
 class Stage:
-    """A run: its command, the circuits before and after it, the map, and of a retiming which free
-    latches stay."""
+    """A run: its command, the circuits before and after it, and the map."""
     command: str
     before: str
     after: str
     map: str
-    kept: list = ()
 
     def options(self):
         return ['--merge'] if self.command == 'retime' else []
@@ -47,13 +40,6 @@ class Stages:
             raise Failed(status, f'fretime {words[0]}: {why}')
         return done.stdout
 
-    def told(self, *words):
-        """The object of JSON that a command of fretime prints."""
-        try:
-            return dict(json.loads(self.fretime(*words)))
-        except (ValueError, TypeError) as error:
-            raise Failed(DIFFERENT, f'fretime {words[0]}: it printed no object') from error
-
     def refuse_rubbish(self, file, path):
         """Refuses a file that is no circuit, by its first fault."""
         with open(self.folder / file, 'rb') as given:
@@ -71,8 +57,8 @@ class Stages:
         before = 'problem.aag'
         for number, command in enumerate(commands, 1):
             stage = Stage(command, before, f'stage{number}.aag', f'stage{number}_map.aag')
-            words = [*stage.options(), '--ascii', '--quiet', '--map', stage.map, '--json']
-            stage.kept = self.told(command, before, stage.after, *words).get('free_kept')
+            words = [*stage.options(), '--ascii', '--quiet', '--map', stage.map]
+            self.fretime(command, before, stage.after, *words)
             self.done.append(stage)
             before = stage.after
         return self.read(before)
@@ -94,18 +80,6 @@ class Stages:
             proof = found
         return proof
 
-    def widened(self, stage, text):
-        """The counterexample for the circuit before a retiming: free latches that it left out
-        begin with 0. Whether it is one is for who simulates it."""
-        before, after = self.read(stage.before), self.read(stage.after)
-        found = aiger.read_counterexample(text, after)
-        bits = [bit for bit, (_, reset) in zip(found.state, after.latches) if reset is None]
-        kept, place, state = dict(zip(stage.kept, bits)), 0, []
-        for _, reset in before.latches:
-            state.append(kept.get(place, 0) if reset is None else reset)
-            place += reset is None
-        return aiger.Counterexample(state, found.steps)
-
     def carry_back(self, found, property):
         """The counterexample for the first circuit, of one for the last; by simulating both."""
         text = found.text(property)
@@ -113,9 +87,6 @@ class Stages:
             (self.folder / 'counterexample').write_text(text, encoding='ascii')
             words = ['witness', *stage.options(), stage.before, stage.after, 'counterexample']
             done = self.run(*words)
-            if done.returncode == REFUSED and done.stdout == UNKNOWN and stage.kept is not None:
-                text = self.widened(stage, text).text(property)
-                continue
             if done.returncode == DIFFERENT:
                 why = f'the counterexample is none of {stage.before}: {done.stdout.strip()}'
                 raise Failed(DIFFERENT, why)

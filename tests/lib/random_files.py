@@ -116,6 +116,28 @@ def with_line(rng, c):
     return longer
 
 
+def with_later(rng, c):
+    """The circuit with a latch more for some gates over two known latches. It is told what the gate is a step later, by gates of its own: it
+    agrees with the latch of a move over the gate, so a further round of merging finds it."""
+    over = [(a, b) for a, b in c.gates if all(c.latch(lit // 2) and c.is_known(lit // 2) for lit in (a, b))]
+    over, first = rng.sample(over, min(len(over), rng.randint(1, 3))), c.first_gate()
+
+    def now(lit):
+        return lit + 2 * len(over) if lit // 2 >= first else lit
+
+    latches = [(now(lit), reset) for lit, reset in c.latches]
+    gates, outputs = [tuple(map(now, fan_ins)) for fan_ins in c.gates], []
+    for pair in over:
+        (one, other), resets = [[c.latch(lit // 2)[k] ^ lit & 1 for lit in pair] for k in (0, 1)]
+        inner = 2 * (first + len(over) + len(gates))
+        gates += [ordered(now(one), now(other) ^ 1), ordered(now(one), inner + 1)]
+        outputs.append(2 * (c.first_latch() + len(latches)) + rng.randrange(2))
+        latches.append((inner + 2, resets[0] & resets[1]))
+    longer = c.with_parts(latches, gates, now, c.symbols['l'])
+    longer.outputs += outputs
+    return longer
+
+
 def with_copies(rng, c):
     """The circuit with its latches and gates there twice, some latches as their negations; each property reads one of the two. A free
     latch is read by all, and its copy by none."""

@@ -466,7 +466,7 @@ def dot(paths, options):
 def witness(paths, options):
     c, d = circuit_of(paths[0])[0], circuit_of(paths[1])[0]
     try:
-        said, status = carried_text(c, d, bytes_of(paths[2]), first_merge_of(options))
+        said, status = carried_text(c, d, bytes_of(paths[2]), merge_of(options))
     except Fault as fault:
         raise Ends(1, f'{source_name(paths[2])}: {fault}') from fault
     return status, said

@@ -3,7 +3,7 @@ import dataclasses
 import re
 
 from reference.circuit import FREE
-from reference.merging import start_of
+from reference.retiming import retimed
 from reference.reading import Fault
 from reference.simulation import steps
 
@@ -80,15 +80,18 @@ def first_step(c, latches, rows, number):
 
 
 def kept_free(c, d, merge):
-    """The places of d's free latches among those of c: all, or those that are left before the first frame. None where neither are as
-    many."""
+    """The places of d's free latches among those of c: all, or those that are left before the first frame, or those that all frames leave.
+    None where none of these are as many."""
     if c.free_latches() == d.free_latches():
         return list(range(c.free_latches()))
     free = [k for k, (_, reset) in enumerate(c.latches) if reset is FREE]
     numbered = dataclasses.replace(c, symbols={**c.symbols, 'l': {k: k for k in range(len(c.latches))}})
-    left, _ = start_of(numbered, merge=merge)
-    kept = [free.index(left.symbols['l'][k]) for k, (_, reset) in enumerate(left.latches) if reset is FREE]
-    return kept if len(kept) == d.free_latches() else None
+    for most in (0, None):
+        left, _ = retimed(numbered, most, merge=merge)
+        kept = [free.index(left.symbols['l'][k]) for k, (_, reset) in enumerate(left.latches) if reset is FREE]
+        if len(kept) == d.free_latches():
+            return kept
+    return None
 
 
 def carried(c, d, kept, latches):
