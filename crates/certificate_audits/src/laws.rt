@@ -55,8 +55,8 @@ pub fn replay_laws()
         → MergedReplayLevelLaw bound held c lines blocks }
 {}
 
-/// States [`replay_laws`] of the further parts of a file: what they end in behaves as the circuit
-/// that the first of them is about, whoever made them.
+/// States [`replay_laws`] of the further parts of a file, whoever made them. What they end in
+/// behaves as the circuit that the first of them is about.
 pub fn parts_laws()
     ensures streams { (bound : Option ℕ) (stage : Stage) (parts : List CertPart)
         → PartsLaw bound stage parts }

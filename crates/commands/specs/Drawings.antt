@@ -55,8 +55,8 @@ IsRefusal None c input failure = (2000 < nodes c) × OfSource input (λ path. fa
 abbrev pub comes_anyhow : NoFollower → Netlist → Netlist → List ℕ → Type 0
 comes_anyhow follower c d kept = ⊤
 
--- the run of c by the options before its first frame, under the bound for c, with what is reported
--- of c if its latches were merged
+-- The run of c by the options before its first frame, under the bound for c. It has what is
+-- reported of c if its latches were merged.
 abbrev pub IsRunBy : Options → Netlist → Option ReadCircuit → Run NoFollower → Type 0
 IsRunBy options c read run = IsRunBegun comes_anyhow options run.bound c (all_free c.aig) c read run.retimed run.keep run.follower
 

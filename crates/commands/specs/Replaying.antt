@@ -86,8 +86,8 @@ IsAboutRetimed (Some source) failure = IsAbout (source_name source) failure
 abbrev pub text_like : List ℕ → Netlist → List ℕ
 text_like bytes c = text_in (unwrap_or (spelling_of bytes) Ascii) c
 
--- The outcome of comparing bytes with the circuit that parts end in. It is nothing if there is none,
--- since something speaks against a part.
+-- The outcome of comparing bytes with the circuit that parts end in. It is nothing if there is
+-- none, since something speaks against a part.
 abbrev pub IsAgreementWith : Option Stage → List ℕ → Option Agreement → Type 0
 IsAgreementWith None bytes agreement = agreement ≡ None
 IsAgreementWith (Some s) bytes agreement = IsSomeAnd agreement (IsAgreement (text_like bytes s.circuit) bytes)

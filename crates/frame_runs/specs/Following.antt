@@ -77,8 +77,8 @@ pub record IsRetimedFrom {F : Type 0} (has_come : F → Netlist → Netlist → 
   pub stays : StayHeld held d now r.circuit
   pub come : has_come f c r.circuit (composed kept r.kept_free)
 
--- c retimed by the options, whose held latches stand at now. The follower had come to c from b, with
--- the free latches at these places of b, and has come on.
+-- c retimed by the options, whose held latches stand at now. The follower had come to c from b,
+-- with the free latches at these places of b, and has come on.
 pub record IsRetimedFollowed {F : Type 0} (has_come : F → Netlist → Netlist → List ℕ → Type 0) (options : Options) (b : Netlist) (before : List ℕ) (c : Netlist) (r : Retimed) (now : List ℕ)
     (f : F) : Type 0 where
   pub held : IsRetimedHeld options c r now

@@ -79,8 +79,8 @@ pub(crate) fn rounds_of(run: RoundsRun<NoFollower>) -> Rounds
 }
 
 /// Cleans a circuit and retimes it forward in rounds. In each round latches are merged, if the
-/// options ask for it, and frames are taken: latches move over the chosen least set, and the
-/// circuit is cleaned again.
+/// options ask for it, and frames are taken. In a frame latches move over the chosen least set, and
+/// the circuit is cleaned again.
 ///
 /// A round ends if no closed set needs fewer latches than there are, or at the limit of frames.
 /// Under a bound on path length a frame may not take a set that makes a longer path. It then takes

@@ -43,6 +43,7 @@ module _ {F : Type 0} (has_come : F → Netlist → Netlist → List ℕ → Typ
       let one : composed before (all_free c.aig) ≡ before = composed-every before free many in
       subst (λ (js : List ℕ). has_come f b c js) (ap (λ (js : List ℕ). composed js (all_free c.aig)) one ∙ one) here
 
+  -- a run that began without merging leaves the follower where it was
   pub nothing-there : (bound : Option ℕ) (read : Option ReadCircuit) (r : Retimed) (now : List ℕ) (f : F) → asked.merge ≡ true → HasNoLine read → IsRunBegun has_come asked bound b before c read r now f
       → has_come f b c before
   nothing-there bound None r now f merges none begun = absurd (unasked begun.starts.unasked)

@@ -91,6 +91,7 @@ pub record AreMoreRounds {F W : Type 0} (has_come : F → Netlist → Netlist �
   pub followed : AreRoundsFollowed has_come options bound c (runs ++ more) state.rounds state.keep state.follower
   pub notified : Notifies was_notified old new (later_stages (options.max_frames - length (frames_of runs)) more ++ last_cleaning nothing)
 
+-- so, with or without a further round that found nothing
 abbrev pub EndsInMoreRounds : {F W : Type 0} → (F → Netlist → Netlist → List ℕ → Type 0) → (W → List Notification → Type 0) → Options → Option ℕ → Netlist → List Retimed → RoundsRun F → W → W → Type 0
 EndsInMoreRounds has_come was_notified options bound c runs end old new =
     (nothing : Bool) × AreMoreRounds has_come was_notified options bound c runs nothing end old new

@@ -175,9 +175,9 @@ fn put_judgement<W: CountedWrite>(
 }
 
 /// Prints a line for the merged latches of each part that was judged, if it lists them. Prints one
-/// for each confirmed block, with its count. Blocks are numbered on from part to part. Prints how the
-/// last part ended; if it has no block, nothing. If a file was compared with the circuit that the
-/// parts end in, a line says the outcome.
+/// for each confirmed block, with its count. Blocks are numbered on from part to part. Prints how
+/// the last part ended; if it has no block, nothing. If a file was compared with the circuit that
+/// the parts end in, a line says the outcome.
 ///
 /// Takes no memory.
 ///

@@ -119,8 +119,8 @@ fn places_then<R: Threads + Sync>(
     }
 }
 
-/// Returns the places of the free latches that a retiming leaves of a circuit, if `free` is their
-/// number before its first frame or at its end.
+/// Returns the places of the free latches that a retiming leaves of a circuit. `free` is to be
+/// their number before its first frame or at its end.
 fn places_left<R: Threads + Sync>(
     rt: &R,
     alloc: Global,

@@ -22,8 +22,8 @@ fn carried_latches(
 
 /// Carries a witness for a retimed circuit back to the circuit that it was made of. `kept` has the
 /// places, among the free latches of the first circuit, of those that the second has left
-/// (`frame_runs::Retimed`, `clean::Cleaned`). Latches with a known reset hold it, those free latches
-/// hold what they did, and the others either value. Properties and inputs stay.
+/// (`frame_runs::Retimed`, `clean::Cleaned`). Latches with a known reset hold it, those free
+/// latches hold what they did, and the others either value. Properties and inputs stay.
 ///
 /// Let the properties of both circuits have equal values, step by step. Then the result is a
 /// witness of the first at the steps at which `witness` is one of the second (`witness_laws`).
