@@ -35,10 +35,11 @@ initial values has none, and nothing moves then: give the registers initial
 values, or, if the reset sequence makes that right, set them to zero
 (`setundef -init -zero` in Yosys, before `write_aiger`).
 
-With --merge, latches that always agree, or that never change, are merged once
-before the first frame: it finds logic that is there twice, also if it was built
-differently, and features that are tied off. What a bounded search doesn't show
-stays. A merged latch has more readers, so here and there fewer can move.
+With --merge, latches that always agree, or that never change, are merged before
+the first frame, and again where the frames end. It finds logic that is there
+twice, also if it was built differently, and features that are tied off. What a
+bounded search doesn't show stays. A merged latch has more readers, so here and
+there fewer can move.
 
 With --classes the latches that are merged are those that FILE lists before its
 first frame, and no others: certificates as --cert writes them, of this IN, from
