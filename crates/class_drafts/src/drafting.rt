@@ -22,6 +22,8 @@ const MOST_OPENINGS: u32 = 1024;
 pub struct DraftOptions {
     pub frames: u32,
     pub levels: Option<u32>,
+    /// True if latches of a class are merged that always agree, or that never change.
+    pub merges: bool,
 }
 
 /// A circuit in which latches moved within classes, and the map of its states. That has an input
@@ -233,6 +235,7 @@ impl Drafting {
         Limits {
             frames: self.options.frames.saturating_sub(self.frames),
             levels: self.options.levels,
+            merges: self.options.merges,
         }
     }
 

@@ -24,6 +24,8 @@ const MOST_ROUNDS: u32 = 64;
 pub(crate) struct Limits {
     pub frames: u32,
     pub levels: Option<u32>,
+    /// True if latches of a class are merged that always agree, or that never change.
+    pub merges: bool,
 }
 
 /// A run over classes.
@@ -52,6 +54,7 @@ impl Drop for Progress {
 fn options_of(memory: &mut Memory, limits: &Limits) -> Options {
     let mut options = Options::defaults(memory.alloc());
     options.max_frames = limits.frames;
+    options.merge = limits.merges;
     if let Some(levels) = limits.levels {
         options.bound = PathBound::Levels(levels);
     }
@@ -103,12 +106,17 @@ impl Progress {
                 Some(levels) => Some(levels.saturating_sub(taken)),
                 None => None,
             },
+            merges: self.limits.merges,
         }
     }
 
-    /// Returns the limits of the last run.
+    /// Returns the limits of the last run, which merges nothing.
     pub fn rest(&self) -> Limits {
-        self.left(0)
+        let left = self.left(0);
+        Limits {
+            merges: false,
+            ..left
+        }
     }
 
     /// Marks the latches of a part over which others moved.
@@ -164,8 +172,9 @@ impl Progress {
         fewer
     }
 
-    /// Moves the latches of all classes over which some may move. Returns true if that leaves
-    /// fewer, and there are several such classes, so that others may move then.
+    /// Moves the latches of all classes over which some may move, or of all if they are merged.
+    /// Returns true if that leaves fewer, and there are several such classes, so that others may
+    /// move then.
     fn move_round<G: PhaseGate>(
         &mut self,
         rt: &(impl Threads + Sync),
@@ -174,10 +183,12 @@ impl Progress {
         crew: &Crew<G>,
     ) -> bool {
         let busy = net.busy_classes(memory);
+        let merges = self.limits.merges;
         let mut fewer = false;
         let mut tried = 0u32;
         for class in 1..net.classes.wrapping_add(1) {
-            let may = has_mark(busy.as_slice(), class) & (tried < MOST_CLASSES);
+            let wanted = merges | has_mark(busy.as_slice(), class);
+            let may = wanted & (tried < MOST_CLASSES);
             if may & !memory.is_refused() {
                 tried = tried.wrapping_add(1);
                 fewer = self.move_class(rt, memory, net, class, crew) | fewer;

@@ -4,7 +4,8 @@ use crate::masks::Masks;
 use crate::nets::{Class, ClassLatch, Net, literal_at};
 use aig_graph::Memory;
 use backward_sets::{Literal, Pair, number};
-use hold_drafts::{OpenLatch, Opening, STAYS, TRUE};
+use hold_drafts::{OpenLatch, Opening, STAYS, Swept, TRUE};
+use std::mem;
 
 /// Returns the class of a latch by its hold and its masks.
 fn class_of(opening: &Opening, masks: &Masks, place: u32) -> Class {
@@ -106,6 +107,32 @@ fn put_bare(
     }
 }
 
+/// Returns all literals that a circuit of classes reads, but those of its gates.
+fn literals_read(memory: &mut Memory, net: &Net) -> Vec<Literal> {
+    let mut literals = memory.list(net.latches.len());
+    for latch in &net.latches {
+        memory.push(&mut literals, latch.next);
+    }
+    for lit in &net.observed {
+        memory.push(&mut literals, *lit);
+    }
+    literals
+}
+
+/// Drops the gates that nothing reads any more, as are those that had the masks of loads. The parts
+/// of classes would keep a latch for each gate that one of them reads.
+fn sweep(memory: &mut Memory, net: &mut Net) {
+    let literals = literals_read(memory, net);
+    let gates = net.gates.as_slice();
+    let swept = Swept::of(memory, net.first_gate(), gates, literals.as_slice());
+    for place in 0..net.latches.len() {
+        let next = swept.literal(net.latches[place].next);
+        net.latches[place].next = next;
+    }
+    swept.renumber(net.observed.as_mut_slice());
+    drop(mem::replace(&mut net.gates, swept.into_gates()));
+}
+
 /// Returns the circuit in which the latches of an opened one have classes.
 pub(crate) fn net_of(memory: &mut Memory, opening: &Opening, masks: &Masks) -> Net {
     let classes = classes_of_latches(memory, opening, masks);
@@ -124,5 +151,6 @@ pub(crate) fn net_of(memory: &mut Memory, opening: &Opening, masks: &Masks) -> N
     for class in &classes {
         net.put_class(memory, *class);
     }
+    sweep(memory, &mut net);
     net
 }

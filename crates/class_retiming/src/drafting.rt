@@ -33,10 +33,12 @@ pub(crate) fn draft<R: Threads + Sync>(
     circuit: &Circuit,
     keep: &Keep,
     options: &MoveOptions,
+    merges: bool,
 ) -> Result<Option<Drafted>, NoMemory> {
     let options = DraftOptions {
         frames: options.frames,
         levels: most_levels(alloc, circuit, options.levels)?,
+        merges,
     };
     let crew = Crew::new(1, OpenGate);
     draft_classes(rt, alloc, circuit, keep, &options, &crew)

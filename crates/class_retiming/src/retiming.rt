@@ -18,7 +18,8 @@ pub struct MovedOn {
     pub map: Circuit,
     /// The number of frames that were taken.
     pub frames: u32,
-    /// The number of frames of the draft that the judge refused, if it refused one.
+    /// The number of frames of the draft that the judge refused, if it refused one that merges no
+    /// latches.
     pub refused: u32,
 }
 

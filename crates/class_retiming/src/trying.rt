@@ -1,4 +1,4 @@
-//! Drafts and the judge: the whole draft is asked at once, and half of it only if it isn't shown.
+//! Drafts and the judge: the whole draft is asked at once, and less of it only if it isn't shown.
 ghost use Rattle.std.specs.Prelude.{IfOk};
 ghost use Rattle.class_retiming.specs.Answered.{IsFoundIn, IsTrialOf};
 
@@ -10,8 +10,8 @@ use class_drafts::Drafted;
 use std::alloc::Global;
 use std::thread::Threads;
 
-/// The most drafts of a run: each has at most half the frames of the one before.
-const MOST_DRAFTS: u32 = 32;
+/// The most drafts of a run: each but the second has at most half the frames of the one before.
+const MOST_DRAFTS: u32 = 33;
 
 /// What the judge says of a draft.
 #[derive(Drop)]
@@ -64,12 +64,13 @@ fn tried<R: Threads + Sync, W: MoveWatcher>(
     circuit: &Circuit,
     keep: &Keep,
     options: &MoveOptions,
+    merges: bool,
     watcher: &mut W,
 ) -> Result<Trial, NoMemory>
     ensures { IfOk result (IsTrialOf circuit.now keep.now options.now.levels) }
 {
     watcher.begin(looking(circuit));
-    match draft(rt, alloc, circuit, keep, options)? {
+    match draft(rt, alloc, circuit, keep, options, merges)? {
         Some(drafted) => {
             watcher.begin(MoveStage::Checking);
             judged(alloc, circuit, keep, options.levels, drafted)
@@ -78,16 +79,16 @@ fn tried<R: Threads + Sync, W: MoveWatcher>(
     }
 }
 
-/// A draft that the judge takes, if there is one, and how many frames were taken in those that it
-/// refused.
+/// A draft that the judge takes, if there is one, and the most frames of those that it refused and
+/// that merge no latches.
 #[derive(Drop)]
 pub(crate) struct Found {
     pub(crate) drafted: Option<Drafted>,
     pub(crate) refused: u32,
 }
 
-/// Makes drafts of at most half the frames of the one before, until the judge takes one or no frame
-/// is left.
+/// Makes drafts until the judge takes one or no frame is left. Latches are merged in the first one
+/// alone. The second has as many frames, and each after it at most half those of the one before.
 ///
 /// # Errors
 ///
@@ -102,7 +103,7 @@ pub(crate) fn shown_draft<R: Threads + Sync, W: MoveWatcher>(
 ) -> Result<Found, NoMemory>
     ensures { IfOk result (IsFoundIn circuit.now keep.now options.now.levels) }
 {
-    let (mut frames, mut refused) = (options.frames, 0u32);
+    let (mut frames, mut merges, mut refused) = (options.frames, true, 0u32);
     for _ in 0..MOST_DRAFTS {
         if frames == 0 {
             break;
@@ -111,13 +112,14 @@ pub(crate) fn shown_draft<R: Threads + Sync, W: MoveWatcher>(
             frames,
             levels: options.levels,
         };
-        match tried(rt, alloc, circuit, keep, &fewer, watcher)? {
+        match tried(rt, alloc, circuit, keep, &fewer, merges, watcher)? {
             Trial::Shown(drafted) => {
                 return Ok(Found {
                     drafted: Some(drafted),
                     refused,
                 });
             }
+            Trial::Refused(_) if merges => merges = false,
             Trial::Refused(taken) => {
                 refused = refused.max(taken);
                 frames = taken.min(frames) / 2;

@@ -143,12 +143,14 @@ wrote.
 
 A register with an enable reads itself, so 'retime' can't move it. Registers
 that hold under one condition move together over gates that read them alone, and
-the new ones hold under that condition, too. So do registers with one reset.
+the new ones hold under that condition, too. So do registers with one reset. If
+some of them always agree they are merged.
 
 Held latches and free ones stay where they are. OUT is drafted, and what is
 drafted is checked as 'check IN OUT MAP' does it. If the check doesn't show that
-OUT is a retiming of IN, half of its frames are taken, and so on. If nothing is
-shown, OUT is IN, and a line says so.
+OUT is a retiming of IN, none are merged. If that isn't shown either, half of
+its frames are taken, and so on. If nothing is shown, OUT is IN, and a line says
+so.
 
 With --map, MAP gets a circuit whose inputs are the latches of IN and whose
 outputs are those of OUT: step for step each latch of OUT holds what its output
