@@ -4,14 +4,15 @@
 
 use crate::copies::{VERSIONS, Version, copy_of};
 use aig_graph::Memory;
-use backward_sets::{Literal, count_marks, entry, has_mark, number, set_mark};
+use backward_sets::{GateUnits, Literal, count_marks, entry, has_mark, number, set_mark};
 
 /// Marks of the copies of the gates that were moved last, by variable, and the number of latches
-/// that this saved.
+/// that this saved. If a flow chose them, its units follow, by gate.
 #[derive(Drop)]
 pub(crate) struct Again {
     pub marks: Vec<bool>,
     pub saved: u32,
+    pub units: Vec<GateUnits>,
 }
 
 impl Again {
@@ -20,6 +21,7 @@ impl Again {
         Again {
             marks: memory.nothing(),
             saved: 0,
+            units: memory.nothing(),
         }
     }
 

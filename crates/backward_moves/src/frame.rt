@@ -1,16 +1,17 @@
 //! A frame: a set is chosen by a flow, wishes are handed down it, and the draft is made anew. If
 //! wishes make the border take too many latches, or ways get too long, some gates are frozen, and
-//! the flow is asked again.
+//! the flow is asked again. A flow begins with the units of the last one that are still a flow.
 
 use crate::again::Again;
 use crate::composing::FrameMap;
 use crate::rebuilding::{Rebuilt, rebuild};
 use aig_graph::Memory;
 use backward_sets::{
-    Bordered, Draft, Guide, Wish, Wishes, border_of, count_marks, freeze_long, freeze_losers,
-    guide_of, has_mark, is_closed, justify, least_set, levels_of, movable, number, set_mark,
-    starts_of, wish_of, wishes_of,
+    Bordered, Draft, GateUnits, Guide, Wish, Wishes, border_of, count_marks, freeze_long,
+    freeze_losers, guide_of, has_mark, is_closed, justify, least_set, levels_of, movable, number,
+    set_mark, starts_of, wish_of, wishes_of,
 };
+use std::mem;
 
 /// The most times that a flow is asked in a frame.
 const MOST_TRIES: u32 = 16;
@@ -56,6 +57,8 @@ struct Frame<'a> {
     bound: Option<u32>,
     /// True if gates were frozen in the last attempt, so that another set may do.
     open: bool,
+    /// The units of the last flow by gate, or nothing as long as no flow was asked.
+    units: Vec<GateUnits>,
 }
 
 /// Freezes the variables that latches of both resets read: they would be border variables with two
@@ -97,6 +100,7 @@ impl<'a> Frame<'a> {
             latches: draft.taking_part(),
             bound,
             open: false,
+            units: memory.nothing(),
         }
     }
 
@@ -143,7 +147,8 @@ impl<'a> Frame<'a> {
 
     /// Returns the result of a move, after gates that nothing reads are dropped.
     fn made(&self, memory: &mut Memory, mut rebuilt: Rebuilt, settled: &Settled) -> Moved {
-        let marks = rebuilt.sweep(memory, settled.set.inside.as_slice());
+        let inside = settled.set.inside.as_slice();
+        let (marks, units) = rebuilt.sweep(memory, inside, self.draft, self.units.as_slice());
         let (draft, map) = rebuilt.into_draft_and_map();
         Moved {
             draft,
@@ -157,6 +162,7 @@ impl<'a> Frame<'a> {
             again: Again {
                 marks,
                 saved: self.latches.saturating_sub(settled.after),
+                units,
             },
         }
     }
@@ -235,9 +241,10 @@ impl<'a> Frame<'a> {
 
     /// Returns the set that a flow chooses, and the number of latches that its border takes by the
     /// starts.
-    fn least(&self, memory: &mut Memory) -> (Vec<bool>, u32) {
+    fn least(&mut self, memory: &mut Memory) -> (Vec<bool>, u32) {
         let may = movable(memory, self.draft, self.frozen.as_slice());
-        least_set(memory, self.draft, may.as_slice(), self.starts.as_slice())
+        let starts = self.starts.as_slice();
+        least_set(memory, self.draft, may.as_slice(), starts, &mut self.units)
     }
 
     /// Moves the set that a flow chooses.
@@ -252,8 +259,11 @@ impl<'a> Frame<'a> {
         self.attempt(memory, &settled)
     }
 
-    /// Asks a flow for sets until one moves, no gate was frozen, or [`MOST_TRIES`] were tried.
-    fn search(&mut self, memory: &mut Memory) -> Option<Moved> {
+    /// Asks a flow for sets until one moves, no gate was frozen, or [`MOST_TRIES`] were tried. The
+    /// first flow begins with the units of the last frame's.
+    fn search(&mut self, memory: &mut Memory, again: &mut Again) -> Option<Moved> {
+        let units = mem::replace(&mut again.units, memory.nothing());
+        drop(mem::replace(&mut self.units, units));
         for _ in 0..MOST_TRIES {
             match self.attempt_next(memory) {
                 None if self.open => {}
@@ -264,14 +274,14 @@ impl<'a> Frame<'a> {
     }
 
     /// Moves the last set again, or one that a flow chooses.
-    fn run(&mut self, memory: &mut Memory, again: &Again) -> Option<Moved> {
+    fn run(&mut self, memory: &mut Memory, again: &mut Again) -> Option<Moved> {
         let last = if self.may_repeat(memory, again) {
             self.move_last(memory, again)
         } else {
             None
         };
         match last {
-            None => self.search(memory),
+            None => self.search(memory, again),
             found => found,
         }
     }
@@ -282,7 +292,7 @@ pub(crate) fn next_frame(
     memory: &mut Memory,
     draft: &Draft,
     bound: Option<u32>,
-    again: &Again,
+    again: &mut Again,
 ) -> Option<Moved> {
     let mut frame = Frame::new(memory, draft, bound);
     frame.run(memory, again)

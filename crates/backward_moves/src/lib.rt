@@ -8,6 +8,7 @@
 mod again;
 mod composing;
 mod copies;
+mod following;
 mod frame;
 mod latching;
 mod moving;

@@ -177,7 +177,7 @@ impl Run {
 
     /// Takes one frame, if it saves a latch. Returns true if it does, and no memory was refused.
     fn advance(&mut self, memory: &mut Memory, bound: Option<u32>) -> bool {
-        match next_frame(memory, &self.draft, bound, &self.again) {
+        match next_frame(memory, &self.draft, bound, &mut self.again) {
             Some(moved) => {
                 self.take(memory, moved);
                 !memory.is_refused()

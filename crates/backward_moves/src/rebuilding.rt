@@ -7,20 +7,23 @@ use crate::composing::{FrameMap, Gone};
 use crate::copies::{
     VERSIONS, Version, copy_of, literal_at, need_of, set_copy, set_literal, standing,
 };
+use crate::following::Following;
 use crate::latching::{Latching, latching_of};
 use crate::shared::{Shared, set_pair};
 use crate::sweeping::sweep;
 use aig_graph::Memory;
 use backward_sets::{
-    Bordered, Draft, DraftLatch, Literal, Pair, Wish, Wishes, entry, has_mark, wish_of,
+    Bordered, Draft, DraftLatch, GateUnits, Literal, Pair, Wish, Wishes, entry, has_mark, wish_of,
 };
 
-/// A draft and its map, with the copies of the variables of before.
+/// A draft and its map, with the copies of the variables of before, and their replacements outside
+/// of the set.
 #[derive(Drop)]
 pub(crate) struct Rebuilt {
     pub draft: Draft,
     pub map: FrameMap,
     pub copies: Vec<Literal>,
+    pub stands: Vec<Literal>,
 }
 
 impl Rebuilt {
@@ -30,12 +33,20 @@ impl Rebuilt {
             draft,
             map,
             copies: _copies,
+            stands: _stands,
         } = self;
         (draft, map)
     }
 
-    /// Drops gates that nothing reads. Returns by variable if it is the copy of a gate of the set.
-    pub fn sweep(&mut self, memory: &mut Memory, inside: &[bool]) -> Vec<bool> {
+    /// Drops gates that nothing reads. Returns by variable if it is the copy of a gate of the set,
+    /// and the units of gates. They follow from those of the draft `before`.
+    pub fn sweep(
+        &mut self,
+        memory: &mut Memory,
+        inside: &[bool],
+        before: &Draft,
+        units: &[GateUnits],
+    ) -> (Vec<bool>, Vec<GateUnits>) {
         let numbers = sweep(memory, &mut self.draft);
         let mut marks = memory.table(false, self.draft.size());
         let copies = Copies {
@@ -44,7 +55,10 @@ impl Rebuilt {
             numbers: numbers.as_slice(),
         };
         copies.mark_all(inside, marks.as_mut_slice());
-        marks
+        let stands = self.stands.as_slice();
+        let following = Following { copies, stands };
+        let units = following.units(memory, before, units, &self.draft);
+        (marks, units)
     }
 }
 
@@ -280,8 +294,14 @@ impl Side {
         map
     }
 
-    /// Returns the draft after a frame, with its map.
-    fn into_rebuilt(self, inputs: u32, observed: Vec<Literal>, map: FrameMap) -> Rebuilt {
+    /// Returns the draft after a frame, with its map and the replacements.
+    fn into_rebuilt(
+        self,
+        inputs: u32,
+        observed: Vec<Literal>,
+        map: FrameMap,
+        stands: Vec<Literal>,
+    ) -> Rebuilt {
         let Side { gates, latching } = self;
         let (latches, copies) = latching.into_latches_and_copies();
         Rebuilt {
@@ -294,6 +314,7 @@ impl Side {
             },
             map,
             copies,
+            stands,
         }
     }
 }
@@ -311,5 +332,5 @@ pub(crate) fn rebuild(
     let mut side = Side::new(memory, draft, set, wishes.of.as_slice(), after);
     let map = side.finish(memory, draft, set, wishes, stands.as_mut_slice());
     let observed = all_standing(memory, stands.as_slice(), draft.observed.as_slice());
-    side.into_rebuilt(draft.inputs, observed, map)
+    side.into_rebuilt(draft.inputs, observed, map, stands)
 }

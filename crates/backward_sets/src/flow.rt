@@ -4,7 +4,8 @@
 use crate::drafts::Draft;
 use crate::readers::Readers;
 use crate::starts::{Wish, wish_of};
-use crate::tables::{entry, has_mark, set_entry};
+use crate::tables::{entry, has_mark, number, set_entry};
+use crate::units::{FanInUnits, GateUnits};
 use aig_graph::Memory;
 
 /// The node in which all units end.
@@ -39,7 +40,12 @@ pub struct Arc {
     pub open: bool,
     counted: Counted,
     place: u32,
-    adds: bool,
+    pub adds: bool,
+}
+
+/// Returns a number of units in 8 bits, or the most that fits.
+fn small(units: u32) -> u8 {
+    units.min(255) as u8
 }
 
 /// The units that flow. They are counted by variable, or by fan-in of a gate, by its number in the
@@ -82,6 +88,94 @@ impl<'a> Flow<'a> {
         }
     }
 
+    /// Returns true if a variable is a gate that may move.
+    pub fn may_move(&self, var: u32) -> bool {
+        has_mark(self.may, var)
+    }
+
+    /// Returns the most units from before a variable to after it, or to the sink.
+    fn room(&self, var: u32) -> u32 {
+        if wish_of(self.starts, var).is_both() {
+            2
+        } else {
+            1
+        }
+    }
+
+    /// Returns the number of the larger fan-in of a gate.
+    fn larger_of(&self, var: u32) -> u32 {
+        var.wrapping_sub(self.draft.first_gate()).wrapping_mul(2)
+    }
+
+    /// Puts the units along a fan-in, which reads `var`. If that may not move, they end there, as
+    /// many as have room.
+    fn put_fan_in(&mut self, number: u32, var: u32, units: FanInUnits) {
+        let down = u32::from(units.down);
+        set_entry(self.down.as_mut_slice(), number, down);
+        if self.may_move(var) {
+            set_entry(self.up.as_mut_slice(), number, u32::from(units.up));
+        } else {
+            let many = entry(self.through.as_slice(), var).saturating_add(down);
+            let many = many.min(self.room(var));
+            set_entry(self.through.as_mut_slice(), var, many);
+        }
+    }
+
+    /// Puts the units of a gate.
+    fn put_gate(&mut self, var: u32, units: &GateUnits) {
+        let pair = self.draft.gate(var);
+        let larger = self.larger_of(var);
+        let through = u32::from(units.through);
+        set_entry(self.through.as_mut_slice(), var, through);
+        self.put_fan_in(larger, pair.larger.var(), units.larger);
+        self.put_fan_in(larger.wrapping_add(1), pair.smaller.var(), units.smaller);
+    }
+
+    /// Puts the units of the gates that may move, in a flow of no units.
+    pub fn put_all(&mut self, units: &[GateUnits]) {
+        let first = self.draft.first_gate();
+        for place in 0..units.len() {
+            let var = first.wrapping_add(number(place));
+            if self.may_move(var) {
+                self.put_gate(var, &units[place]);
+            }
+        }
+    }
+
+    /// Returns the units along a fan-in.
+    fn fan_in(&self, number: u32) -> FanInUnits {
+        FanInUnits {
+            down: small(entry(self.down.as_slice(), number)),
+            up: small(entry(self.up.as_slice(), number)),
+        }
+    }
+
+    /// Writes the units of all gates.
+    pub fn write_all(&self, all: &mut [GateUnits]) {
+        let first = self.draft.first_gate();
+        for place in 0..all.len() {
+            let var = first.wrapping_add(number(place));
+            let larger = self.larger_of(var);
+            let units = GateUnits {
+                through: self.may_move(var) & (entry(self.through.as_slice(), var) > 0),
+                larger: self.fan_in(larger),
+                smaller: self.fan_in(larger.wrapping_add(1)),
+            };
+            all[place] = units;
+        }
+    }
+
+    /// Returns the number of units that reach the sink.
+    pub fn ended(&self) -> u32 {
+        let mut many = 0u32;
+        for var in 0..self.draft.end() {
+            if !self.may_move(var) {
+                many = many.wrapping_add(entry(self.through.as_slice(), var));
+            }
+        }
+        many
+    }
+
     /// Returns the number of nodes.
     pub fn nodes(&self) -> usize {
         self.draft.size().saturating_mul(2)
@@ -97,18 +191,9 @@ impl<'a> Flow<'a> {
 
     /// Returns the arc from before a variable to after it, or to the sink.
     fn through(&self, var: u32) -> Arc {
-        let room = if wish_of(self.starts, var).is_both() {
-            2u32
-        } else {
-            1
-        };
         Arc {
-            to: if has_mark(self.may, var) {
-                after(var)
-            } else {
-                SINK
-            },
-            open: entry(self.through.as_slice(), var) < room,
+            to: if self.may_move(var) { after(var) } else { SINK },
+            open: entry(self.through.as_slice(), var) < self.room(var),
             counted: Counted::Through,
             place: var,
             adds: true,
@@ -186,7 +271,7 @@ impl<'a> Flow<'a> {
             return self.up(self.readers.fan_in_at(first.wrapping_add(place)));
         }
         let pair = self.draft.gate(var);
-        let larger = var.wrapping_sub(self.draft.first_gate()).wrapping_mul(2);
+        let larger = self.larger_of(var);
         let smaller = larger.wrapping_add(1);
         match place {
             0 => self.down(smaller, pair.smaller.var()),
@@ -206,19 +291,45 @@ impl<'a> Flow<'a> {
         }
     }
 
-    /// Sends a unit along an arc.
-    pub fn send(&mut self, arc: Arc) {
+    /// Returns the units along an arc. Where a unit along it takes one back, they are those that go
+    /// the other way.
+    pub fn units(&self, arc: &Arc) -> u32 {
+        let units = match arc.counted {
+            Counted::Through => self.through.as_slice(),
+            Counted::Down => self.down.as_slice(),
+            Counted::Up => self.up.as_slice(),
+        };
+        entry(units, arc.place)
+    }
+
+    /// Sets the number of units along an arc.
+    fn set_units(&mut self, arc: &Arc, many: u32) {
         let units = match arc.counted {
             Counted::Through => self.through.as_mut_slice(),
             Counted::Down => self.down.as_mut_slice(),
             Counted::Up => self.up.as_mut_slice(),
         };
-        let many = entry(units, arc.place);
+        set_entry(units, arc.place, many);
+    }
+
+    /// Takes back units along an arc, at most `most`. Returns their number.
+    pub fn take(&mut self, arc: &Arc, most: u32) -> u32 {
+        let many = self.units(arc);
+        let taken = many.min(most);
+        if taken > 0 {
+            self.set_units(arc, many.wrapping_sub(taken));
+        }
+        taken
+    }
+
+    /// Sends a unit along an arc.
+    pub fn send(&mut self, arc: Arc) {
+        let many = self.units(&arc);
         let many = if arc.adds {
             many.saturating_add(1)
         } else {
             many.saturating_sub(1)
         };
-        set_entry(units, arc.place, many);
+        self.set_units(&arc, many);
     }
 }

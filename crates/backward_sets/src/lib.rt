@@ -7,6 +7,7 @@
 //! that is made by one as a whole.
 #![tactic(auto)]
 
+mod balancing;
 mod border;
 mod conflicts;
 mod drafts;
@@ -22,6 +23,7 @@ mod readers;
 mod search;
 mod starts;
 mod tables;
+mod units;
 mod values;
 mod wishes;
 
@@ -37,4 +39,5 @@ pub use network::least_set;
 pub use pairs::{LARGEST_TABLE, table_size};
 pub use starts::{Wish, starts_of, wish_of};
 pub use tables::{count_marks, entry, has_mark, number, set_entry, set_mark};
+pub use units::GateUnits;
 pub use wishes::{Guide, Wishes, wishes_of};
