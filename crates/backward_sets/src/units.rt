@@ -1,5 +1,5 @@
-//! The units of a flow by gate. They are kept for the next network, which is much like this one: in
-//! the same frame with more gates frozen, or in the next frame.
+//! The units of a flow by gate. They are kept for the next network, which is much like this one. It
+//! is that of the next frame, or that of the same frame with more gates frozen.
 
 /// The units along a fan-in: from after the gate down to before it, and from after it up to after
 /// the gate. More than 255 count as 255.
