@@ -4,10 +4,10 @@ ghost use Rattle.batch_pool.specs.declared.job.Outcome.TheVariants.{Done};
 ghost use Rattle.batch_pool.specs.Outcomes.{IsOutcome};
 ghost use Rattle.batch_pool.specs.Refusals.{of_fault, of_error};
 
-use frames::retime_bytes;
 use counted_io::Counted;
 use file_words::ReadError;
 use frame_runs::{BytesError, Options, RetimeError};
+use frames::retime_bytes;
 use merging_rounds::Rounds;
 use pulse::{Crew, OpenGate};
 use std::alloc::Global;

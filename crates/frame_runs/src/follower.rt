@@ -97,11 +97,7 @@ pub trait RunFollower {
 }
 
 /// Cleans a circuit, in its own tables if it is owned.
-fn cleaned_given(
-    alloc: Global,
-    given: GivenCircuit<'_>,
-    keep: &Keep,
-) -> Result<Cleaned, NoMemory>
+fn cleaned_given(alloc: Global, given: GivenCircuit<'_>, keep: &Keep) -> Result<Cleaned, NoMemory>
     requires { All (λ j. j < length (circuit_of given).aig.latches) keep.now }
     ensures cleaned { IfOk result (λ d. Cleans d.circuit keep.now (circuit_of given.entry)
         d.kept_free) }
