@@ -1,7 +1,7 @@
 //! Openings one after another, until none leaves fewer latches.
 
 use crate::attempts::{Attempt, attempted};
-use crate::running::Limits;
+use crate::running::{Limits, Merging};
 use aig_graph::{Circuit, Keep, Memory, NoMemory, Sequence};
 use backward_sets::{entry, number};
 use class_nets::{GrowingMap, NumberMap, PLANS, Plan, Scene, plan_of, sealed};
@@ -22,6 +22,7 @@ const MOST_OPENINGS: u32 = 1024;
 pub struct DraftOptions {
     pub frames: u32,
     pub levels: Option<u32>,
+    pub merging: Merging,
 }
 
 /// A circuit in which latches moved within classes, and the map of its states. That has an input
@@ -34,12 +35,15 @@ pub struct Drafted {
     pub kept_free: Sequence<u32>,
     /// The number of frames that were taken.
     pub frames: u32,
+    /// True if latches of a class were merged.
+    pub merged: bool,
 }
 
-/// An attempt, and the number of its plan.
+/// An attempt, the number of its plan, and whether it merged latches.
 struct Found {
     attempt: Attempt,
     plan: u32,
+    merged: bool,
 }
 
 impl Drop for Found {
@@ -48,15 +52,20 @@ impl Drop for Found {
         let Found {
             attempt: _attempt,
             plan: _plan,
+            merged: _merged,
         } = self;
     }
 }
 
 impl Found {
-    /// Returns the attempt, and the number of its plan.
-    fn into_parts(self) -> (Attempt, u32) {
-        let Found { attempt, plan } = self;
-        (attempt, plan)
+    /// Returns the attempt, the number of its plan, and whether it merged latches.
+    fn into_parts(self) -> (Attempt, u32, bool) {
+        let Found {
+            attempt,
+            plan,
+            merged,
+        } = self;
+        (attempt, plan, merged)
     }
 }
 
@@ -89,23 +98,29 @@ fn try_plan<G: PhaseGate>(
     Some(better(first, second))
 }
 
-/// Tries all plans, beginning with the one that has this number, until one leaves fewer latches.
+/// Tries so many plans, beginning with the one that has this number, until one leaves fewer
+/// latches.
 fn try_plans<G: PhaseGate>(
     scene: &Scene<'_>,
     rt: &(impl Threads + Sync),
     memory: &mut Memory,
-    begin: u32,
+    (begin, plans): (u32, u32),
     limits: Limits,
     crew: &Crew<G>,
 ) -> Option<Found> {
-    for turn in 0..PLANS {
+    let merged = limits.merging == Merging::First;
+    for turn in 0..plans {
         let plan = begin.wrapping_add(turn) % PLANS;
         let found = try_plan(scene, rt, memory, plan_of(plan, true), limits, crew);
         if memory.is_refused() {
             return None;
         }
         if let Some(attempt) = found {
-            return Some(Found { attempt, plan });
+            return Some(Found {
+                attempt,
+                plan,
+                merged,
+            });
         }
     }
     None
@@ -148,6 +163,7 @@ struct Drafting {
     options: DraftOptions,
     frames: u32,
     plan: u32,
+    merged: bool,
 }
 
 impl Drop for Drafting {
@@ -159,11 +175,13 @@ impl Drop for Drafting {
             options: _options,
             frames: _frames,
             plan: _plan,
+            merged: _merged,
         } = self;
     }
 }
 
-/// Opens a circuit in all ways until one leaves fewer latches.
+/// Opens a circuit in all ways until one leaves fewer latches. If latches are merged last, the
+/// first way is tried once more then.
 fn next_attempt<G: PhaseGate>(
     rt: &(impl Threads + Sync),
     memory: &mut Memory,
@@ -176,7 +194,17 @@ fn next_attempt<G: PhaseGate>(
     let Some(scene) = Scene::of(memory, circuit, keep) else {
         return None;
     };
-    try_plans(&scene, rt, memory, begin, limits, crew)
+    let found = try_plans(&scene, rt, memory, (begin, PLANS), limits, crew);
+    match found {
+        None if limits.merging == Merging::Last && !memory.is_refused() => {
+            let merging = Limits {
+                merging: Merging::First,
+                ..limits
+            };
+            try_plans(&scene, rt, memory, (begin, 1), merging, crew)
+        }
+        found => found,
+    }
 }
 
 /// Returns the places that `second` picks of `first`.
@@ -225,6 +253,16 @@ impl Drafting {
             options: *options,
             frames: 0,
             plan: 0,
+            merged: false,
+        }
+    }
+
+    /// Returns when latches are merged from here on.
+    fn merging(&self) -> Merging {
+        let merging = self.options.merging;
+        match (merging, self.stand.is_some()) {
+            (Merging::First, false) | (Merging::Last, true) => merging,
+            _ => Merging::Never,
         }
     }
 
@@ -233,6 +271,7 @@ impl Drafting {
         Limits {
             frames: self.options.frames.saturating_sub(self.frames),
             levels: self.options.levels,
+            merging: self.merging(),
         }
     }
 
@@ -276,12 +315,13 @@ impl Drafting {
 
     /// Goes on from an attempt.
     fn take(&mut self, memory: &mut Memory, found: Found, free: u32) {
-        let (attempt, plan) = found.into_parts();
+        let (attempt, plan, merged) = found.into_parts();
         let kept_free = self.kept_free(memory, free);
         let (stand, map, frames) = stand_of(memory, attempt, kept_free.as_slice());
         self.follow(memory, map);
         self.frames = self.frames.saturating_add(frames);
         self.plan = plan;
+        self.merged = self.merged | merged;
         drop(mem::replace(&mut self.stand, Some(stand)));
     }
 
@@ -314,10 +354,11 @@ impl Drafting {
             options: _options,
             frames,
             plan: _plan,
+            merged,
         } = self;
         let map = map.into_map();
         match stand {
-            Some(stand) => with_map(memory, circuit, stand, &map, frames),
+            Some(stand) => with_map(memory, circuit, stand, &map, frames, merged),
             None => None,
         }
     }
@@ -330,6 +371,7 @@ fn with_map(
     stand: Stand,
     map: &NumberMap,
     frames: u32,
+    merged: bool,
 ) -> Option<Drafted> {
     let (after, kept_free) = stand.into_parts();
     let gates = map.gates.as_slice();
@@ -341,6 +383,7 @@ fn with_map(
             map,
             kept_free,
             frames,
+            merged,
         }),
         None => {
             drop(after);

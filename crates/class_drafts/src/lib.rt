@@ -14,3 +14,4 @@ mod joining;
 mod running;
 
 pub use drafting::{DraftOptions, Drafted, draft_classes};
+pub use running::Merging;

@@ -18,12 +18,35 @@ const MOST_CLASSES: u32 = 256;
 /// The most rounds over all classes.
 const MOST_ROUNDS: u32 = 64;
 
+/// When latches of a class are merged that always agree, or that never change. They are looked at
+/// without their hold and their masks.
+#[derive(Clone, Copy, PartialEq, Eq)]
+pub enum Merging {
+    /// Before any moves.
+    First,
+    /// Where some moved and no more go.
+    Last,
+    Never,
+}
+
+impl Merging {
+    /// Returns when they are merged in the next draft, if one in which some were isn't shown.
+    pub fn after_refusal(self) -> Merging {
+        match self {
+            Merging::Last => Merging::First,
+            Merging::First | Merging::Never => Merging::Never,
+        }
+    }
+}
+
 /// Limits of moving latches: over at most `frames` frames, and with no way of more than `levels`
 /// gates, unless the circuit has one.
 #[derive(Clone, Copy)]
 pub(crate) struct Limits {
     pub frames: u32,
     pub levels: Option<u32>,
+    /// If it is `First`, latches of a class are merged before they move.
+    pub merging: Merging,
 }
 
 /// A run over classes.
@@ -52,6 +75,7 @@ impl Drop for Progress {
 fn options_of(memory: &mut Memory, limits: &Limits) -> Options {
     let mut options = Options::defaults(memory.alloc());
     options.max_frames = limits.frames;
+    options.merge = limits.merging == Merging::First;
     if let Some(levels) = limits.levels {
         options.bound = PathBound::Levels(levels);
     }
@@ -103,12 +127,17 @@ impl Progress {
                 Some(levels) => Some(levels.saturating_sub(taken)),
                 None => None,
             },
+            merging: self.limits.merging,
         }
     }
 
-    /// Returns the limits of the last run.
+    /// Returns the limits of the last run, which merges nothing.
     pub fn rest(&self) -> Limits {
-        self.left(0)
+        let left = self.left(0);
+        Limits {
+            merging: Merging::Never,
+            ..left
+        }
     }
 
     /// Marks the latches of a part over which others moved.
@@ -164,8 +193,9 @@ impl Progress {
         fewer
     }
 
-    /// Moves the latches of all classes over which some may move. Returns true if that leaves
-    /// fewer, and there are several such classes, so that others may move then.
+    /// Moves the latches of all classes over which some may move, or of all if they are merged.
+    /// Returns true if that leaves fewer, and there are several such classes, so that others may
+    /// move then.
     fn move_round<G: PhaseGate>(
         &mut self,
         rt: &(impl Threads + Sync),
@@ -174,10 +204,12 @@ impl Progress {
         crew: &Crew<G>,
     ) -> bool {
         let busy = net.busy_classes(memory);
+        let merges = self.limits.merging == Merging::First;
         let mut fewer = false;
         let mut tried = 0u32;
         for class in 1..net.classes.wrapping_add(1) {
-            let may = has_mark(busy.as_slice(), class) & (tried < MOST_CLASSES);
+            let busy = merges | has_mark(busy.as_slice(), class);
+            let may = busy & (tried < MOST_CLASSES);
             if may & !memory.is_refused() {
                 tried = tried.wrapping_add(1);
                 fewer = self.move_class(rt, memory, net, class, crew) | fewer;

@@ -18,7 +18,7 @@ IsMovedOrStays c held bound d m = IsMovedOn c held bound d m ⊎ ((d ≡ c) × I
 -- a draft that is shown is what c may become; of another nothing is said
 abbrev pub IsTrialOf : Netlist → List ℕ → Option ℕ → Trial → Type 0
 IsTrialOf c held bound (Shown drafted) = IsMovedOn c held bound drafted.after drafted.map
-IsTrialOf c held bound (Refused frames) = Unit {0}
+IsTrialOf c held bound (Refused frames merged) = Unit {0}
 IsTrialOf c held bound Nothing = Unit {0}
 
 -- so of a draft that was found in the end, if one was

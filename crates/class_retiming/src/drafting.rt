@@ -3,7 +3,7 @@
 use aig_graph::{Circuit, Keep, NoMemory};
 use backward_classes::{ReturnedDraft, draft_returned};
 use backward_moves::{Drafted as PlainDraft, MoveOptions};
-use class_drafts::{DraftOptions, Drafted, draft_classes};
+use class_drafts::{DraftOptions, Drafted, Merging, draft_classes};
 use path_levels::levels;
 use pulse::{Crew, OpenGate};
 use std::alloc::Global;
@@ -33,10 +33,12 @@ pub(crate) fn draft<R: Threads + Sync>(
     circuit: &Circuit,
     keep: &Keep,
     options: &MoveOptions,
+    merging: Merging,
 ) -> Result<Option<Drafted>, NoMemory> {
     let options = DraftOptions {
         frames: options.frames,
         levels: most_levels(alloc, circuit, options.levels)?,
+        merging,
     };
     let crew = Crew::new(1, OpenGate);
     draft_classes(rt, alloc, circuit, keep, &options, &crew)

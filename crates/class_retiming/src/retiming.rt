@@ -32,6 +32,7 @@ fn moved_by(drafted: Drafted, refused: u32) -> MovedOn
         map,
         frames,
         kept_free: _kept_free,
+        merged: _merged,
     } = drafted;
     MovedOn {
         circuit,
