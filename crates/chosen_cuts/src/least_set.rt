@@ -12,7 +12,7 @@ use cut_cert::{certificate_of, chosen_of_network, shown_by_network};
 use pulse::{Crew, PhaseGate};
 use std::alloc::Global;
 use std::thread::Threads;
-use unit_components::chosen_least_in_parts;
+use unit_components::{Sizes, chosen_by_sizes};
 use unit_flows::Frame;
 use unit_routes::certificate_by_units;
 
@@ -43,6 +43,15 @@ fn certified(
     }
 }
 
+/// Returns the sizes from which on a circuit is cut into parts, by whether its routes are told.
+fn sizes_of(records: &Records) -> Sizes {
+    if records.certify {
+        Sizes::OF_ROUTES
+    } else {
+        Sizes::OF_RUN
+    }
+}
+
 /// Returns the chosen least set of a frame if a flow of units shows it, and adds its certificate.
 /// Otherwise the records change in their flows only.
 fn shown_in<R: Threads + Sync, G: PhaseGate>(
@@ -58,8 +67,9 @@ fn shown_in<R: Threads + Sync, G: PhaseGate>(
     ensures certificate { IfOk result (λ shown. MatchOption shown (AddsNone records.old records.new)
         (AddsOne frame.now.circuit.now frame.now.keep.now records.old records.new)) }
 {
+    let sizes = sizes_of(records);
     let mut flow = records.take_flow(alloc);
-    let shown = chosen_least_in_parts(rt, alloc, frame, choice, crew, &mut flow);
+    let shown = chosen_by_sizes(rt, alloc, frame, choice, crew, sizes, &mut flow);
     records.keep_flow(flow);
     match shown {
         Ok(Some(set)) => certified(alloc, frame, set, records),

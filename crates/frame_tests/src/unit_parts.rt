@@ -19,6 +19,7 @@ use unit_flows::{Frame, GateFlow, UnitFlow};
 /// Each circuit is cut, and a part of over 64 places is large.
 const SMALL: Sizes = Sizes {
     circuit: 1,
+    alone: usize::MAX,
     part: 8,
     large: 64,
 };
@@ -26,6 +27,7 @@ const SMALL: Sizes = Sizes {
 /// Each circuit is cut, and no part is large.
 pub(crate) const SHARED: Sizes = Sizes {
     circuit: 1,
+    alone: usize::MAX,
     part: 8,
     large: 1 << 24,
 };
@@ -33,6 +35,7 @@ pub(crate) const SHARED: Sizes = Sizes {
 /// No circuit is cut.
 const WHOLE: Sizes = Sizes {
     circuit: 1 << 24,
+    alone: usize::MAX,
     part: 8,
     large: 64,
 };
@@ -40,6 +43,7 @@ const WHOLE: Sizes = Sizes {
 /// Each circuit is cut, and each component with three places is a part.
 const EACH: Sizes = Sizes {
     circuit: 1,
+    alone: usize::MAX,
     part: 3,
     large: 64,
 };
@@ -277,8 +281,10 @@ fn each_part_has_marks_of_its_own(rt: HostRuntime) {
 fn a_run_cuts_from_the_sizes_that_are_told(rt: HostRuntime) {
     let Sizes {
         circuit,
+        alone,
         part,
         large,
     } = Sizes::OF_RUN;
-    assert!(rt; (circuit == 524_288) & (part == 8192) & (large == 65_536));
+    assert!(rt; (circuit == 524_288) & (alone == 4_194_304));
+    assert!(rt; (part == 8192) & (large == 65_536));
 }

@@ -1,5 +1,5 @@
-//! The chosen least set of a circuit by a flow of units. A large circuit is cut into parts if there
-//! are workers to own them.
+//! The chosen least set of a circuit by a flow of units. A large circuit is cut into parts, which
+//! workers own. One worker owns all of them; the tables of a part then are small.
 ghost use Rattle.std.specs.Prelude.{IfOk, IfSome};
 ghost use Rattle.aig_graph.specs.Chosen.{IsChosen};
 
@@ -42,8 +42,8 @@ fn flow_by_parts<R: Threads + Sync, G: PhaseGate>(
     flow
 }
 
-/// Returns the flow of a region by its parts. Returns none if the region is small, there is one
-/// worker only, or the parts aren't worth it.
+/// Returns the flow of a region by its parts. Returns none if the region is small for the number of
+/// workers, or the parts aren't worth it.
 fn cut_flow<R: Threads + Sync, G: PhaseGate>(
     rt: &R,
     alloc: Global,
@@ -51,7 +51,7 @@ fn cut_flow<R: Threads + Sync, G: PhaseGate>(
     crew: &Crew<G>,
     sizes: Sizes,
 ) -> Result<Option<CutFlow>, NoMemory> {
-    if crew.workers() < 2 || region.places() < sizes.circuit {
+    if region.places() < sizes.least(crew.workers()) {
         return Ok(None);
     }
     let mut memory = Memory::of(alloc);
@@ -64,7 +64,7 @@ fn cut_flow<R: Threads + Sync, G: PhaseGate>(
 }
 
 /// Brings a flow of a frame by its parts, if none is known of it; the flow is a hint. Returns none
-/// if the crew is one worker, the frame is small, or one part is nearly all of it.
+/// if the frame is small for the number of workers, or one part is nearly all of it.
 ///
 /// # Errors
 ///
@@ -137,7 +137,7 @@ pub fn chosen_by_sizes<R: Threads + Sync, G: PhaseGate>(
 /// there is a set, and never which.
 ///
 /// A circuit of at least 2^19 latches and gates is cut if no flow of it is known and the crew has
-/// several workers. Its network's components, which share no arc, are gathered into parts of 2^13
+/// several workers. For one worker it is cut from 2^22 on. Its network's components, which share no arc, are gathered into parts of 2^13
 /// places or more. Each worker owns some and finds the flow there. Pulses of the whole crew work on
 /// a part with over half of a worker's share and over 2^16 places. They also work on a smaller
 /// circuit, and on one of which one part has over nine tenths. Along a last flow few units are left
