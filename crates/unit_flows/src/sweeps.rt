@@ -187,12 +187,9 @@ pub fn mark(
         ≡ latches_and_gates frame.now.circuit.now.aig) }
 {
     let aig = frame.circuit.aig();
-    spare.clear_numbers(aig.gates().len())?;
-    let mut before = filled(
-        taken(&mut spare.before, alloc),
-        false,
-        aig.latches_and_gates(),
-    )?;
+    let places = aig.latches_and_gates();
+    spare.clear_numbers(places)?;
+    let mut before = filled(taken(&mut spare.before, alloc), false, places)?;
     let mut after = leaving_in(taken(&mut spare.after, alloc), frame)?;
     sweep_all(
         before.as_mut_slice(),
