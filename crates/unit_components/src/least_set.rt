@@ -1,5 +1,5 @@
 //! The chosen least set of a circuit by a flow of units. A large circuit is cut into parts, which
-//! workers own. One worker owns all of them; the tables of a part then are small.
+//! workers own. One worker owns all of them, and needs little memory: a part's tables are small.
 ghost use Rattle.std.specs.Prelude.{IfOk, IfSome};
 ghost use Rattle.aig_graph.specs.Chosen.{IsChosen};
 
@@ -100,8 +100,17 @@ fn shown_by(
     shown_chosen(alloc, frame, choice, gates.as_slice(), spare)
 }
 
-/// Returns the chosen least set of a frame if a flow of units shows it, as
-/// [`chosen_least_in_parts`] does, but with the sizes `sizes`.
+/// Returns the chosen least set of a frame, if a flow of units shows it. That flow is a start along
+/// `flow`, or what pulses make of such a start. `flow` is what the last flow did at the circuit's
+/// gates, or nothing; afterwards it is the flow that was found. Flows are hints: they decide if
+/// there is a set, and never which.
+///
+/// A circuit is cut if no flow of it is known and it has as many latches and gates as `sizes` wants
+/// for this crew. Its network's components, which share no arc, are gathered into parts. Each
+/// worker owns some and finds the flow there. Pulses of the whole crew work on a large part, which
+/// has over half of a worker's share. They also work on a smaller circuit, and on one of which one
+/// part has over nine tenths. Along a last flow few units are left to bring, which costs less than
+/// to cut.
 ///
 /// # Errors
 ///
@@ -129,34 +138,4 @@ pub fn chosen_by_sizes<R: Threads + Sync, G: PhaseGate>(
         Ok(None) => chosen_least_brought(rt, alloc, frame, choice, crew, flow),
         Err(error) => Err(error),
     }
-}
-
-/// Returns the chosen least set of a frame, if a flow of units shows it. That flow is a start along
-/// `flow`, or what pulses make of such a start. `flow` is what the last flow did at the circuit's
-/// gates, or nothing; afterwards it is the flow that was found. Flows are hints: they decide if
-/// there is a set, and never which.
-///
-/// A circuit of at least 2^19 latches and gates is cut if no flow of it is known and the crew has
-/// several workers. For one worker it is cut from 2^22 on. Its network's components, which share no arc, are gathered into parts of 2^13
-/// places or more. Each worker owns some and finds the flow there. Pulses of the whole crew work on
-/// a part with over half of a worker's share and over 2^16 places. They also work on a smaller
-/// circuit, and on one of which one part has over nine tenths. Along a last flow few units are left
-/// to bring, which costs less than to cut.
-///
-/// # Errors
-///
-/// `NoMemory` if a table or a thread's memory is refused. Then `flow` is the flow of before, one of
-/// this run, or none.
-pub fn chosen_least_in_parts<R: Threads + Sync, G: PhaseGate>(
-    rt: &R,
-    alloc: Global,
-    frame: &Frame,
-    choice: Choice,
-    crew: &Crew<G>,
-    flow: &mut UnitFlow,
-) -> Result<Option<ClosedSet>, NoMemory>
-    ensures { IfOk result (λ shown. IfSome shown (IsChosen choice frame.now.circuit.now
-        frame.now.keep.now)) }
-{
-    chosen_by_sizes(rt, alloc, frame, choice, crew, Sizes::OF_RUN, flow)
 }

@@ -34,6 +34,10 @@ impl Sizes {
 
     /// Returns the least number of places of a circuit that is cut for `workers` workers.
     pub(crate) fn least(&self, workers: u32) -> usize {
-        if workers < 2 { self.alone } else { self.circuit }
+        if workers < 2 {
+            self.alone
+        } else {
+            self.circuit
+        }
     }
 }

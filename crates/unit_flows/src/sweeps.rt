@@ -166,7 +166,8 @@ fn leaving_in(memory: Vec<bool>, frame: &Frame) -> Result<Vec<bool>, NoMemory>
 }
 
 /// Marks the nodes that reach the sink over residual arcs. All are marked, unless [`MOST_SWEEPS`]
-/// sweeps don't find them. The spare tables are used.
+/// sweeps don't find them. The spare tables are used. That of numbers gets room for latches too,
+/// since the judge tallies there by latch and gate.
 ///
 /// # Errors
 ///
