@@ -8,13 +8,16 @@ use pulse::{Crew, OpenGate, PhaseGate};
 use std::alloc::Global;
 use std::test::*;
 use std::thread::Threads;
-use unit_components::{CutFlow, Shares, flow_in_parts};
+use unit_components::{CutFlow, Shares, Sizes, flow_in_parts};
 use unit_flows::Frame;
 use unit_pulses::{Range, pulse_ranges};
 
 /// Blocks have six places each, so two of them are a part of eight places or more, and there are
 /// half as many parts.
 const PARTS: usize = 32;
+
+/// The latches and gates of all blocks.
+const PLACES: usize = 384;
 
 /// Returns how the work on a flow was shared, if one was brought.
 fn shares_of(brought: Result<Option<CutFlow>, NoMemory>) -> Option<Shares> {
@@ -33,10 +36,11 @@ fn shares_on<R: Threads + Sync, G: PhaseGate>(
     alloc: Global,
     circuit: &Circuit,
     crew: &Crew<G>,
+    sizes: Sizes,
 ) -> Option<Shares> {
     match Frame::new(alloc, circuit, &Keep::none()) {
         Ok(frame) => {
-            let brought = flow_in_parts(rt, alloc, &frame, crew, SHARED);
+            let brought = flow_in_parts(rt, alloc, &frame, crew, sizes);
             drop(frame);
             shares_of(brought)
         }
@@ -67,7 +71,7 @@ fn draws_past<R: Threads + Sync>(
     match HeldGate::of(alloc, held, 1) {
         Ok(gate) => {
             let crew = Crew::new(2, gate);
-            let drawn = are_drawn(shares_on(rt, alloc, circuit, &crew), drawing);
+            let drawn = are_drawn(shares_on(rt, alloc, circuit, &crew, SHARED), drawing);
             let saw_both = crew.gate().saw_both();
             drop(crew);
             drawn & saw_both
@@ -94,16 +98,42 @@ fn either_worker_brings_all_parts_past_a_held_one(rt: HostRuntime) {
     assert!(rt; either_draws_all(&rt, rt.alloc()));
 }
 
-/// Returns how seven workers share the work on the blocks.
-fn shares_of_seven<R: Threads + Sync>(rt: &R, alloc: Global) -> Option<Shares> {
+/// Returns how a crew shares the work on the blocks.
+fn shares_of_crew<R: Threads + Sync>(
+    rt: &R,
+    alloc: Global,
+    crew: &Crew<OpenGate>,
+    sizes: Sizes,
+) -> Option<Shares> {
     match BLOCKS.circuit(alloc) {
         Ok(circuit) => {
-            let shares = shares_on(rt, alloc, &circuit, &Crew::new(7, OpenGate));
+            let shares = shares_on(rt, alloc, &circuit, crew, sizes);
             drop(circuit);
             shares
         }
         Err(_) => None,
     }
+}
+
+/// Returns how seven workers share the work on the blocks.
+fn shares_of_seven<R: Threads + Sync>(rt: &R, alloc: Global) -> Option<Shares> {
+    shares_of_crew(rt, alloc, &Crew::new(7, OpenGate), SHARED)
+}
+
+/// Returns how one worker brings the flow of the blocks, if it cuts circuits of `alone` places.
+fn shares_of_one<R: Threads + Sync>(rt: &R, alloc: Global, alone: usize) -> Option<Shares> {
+    let sizes = Sizes { alone, ..SHARED };
+    shares_of_crew(rt, alloc, &Crew::new(1, OpenGate), sizes)
+}
+
+#[test]
+fn one_worker_draws_each_part_once(rt: HostRuntime) {
+    assert!(rt; are_drawn(shares_of_one(&rt, rt.alloc(), PLACES), &[PARTS]));
+}
+
+#[test]
+fn one_worker_cuts_no_circuit_with_a_place_less(rt: HostRuntime) {
+    assert!(rt; shares_of_one(&rt, rt.alloc(), PLACES + 1).is_none());
 }
 
 /// Returns how many of them look for components, draw parts, and gather flows.

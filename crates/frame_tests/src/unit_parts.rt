@@ -24,10 +24,10 @@ const SMALL: Sizes = Sizes {
     large: 64,
 };
 
-/// Each circuit is cut, and no part is large.
+/// Each circuit is cut, for one worker too, and no part is large.
 pub(crate) const SHARED: Sizes = Sizes {
     circuit: 1,
-    alone: usize::MAX,
+    alone: 1,
     part: 8,
     large: 1 << 24,
 };
@@ -197,7 +197,7 @@ fn finds<R: Threads + Sync>(
     (shown == Some(gates)) & same & (again == Some(gates))
 }
 
-/// Returns true if three, seven and sixty-four workers find the flow that two find.
+/// Returns true if one, three, seven and sixty-four workers find the flow that two find.
 fn find_the_same<R: Threads + Sync>(
     rt: &R,
     alloc: Global,
@@ -208,7 +208,8 @@ fn find_the_same<R: Threads + Sync>(
     let crew = Crew::new(2, OpenGate);
     let mut flow = UnitFlow::none(alloc);
     let shown = shown_gates(rt, alloc, circuit, &crew, sizes, &mut flow);
-    let same = finds(rt, alloc, circuit, 3, sizes, gates, flow.gates.as_slice())
+    let same = finds(rt, alloc, circuit, 1, sizes, gates, flow.gates.as_slice())
+        & finds(rt, alloc, circuit, 3, sizes, gates, flow.gates.as_slice())
         & finds(rt, alloc, circuit, 7, sizes, gates, flow.gates.as_slice())
         & finds(rt, alloc, circuit, 64, sizes, gates, flow.gates.as_slice());
     drop(flow);
@@ -288,4 +289,11 @@ fn a_run_cuts_from_the_sizes_that_are_told(rt: HostRuntime) {
     } = Sizes::OF_RUN;
     assert!(rt; (circuit == 524_288) & (alone == 4_194_304));
     assert!(rt; (part == 8192) & (large == 65_536));
+}
+
+// Its routes would be others.
+#[test]
+fn one_worker_whose_routes_are_told_cuts_no_circuit(rt: HostRuntime) {
+    assert!(rt; Sizes::OF_ROUTES.alone == usize::MAX);
+    assert!(rt; Sizes::OF_ROUTES.circuit == Sizes::OF_RUN.circuit);
 }
