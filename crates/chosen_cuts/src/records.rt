@@ -1,8 +1,9 @@
 //! The records that a run keeps from circuit to circuit: flows, and the certificates of the sets
 //! that were found.
 
-use aig_graph::NoMemory;
+use aig_graph::{Lit, NoMemory};
 use certificates::Certificate;
+use rebuild::MoveTables;
 use std::alloc::Global;
 use std::mem;
 use unit_flows::{GateFlow, SpareTables, UnitFlow};
@@ -14,6 +15,8 @@ pub struct Records {
     pub flows: Vec<GateFlow>,
     /// The tables of the last flow of units, for the next one to use again.
     pub spare: SpareTables,
+    /// A table of literals for the next move to use again.
+    pub literals: Vec<Lit>,
     /// Records a certificate of each set. Otherwise none is made.
     pub certify: bool,
     /// The certificates of the sets that were found, in order.
@@ -38,6 +41,7 @@ impl Records {
         Records {
             flows: Vec::new(alloc),
             spare: SpareTables::none(alloc),
+            literals: Vec::new(alloc),
             certify,
             certificates: Vec::new(alloc),
             networks: 0,
@@ -68,6 +72,25 @@ impl Records {
         let UnitFlow { gates, spare } = flow;
         self.flows = gates;
         self.spare = spare;
+    }
+
+    /// Takes the tables of a move out.
+    pub fn take_tables(&mut self, alloc: Global) -> MoveTables
+        ensures { AddsNone self.old self.new }
+    {
+        MoveTables {
+            numbers: self.spare.take_numbers(alloc),
+            literals: mem::replace(&mut self.literals, Vec::new(alloc)),
+        }
+    }
+
+    /// Keeps the tables of a move.
+    pub fn keep_tables(&mut self, tables: MoveTables)
+        ensures { AddsNone self.old self.new }
+    {
+        let MoveTables { numbers, literals } = tables;
+        self.spare.keep_numbers(numbers);
+        self.literals = literals;
     }
 
     /// Forgets the last certificate, if certificates are wanted: its set isn't taken after all.

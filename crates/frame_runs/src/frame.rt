@@ -18,7 +18,7 @@ use aig_graph::{Circuit, ClosedSet, Keep, NoMemory};
 use chosen_cuts::Records;
 use clean::Cleaned;
 use pulse::{Crew, PhaseGate};
-use rebuild::moved_in;
+use rebuild::{MoveTables, moved_in};
 use retimed_circuits::FrameReport;
 use std::alloc::Global;
 use std::mem;
@@ -43,7 +43,7 @@ fn finished_move(
     keep: &Keep,
     set: &ClosedSet,
     prepared: PreparedMove,
-    numbers: &mut Vec<u32>,
+    tables: &mut MoveTables,
 ) -> Result<Circuit, NoMemory>
     requires saves { IsSavingSet circuit.now keep.now set.now }
     requires prepared { IsPrepared circuit.now keep.now set.now prepared }
@@ -56,12 +56,12 @@ fn finished_move(
             drop(marks);
             Ok(after)
         }
-        None => moved_in(alloc, circuit, set, keep, marks, numbers),
+        None => moved_in(alloc, circuit, set, keep, marks, tables),
     }
 }
 
 /// Moves the latches of `circuit` over `set`, and cleans the circuit after the move. `follower`
-/// sees both. The move uses a spare table of numbers.
+/// sees both. The move uses spare tables.
 fn moved_over<F: RunFollower>(
     alloc: Global,
     follower: &mut F,
@@ -69,7 +69,7 @@ fn moved_over<F: RunFollower>(
     keep: &Keep,
     set: &ClosedSet,
     prepared: PreparedMove,
-    numbers: &mut Vec<u32>,
+    tables: &mut MoveTables,
 ) -> Result<Cleaned, F::Stop>
     requires there { HasComeTo F.has_come follower.old circuit.now }
     requires in_range { All (λ j. j < length circuit.now.aig.latches) keep.now }
@@ -83,7 +83,7 @@ fn moved_over<F: RunFollower>(
     let copies = set.vars().len();
     follower.see_move(circuit, set, keep, &prepared.marks)?;
     let held = prepared.marks.held_after(alloc, circuit, set, keep)?;
-    let after = finished_move(alloc, circuit, keep, set, prepared, numbers)?;
+    let after = finished_move(alloc, circuit, keep, set, prepared, tables)?;
     settled(alloc, follower, after, held, copies)
 }
 
@@ -143,9 +143,9 @@ pub(crate) fn next_frame<F: RunFollower, G: PhaseGate, V: FrameWatcher>(
             let prepared = found.prepared;
             let set = &found.set;
             let follower = &mut run.follower;
-            let mut numbers = records.spare.take_numbers(alloc);
-            let cleaned = moved_over(alloc, follower, circuit, keep, set, prepared, &mut numbers)?;
-            records.spare.keep_numbers(numbers);
+            let mut tables = records.take_tables(alloc);
+            let cleaned = moved_over(alloc, follower, circuit, keep, set, prepared, &mut tables)?;
+            records.keep_tables(tables);
             let flows = mem::replace(&mut records.flows, Vec::new(alloc));
             records.flows = carried(alloc, circuit, set, cleaned.kept.as_slice(), flows)?;
             Ok(Some(Frame {

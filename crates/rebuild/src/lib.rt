@@ -13,8 +13,10 @@ mod plan;
 mod properties;
 mod ranks;
 mod starting;
+mod tables;
 mod values;
 
 pub use marking::MoveMarks;
 pub use moving::{moved, moved_by, moved_in};
 pub use starting::resets;
+pub use tables::MoveTables;

@@ -17,9 +17,9 @@ use crate::marks::MarkedSet;
 use crate::names::moved_symbols;
 use crate::plan::Plan;
 use crate::properties::moved_props;
+use crate::tables::MoveTables;
 use aig_graph::{Circuit, ClosedSet, Keep, NoMemory};
 use std::alloc::Global;
-use std::mem;
 
 /// Moves the latches of a circuit forward over a closed set (Hurst et al. 2007). Each gate of the
 /// set's border gets a latch at its output, with the gate's value at step 0 as reset. The gates of
@@ -61,17 +61,17 @@ pub fn moved_by(
     ensures known { IfOk result (λ after. known_latches after.aig
         ≡ border_size (move_of circuit.now keep.now set.now)) }
 {
-    moved_in(alloc, circuit, set, keep, marks, &mut Vec::new(alloc))
+    moved_in(alloc, circuit, set, keep, marks, &mut MoveTables::none(alloc))
 }
 
-/// Moves the latches as [`moved_by`] does, with a table of numbers in the memory of another one.
+/// Moves the latches as [`moved_by`] does, with its tables in the memory of others.
 pub fn moved_in(
     alloc: Global,
     circuit: &Circuit,
     set: &ClosedSet,
     keep: &Keep,
     marks: MoveMarks,
-    numbers: &mut Vec<u32>,
+    tables: &mut MoveTables,
 ) -> Result<Circuit, NoMemory>
     requires closed { IsClosedSet circuit.now.aig keep.now set.now }
     requires room { moved_size (move_of circuit.now keep.now set.now) ≤ MAX_VARIABLES }
@@ -83,11 +83,10 @@ pub fn moved_in(
         ≡ border_size (move_of circuit.now keep.now set.now)) }
 {
     let marked = MarkedSet::new(circuit, set, keep, marks);
-    let memory = mem::replace(numbers, Vec::new(alloc));
-    let plan = Plan::new(alloc, marked, memory)?;
+    let plan = Plan::new(marked, tables.take(alloc))?;
     let aig = moved_graph(alloc, &plan)?;
     let props = moved_props(alloc, &plan)?;
     let symbols = moved_symbols(alloc, &plan)?;
-    *numbers = plan.into_numbers();
+    *tables = plan.into_tables();
     Ok(Circuit::new(aig, props, symbols))
 }

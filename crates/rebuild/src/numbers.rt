@@ -12,7 +12,6 @@ ghost use Rattle.rebuild.specs.Planned.{marked};
 
 use crate::marks::MarkedSet;
 use aig_graph::{Lit, NoMemory, entry};
-use std::alloc::Global;
 
 /// Returns 1 if the mark is set, else 0.
 fn one_if(mark: bool) -> u32
@@ -36,8 +35,8 @@ fn number_of(latched: bool, outside: bool, latch: u32, gate: u32, own: u32) -> u
     }
 }
 
-/// Returns an empty table with room for `room` numbers, in the memory of another one.
-fn emptied(memory: Vec<u32>, room: usize) -> Result<Vec<u32>, NoMemory>
+/// Returns an empty table with room for `room` entries, in the memory of another one.
+fn emptied<T: Drop>(memory: Vec<T>, room: usize) -> Result<Vec<T>, NoMemory>
     ensures none { IfOk result (λ table. table.items ≡ []) }
     ensures room { IfOk result (λ table. room ≤ vec_capacity table) }
 {
@@ -110,9 +109,9 @@ fn copy_of(member: bool, copy: u32) -> Lit
 
 /// Returns for each variable the literal that has now the variable's value of one step later. A
 /// latch has its next literal, a member its copy, and the copies count up from `start`. Other gates
-/// have false, since copies read none.
+/// have false, since copies read none. The table is made in the memory of another one.
 pub(crate) fn advanced_literals(
-    alloc: Global,
+    memory: Vec<Lit>,
     marks: &MarkedSet<'_>,
     variables: &[u32],
     start: u32,
@@ -127,7 +126,7 @@ pub(crate) fn advanced_literals(
 {
     let latches = marks.aig().latches();
     let members = marks.members.as_slice();
-    let mut literals = Vec::with_capacity(alloc, members.len())?;
+    let mut literals = emptied(memory, members.len())?;
     for latch in latches {
         literals.push_reserved(renamed(marks, variables, latch.next));
     }

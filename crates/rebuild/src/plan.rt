@@ -14,8 +14,8 @@ ghost use Rattle.rebuild.specs.Entries.{by_variable};
 
 use crate::marks::MarkedSet;
 use crate::numbers::{advanced_literals, new_variables, renamed};
+use crate::tables::MoveTables;
 use aig_graph::{Aig, Gate, Latch, Lit, NoMemory, Reset, count_marks, entry};
-use std::alloc::Global;
 
 /// What becomes of each variable of a circuit if latches move over a set. The tables begin at the
 /// first latch.
@@ -35,12 +35,10 @@ pub(crate) struct Plan<'a> {
 impl<'a> Plan<'a> {
     ghost use Rattle.rebuild.specs.Planned.{marked, planned};
 
-    /// Returns the plan of these marks. The table of variables is made in the memory of another
-    /// one.
+    /// Returns the plan of these marks, in the memory of other tables.
     pub(crate) fn new(
-        alloc: Global,
         marks: MarkedSet<'a>,
-        memory: Vec<u32>,
+        memory: MoveTables,
     ) -> Result<Plan<'a>, NoMemory>
         requires moved { IsGraph (moved_graph (marked marks)) }
         requires room { copies_start (marked marks) + count_below (has (marked marks).set)
@@ -50,8 +48,9 @@ impl<'a> Plan<'a> {
         let gates_start = marks.first + count_marks(marks.latched.as_slice());
         let outside = marks.aig().gates().len() as u32 - count_marks(marks.members.as_slice());
         let first_copy = gates_start + outside;
-        let variables = new_variables(memory, &marks, gates_start)?;
-        let later = advanced_literals(alloc, &marks, variables.as_slice(), first_copy)?;
+        let MoveTables { numbers, literals } = memory;
+        let variables = new_variables(numbers, &marks, gates_start)?;
+        let later = advanced_literals(literals, &marks, variables.as_slice(), first_copy)?;
         Ok(Plan {
             marks,
             variables,
@@ -59,10 +58,15 @@ impl<'a> Plan<'a> {
         })
     }
 
-    /// Returns the table of variables.
-    pub(crate) fn into_numbers(self) -> Vec<u32> {
-        let Plan { variables, .. } = self;
-        variables
+    /// Returns the tables.
+    pub(crate) fn into_tables(self) -> MoveTables {
+        let Plan {
+            variables, later, ..
+        } = self;
+        MoveTables {
+            numbers: variables,
+            literals: later,
+        }
     }
 
     /// Returns the graph before the move.
