@@ -18,9 +18,9 @@ loop-latch-init c =
     let m = marked k in
     let g = k.circuit.now.aig in
     record {
-      room = omega (arith, c.in_ok-literals.ensures.exact, length-by_variable g (has k.set.now) c.as_slice-members.result.now (c.as_slice-members.ensures.value ∙ k.members_are));
+      room = omega (arith, c.in_ok-literals.ensures.room, length-by_variable g (has k.set.now) c.as_slice-members.result.now (c.as_slice-members.ensures.value ∙ k.members_are));
       within = omega arith;
-      filled = c.in_ok-literals.ensures.items ∙ sym (table-none (first_latch g) (advanced m));
+      filled = c.in_ok-literals.ensures.none ∙ sym (table-none (first_latch g) (advanced m));
     }
 
 pub renamed-requires-clause-known : goal.renamed-requires-clause-known
