@@ -61,7 +61,14 @@ pub fn moved_by(
     ensures known { IfOk result (λ after. known_latches after.aig
         ≡ border_size (move_of circuit.now keep.now set.now)) }
 {
-    moved_in(alloc, circuit, set, keep, marks, &mut MoveTables::none(alloc))
+    moved_in(
+        alloc,
+        circuit,
+        set,
+        keep,
+        marks,
+        &mut MoveTables::none(alloc),
+    )
 }
 
 /// Moves the latches as [`moved_by`] does, with its tables in the memory of others.

@@ -36,10 +36,7 @@ impl<'a> Plan<'a> {
     ghost use Rattle.rebuild.specs.Planned.{marked, planned};
 
     /// Returns the plan of these marks, in the memory of other tables.
-    pub(crate) fn new(
-        marks: MarkedSet<'a>,
-        memory: MoveTables,
-    ) -> Result<Plan<'a>, NoMemory>
+    pub(crate) fn new(marks: MarkedSet<'a>, memory: MoveTables) -> Result<Plan<'a>, NoMemory>
         requires moved { IsGraph (moved_graph (marked marks)) }
         requires room { copies_start (marked marks) + count_below (has (marked marks).set)
             (variables_end (marked marks).circuit.aig) ≤ MAX_VARIABLES }
@@ -61,7 +58,9 @@ impl<'a> Plan<'a> {
     /// Returns the tables.
     pub(crate) fn into_tables(self) -> MoveTables {
         let Plan {
-            variables, later, ..
+            variables,
+            later,
+            ..
         } = self;
         MoveTables {
             numbers: variables,
