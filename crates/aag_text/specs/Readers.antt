@@ -27,8 +27,8 @@ PhaseHolds (Failed fault) len bytes = Fails NoMemory fault (fed bytes)
 abbrev pub HasReadBytes : AagReader → List ℕ → Type 0
 HasReadBytes reader bytes = PhaseReads reader.phase reader.taken bytes
 
--- The reader was fed these bytes, in whatever pieces. Its state is that after them, or it has
--- failed with their fault or for want of memory.
+-- The reader was fed these bytes, in whatever pieces. Its state is theirs, or it failed with their
+-- fault or for want of memory.
 abbrev pub Holds : AagReader → List ℕ → Type 0
 Holds reader bytes = PhaseHolds reader.phase reader.taken bytes
 
@@ -38,7 +38,7 @@ phase_standing (Header line) = Ok tt
 phase_standing (Items items) = Ok tt
 phase_standing (Failed fault) = Err fault
 
--- what a reader has failed with, if it has: each further call answers it
+-- what a reader has failed with, if it has; further calls answer it
 abbrev pub standing : AagReader → Result (Unit {0}) ReadError
 standing reader = phase_standing reader.phase
 

@@ -37,7 +37,7 @@ pub record HoldBefore (items : Items) (left bytes : List ℕ) : Type 0 where
   pub parts : taken ++ left ≡ bytes
   pub hold : Hold items taken
 
--- What a function returned: Ok if P holds, or the fault that reading gives, unless memory ran out.
+-- P at Ok; an error is the fault that reading gives, unless memory ran out
 abbrev pub HoldsOrFaults : {X Y : Type 0} → Type 0 → Result X ReadError → Result Y ReadError → Type 0
 HoldsOrFaults P (Ok x) read = P
 HoldsOrFaults P (Err error) read = Fails NoMemory error read

@@ -26,8 +26,8 @@ raw_of m symbols = record {
 abbrev pub ArePlacesOf : Places → List ℕ → Type 0
 ArePlacesOf places variables = (v : ℕ) → place_of places v ≡ position (λ w. w == v) variables
 
--- The items with these symbols have been read. They meet the conditions on a file so far. The
--- places are those of the variables that they define, and the names are those of the symbols.
+-- What was read, with these symbols, meets a file's conditions so far. The places are those of its
+-- variables, the names those of the symbols.
 pub record IsAt (m : Sections) (symbols : List RawSymbol) : Type 0 where
   pub read : IsReadSoFar m.header (raw_of m symbols)
   pub places : ArePlacesOf m.places (defined (raw_of m symbols))
@@ -40,7 +40,7 @@ pub record GoesOn (old new : Sections) (read : Result Raw ReadError) : Type 0 wh
   pub gives : read ≡ Ok (raw_of new symbols)
   pub stands : IsAt new symbols
 
--- What taking an item returned is what reading gives, unless memory ran out.
+-- taking an item gives what reading gives, unless memory runs out
 abbrev pub Takes : Sections → Sections → Result (Unit {0}) ReadError → Result Raw ReadError → Type 0
 Takes old new (Ok _) read = GoesOn old new read
 Takes old new (Err error) read = Fails NoMemory error read

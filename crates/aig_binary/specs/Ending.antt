@@ -18,7 +18,7 @@ pub record ReadsToEnd (old new : Input) : Type 0 where
 pub record LeftBytesReadAs (old : Input) (read : Result Netlist ReadError) : Type 0 where
   pub bytes : (left : List ℕ) → old.bytes ≡ Some left → read_any left ≡ read
 
--- the bytes that were left, if those are known, are those of the circuit, in the spelling
+-- the bytes that were left, if known, are the circuit's in the spelling
 pub record Spells (old : Input) (spelt : SpeltCircuit) : Type 0 where
   pub circuit : LeftBytesReadAs old (Ok spelt.circuit)
   pub spelling : (left : List ℕ) → old.bytes ≡ Some left → spelling_of left ≡ Some spelt.spelling

@@ -15,7 +15,7 @@ pub record FailsAtEnd (bytes : List ℕ) (e : ReadError) : Type 0 where
   pub of_bytes : is_fault_of_bytes e ≡ true
   pub fault : read_any bytes ≡ Err e
 
--- why one more piece, or the end of the bytes, was refused: memory, or a fault
+-- why one more piece was refused: memory, or a fault
 abbrev pub IsFeedError : List ℕ → ReadError → Type 0
 IsFeedError bytes e = (e ≡ NoMemory) ⊎ FailsFrom bytes e
 

@@ -15,8 +15,7 @@ use Rattle.binary_file.specs.Deltas.{delta_of}
 unfoldable pub next_row : ℕ → Latch → List ℕ
 next_row var latch = latch.next ∷ reset_row var latch.reset
 
--- the two deltas of a gate: from its own literal down to the first fan-in, and from that down to
--- the second
+-- a gate's deltas: from its own literal down to the first fan-in, and from there to the second
 unfoldable pub gate_deltas : ℕ → Gate → List ℕ
 gate_deltas var gate = delta_of (2 * var - gate.rhs0) ++ delta_of (gate.rhs0 - gate.rhs1)
 

@@ -7,7 +7,7 @@ use Rattle.aig_graph.specs.declared.graph.Latch.{Latch}
 use Rattle.aig_graph.specs.Graph.{Graph, variable, first_latch, latch_at, gate_at, is_known}
 use Rattle.aig_graph.specs.Folding.{fold_gates}
 
--- whether the variable is a latch whose position, from 0, is one of those that are held
+-- whether the variable is a latch at one of the held positions, from 0
 abbrev pub is_held : Graph → List ℕ → ℕ → Bool
 is_held g held v = has held (v - first_latch g) && is_some (latch_at g v)
 
@@ -22,7 +22,7 @@ both gate a b = a && b
 unfoldable pub is_settled : Graph → List ℕ → ℕ → Bool
 is_settled g held v = fold_gates g (may_move g held) both v
 
--- a gate of which each fan-in's variable is a known latch that isn't held, or a passable gate
+-- a gate whose fan-ins are known latches that aren't held, or passable gates
 abbrev pub IsPassable : Graph → List ℕ → ℕ → Type 0
 IsPassable g held v = (gate : Gate) × (gate_at g v ≡ Some gate) × IsTrue (is_settled g held v)
 

@@ -11,7 +11,7 @@ unfoldable pub places : (ℕ → Bool) → ℕ → List ℕ
 places p zero = []
 places p (suc n) = places p n ++ (if p n then n ∷ [] else [])
 
--- those that pass p get the numbers from first on, those that pass only q the numbers from next on,
--- and the others stay
+-- what passes p gets the numbers from first on, what passes only q those from next on, and the
+-- others stay
 unfoldable pub numbered : (ℕ → Bool) → (ℕ → Bool) → ℕ → ℕ → ℕ → ℕ
 numbered p q first next v = if p v then first + count_below p v else (if q v then next + count_below q v else v)

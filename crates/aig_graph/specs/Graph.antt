@@ -16,7 +16,7 @@ pub record Graph : Type 0 where
 abbrev pub variable : ℕ → ℕ
 variable lit = lit / 2
 
--- the variable of the first latch, and of the first gate
+-- the variable of the first latch
 abbrev pub first_latch : Graph → ℕ
 first_latch g = 1 + g.inputs
 
@@ -28,7 +28,7 @@ first_gate g = 1 + g.inputs + length g.latches
 abbrev pub variables_end : Graph → ℕ
 variables_end g = 1 + g.inputs + length g.latches + length g.gates
 
--- how many variables there are from the first latch on
+-- how many latches and gates there are
 abbrev pub latches_and_gates : Graph → ℕ
 latches_and_gates g = length g.latches + length g.gates
 
@@ -58,7 +58,7 @@ is_known (Some latch) = not (is_free latch)
 abbrev pub free_before : Graph → ℕ → ℕ
 free_before g n = count_by is_free (take n g.latches)
 
--- how many latches are free, and how many have a known reset
+-- how many latches are free
 abbrev pub free_latches : Graph → ℕ
 free_latches g = free_before g (length g.latches)
 

@@ -33,7 +33,7 @@ names_of names = map (λ name. name.items) names
 abbrev pub held_in : List (List ℕ) → Netlist → List ℕ
 held_in names c = held_by names c.symbols.latches
 
--- each of the names is that of a latch
+-- each name is that of a latch
 abbrev pub NoneMissing : List (List ℕ) → Netlist → Type 0
 NoneMissing names c = first_missing c.symbols.latches names ≡ None
 
@@ -60,11 +60,11 @@ held_also held (position ∷ positions) c = places (λ j. has held j || has (pos
 abbrev pub held_of : Holding → Netlist → List ℕ
 held_of h c = held_also (held_in h.names c) h.positions c
 
--- each of the positions is that of one of n latches
+-- each position is that of one of n latches
 abbrev pub AreLatches : ℕ → List ℕ → Type 0
 AreLatches n positions = All (λ j. j < n) positions
 
--- the k-th of the positions is the first that is that of none of n latches
+-- the k-th position is the first at which none of n latches is
 pub record IsFirstNoLatch (n : ℕ) (positions : List ℕ) (k : ℕ) : Type 0 where
   pub within : k < length positions
   pub none : n ≤ get_or positions k 0

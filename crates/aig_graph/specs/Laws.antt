@@ -13,8 +13,7 @@ use Rattle.aig_graph.specs.Closed.{is_held, may_move, IsPassable, IsClosedSet}
 use Rattle.aig_graph.specs.Move.{move_of}
 use Rattle.aig_graph.specs.Border.{is_read, in_border, border_size, IsGreatestLeast, IsSmallestLeast}
 
--- the value of the constant, of an input, of a latch at step 0 and later, of a gate and of a
--- negated literal
+-- the values of the constant, inputs, latches at step 0 and later, gates and negated literals
 pub record ValueLaws (g : Graph) (x : Inputs) (f : Choice) : Type 0 where
   pub constant : (t : ℕ) → value g x f t 0 ≡ false
   pub input : (t i : ℕ) → i < g.inputs → value g x f t (2 * (1 + i)) ≡ x t i
@@ -46,8 +45,7 @@ IsTransitive c d e first second = SameStreams c d first → SameStreams d e seco
 abbrev pub MayMoveOrPassable : Graph → List ℕ → ℕ → Type 0
 MayMoveOrPassable g held v = IsTrue (may_move g held v) ⊎ IsPassable g held v
 
--- a gate is passable exactly if the variable of each fan-in is a known latch that isn't held, or a
--- passable gate
+-- a gate is passable exactly if each fan-in is a known latch that isn't held, or a passable gate
 abbrev pub PassableLaw : Graph → List ℕ → ℕ → Type 0
 PassableLaw g held v =
     IsPassable g held v
@@ -59,12 +57,12 @@ pub record EmptySetLaws (c : Netlist) (held : List ℕ) : Type 0 where
   pub count : border_size (move_of c held [])
       ≡ count_below (λ v. is_known (latch_at c.aig v) && (is_held c.aig held v || is_read c [] v)) (variables_end c.aig)
 
--- the border of a closed set: the known latches and the members, that are held or read from outside
+-- the border of a closed set: known latches and members that are held or read from outside
 abbrev pub ClosedBorderLaw : Netlist → List ℕ → List ℕ → ℕ → Type 0
 ClosedBorderLaw c held s v =
     IsClosedSet c.aig held s → in_border (move_of c held s) v ≡ ((is_known (latch_at c.aig v) || has s v) && (is_held c.aig held v || is_read c s v))
 
--- there is at most one greatest least set and one smallest least set
+-- there is at most one greatest least set, and one smallest
 pub record AtMostOne (c : Netlist) (held s r : List ℕ) : Type 0 where
   pub greatest : IsGreatestLeast c held s → IsGreatestLeast c held r → s ≡ r
   pub smallest : IsSmallestLeast c held s → IsSmallestLeast c held r → s ≡ r

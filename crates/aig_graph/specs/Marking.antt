@@ -6,7 +6,7 @@ use Rattle.std.specs.List.{list_any, slice_index_or}
 abbrev pub has : List ℕ → ℕ → Bool
 has s v = list_any (λ w. w == v) s
 
--- the variable's mark; a variable without an entry isn't marked
+-- the variable's mark; it isn't marked without an entry
 unfoldable pub mark_at : ℕ → List Bool → ℕ → Bool
 mark_at first marks v = nat_le first v && slice_index_or marks (v - first) false
 
@@ -19,8 +19,7 @@ pub record Marks (first : ℕ) (old new : List Bool) (p : ℕ → Bool) : Type 0
 abbrev pub AreMarks : ℕ → List Bool → (ℕ → Bool) → Type 0
 AreMarks first marks p = (k : ℕ) → k < length marks → slice_index_or marks k false ≡ p (first + k)
 
--- the marks are those of the variables that pass the test, and no variable before the first entry
--- passes it
+-- the marks are those of the variables that pass the test; none before the first entry passes
 pub record AreAllMarks (first : ℕ) (marks : List Bool) (p : ℕ → Bool) : Type 0 where
   pub before : (v : ℕ) → v < first → p v ≡ false
   pub each : AreMarks first marks p

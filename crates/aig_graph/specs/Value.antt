@@ -38,7 +38,7 @@ opening Zero b = false
 opening One b = true
 opening Free b = b
 
--- the literal of the value of a latch with this reset at step 0; own is its own literal
+-- the literal of a latch's value at step 0, by its reset; own is its own literal
 abbrev pub opening_literal : Reset → ℕ → ℕ
 opening_literal Zero own = 0
 opening_literal One own = 1
@@ -58,7 +58,7 @@ next_value values (Some latch) = values latch.next
 abbrev pub leaf_value : Graph → (ℕ → Bool) → (ℕ → Bool) → ℕ → Bool
 leaf_value g inputs latches v = if v == 0 then false else (if nat_lt v (first_latch g) then inputs (v - 1) else latches (v - first_latch g))
 
--- the value of a literal within a step, from those of the inputs and latches
+-- a literal's value within a step, by those of the inputs and latches
 abbrev pub value_within : Graph → (ℕ → Bool) → (ℕ → Bool) → ℕ → Bool
 value_within g inputs latches lit = signed lit (fold_gates g (leaf_value g inputs latches) conjunction (variable lit))
 

@@ -82,7 +82,7 @@ item_of Liveness line = option_and_then (single LivenessItem) (numbers_of line)
 item_of Gates line = option_and_then gate_in (numbers_of line)
 item_of Symbols line = symbol_of line
 
--- whether a line begins the comment: the letter c alone, or followed by anything but a digit
+-- whether a line begins the comment: c alone, or before anything but a digit
 unfoldable pub begins_comment : List ℕ → Bool
 begins_comment [] = false
 begins_comment (letter ∷ []) = letter == byte "c"

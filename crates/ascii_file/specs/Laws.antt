@@ -21,8 +21,8 @@ pub record IsCircuitOf (h : Header) (raw : Raw) (c : Netlist) : Type 0 where
   pub is_order : IsOrder (gate_reads raw) order
   pub circuit : c ≡ circuit_of h (with_gates_at raw order)
 
--- Reading gives a circuit if and only if the bytes are a file of a raw circuit, and then that
--- one's. Otherwise it gives a fault of the bytes.
+-- reading gives a circuit exactly if the bytes are the file of a raw circuit, and then its own;
+-- else a fault of the bytes
 pub record ReadingLaw (bytes : List ℕ) : Type 0 where
   pub file : (h : Header) (raw : Raw) → IsAsciiFile bytes h raw → (c : Netlist) × IsCircuitOf h raw c × (read_bytes bytes ≡ Ok c)
   pub read : (c : Netlist) → read_bytes bytes ≡ Ok c → (h : Header) × (raw : Raw) × IsAsciiFile bytes h raw × IsCircuitOf h raw c

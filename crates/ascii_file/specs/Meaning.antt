@@ -60,7 +60,7 @@ abbrev pub split_by : {X : Type 0} → List ℕ → List X → List (List X)
 split_by [] xs = []
 split_by (n ∷ sizes) xs = take n xs ∷ split_by sizes (drop n xs)
 
--- the properties by kind, as the header's numbers split the literals of safety and liveness
+-- the properties by kind, as header and sizes split the literals of safety and liveness
 unfoldable pub props_of : Header → List ℕ → List ℕ → List ℕ → Props
 props_of h safety sizes liveness = record {
   outputs = take h.outputs safety;

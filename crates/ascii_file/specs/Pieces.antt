@@ -24,7 +24,7 @@ unfoldable pub open_line : List ℕ → List ℕ
 open_line [] = []
 open_line (b ∷ bytes) = if b == 10 then open_line bytes else with_open b (ended_lines bytes) (open_line bytes)
 
--- the state of a reader after these bytes: only lines that are ended have been taken
+-- a reader's state after these bytes: only ended lines have been taken
 unfoldable pub fed : List ℕ → Result State ReadError
 fed bytes = take_lines AtHeader (ended_lines bytes)
 
@@ -37,7 +37,7 @@ with_last_line state (b ∷ line) = take_line state (b ∷ line)
 unfoldable pub closed : List ℕ → State → Result Netlist ReadError
 closed bytes state = with_last_line state (open_line bytes) >>= finish (length bytes)
 
--- reading bytes is feeding them and closing; a fault of what was fed stays, whatever follows
+-- reading is feeding and closing; a fault of what was fed stays, whatever follows
 pub record PiecesLaw (bytes more : List ℕ) : Type 0 where
   pub whole : read_bytes bytes ≡ (fed bytes >>= closed bytes)
   pub stays : (e : ReadError) → fed bytes ≡ Err e → fed (bytes ++ more) ≡ Err e

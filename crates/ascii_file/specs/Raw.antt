@@ -37,7 +37,7 @@ defined raw = map variable raw.inputs ++ map (λ latch. variable latch.current) 
 abbrev pub read_literals : Raw → List ℕ
 read_literals raw = map (λ latch. latch.next) raw.latches ++ raw.safety ++ raw.liveness ++ flat_map (λ gate. gate.rhs0 ∷ gate.rhs1 ∷ []) raw.gates
 
--- how many literals the second and the fourth group of properties have
+-- how many outputs, bad states and constraints there are
 abbrev pub safety_count : Header → ℕ
 safety_count h = h.outputs + h.bad + h.constraints
 

@@ -47,8 +47,8 @@ past jobs xs = weigh (is_past jobs) xs
 abbrev pub Fits : ℕ → Hand → Type 0
 Fits jobs v = (past jobs v.drawn ≤ v.parts) × (v.parts ≡ 0 → v.drawn ≡ [])
 
--- The rule of the counter: what all seats drew weighs, for every weight, as the numbers below the
--- word. A seat has at most its share of numbers that are no jobs.
+-- the seats drew the numbers below the word once each, and a seat has at most its share of numbers
+-- that are no jobs
 pub record IsGiven (p : Plan) (s : State (Unit {0}) Hand) : Type 0 where
   pub one_word : length s.words ≡ 1
   pub shares : total (λ v. v.parts) s.views ≡ p.drawers

@@ -7,14 +7,13 @@ use Rattle.binary_file.specs.Reading.{State, AtHeader, feed}
 use Rattle.binary_file.specs.declared.reader.AigReader.{AigReader}
 use Rattle.binary_file.specs.Stages.{HoldsStage, failure}
 
--- These bytes were fed, in whatever pieces. The reader is in the state of reading after them, or
--- has failed with their fault, or memory ran out. Unless it has failed, its offset is that of their
--- end.
+-- The reader was fed these bytes, in whatever pieces. Its state is theirs, or it failed with their
+-- fault or for want of memory. Its offset is their number, unless it failed.
 pub record HasBeenFed (reader : AigReader) (bytes : List ℕ) : Type 0 where
   pub count : failure reader.stage ≡ None → length bytes ≡ reader.offset
   pub stage : HoldsStage reader.stage bytes
 
--- on Ok the bytes have no fault so far; an error is their fault, unless memory ran out
+-- at Ok the bytes have no fault so far; an error is theirs, unless memory ran out
 abbrev pub Answers : Result (Unit {0}) ReadError → List ℕ → Type 0
 Answers (Ok x) bytes = (state : State) × (feed (AtHeader []) bytes ≡ Ok state)
 Answers (Err fault) bytes = Fails NoMemory fault (feed (AtHeader []) bytes)

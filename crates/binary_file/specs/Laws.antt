@@ -10,16 +10,15 @@ use Rattle.binary_file.specs.Files.{IsBinaryFile}
 use Rattle.binary_file.specs.Reading.{AtHeader, feed, circuit_of, read_binary, IsBinaryFaultOf}
 use Rattle.binary_file.specs.Deltas.{delta_value, is_delta, delta_of}
 
--- Reading gives a circuit if and only if the bytes are a file of a raw circuit, and then that
--- one's. Otherwise it gives a fault of the bytes.
+-- reading gives a circuit exactly if the bytes are the file of a raw circuit, and then its own;
+-- else a fault of the bytes
 pub record BinaryReadingLaw (bytes : List ℕ) : Type 0 where
   pub file : (h : Header) (raw : Raw) → IsBinaryFile bytes h raw → read_binary bytes ≡ Ok (circuit_of h raw)
   pub read : (c : Netlist) → read_binary bytes ≡ Ok c → (h : Header) × (raw : Raw) × IsBinaryFile bytes h raw × (c ≡ circuit_of h raw)
   pub one : (h h' : Header) (raw raw' : Raw) → IsBinaryFile bytes h raw → IsBinaryFile bytes h' raw' → (h ≡ h') × (raw ≡ raw')
   pub fault : (e : ReadError) → read_binary bytes ≡ Err e → IsBinaryFaultOf bytes e
 
--- feeding joined bytes is feeding them one after the other; a fault of what was fed is that of the
--- whole
+-- feeding joined bytes is feeding one after the other; a fault of what was fed is the whole's
 pub record BinaryPiecesLaw (bytes more : List ℕ) : Type 0 where
   pub joined : feed (AtHeader []) (bytes ++ more) ≡ (feed (AtHeader []) bytes >>= λ state. feed state more)
   pub stays : (e : ReadError) → feed (AtHeader []) bytes ≡ Err e → read_binary (bytes ++ more) ≡ Err e
@@ -28,7 +27,7 @@ pub record BinaryPiecesLaw (bytes more : List ℕ) : Type 0 where
 abbrev pub CountsLaw : List ℕ → Type 0
 CountsLaw bytes = (h : Header) (raw : Raw) → IsBinaryFile bytes h raw → IsCountedBy (record h { inputs = 0 }) raw
 
--- the shortest delta of n spells n, and is a delta, and none that spells n is shorter
+-- delta_of n is a delta that spells n, and none is shorter
 pub record DeltaLaws (n : ℕ) : Type 0 where
   pub value : delta_value (delta_of n) ≡ n
   pub form : IsTrue (is_delta (delta_of n))

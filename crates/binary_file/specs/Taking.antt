@@ -13,8 +13,8 @@ use Rattle.binary_file.specs.Items.{next_section, next_gate}
 use Rattle.binary_file.specs.Reading.{InFirst, before_item, feed, circuit_of}
 use Rattle.binary_file.specs.Contents.{Contents, IsAt}
 
--- After Ok the contents are those of the raw circuit that reading gives; an error is the fault of
--- reading, unless memory ran out.
+-- at Ok the contents are those of the raw circuit read; an error is reading's, unless memory ran
+-- out
 abbrev pub Takes : {X : Type 0} → Header → Contents → Result X ReadError → Result Raw ReadError → Type 0
 Takes h new (Ok x) read = (raw : Raw) × (read ≡ Ok raw) × IsAt new h raw
 Takes h new (Err error) read = Fails NoMemory error read
@@ -23,7 +23,7 @@ Takes h new (Err error) read = Fails NoMemory error read
 abbrev pub read_first_delta : Header → Raw → ℕ → ℕ → Result ℕ ReadError
 read_first_delta h raw at delta = unless (((delta == 0) || nat_lt (next_gate h raw) delta, BadDelta at) ∷ []) (Ok (next_gate h raw - delta))
 
--- the raw circuit with the next gate, by its first fan-in and its second delta at an offset
+-- the raw circuit with the next gate, by its first fan-in and second delta at an offset
 abbrev pub read_second_delta : Header → Raw → ℕ → ℕ → ℕ → Result Raw ReadError
 read_second_delta h raw at rhs0 delta =
     unless ((nat_lt rhs0 delta, BadDelta at) ∷ []) (Ok (with_item raw (GateItem (record { lhs = next_gate h raw; rhs0 = rhs0; rhs1 = rhs0 - delta }))))

@@ -62,7 +62,7 @@ AuditLaw bound held c blocks = (a b : Audit) → IsAudit bound held c blocks a �
 abbrev pub MergedCertifiedLaw : Option ℕ → List ℕ → Netlist → List MergedLatch → List Certificate → Type 0
 MergedCertifiedLaw bound held c lines blocks = (replay : Replay) (is : IsMergedReplay bound held c lines blocks replay) → replay.audit.end ≡ Certified → IsCertified bound is.start_held is.start blocks replay.audit
 
--- there is one audit of a circuit whose latches were merged by these lines before the first frame
+-- there is one audit after merging by these lines
 abbrev pub MergedAuditLaw : Option ℕ → List ℕ → Netlist → List MergedLatch → List Certificate → Type 0
 MergedAuditLaw bound held c lines blocks = (a b : Replay) → IsMergedReplay bound held c lines blocks a → IsMergedReplay bound held c lines blocks b → a.audit ≡ b.audit
 

@@ -25,16 +25,15 @@ IsPartReplay bound held c part replay = IsReplayBy part.merged bound held c part
 abbrev pub IsStageInRange : Stage → Type 0
 IsStageInRange s = All (λ j. j < length s.circuit.aig.latches) s.keep
 
--- The parts are replayed one after another, each from what the one before it ends in. If something
--- speaks against one, that is nothing, and the others aren't judged. These are the audits, and what
--- the last one ends in.
+-- The audits of parts, each replayed from what the one before ends in, and what the last ends in.
+-- If something speaks against one, that is nothing, and the others aren't judged.
 pub data ReplaysParts (bound : Option ℕ) : Option Stage → List CertPart → List Audit → Option Stage → Type 0 where
   no_more : (last : Option Stage) → ReplaysParts bound last [] [] last
   not_judged : (parts : List CertPart) → ReplaysParts bound None parts [] None
   judged : (s : Stage) (part : CertPart) (parts : List CertPart) (replay : Replay) (audits : List Audit) (last : Option Stage) → IsPartReplay bound s.keep s.circuit part replay
       → ReplaysParts bound replay.last parts audits last → ReplaysParts bound (Some s) (part ∷ parts) (replay.audit ∷ audits) last
 
--- what they end in has the streams of the circuit that the first of them is about
+-- what they end in has the streams of the first one's circuit
 abbrev pub PartsLaw : Option ℕ → Stage → List CertPart → Type 0
 PartsLaw bound s parts = (audits : List Audit) (last : Option Stage) → IsGraph s.circuit.aig → IsNetlist s.circuit → ReplaysParts bound (Some s) parts audits last
     → IfSome last (λ e. HasStreamsOf s.circuit e.circuit)

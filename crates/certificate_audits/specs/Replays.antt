@@ -56,8 +56,7 @@ pub record IsGuessedReplay (bound : Option ℕ) (held : List ℕ) (c : Netlist) 
 abbrev pub refused_by : End → Replay
 refused_by end = record { audit = record { confirmed = 0; end = end }; last = None }
 
--- The replay by the lines that a file gives: that of what c is merged to by them. Or it ends since
--- a latch is refused; then it claims nothing.
+-- the replay of what the lines of a file merge c to; or a latch is refused, and nothing is claimed
 pub data IsGivenReplay (bound : Option ℕ) (held : List ℕ) (c : Netlist) (lines : List MergedLatch) (blocks : List Certificate) (replay : Replay) : Type 0 where
   replayed : IsMergedReplay bound held c lines blocks replay → IsGivenReplay bound held c lines blocks replay
   misread : (latch : ℕ) → replay ≡ refused_by (Misread latch) → IsGivenReplay bound held c lines blocks replay

@@ -36,8 +36,8 @@ pub record CountsAgree (c : Netlist) (held : List ℕ) (cert : Certificate) : Ty
   pub of_border : cert.count ≡ border_size (move_of c held cert.gates)
   pub of_routes : cert.count ≡ length cert.routes
 
--- which of the tests is the first that a certificate fails: the set is closed, the routes are
--- right, they are apart, the counts agree
+-- the first test that fails, if any: the set is closed, the routes are right, they are apart, the
+-- counts agree
 abbrev pub IsVerdict : Netlist → List ℕ → Certificate → Verdict → Type 0
 IsVerdict c held cert Yes = IsClosedSet c.aig held cert.gates × AreRoutes c held cert.routes × AreApart cert.routes × CountsAgree c held cert
 IsVerdict c held cert (No NotClosed) = IsClosedSet c.aig held cert.gates → ⊥

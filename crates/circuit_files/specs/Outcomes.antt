@@ -73,33 +73,33 @@ IsAbout name (fails.NoSuchLiteral path) = path.now ≡ name
 IsAbout name (fails.Device path) = path.now ≡ name
 IsAbout name fails.Memory = Unit {0}
 
--- the failure that an error of reading a circuit or a stimulus is, with the file's path
+-- the failure of an error of reading a circuit or a stimulus, with the file's path
 abbrev pub failure_of_reading : ReadError → Bor (List ℕ) → Failure
 failure_of_reading reading.NoMemory path = fails.Memory
 failure_of_reading reading.Device path = fails.Device path
 failure_of_reading fault path = fails.Refused path fault
 
--- the failure that an error of reading a file is, with its path
+-- the failure of an error of reading a file, with its path
 abbrev pub failure_of_bytes : ReadAllError → Bor (List ℕ) → Failure
 failure_of_bytes whole.NoMemory path = fails.Memory
 failure_of_bytes whole.Device path = fails.Device path
 
--- the failure that a fault of a stimulus is, with the file's path
+-- that of a fault of a stimulus
 abbrev pub failure_of_stimulus : StimError → Bor (List ℕ) → Failure
 failure_of_stimulus stimuli.NoMemory path = fails.Memory
 failure_of_stimulus fault path = fails.RefusedStimulus path fault
 
--- the failure that a fault of a list is, with the file's path
+-- that of a fault of a list
 abbrev pub failure_of_list : ListError → Bor (List ℕ) → Failure
 failure_of_list lists.NoMemory path = fails.Memory
 failure_of_list fault path = fails.RefusedList path fault
 
--- the failure that a fault of certificates is, with the file's path
+-- that of a fault of certificates
 abbrev pub failure_of_certificates : CertError → Bor (List ℕ) → Failure
 failure_of_certificates certificates.NoMemory path = fails.Memory
 failure_of_certificates fault path = fails.RefusedCertificates path fault
 
--- the failure that a fault of a counterexample is, with the file's path
+-- that of a fault of a counterexample
 abbrev pub failure_of_witness : WitnessError → Bor (List ℕ) → Failure
 failure_of_witness witnesses.NoMemory path = fails.Memory
 failure_of_witness fault path = fails.RefusedWitness path fault

@@ -25,7 +25,7 @@ use Rattle.circuit_files.specs.declared.outcome.Failure.TheVariants as fails
 abbrev pub IsOfStdin : (Bor (List ℕ) → Failure → Type 0) → Failure → Type 0
 IsOfStdin IsFailure failure = (name : Bor (List ℕ)) × (name.now ≡ codes "stdin") × IsFailure name failure
 
--- the failure is that of an error that reading the circuit can have
+-- the failure of an error that reading the circuit can have
 abbrev pub IsCircuitFailure : Input → Input → Bor (List ℕ) → Failure → Type 0
 IsCircuitFailure old new path failure = (error : ReadError) × IsReadError old new error × (failure ≡ failure_of_reading error path)
 
@@ -33,14 +33,13 @@ IsCircuitFailure old new path failure = (error : ReadError) × IsReadError old n
 abbrev pub IsBytesFailure : Input → Input → Bor (List ℕ) → Failure → Type 0
 IsBytesFailure old new path failure = ((failure ≡ fails.Device path) × (new.failures ≡ one_more old.failures)) ⊎ ((failure ≡ fails.Memory) × (new.failures ≡ old.failures))
 
--- the stimulus of the bytes with the widths of a circuit, or the failure that their fault is;
--- memory may run out
+-- the stimulus of the bytes by a circuit's widths, or their fault's failure; memory may run out
 abbrev pub IsStimulusOf : Graph → List ℕ → Bor (List ℕ) → Result (List InputSequence) Failure → Type 0
 IsStimulusOf g bytes path (Ok stimulus) = read_text g.inputs (free_latches g) bytes ≡ Ok stimulus
 IsStimulusOf g bytes path (Err fails.Memory) = Unit {0}
 IsStimulusOf g bytes path (Err failure) = (fault : StimError) × (read_text g.inputs (free_latches g) bytes ≡ Err fault) × (failure ≡ failure_of_stimulus fault path)
 
--- the certificates of the bytes, or the failure that their fault is; memory may run out
+-- the certificates of the bytes, or their fault's failure; memory may run out
 abbrev pub AreCertificatesOf : List ℕ → Bor (List ℕ) → Result CertFile Failure → Type 0
 AreCertificatesOf bytes path (Ok file) = certificates_of bytes ≡ Ok file
 AreCertificatesOf bytes path (Err fails.Memory) = Unit {0}
@@ -52,7 +51,7 @@ IsReadingOfStdin old new IsReading result =
     ((bytes : List ℕ) × ReadsAll old new bytes × ((name : Bor (List ℕ)) × (name.now ≡ codes "stdin") × IsReading bytes name result))
     ⊎ ((failure : Failure) × (result ≡ Err failure) × IsOfStdin (IsBytesFailure old new) failure)
 
--- the witness of the bytes for a circuit, or the failure that their fault is; memory may run out
+-- the witness of the bytes for a circuit, or their fault's failure; memory may run out
 abbrev pub IsWitnessOf : Netlist → List ℕ → Bor (List ℕ) → Result Witness Failure → Type 0
 IsWitnessOf c bytes path (Ok witness) = witness_of (widths_of c) bytes ≡ Ok witness
 IsWitnessOf c bytes path (Err fails.Memory) = Unit {0}

@@ -34,8 +34,8 @@ module _ {F : Type 0} (contents : F → Option (List ℕ)) (IsMade : F → List 
 abbrev pub account : List ℕ → List ℕ → List ℕ
 account path given = length path ∷ path ++ given
 
--- All of this text was written, by what it means that a file was given one. It went to standard
--- output, or to a file, which leaves standard output as it was.
+-- all of the text went to standard output, or a file was given it, as FileGiven says, and standard
+-- output stays
 abbrev pub IsTargetGiven : (List ℕ → List ℕ → Type 0) → Target → Output → Output → List ℕ → Type 0
 IsTargetGiven FileGiven targets.Stdout old new text = WritesAll old new text
 IsTargetGiven FileGiven (targets.File path) old new text = (new ≡ old) × FileGiven path.now text

@@ -30,9 +30,8 @@ pub record IsMapOn (c d m : Netlist) : Type 0 where
   pub streams : SameStreams c d kept
   pub free : FreeStay c d m
 
--- d does what c does, with fewer latches of a known reset. All names but those of latches are those
--- of c. Held latches are where they were, and no way is longer than a bound or than the longest of
--- c.
+-- d does what c does with fewer known latches, and has c's names but for latches. Held latches
+-- stay, and no path is longer than both a bound and c's longest.
 pub record IsMovedOn (c : Netlist) (held : List ℕ) (bound : Option ℕ) (d m : Netlist) : Type 0 where
   pub mapped : IsMapOn c d m
   pub names : HasOtherLatches c d

@@ -17,8 +17,8 @@ abbrev pub MovedIsNormalised : Move → Type 0
 MovedIsNormalised m = IsGraph m.circuit.aig → IsNetlist m.circuit → All (λ j. j < length m.circuit.aig.latches) m.held → IsClosedSet m.circuit.aig m.held m.set
     → IsNormalised m.held m.circuit → AreLowNormalised (moved_graph m) (count_below (is_outside m) (variables_end m.circuit.aig)) → IsNormalised (moved_held m) (moved_of m)
 
--- a pass changes nothing in a normalised circuit, so the circuit is what it is cleaned to, with all
--- its free latches
+-- a pass changes nothing in a normalised circuit, so it is cleaned to itself, with all its free
+-- latches
 abbrev pub NormalisedIsCleaned : List ℕ → Netlist → Type 0
 NormalisedIsCleaned held c = IsGraph c.aig → IsNetlist c → All (λ j. j < length c.aig.latches) held → IsNormalised held c
     → IsPass held c c (all_free c.aig) held × Cleans c held c (all_free c.aig)
@@ -33,16 +33,14 @@ pub record IsCleanedAlready (held : List ℕ) (c : Netlist) : Type 0 where
   pub cleans : Cleans c held c (all_free c.aig)
   pub held_after : HeldAfter c held held c
 
--- d is what c is cleaned to, the held latches stand at now in it, and s is a closed set of it. If
--- the low copies of the moved circuit are normalised, then nothing is to clean in it. The gates
--- from number first on are the copies
+-- Let d be c cleaned, with held latches at now. After its move over a closed set s nothing is to
+-- clean, if the low copies are normalised: those among gates from number first on.
 abbrev pub NothingToClean : List ℕ → Netlist → Netlist → List ℕ → List ℕ → ℕ → Type 0
 NothingToClean held c d now s first = let m = move_of d now s in
     IsGraph c.aig → IsNetlist c → All (λ j. j < length c.aig.latches) held → HeldAfter d now held c → IsClosedSet d.aig now s
     → variables_end (moved_graph m) ≤ MAX_VARIABLES → first + length s ≡ length (moved_graph m).gates → AreLowNormalised (moved_graph m) first
     → IsCleanedAlready (moved_held m) (moved_of m)
 
--- The low copies of a normalised circuit are normalised, whichever gates are called copies. So a
--- moved circuit is normalised only if its low copies are.
+-- the low copies of a normalised circuit are normalised, whichever gates are called copies
 abbrev pub NormalisedHasNormalisedCopies : List ℕ → Netlist → ℕ → Type 0
 NormalisedHasNormalisedCopies held c first = IsNormalised held c → AreLowNormalised c.aig first

@@ -24,8 +24,8 @@ pub record IsNormalised (held : List ℕ) (c : Netlist) : Type 0 where
   pub plain : (k : ℕ) (gate : Gate) → slice_get c.aig.gates k ≡ Some gate → IsPlain gate
   pub pairs : (i j : ℕ) (gate : Gate) → slice_get c.aig.gates i ≡ Some gate → slice_get c.aig.gates j ≡ Some gate → i ≡ j
 
--- the gates from number first on are copies; a low one reads a variable that is no copy. Each low
--- copy is plain, and its pair is its own
+-- each low copy, a gate from number first on that reads a variable before those, is plain, and its
+-- pair is its own
 pub record AreLowNormalised (g : Graph) (first : ℕ) : Type 0 where
   pub plain : (k : ℕ) (gate : Gate) → first ≤ k → slice_get g.gates k ≡ Some gate → variable gate.rhs1 < first_gate g + first → IsPlain gate
   pub pairs : (i k : ℕ) (gate : Gate) → first ≤ k → slice_get g.gates i ≡ Some gate → slice_get g.gates k ≡ Some gate → variable gate.rhs1 < first_gate g + first → i ≡ k

@@ -7,7 +7,7 @@ use Rattle.cleaned_circuits.specs.Latches.{latch_substitute}
 use Rattle.cleaned_circuits.specs.Cleaned.{IsPass}
 use Rattle.clean.specs.declared.tracing.TracedPass.{TracedPass}
 
--- a pass of c, with what stands for each latch of c, and whether each stays
+-- a pass of c, with what stands for each latch, and whether it stays
 pub record IsTraced (held : List ℕ) (c : Netlist) (t : TracedPass) : Type 0 where
   pub pass : IsPass held c t.circuit t.kept_free.items t.held.items
   pub substitutes : t.substitutes.items ≡ table 0 (length c.aig.latches) (λ j. latch_substitute c.aig held j (slice_get c.aig.latches j))

@@ -10,10 +10,10 @@ use Rattle.cleaned_circuits.specs.Held.{HeldAfter}
 abbrev pub KeepsStreams : List ℕ → Netlist → Netlist → List ℕ → Type 0
 KeepsStreams held c d kept = IsGraph c.aig → IsNetlist c → Cleans d held c kept → SameStreams c d kept
 
--- what is left of a circuit is one circuit, and one list of free latches
+-- cleaning leaves one circuit, and one list of free latches
 abbrev pub IsDetermined : List ℕ → Netlist → Netlist → Netlist → List ℕ → List ℕ → Type 0
 IsDetermined held c d e first second = Cleans d held c first → Cleans e held c second → (d ≡ e) × (first ≡ second)
 
--- held latches stand at one list of positions of what a circuit is cleaned to
+-- held latches stand at one list of positions of the cleaned circuit
 abbrev pub IsHeldOnce : List ℕ → Netlist → Netlist → List ℕ → List ℕ → Type 0
 IsHeldOnce held c d now other = HeldAfter d now held c → HeldAfter d other held c → now ≡ other

@@ -29,9 +29,9 @@ replaced_gate substitutes gate = gate_of (replaced substitutes gate.rhs0) (repla
 abbrev pub same_fan_ins : Gate → Gate → Bool
 same_fan_ins gate other = gate.rhs0 == other.rhs0 && gate.rhs1 == other.rhs1
 
--- The literal that a gate comes down to, whose larger literal is first. It is 0 for a 0, the other
--- for a 1 and for an equal one, 0 for opposite ones. Otherwise it is that of the kept gate of these
--- literals, or None if there is none.
+-- What a gate comes down to, its larger literal first. It is 0 for a 0 or opposite literals, and
+-- the other for a 1 or an equal one. Else it is the literal of a kept gate of both, if there is
+-- one.
 abbrev pub known_substitute : List (Gate × ℕ) → Gate → Option ℕ
 known_substitute kept gate =
     if gate.rhs1 == 0 then Some 0

@@ -31,8 +31,8 @@ pub record EndsAside (outcome : Outcome) (old new : Output) (result : Result Out
   pub ends : ending result ≡ outcome
   pub quiet : new ≡ old
 
--- A command but `batch` gives standard output nothing if it was refused or lacked memory. It writes
--- and prints once all else is done.
+-- a command but `batch` prints nothing if refused or short of memory, and all of its line if shapes
+-- differ
 abbrev pub Prints : Outcome → Output → Output → Type 0
 Prints Done old new = Unit {0}
 Prints Differ old new = Unit {0}

@@ -119,8 +119,7 @@ targets_of (Dot drawing) = drawing.output ∷ []
 targets_of (Witness carrying) = []
 targets_of (Explain name) = []
 
--- standard input is read once at most, and standard output written once, but for printed lines
--- beside that
+-- standard input is read once at most, and standard output written once, printed lines aside
 pub record UsesStreamsOnce (task : Task) : Type 0 where
   pub stdin : count_by is_stdin (sources_of task) ≤ 1
   pub stdout : count_by is_stdout (targets_of task) ≤ 1

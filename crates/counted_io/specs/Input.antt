@@ -12,7 +12,7 @@ pub record Input : Type 0 where
 abbrev pub failures_after_read : {E : Type 0} → ℕ → Result ℕ E → ℕ
 failures_after_read failures result = if is_ok result then failures else one_more failures
 
--- these are all the bytes that were left, if those are known: none is left, and no read failed
+-- if the bytes that were left are known, these are all, and none is left; no read failed
 pub record ReadsAll (old new : Input) (read : List ℕ) : Type 0 where
   pub bytes : (left : List ℕ) → old.bytes ≡ Some left → (read ≡ left) × (new.bytes ≡ Some [])
   pub failures : new.failures ≡ old.failures

@@ -31,7 +31,7 @@ pub record WritesPart (old new : Output) (text : List ℕ) : Type 0 where
   pub bytes : Appends old.bytes new.bytes (take count text)
   pub failures : new.failures ≡ one_more old.failures
 
--- at `Ok` all of the text was written, and at an error a beginning of it
+-- at `Ok` all of the text was written, at an error a beginning of it
 pub record Writes {T E : Type 0} (old new : Output) (result : Result T E) (text : List ℕ) : Type 0 where
   pub ok : OnOk result (WritesAll old new text)
   pub err : OnErr result (WritesPart old new text)

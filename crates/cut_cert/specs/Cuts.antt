@@ -7,7 +7,7 @@ use Rattle.aig_graph.specs.Border.{IsGreatestLeast, IsSmallestLeast}
 use Rattle.frame_net.specs.FlowNet.{FlowNet, node_count, capacity_between}
 use Rattle.frame_net.specs.Cuts.{AreGatesOf, IsNetworkOf}
 
--- s is the greatest least set of each circuit and held latches whose network this is
+-- s is the greatest least set of each circuit and held latches with this network
 abbrev pub IsGreatestLeastOf : FlowNet → List ℕ → Type 0
 IsGreatestLeastOf net s = (c : Netlist) (held : List ℕ) → IsNetworkOf c held net → IsGreatestLeast c held s
 
@@ -28,8 +28,7 @@ pub record IsSmallestLeastCut (n : ℕ) (cap : ℕ → ℕ → ℕ) (side : ℕ 
   pub least : (other : ℕ → Bool) → IsCut other → cut_value n cap side ≤ cut_value n cap other
   pub smallest : (other : ℕ → Bool) → IsCut other → cut_value n cap other ≤ cut_value n cap side → (v : ℕ) → v < n → side v ≡ true → other v ≡ true
 
--- if no excess is left at inner nodes and residual arcs don't lead to the sink, the near side is
--- the smallest least cut
+-- if inner nodes keep no excess, a near side without the sink is the smallest least cut
 abbrev pub NearSideIsSmallest : Type 0
 NearSideIsSmallest = (n : ℕ) (cap : ℕ → ℕ → ℕ) (s : State) (side : ℕ → Bool) → 1 < n → IsPreflow n cap s
     → ((v : ℕ) → 1 < v → v < n → s.excess v ≡ 0) → IsNearSide n s side → side 1 ≡ false → IsSmallestLeastCut n cap side

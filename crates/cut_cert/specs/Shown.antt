@@ -16,20 +16,19 @@ abbrev pub HasNoPointTwice : List Point → Type 0
 HasNoPointTwice [] = Unit {0}
 HasNoPointTwice (p ∷ rest) = AllByRecursion (λ q. p ≡ q → ⊥) rest × HasNoPointTwice rest
 
--- routes apart from one another, none with a point twice, as many as the border of each least set
--- has variables
+-- routes that are apart, none with a point twice, as many as a least set's border has variables
 pub record AreLeastRoutes (c : Netlist) (held : List ℕ) (routes : List (List Point)) : Type 0 where
   pub right : AreRoutes c held routes
   pub apart : AreApart routes
   pub once : All HasNoPointTwice routes
   pub count : (gates : List ℕ) → IsLeast c held gates → border_size (move_of c held gates) ≡ length routes
 
--- these are least routes of each circuit and held latches whose network this is
+-- least routes of each circuit and held latches with this network
 abbrev pub AreLeastRoutesOf : FlowNet → List (List Point) → Type 0
 AreLeastRoutesOf net routes = (c : Netlist) (held : List ℕ) → IsNetworkOf c held net → AreLeastRoutes c held routes
 
--- s is the smallest least set of each circuit and held latches with this network, if these are
--- least routes of it
+-- s is the smallest least set of each circuit and held latches with this network and these least
+-- routes
 abbrev pub IsSmallestLeastBy : FlowNet → List (List Point) → List ℕ → Type 0
 IsSmallestLeastBy net routes s = (c : Netlist) (held : List ℕ) → IsNetworkOf c held net → AreLeastRoutes c held routes → IsSmallestLeast c held s
 

@@ -107,13 +107,12 @@ clash_among first others = option_map (clash_of first) (find (clash first) other
 abbrev pub clash_with : Asked → List Asked → List Asked → Option FileClash
 clash_with first later read = option_or (clash_among first later) (clash_among first read)
 
--- the first file that is written and clashes with one that is written after it, or with one that is
--- read
+-- the first clash of a written file with one written after it, or with one read
 abbrev pub first_clash : List Asked → List Asked → Option FileClash
 first_clash [] read = None
 first_clash (first ∷ later) read = option_or (clash_with first later read) (first_clash later read)
 
--- no file that is written clashes with one that is written after it, or with one that is read
+-- no written file clashes with one written after it, or with one read
 abbrev pub AreFilesApart : List Asked → List Asked → Type 0
 AreFilesApart [] read = Unit {0}
 AreFilesApart (first ∷ later) read =

@@ -43,7 +43,7 @@ pub record IsListClash (list : Source) (entries : List Entry) (found : Option Fi
   pub reads : listed.file ≡ reading ListFile list
   pub first : IsFirstOfLines printed listed entries found
 
--- no two of all files that a list's run writes and reads are one, so that something would be lost
+-- no file that a list's run writes clashes with one written after it, or with one read
 pub record AreListFilesApart (list : Source) (entries : List Entry) : Type 0 where
   pub written : List Asked
   pub read : List Asked

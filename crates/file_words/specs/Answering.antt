@@ -12,8 +12,7 @@ abbrev pub ◌>>=◌ : {A B E : Type 0} → Result A E → (A → Result B E) �
 abbrev pub Fails : {Y E : Type 0} → E → E → Result Y E → Type 0
 Fails no_memory error read = (error ≡ no_memory) ⊎ (read ≡ Err error)
 
--- what a function returned, seen by view, is what reading gives; an error is its fault, or want of
--- memory
+-- the result, seen by view, is what reading gives; an error is its fault or want of memory
 abbrev pub Gives : {X Y E : Type 0} → E → (X → Y) → Result X E → Result Y E → Type 0
 Gives no_memory view (Ok x) read = read ≡ Ok (view x)
 Gives no_memory view (Err error) read = Fails no_memory error read

@@ -16,7 +16,7 @@ pub record Cuts (mark : ℕ) (bytes part rest : List ℕ) : Type 0 where
   pub clean : lacks mark part ≡ true
   pub whole : bytes ≡ part ++ mark ∷ rest
 
--- the first line of a text, and what follows it: if there is more, it follows a newline
+-- the first line of a text, and what follows its newline, if anything does
 pub record IsFirst (text line more : List ℕ) : Type 0 where
   pub shorter : length more < length text
   pub whole : lines text ≡ line ∷ lines more

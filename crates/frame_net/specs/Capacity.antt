@@ -50,8 +50,8 @@ abbrev pub gate_reads : ℕ → Option Gate → Bool
 gate_reads v None = false
 gate_reads v (Some gate) = is_fan_in v gate
 
--- whether the variable is a held latch, or is read by a gate that isn't passable, a next literal or
--- a property
+-- whether the variable is a held latch, or a gate that isn't passable, a next literal or a property
+-- reads it
 unfoldable pub is_observed : Graph → Props → List ℕ → ℕ → Bool
 is_observed g props held v = is_held g held v || is_read_outside g props (is_passable g held) v
 
@@ -69,8 +69,7 @@ unfoldable pub capacity : Graph → Props → List ℕ → ℕ → ℕ → ℕ
 capacity g props held v w =
     arc_capacity g props held (node_at (latch_count g held) (node_variables g held) v) (node_at (latch_count g held) (node_variables g held) w)
 
--- The network of a circuit: the arcs with tail v and their mates go to just the nodes with an arc
--- from or to v.
+-- the network of a circuit; a node's row has just the nodes with an arc from or to it
 pub record IsNetOf (g : Graph) (props : Props) (held : List ℕ) (net : FlowNet) : Type 0 where
   pub latches : net.latches ≡ latch_count g held
   pub variables : net.variables ≡ node_variables g held

@@ -31,8 +31,8 @@ pub record IsNetworkOf (c : Netlist) (held : List ℕ) (net : FlowNet) : Type 0 
 abbrev pub leaving : FlowNet → (ℕ → Bool) → ℕ
 leaving net side = cut_value (node_count net) (capacity_between net) side
 
--- A set of nodes that no arc of the unbounded capacity leaves has a closed set as its gates. Its
--- border is no larger than the cut.
+-- the gates of a cut that no unbounded arc leaves are a closed set, whose border is no larger than
+-- the cut
 abbrev pub CutsAreClosed : Type 0
 CutsAreClosed = (c : Netlist) (held : List ℕ) (net : FlowNet) (side : ℕ → Bool) (s : List ℕ) → IsNetworkOf c held net → IsCut side → NoUnboundedLeaves net side → AreGatesOf net side s
     → IsClosedSet c.aig held s × (border_size (move_of c held s) ≤ leaving net side)

@@ -75,8 +75,7 @@ pub record IsAfterPulse (n : ℕ) (s : State) (t : Moment) : Type 0 where
   pub excess : (v : ℕ) → v < n → t.excess v ≡ next_excess n s v
   pub label : (v : ℕ) → v < n → t.next v ≡ next_label n s v
 
--- all reads of a pulse in any order, and then all deliveries in any order, leave the state after
--- the pulse
+-- all reads in any order, then all deliveries in any order, leave the state after the pulse
 abbrev pub AnyOrderIsPulse : Type 0
 AnyOrderIsPulse = (n : ℕ) (t : Moment) (reads delivers : List Event) → EachOnce n (nodes_of_events reads) → EachOnce n (nodes_of_events delivers)
     → IsAfterPulse n (state_of t) (deliver_all n (read_all n t (nodes_of_events reads)) (nodes_of_events delivers))

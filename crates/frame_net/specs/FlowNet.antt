@@ -50,8 +50,8 @@ pub record HasMate (net : FlowNet) (v k : ℕ) : Type 0 where
   pub arc : mate net v k ≡ start net (head net v k) + place
   pub back : head net (head net v k) place ≡ v
 
--- The rows stand end to end with rising heads. Each arc has a mate that leads back, and both
--- capacities of a pair fit a word.
+-- rows stand end to end with rising heads; each arc has a mate that leads back; their capacities
+-- together fit a word
 pub record IsFlowNet (net : FlowNet) : Type 0 where
   pub two : 2 < length net.starts
   pub short : length net.starts < 2 ^ 31

@@ -6,7 +6,7 @@ abbrev pub PulseKeepsPreflow : Type 0
 PulseKeepsPreflow = (n : ℕ) (cap : ℕ → ℕ → ℕ) (s : State) → 1 < n → IsPreflow n cap s → IsValid n s
     → IsPreflow n cap (pulse n s) × IsValid n (pulse n s)
 
--- no label falls, and the label of a node that keeps some of its excess rises
+-- no label falls, and that of a node that keeps some excess rises
 abbrev pub PulseRaisesLabels : Type 0
 PulseRaisesLabels = (n : ℕ) (s : State) → IsValid n s → (v : ℕ) → v < n → (s.label v ≤ next_label n s v) × (has_excess_left n s v ≡ true → s.label v < next_label n s v)
 
@@ -27,7 +27,7 @@ abbrev pub SourceSideIsGreatest : Type 0
 SourceSideIsGreatest = (n : ℕ) (cap : ℕ → ℕ → ℕ) (s : State) (side : ℕ → Bool) → 1 < n → IsPreflow n cap s → IsValid n s
     → ((v : ℕ) → v < n → is_active n s v ≡ false) → IsSourceSide n s side → IsGreatestLeastCut n cap side
 
--- nothing is lost: the excess of all nodes together stays, and none goes back to the source
+-- the excess of all nodes together stays, and none goes back to the source
 abbrev pub TotalIsKept : Type 0
 TotalIsKept = (n : ℕ) (s : State) → IsValid n s → (sum_below n (next_excess n s) ≡ sum_below n s.excess) × (inflow n s 0 ≡ 0)
 

@@ -9,7 +9,7 @@ row_admissible heads residuals labels label k = cond (slice_index labels (slice_
 abbrev pub node_admissible : Bool → List ℕ → List ℕ → List ℕ → ℕ → ℕ → ℕ
 node_admissible active heads residuals labels label k = cond (active && (slice_index labels (slice_index heads k) + 1 == label)) (slice_index residuals k) 0
 
--- the excess goes to the arcs of the row in order, to each as far as it may
+-- the excess goes to the row's arcs in order, to each as far as it may
 abbrev pub IsRowOfPushes : (ℕ → ℕ) → ℕ → List ℕ → Type 0
 IsRowOfPushes admissible excess row = (k : ℕ) → k < length row → slice_index row k ≡ min (admissible k) (excess - sum_below k admissible)
 

@@ -65,8 +65,8 @@ pub record PrintsFiles (json : Bool) (ended : Outcome) (old new : Output) : Type
   pub files : List JobReport
   pub printed : Printed json files ended old new
 
--- A batch prints all its files. If it was refused or memory was wanting before that, it prints what
--- a failure prints. It prints nothing if two files of a line are one.
+-- A batch prints all its files, or what a failure prints if it was refused or lacked memory before.
+-- It prints nothing if two files of a line are one.
 abbrev pub PrintsList : Bool → Outcome → Output → Output → Type 0
 PrintsList json Done old new = PrintsFiles json Done old new
 PrintsList json Refused old new = PrintsFailure json Refused old new ⊎ PrintsFiles json Refused old new

@@ -52,7 +52,6 @@ pub record IsUnexplained (name : List ℕ) (old new : Output) (ended : Outcome) 
 abbrev pub Explains : List ℕ → Output → Output → Outcome → Type 0
 Explains name old new ended = IsExplained name old new ended ⊎ IsUnexplained name old new ended
 
--- a device fails if a beginning of the page of a fault that is called so was printed, and then
--- standard output failed
+-- if a device failed, a beginning of the page of a fault that is called so was printed
 abbrev pub FailsToExplain : List ℕ → Output → Output → Failure → Type 0
 FailsToExplain name old new failure = outcome_of failure ≡ Device → (fault : Fault) × IsCalled name fault × WritesPart old new (page_text fault)

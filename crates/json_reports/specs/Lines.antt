@@ -13,13 +13,13 @@ use Rattle.json_reports.specs.declared.printing.PrintError.TheVariants.{NoMemory
 abbrev pub json_line : Data → List ℕ
 json_line d = compact_text d ++ 10 ∷ []
 
--- no number is a float, and arrays and objects nest no deeper than readers take them
+-- no number is a float, and arrays and objects nest no deeper than readers take
 pub record IsPlain (d : Data) : Type 0 where
   pub whole : has_float d ≡ false
   pub nests : depth d ≤ max_depth
 
--- all of the line is written, and its value is read back; a beginning of it if a write failed;
--- nothing if memory was refused
+-- all of the line is written and reads back; a beginning of it if a write failed; nothing if memory
+-- was refused
 abbrev pub PrintsLine : {T : Type 0} → Data → Output → Output → Result T PrintError → Type 0
 PrintsLine d old new (Ok x) = WritesAll old new (json_line d) × (read (compact_text d) ≡ Some d)
 PrintsLine d old new (Err Device) = WritesPart old new (json_line d)

@@ -58,8 +58,8 @@ are_merged (part ∷ parts) = is_some part.merged
 abbrev pub merged_counts : List CertPart → Option MergeCounts
 merged_counts parts = if are_merged parts then Some (counts_of (merged_lines parts)) else None
 
--- Each frame, what the written circuit has, the latches that were read and the free latches that
--- stayed. Also what holds latches, and the time of each part.
+-- frames, counts before and after, the bound, free latches that stayed, what holds latches, the
+-- map, merging and times
 abbrev pub retiming_data : Rounds → ReadLevels → Remaining → Option Times → Option MapCounts → Data
 retiming_data r levels left times mapped =
     object (member (codes "after") (circuit_data left.counts)

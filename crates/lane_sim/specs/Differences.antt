@@ -6,13 +6,12 @@ use Rattle.aig_graph.specs.Streams.{SameShape}
 use Rattle.lane_sim.specs.declared.difference.Place.{Place}
 use Rattle.lane_sim.specs.Traces.{at_place}
 
--- equal numbers of inputs, free latches and properties of each kind, and justice properties of
--- equal sizes
+-- one shape, and equal numbers of free latches
 pub record HaveSameShape (c d : Netlist) : Type 0 where
   pub shape : SameShape c d
   pub free : free_latches d.aig ≡ free_latches c.aig
 
--- the circuits have other numbers of inputs, of free latches, or of properties
+-- the circuits differ in shape, or in the number of free latches
 abbrev pub DifferInShape : Netlist → Netlist → Type 0
 DifferInShape c d = HaveSameShape c d → ⊥
 

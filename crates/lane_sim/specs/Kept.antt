@@ -11,8 +11,7 @@ use Rattle.lane_sim.specs.declared.stimulus.InputSequence.{InputSequence}
 use Rattle.lane_sim.specs.declared.fault.StimError.{StimError}
 use Rattle.lane_sim.specs.declared.fault.StimError.TheVariants.{BadLine, Width}
 
--- the sequence for a circuit whose free latches are these of the first one's: the values that they
--- have there, and its steps
+-- the sequence for a circuit with these free latches alone: their values, and its steps
 abbrev pub for_kept : List ℕ → InputSequence → InputSequence
 for_kept kept s = record { choice = map (choice_of s) kept; steps = s.steps }
 

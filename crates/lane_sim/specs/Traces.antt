@@ -22,7 +22,7 @@ value_in g s t lit = value g (inputs_of s) (choice_of s) t lit
 abbrev pub row_of : Netlist → InputSequence → ℕ → List Bool
 row_of c s t = map (value_in c.aig s t) (property_literals c.props)
 
--- the trace: for each sequence, for each of its steps, the values of the property literals
+-- for each sequence, for each of its steps, the values of the property literals
 unfoldable pub trace : Netlist → List InputSequence → List (List (List Bool))
 trace c sequences = map (λ s. map (row_of c s) (range_with_len 0 (length s.steps))) sequences
 
@@ -30,6 +30,6 @@ abbrev pub then_at : {X : Type 0} → Option (List X) → ℕ → Option X
 then_at None k = None
 then_at (Some xs) k = slice_get xs k
 
--- the value at a place of a step of a sequence, if there is such a place
+-- the value at a place of a step of a sequence, if there is one
 abbrev pub at_place : List (List (List Bool)) → ℕ → ℕ → ℕ → Option Bool
 at_place t sequence step place = then_at (then_at (slice_get t sequence) step) place

@@ -13,7 +13,7 @@ use Rattle.latch_merging.specs.declared.merging.MergedCircuit.{MergedCircuit}
 use Rattle.latch_merging.specs.declared.merging.Round.{Round}
 use Rattle.latch_merging.specs.declared.merging.Round.TheVariants.{Merged, Parted}
 
--- the circuit is merged by the reading that is given beside it, and the lines say that reading
+-- the circuit is merged by the reading beside it, and the lines say that reading
 pub record IsMergedCircuit (held : List ℕ) (c : Netlist) (m : MergedCircuit) : Type 0 where
   pub said : IsSaidBy c.aig m.merged m.reads.items
   pub merged : IsMergedBy held m.reads.items c m.circuit
@@ -28,8 +28,8 @@ pub record AreMisread (g : Graph) (held : List ℕ) (lines : List MergedLatch) (
   pub named : NameLatch lines latch
   pub none : (reads : List ℕ) → IsReading g held reads → IsSaidBy g lines reads → ⊥
 
--- Merged by these lines. Lines that are misread are those of no reading. Steps may preserve one
--- that isn't shown or not.
+-- merged by these lines; misread ones say no reading; steps may preserve one that isn't shown or
+-- not
 abbrev pub IsGivenMerging : List ℕ → Netlist → List MergedLatch → GivenMerging → Type 0
 IsGivenMerging held c lines (MergedSo m) = IsMergedCircuit held c m × (m.merged ≡ lines)
 IsGivenMerging held c lines (Misread latch) = AreMisread c.aig held lines latch

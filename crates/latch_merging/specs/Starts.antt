@@ -45,8 +45,8 @@ IsGivenStartOf d lines (Merged m) = IsStartOf d m × (m.merged ≡ lines)
 IsGivenStartOf d lines (Misread latch) = AreMisread d.circuit.aig d.keep lines latch
 IsGivenStartOf d lines (NotShown latch) = Unit {0}
 
--- The circuit cleaned, and merged by these lines. Those that are misread are of no reading of the
--- cleaned circuit.
+-- the circuit cleaned, and merged by these lines; misread ones say no reading of the cleaned
+-- circuit
 abbrev pub IsGivenStart : List ℕ → Netlist → List MergedLatch → GivenStart → Type 0
 IsGivenStart held c lines (Merged m) = IsStart held c m × (m.merged ≡ lines)
 IsGivenStart held c lines (Misread latch) = AreMisreadIn held c lines latch

@@ -30,8 +30,8 @@ pub data IsMisread (g : Graph) (held reads : List ℕ) (place : ℕ) : Type 0 wh
   other_literal : (latch : Latch) → length reads ≡ length g.latches → ((j : ℕ) → j < place → (before : Latch) → slice_get g.latches j ≡ Some before → ReadsAs g held reads j before (read reads j))
       → slice_get g.latches place ≡ Some latch → (ReadsAs g held reads place latch (read reads place) → ⊥) → IsMisread g held reads place
 
--- The circuit is merged by the reading. Steps may preserve a reading that stays open or not. What
--- is misread is no reading.
+-- the circuit is merged by the reading; a misread one is none; steps may preserve an open one or
+-- not
 abbrev pub IsJudgement : Netlist → List ℕ → List ℕ → Judgement → Type 0
 IsJudgement c held reads (Merged d) = IsMergedBy held reads c d
 IsJudgement c held reads (Misread place) = IsMisread c.aig held reads place
@@ -45,7 +45,7 @@ SayNoReading g lines = (reads : List ℕ) → IsSaidBy g lines reads → ⊥
 abbrev pub NameLatch : List MergedLatch → ℕ → Type 0
 NameLatch lines latch = (line : MergedLatch) × Contains lines line × (line.latch ≡ latch)
 
--- the lines are those of the reading; none has lines that are refused, one of which names the latch
+-- the lines say the reading; refused lines say none, and one of them names the latch
 abbrev pub IsReadingOf : Graph → List MergedLatch → LineReading → Type 0
 IsReadingOf g lines (Reads reads) = IsSaidBy g lines reads.items
 IsReadingOf g lines (Misplaced latch) = NameLatch lines latch × SayNoReading g lines

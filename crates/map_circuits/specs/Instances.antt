@@ -6,7 +6,7 @@ use Rattle.aig_graph.specs.Graph.{Graph, IsLiteralOf, variable, variables_end}
 use Rattle.aig_graph.specs.Value.{signed_as, value_within}
 use Rattle.state_maps.specs.States.{Digits, State}
 
--- what stands for a literal, by a list that has a literal for each variable
+-- what stands for a literal, by a list of literals by variable
 abbrev pub substitute : List ℕ → ℕ → ℕ
 substitute literals lit = signed_as lit (slice_index_or literals (variable lit) 0)
 

@@ -18,8 +18,7 @@ pub record AreMoved (g : Graph) (functions : List ℕ) (m : Move) (h : Graph) (n
       → slice_index_or new k 0 ≡ entry_of (first_latch m.circuit.aig) functions v
   pub states : (s : State) → state_of h new s ≡ moved_state m (state_of g functions s)
 
--- the functions of the latches of c that stay after a pass that leaves what is reached: each has
--- its own
+-- after a pass that leaves what is reached, each latch that stays has its own function
 pub record ArePassed (g : Graph) (functions : List ℕ) (c : Graph) (reached : ℕ → Bool) (new : List ℕ) : Type 0 where
   pub within : All (λ lit. IsLiteralOf g lit) new
   pub many : length new ≡ length (places (λ j. reached (first_latch c + j)) (length c.latches))

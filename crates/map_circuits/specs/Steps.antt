@@ -12,14 +12,13 @@ use Rattle.state_maps.specs.States.{IsStateMap}
 abbrev pub IsSomeReading : Graph → List ℕ → Type 0
 IsSomeReading g reads = (held : List ℕ) × IsReading g held reads
 
--- a map to d, with the constraints that each latch is equal to its reading, becomes one to what d
--- is merged to
+-- a map to d, constrained so that each latch equals its reading, is one to what d is merged to
 abbrev pub MergingStep : Netlist → Netlist → Netlist → List ℕ → List ℕ → List ℕ → Graph → Graph → List ℕ → List ℕ → List ℕ → Type 0
 MergingStep c d e held reads kept g h functions old new = IsGraph d.aig → IsNetlist d → IsMergedBy held reads d e → IsGraph g → AreLiteralsOf g functions
     → length functions ≡ length d.aig.latches → length kept ≡ free_latches d.aig → IsStateMap c d kept (AreOne g old) (state_of g functions)
     → AddsSubstitutes g (first_latch d.aig) functions reads (length reads) h old new → IsStateMap c e kept (AreOne h new) (state_of h functions)
 
--- the functions of what the latches read as, by the functions of the latches
+-- the functions of what the latches read as, by those of the latches
 abbrev pub read_functions : ℕ → List ℕ → List ℕ → List ℕ
 read_functions first functions reads = map (substitute_function first functions) reads
 

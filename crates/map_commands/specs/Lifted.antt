@@ -93,8 +93,7 @@ pub record AreGiven (task : Lifting) (before after : Input) (given : Given) : Ty
   pub mapped : AreReadWithMap task.input task.retimed task.map before between given.mapped
   pub witness : IsCircuitAt task.witness between after given.witness
 
--- what is made of the files that are read is written, in the spelling that is chosen, else in that
--- of the witness circuit
+-- what is made of the files read is written, in the chosen spelling, else in the witness circuit's
 pub record PrintsLift (FileGiven : List ℕ → List ℕ → Type 0) (task : Lifting) (before after : Input) (old new : Output) (ended : Outcome) : Type 0 where
   pub given : Given
   pub read : AreGiven task before after given

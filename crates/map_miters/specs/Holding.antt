@@ -38,15 +38,14 @@ pub record AreResets (latches : List Latch) (own lits : List ℕ) : Type 0 where
 abbrev pub read_in : Netlist → Digits → State → ℕ → Bool
 read_in c x s = λ k. slice_index_or (map (value_within c.aig x s) (property_literals c.props)) k false
 
--- what a circuit without latches gives for a state: whether its constraints are 1, and its outputs
+-- what a map gives for a state: whether its constraints are 1, and its outputs
 pub record IsImage (h : Graph) (m : Netlist) (state : Held) (image : Image) : Type 0 where
   pub within : IsLiteralOf h image.kept
   pub kept : (z : Digits) (u : State) → (value_within h z u image.kept ≡ true) ↔ is_kept m (state z u)
   pub many : length image.outputs.items ≡ length m.props.outputs
   pub outputs : HoldAs h image.outputs.items (λ z u. mapped m (state z u))
 
--- a step of a circuit from a state: what the latches hold after it, and what the properties are in
--- it
+-- a circuit's step from a state: what latches hold after it, and what properties are in it
 pub record IsStep (h : Graph) (c : Netlist) (digits state : Held) (step : Step) : Type 0 where
   pub many_nexts : length step.nexts.items ≡ length c.aig.latches
   pub nexts : HoldAs h step.nexts.items (λ z u. after_step c.aig (digits z u) (state z u))

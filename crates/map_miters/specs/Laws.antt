@@ -28,13 +28,11 @@ ShowsAgreement c d m p w = IsGraph c.aig → IsGraph d.aig → IsNetlist d → I
 abbrev pub free_places : Graph → List ℕ → List ℕ
 free_places g lits = map (λ lit. free_before g (variable lit - 1)) lits
 
--- If they have, the properties of d have step by step the values of c's. A free latch of d holds at
--- step 0 what the free latch of c does that the map gives for it.
+-- if they have, d has c's streams; its free latches are those of c that the map gives for them
 abbrev pub GiveStreams : Netlist → Netlist → Netlist → Type 0
 GiveStreams c d m = IsGraph m.aig → IsAskable c d m → MeetsQuestions c d m → SameStreams c d (free_places c.aig (free_outputs d.aig.latches m.props.outputs))
 
--- a map of states has the answers if it gives for each free latch of d a free latch of c, in their
--- order
+-- a map of states by which free latches stay has the answers
 abbrev pub MapsMeetQuestions : Netlist → Netlist → List ℕ → Netlist → Type 0
 MapsMeetQuestions c d kept m = IsMapCircuit c d kept m → FreeStay c d m → MeetsQuestions c d m
 
@@ -46,7 +44,6 @@ IsNeverOne r = (z : Digits) (k : ℕ) → k < 4 → output_in r k z ≡ false
 abbrev pub MitersAnswer : Netlist → Netlist → Netlist → Netlist → Type 0
 MitersAnswer c d m r = IsGraph c.aig → IsNetlist c → IsGraph d.aig → IsNetlist d → IsAskable c d m → IsMiter c d m r → IsNeverOne r → MeetsQuestions c d m
 
--- The miter of a map of states is never 1. For that the map has to give for each free latch of d a
--- free latch of c, in their order.
+-- the miter of a map of states by which free latches stay is never 1
 abbrev pub MapsAreNeverOne : Netlist → Netlist → List ℕ → Netlist → Netlist → Type 0
 MapsAreNeverOne c d kept m r = IsMapCircuit c d kept m → FreeStay c d m → IsMiter c d m r → IsNeverOne r

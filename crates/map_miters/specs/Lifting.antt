@@ -20,8 +20,8 @@ pub record IsLiftedBack (c d m w : Netlist) (k : Sharing) (r : Netlist) : Type 0
   pub turns : IsTurned c d m turned
   pub lifted : IsLiftedOver both turned w k r
 
--- Let m map the states of d to those of c, which has no free latch. Then a witness circuit of d,
--- lifted back, is one of c.
+-- if m maps d's states to those of c, which has no free latch, a witness circuit of d, lifted back,
+-- is one of c
 abbrev pub LiftsBack : Netlist → Netlist → List ℕ → Netlist → Netlist → Sharing → Netlist → Type 0
 LiftsBack c d kept m w k r = IsGraph c.aig → IsNetlist c → IsGraph d.aig → free_latches c.aig ≡ 0 → IsMapCircuit d c kept m → IsSharing d w k → IsWitness d w k → IsLiftedBack c d m w k r
     → IsSharing c r (first_shared c r) × IsWitness c r (first_shared c r)

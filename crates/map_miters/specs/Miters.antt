@@ -48,8 +48,8 @@ pub record AsksIn (g : Graph) (c d m : Netlist) (outputs : List ℕ) : Type 0 wh
 abbrev pub IsAsked : Netlist → Netlist → Netlist → Asked → Type 0
 IsAsked c d m asked = AsksIn asked.gates c d m asked.outputs.items
 
--- r has the inputs of c, then one for each latch of c, and four outputs. Each output is 0 if and
--- only if its question has the answer that it should.
+-- r has c's inputs, then one for each latch of c, and four outputs, each 0 exactly if its question
+-- has the right answer
 pub record IsMiter (c d m r : Netlist) : Type 0 where
   pub inputs : r.aig.inputs ≡ c.aig.inputs + length c.aig.latches
   pub latches : r.aig.latches ≡ []

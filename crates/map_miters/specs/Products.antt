@@ -70,8 +70,8 @@ abbrev pub good_of : Goal → Netlist → Netlist → Netlist → Digits → Sta
 good_of Agree c d m z u = AgreeIn c d z u
 good_of Mapped c d m z u = HoldsMapped c d m u
 
--- r is c and d side by side. Its constraint is that tied latches start alike, and its state is good
--- if the goal is met.
+-- r is c and d side by side, constrained so that tied latches start alike, and good if the goal is
+-- met
 pub record IsProduct (goal : Goal) (c d m r : Netlist) : Type 0 where
   pub tied : Bool
   pub ties : IsTrue tied ↔ AreTied c d m

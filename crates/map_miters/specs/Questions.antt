@@ -12,8 +12,8 @@ use Rattle.map_miters.specs.Holding.{Held, reset_state}
 use Rattle.map_miters.specs.declared.questions.Compared.{Compared}
 use Rattle.map_miters.specs.declared.questions.Failures.{Failures}
 
--- Circuits of one shape, and a circuit without latches. That has an input for each latch of the one
--- and an output for each latch of the other.
+-- circuits of one shape, and one without latches that has an input for each latch of c and an
+-- output for each of d
 pub record IsAskable (c d m : Netlist) : Type 0 where
   pub shape : SameShape c d
   pub inputs : m.aig.inputs ≡ length c.aig.latches

@@ -9,8 +9,8 @@ use Rattle.state_maps.specs.States.{State}
 use Rattle.map_miters.specs.Comparing.{SaysThat}
 use Rattle.map_miters.specs.Products.{GivesState, second_state}
 
--- Circuits of equal numbers of inputs, and a circuit without latches. That has an input for each
--- latch of d and an output for each of c.
+-- circuits of equal numbers of inputs, and one without latches, with an input for each latch of d
+-- and an output for each of c
 pub record IsTurnable (c d m : Netlist) : Type 0 where
   pub inputs : d.aig.inputs ≡ c.aig.inputs
   pub map_inputs : m.aig.inputs ≡ length d.aig.latches

@@ -9,6 +9,6 @@ use Rattle.merged_circuits.specs.declared.counts.MergeCounts.{MergeCounts}
 abbrev pub is_constant : MergedLatch → Bool
 is_constant line = variable line.reads == 0
 
--- the number of lines, and of those by which a latch reads as a constant
+-- the number of lines, and of those that read a latch as a constant
 abbrev pub counts_of : List MergedLatch → MergeCounts
 counts_of lines = record { merged = length lines; constant = count_by is_constant lines }

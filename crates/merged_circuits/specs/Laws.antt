@@ -11,12 +11,12 @@ use Rattle.merged_circuits.specs.Inductive.{IsInductive, IsMergedBy}
 use Rattle.merged_circuits.specs.Lines.{IsSaidBy}
 use Rattle.merged_circuits.specs.Shown.{IsShown}
 
--- if latches read by a reading that steps preserve, each has at each step the value of its reading
+-- by a reading that steps preserve, each latch has at each step the value of its reading
 abbrev pub HasItsValue : Graph → List ℕ → List ℕ → Type 0
 HasItsValue g held reads =
     IsGraph g → IsInductive g held reads → (x : Inputs) (f : Choice) (t j : ℕ) → j < length g.latches → value g x f t (read reads j) ≡ value g x f t (own_literal g j)
 
--- a circuit merged by one has the streams of the circuit, each free latch in its place
+-- merging by such a reading keeps the streams, with each free latch in its place
 abbrev pub KeepsStreams : List ℕ → List ℕ → Netlist → Netlist → Type 0
 KeepsStreams held reads c d = IsGraph c.aig → IsNetlist c → IsMergedBy held reads c d → SameStreams c d (all_free c.aig)
 

@@ -52,9 +52,8 @@ pub record WritesMoves (FileGiven : List ℕ → List ℕ → Type 0) (task : Mo
   pub circuit : IsTargetGiven FileGiven task.output old between (text_in answer.spelling answer.moved.circuit)
   pub mapping : WritesIfAsked FileGiven task.map (text_in answer.spelling answer.moved.map) between new
 
--- the answer of what the task reads was written, and then it was printed what was done. That is on
--- standard output, or, if a circuit or a map went there, on standard error, of which a terminal is
--- told more.
+-- The answer of what the task reads was written, and then what was done printed on standard output.
+-- If a circuit or a map went there, it is on standard error, where a terminal is told more.
 pub record PrintsMoves (FileGiven : List ℕ → List ℕ → Type 0) (task : Moving) (is_terminal : Bool) (before after : Input) (old new said : Output) (ended : Outcome) : Type 0 where
   pub answer : Answer
   pub answers : AnswersTask task before after answer

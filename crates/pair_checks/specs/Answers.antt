@@ -20,7 +20,7 @@ abbrev pub IsAnswerUnder : Netlist → Netlist → List ℕ → PairAnswer → T
 IsAnswerUnder c d reads Equal = ReadAlike c d reads
 IsAnswerUnder c d reads (NotShown obligation shown all) = Unit {0}
 
--- the properties of both have the same values at each step; what isn't shown claims nothing
+-- the properties of both have equal values at each step; if that isn't shown, both have one shape
 abbrev pub IsAnswer : Netlist → Netlist → List ℕ → PairAnswer → Type 0
 IsAnswer c d kept Equal = SameStreams c d kept
 IsAnswer c d kept (NotShown obligation shown all) = SameShape c d

@@ -71,6 +71,6 @@ pub record BoundedLaw (bound : ℕ) (held : List ℕ) (c : Netlist) : Type 0 whe
   -- if no gate is barred the circuit serves as it is
   pub unbarred : NoneBarred bound c.aig held → (choice : Choice) (s : List ℕ) → IsChosen choice c held s ↔ IsChosenWithin bound choice c held s
 
--- the laws of the bounded circuit, for every bound, list of held latches and circuit
+-- the laws of every bounded circuit
 abbrev pub BoundedLaws : Type 0
 BoundedLaws = (bound : ℕ) (held : List ℕ) (c : Netlist) → IsGraph c.aig → IsNetlist c → BoundedLaw bound held c

@@ -28,7 +28,7 @@ highest levels level lits = fold (λ high lit. max high (levels (variable lit)))
 abbrev pub read_literals : Netlist → List ℕ
 read_literals c = map (λ latch. latch.next) c.aig.latches ++ property_literals c.props
 
--- the levels of a circuit: the greatest level of what latches and properties read
+-- the greatest level of what latches and properties read
 unfoldable pub levels : Netlist → ℕ
 levels c = highest (level c.aig) 0 (read_literals c)
 

@@ -39,8 +39,7 @@ looks_by g look = table (first_latch g) (latches_and_gates g) look
 abbrev pub centre_marks : Netlist → Option (ℕ → Bool) → Option (List Bool)
 centre_marks c centre = option_map (table 0 (variables_end c.aig)) centre
 
--- the looks of a circuit, its held latches and a set, the variables that are shown, and those in
--- the middle
+-- a circuit's looks with held latches and a set, the variables shown, and those in the middle
 pub record IsViewOf (c : Netlist) (held : List ℕ) (set : Option (List ℕ)) (shown : ℕ → Bool) (centre : Option (ℕ → Bool)) (view : View) : Type 0 where
   pub first : view.first ≡ first_latch c.aig
   pub looks : view.looks.items ≡ looks_by c.aig (look_of c held set)

@@ -51,8 +51,7 @@ is_named c name v =
 abbrev pub is_word_of : Netlist → List ℕ → ℕ → Bool
 is_word_of c word v = elim (place_of c word) [ None ↦ false | Some node ↦ is_at c.props node v ]
 
--- whether the variable is in the middle of the neighbourhood of the name: what has it, or if
--- nothing does, what a picture calls so
+-- whether the variable has the name or, if nothing has, a picture calls it so
 unfoldable pub is_centre : Netlist → List ℕ → ℕ → Bool
 is_centre c name v = if is_name_of c.symbols name then is_named c name v else is_word_of c name v
 

@@ -118,7 +118,7 @@ module _ (look : ℕ → Look) (drawn : ℕ → Bool) where
       codes "digraph circuit {\nrankdir=LR;\nnode [shape=plaintext];\n"
       ++ (legend ++ (graph_lines c.aig ++ (all_properties c.props ++ (centre_lines centre ++ (all_names c ++ codes "}\n")))))
 
--- the picture of a circuit with its held latches, a set or none, the variables that are shown, and
--- those in the middle
+-- the picture of a circuit with held latches, a set or none, the variables shown, and those in the
+-- middle
 abbrev pub picture : Netlist → List ℕ → Option (List ℕ) → (ℕ → Bool) → Option (ℕ → Bool) → List ℕ
 picture c held set shown centre = dot_text (look_of c held set) shown (centre_marks c centre) c

@@ -52,7 +52,7 @@ pub record IsStart (net : FlowNet) (f : FlowState) : Type 0 where
   pub between : IsBetween net f
   pub agree : Agree (node_count net) (started (node_count net) (pair net net.caps)) (state_of net f)
 
--- a flow whose nodes all were delivered, so that its new labels can become its labels
+-- a flow whose nodes all were delivered, so new labels can become its labels
 pub record IsTurnable (f : FlowState) : Type 0 where
   pub net : FlowNet
   pub ok : IsFlowNet net
@@ -76,7 +76,7 @@ pub record IsMaxPreflow (net : FlowNet) (m : RunEnd) : Type 0 where
   pub valid : IsValid (node_count net) (state_of net m.flow)
   pub none_active : NoneActive net m.flow
 
--- the end of the run from the start, pulse by pulse, with exact labels after every N-th pulse that
--- leaves a node active
+-- the end of the run by pulses from the start, with exact labels after each N-th that leaves a node
+-- active
 abbrev pub IsRunEnd : FlowNet → RunEnd → Type 0
 IsRunEnd net m = IsRun net m.pulses (started (node_count net) (pair net net.caps)) (state_of net m.flow)

@@ -9,8 +9,8 @@ use Rattle.pulse_parts.specs.Marks.{and_range, AllMarked, DeliveredSoFar}
 use Rattle.pulse.specs.Values.{FlowState, PushState}
 use Rattle.pulse.specs.Conditions.{IsFlowOf, ArePushesOf, IsBetween, is_marked, state_of}
 
--- the nodes from first up to end have written their rows of pushes, and no other node; the active
--- ones of them were counted
+-- just the nodes from first up to end have written their rows of pushes; their active ones were
+-- counted
 pub record RangeRead (net : FlowNet) (f : FlowState) (first end : ℕ) (old new : PushState) : Type 0 where
   pub fits : ArePushesOf net new
   pub unspent : new.spent ≡ false
@@ -56,8 +56,7 @@ pub record AfterDelivery (net : FlowNet) (old new : FlowState) (p : PushState) :
   pub pushes : p.spent ≡ false
   pub pulse : AfterPulse net old new
 
--- after a refused delivery phase: the flow is spent, and nothing else has changed that is left of a
--- spent flow
+-- after a refused delivery phase: the flow is spent; its labels, marks and capacities are unchanged
 pub record AfterRefusal (old new : FlowState) : Type 0 where
   pub spent : new.spent ≡ true
   pub labels : new.labels ≡ old.labels

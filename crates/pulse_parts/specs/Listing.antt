@@ -31,15 +31,14 @@ active_by n v excess label = nat_lt 1 v && nat_lt 0 excess && nat_lt label n
 abbrev pub active_in : ℕ → List ℕ → ℕ → List ℕ → ℕ → Bool
 active_in n labels first excess v = active_by n v (slice_index excess (v - first)) (slice_index labels v)
 
--- A complete list holds each node of the part that is active. The cells for new labels hold the
--- labels; n is the number of nodes.
+-- a complete list holds each active node of the part, and the cells for new labels hold the labels
 pub record ListsActive (n : ℕ) (labels : List ℕ) (q : FlowPart) : Type 0 where
   pub within : q.active.complete ≡ true → AreWithin q.first q.end q.active.nodes.items
   pub rising : q.active.complete ≡ true → IsRising q.active.nodes.items
   pub rest : q.active.complete ≡ true → (v : ℕ) → q.first ≤ v → v < q.end → IsListed q.active.nodes.items v ⊎ (active_by n v (slice_index q.excess.items (v - q.first)) (slice_index labels v) ≡ false)
   pub next : q.active.complete ≡ true → (v : ℕ) → q.first ≤ v → v < q.end → slice_index q.next.items (v - q.first) ≡ slice_index labels v
 
--- each part's list has all its active nodes, if it says that it is complete
+-- each part's list holds its active nodes, if it is complete
 abbrev pub ListActive : ℕ → List ℕ → List FlowPart → Type 0
 ListActive n labels qs = (i : ℕ) (d : FlowPart) → i < length qs → ListsActive n labels (slice_index_or qs i d)
 
@@ -56,8 +55,8 @@ pub record HasTurning (n : ℕ) (labels : List ℕ) (first end : ℕ) (excess ne
 abbrev pub SparesTurning : ℕ → List ℕ → FlowPart → Type 0
 SparesTurning n labels q = HasTurning n labels q.first q.end q.excess.items q.next.items q.spare.nodes.items
 
--- after a part's delivery its list, if complete, holds each of its nodes but those that keep their
--- labels, by which they aren't active
+-- after delivery a part's complete list holds all its nodes but inactive ones that keep their
+-- labels
 abbrev pub ListsTurning : ℕ → List ℕ → FlowPart → Type 0
 ListsTurning n labels q = q.active.complete ≡ true → HasTurning n labels q.first q.end q.excess.items q.next.items q.active.nodes.items
 

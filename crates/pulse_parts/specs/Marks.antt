@@ -25,8 +25,8 @@ pub record DeliveredSoFar (net : FlowNet) (labels pushes : List ℕ) (marks : �
   pub given : (v : ℕ) → v < node_count net → marks v ≡ true → NodeDelivered net labels pushes v v (start net v) opening now
   pub kept : (v : ℕ) → v < node_count net → marks v ≡ false → NodeKept net v v (start net v) opening now
 
--- there is a sound opening state from which Read of every node gave these pushes and Deliver of the
--- marked nodes these cells
+-- from a sound opening state Read of every node gave these pushes, and Deliver of the marked nodes
+-- these cells
 pub record IsPartlyDelivered (net : FlowNet) (labels pushes : List ℕ) (marks : ℕ → Bool) (now : Cells) : Type 0 where
   pub opening : Cells
   pub sound : IsSound net (pairs net opening labels)

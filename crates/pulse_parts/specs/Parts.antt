@@ -21,8 +21,7 @@ abbrev pub IsParted : {P : Type 0} → (P → Type 0) → (P → ℕ) → (P →
 IsParted fits first end n v [] = v ≡ n
 IsParted fits first end n v (p ∷ ps) = (first p ≡ v) × (fits p × IsParted fits first end n (end p) ps)
 
--- a worker's part of the pushes has its range of nodes, its rows' first arc, and room for just
--- these
+-- a part of the pushes has its range of nodes, its rows' first arc, and room for just these
 pub record PushPartFits (net : FlowNet) (p : PushPart) : Type 0 where
   pub ordered : p.first ≤ p.end
   pub within : p.end ≤ node_count net
@@ -30,7 +29,7 @@ pub record PushPartFits (net : FlowNet) (p : PushPart) : Type 0 where
   pub sized : length p.values.items + start net p.first ≡ start net p.end
   pub lists : ListsPushing net p
 
--- a worker's part of the flow has its range of nodes, its rows' first arc, and room for just these
+-- a part of the flow has its range of nodes, its rows' first arc, and room for just these
 pub record FlowPartFits (net : FlowNet) (q : FlowPart) : Type 0 where
   pub ordered : q.first ≤ q.end
   pub within : q.end ≤ node_count net
@@ -52,7 +51,7 @@ KeepsNodes old new = new ≡ record old { values = new.values; pushing = new.pus
 abbrev pub ArePushParts : FlowNet → ℕ → List PushPart → Type 0
 ArePushParts net v ps = IsParted (PushPartFits net) (λ p. p.first) (λ p. p.end) (node_count net) v ps
 
--- parts of a flow that fit stand end to end from node v on
+-- so do parts of a flow, from node v on
 abbrev pub AreFlowParts : FlowNet → ℕ → List FlowPart → Type 0
 AreFlowParts net v qs = IsParted (FlowPartFits net) (λ q. q.first) (λ q. q.end) (node_count net) v qs
 

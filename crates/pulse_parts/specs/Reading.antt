@@ -105,14 +105,13 @@ PartsRead net labels first end c olds news = (i : ℕ) (e : PushPart) → i < le
 abbrev pub clamped : ℕ → ℕ → ℕ → ℕ
 clamped first end v = min end (max first v)
 
--- a part's nodes from `first` up to `end` are read, and the rows walked were counted on by the
--- active ones of these
+-- a part's nodes from `first` up to `end` are read; their active ones were counted on as rows
+-- walked
 pub record PartReadOn (net : FlowNet) (labels : List ℕ) (first end : ℕ) (c : Cells) (old new : PushPart) : Type 0 where
   pub is_read : PartRead net labels first end c old new
   pub walked : IsCountedOn old.walked (active_from net labels c (clamped first end old.first) (clamped first end old.end)) new.walked
 
--- what reading leaves of each part's nodes in a range; the rows walked are counted on by the active
--- ones of these
+-- each part's nodes in that range are read and counted so
 abbrev pub PartsReadOn : FlowNet → List ℕ → ℕ → ℕ → Cells → List PushPart → List PushPart → Type 0
 PartsReadOn net labels first end c olds news = (i : ℕ) (e : PushPart) → i < length olds → PartReadOn net labels first end c (slice_index_or olds i e) (slice_index_or news i e)
 
@@ -131,6 +130,6 @@ pub record WholeRead (net : FlowNet) (labels : List ℕ) (c : Cells) (old new : 
   pub is_read : PartRead net labels 0 (node_count net) c old new
   pub walked : new.walked + active_below net labels c old.first ≡ active_below net labels c old.end
 
--- what reading leaves of all nodes of each part, if it walks the rows of the active ones alone
+-- each part of the pushes after such a Read
 abbrev pub WholesRead : FlowNet → List ℕ → Cells → List PushPart → List PushPart → Type 0
 WholesRead net labels c olds news = (i : ℕ) (e : PushPart) → i < length olds → WholeRead net labels c (slice_index_or olds i e) (slice_index_or news i e)

@@ -12,8 +12,7 @@ abbrev pub start_res : FlowNet → ℕ → ℕ
 start_res net arc = cond (nat_lt arc (start net 1)) 0
     (cond (slice_index net.heads arc == 0) (cap_at net arc + cap_at net (slice_index net.mates arc)) (cap_at net arc))
 
--- the excess of a node at the start: the capacity of the arc from the source, which is the mate of
--- its arc to it
+-- a node's excess at the start: the capacity of the arc to it from the source
 abbrev pub start_excess : FlowNet → ℕ → ℕ
 start_excess net v = cond (v == 0) 0 (sum_below (row_len net v) (λ k. cond (head net v k == 0) (back net net.caps v k) 0))
 
@@ -38,12 +37,11 @@ abbrev pub AreShares : {P : Type 0} → (P → ℕ) → (P → ℕ) → (P → �
 AreShares worker first end nodes workers k [] = Unit {0}
 AreShares worker first end nodes workers k (p ∷ ps) = IsShare worker first end nodes workers k p × AreShares worker first end nodes workers (k + 1) ps
 
--- the i-th part of a flow has number i and the nodes of worker i: from its border up to the next
--- worker's
+-- the i-th part of a flow has number i and worker i's nodes: from its border up to the next one's
 abbrev pub AreFlowShares : ℕ → ℕ → List FlowPart → Type 0
 AreFlowShares nodes workers qs = AreShares (λ q. q.worker) (λ q. q.first) (λ q. q.end) nodes workers 0 qs
 
--- the i-th part of the pushes has number i and the nodes of worker i
+-- so has the i-th part of the pushes
 abbrev pub ArePushShares : ℕ → ℕ → List PushPart → Type 0
 ArePushShares nodes workers ps = AreShares (λ p. p.worker) (λ p. p.first) (λ p. p.end) nodes workers 0 ps
 
@@ -63,12 +61,12 @@ PartsHold net res exc m qs = IsParted (PartHolds net res exc) (λ q. q.first) (�
 abbrev pub LabelsStart : FlowNet → List ℕ → Type 0
 LabelsStart net labels = (v : ℕ) → v < node_count net → slice_index labels v ≡ cond (v == 0) (node_count net) 0
 
--- parts with the residuals and the excess of the start are the start of the flow, and a sound state
+-- parts with the start's residuals and excess are the start of the flow, and a sound state
 abbrev pub StartLaw : Type 0
 StartLaw = (net : FlowNet) (labels : List ℕ) (qs : List FlowPart) → IsFlowNet net → IsStartable net → PartsHold net (start_res net) (start_excess net) (node_count net) qs → LabelsStart net labels
     → AreFlowParts net 0 qs × (Agree (node_count net) (started (node_count net) (pair net net.caps)) (pairs net (cells_of qs) labels) × IsSound net (pairs net (cells_of qs) labels))
 
--- parts with the residuals and the excess of others, whatever their ranges, are one state with them
+-- parts with the residuals and excess of others are one state with them, whatever their ranges
 abbrev pub PartingLaw : Type 0
 PartingLaw = (net : FlowNet) (labels : List ℕ) (c : Cells) (qs : List FlowPart) → IsFlowNet net → PartsHold net (slice_index c.residuals) (slice_index c.excess) (node_count net) qs
     → AreFlowParts net 0 qs × Agree (node_count net) (pairs net c labels) (pairs net (cells_of qs) labels)

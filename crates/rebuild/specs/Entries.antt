@@ -4,7 +4,7 @@ use Rattle.aig_graph.specs.Graph.{Graph, first_latch, latches_and_gates, latch_a
 use Rattle.aig_graph.specs.Marking.{mark_at}
 use Rattle.aig_graph.specs.Tables.{table}
 
--- a table with an entry for each latch and each gate, from the first latch on
+-- a table with an entry for each latch and gate, from the first latch on
 abbrev pub by_variable : {A : Type 0} → Graph → (ℕ → A) → List A
 by_variable g f = table (first_latch g) (latches_and_gates g) f
 

@@ -16,7 +16,7 @@ use Rattle.aig_graph.specs.Counting.{count_below, places, numbered}
 use Rattle.aig_graph.specs.Marking.{has}
 use Rattle.rebuild.specs.Starting.{start_value}
 
--- whether the moved circuit has a latch for the variable: it is a free latch, or in the border
+-- whether the variable has a latch after the move: it is a free latch, or in the border
 unfoldable pub is_latched : Move → ℕ → Bool
 is_latched m v = is_free_latch (latch_at m.circuit.aig v) || in_border m v
 
@@ -86,8 +86,8 @@ latches_below m n = map (latch_for m) (places (is_latched m) n)
 abbrev pub gates_below : Move → ℕ → List Gate
 gates_below m n = map (gate_for m) (places (is_outside m) n)
 
--- Latches come before gates in the numbering: so those that stay come first, and then those of
--- border gates.
+-- the moved graph: latches that stay, then those of border gates; gates outside the set, then the
+-- copies
 unfoldable pub moved_graph : Move → Graph
 moved_graph m = record {
   inputs = m.circuit.aig.inputs;
@@ -117,9 +117,7 @@ moved_name m name = record name { position = moved_position m name.position }
 unfoldable pub moved_symbols : Move → Symbols
 moved_symbols m = record m.circuit.symbols { latches = map (moved_name m) (filter (stays m) m.circuit.symbols.latches) }
 
--- The moved circuit. It has the staying latches in order, then one for each border gate, and gates
--- outside the set, then the copies. Properties are mapped, and the symbols of moved latches
--- dropped.
+-- the moved circuit: that graph, with properties mapped, and symbols of moved latches dropped
 abbrev pub moved_of : Move → Netlist
 moved_of m = record { aig = moved_graph m; props = moved_props m; symbols = moved_symbols m }
 

@@ -3,7 +3,7 @@ use Rattle.std.specs.Prelude.{ℕ, ◌+◌, ◌≡◌, ◌≢◌, List, [], ◌�
 use Rattle.reports.specs.declared.agreement.Agreement.{Agreement}
 use Rattle.reports.specs.declared.agreement.Agreement.TheVariants.{Same, DiffersAt}
 
--- the file is the text, or the two agree up to this offset, and not with one byte more
+-- the file is the text, or both agree up to this offset, and not one byte further
 abbrev pub IsAgreement : List ℕ → List ℕ → Agreement → Type 0
 IsAgreement text file Same = file ≡ text
 IsAgreement text file (DiffersAt offset) = (take offset file ≡ take offset text) × (take (offset + 1) file ≢ take (offset + 1) text)

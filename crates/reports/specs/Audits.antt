@@ -71,8 +71,7 @@ end_of (Some audit) = audit.end
 abbrev pub last_end : List Audit → End
 last_end audits = end_of (slice_get audits (length audits - 1))
 
--- The lines of the parts that were judged, and one for the end of the last one. Also one for a file
--- that was compared.
+-- lines for the parts that were judged, one for the last one's end, and one for a compared file
 abbrev pub audit_text : List CertPart → Judgement → List ℕ
 audit_text parts judgement =
     parts_text 0 parts judgement.audits ++ (end_text (confirmed_on 0 parts judgement.audits) (last_end judgement.audits) ++ agreement_text judgement.agreement)

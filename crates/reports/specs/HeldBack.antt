@@ -19,8 +19,8 @@ is_known_held g held v = is_held g held v && is_known (latch_at g v)
 abbrev pub is_read_elsewhere : Netlist → List ℕ → ℕ → Bool
 is_read_elsewhere c held v = may_move c.aig held v && is_read_outside c.aig c.props (is_passable c.aig held) v
 
--- the numbers of latches that are free, that are known and held, and that are known, not held and
--- read elsewhere; and of passable gates
+-- how many latches are free, known and held, or known, not held and read elsewhere; how many gates
+-- are passable
 unfoldable pub held_back : Netlist → List ℕ → HeldBack
 held_back c held = record {
   free = free_latches c.aig;
@@ -34,8 +34,8 @@ held_back c held = record {
 abbrev pub too_long : ℕ → Netlist → List ℕ → ℕ
 too_long bound c held = (held_back (bounded bound held c) held).read_elsewhere - (held_back c held).read_elsewhere
 
--- held_back, and under a bound the number of latches that a gate on too long a path reads, and
--- nothing else that isn't passable
+-- held_back, and under a bound how many latches a gate on too long a path reads, and nothing else
+-- that isn't passable
 abbrev pub held_back_within : Option ℕ → Netlist → List ℕ → HeldBack
 held_back_within None c held = held_back c held
 held_back_within (Some bound) c held = record (held_back c held) { too_long = Some (too_long bound c held) }

@@ -29,6 +29,6 @@ end_text true true = codes ", no set of gates within the bound leaves fewer\n"
 end_text true false = codes ", no set of gates leaves fewer\n"
 end_text false is_bounded = codes ", the limit of frames is reached\n"
 
--- what a terminal is told of the latches that stay: how many and for what, and why the frames ended
+-- what a terminal is told: how many latches stay and for what, and why the frames ended
 abbrev pub remaining_text : Remaining → List ℕ
 remaining_text r = staying_text r ++ codes "passable gates " ++ decimal r.held_back.passable ++ end_text r.is_least (is_some r.held_back.too_long)

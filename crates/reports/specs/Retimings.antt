@@ -16,6 +16,6 @@ frame_line number frame = codes "frame " ++ decimal number ++ codes ": " ++ chan
 abbrev pub frame_lines : List FrameReport → List ℕ
 frame_lines frames = numbered_lines frame_line 1 frames
 
--- a line for each frame, and the numbers of all latches that were read and that are left
+-- a line for each frame, and how many latches were read and are left
 abbrev pub retiming_text : Rounds → List ℕ
 retiming_text r = frame_lines r.frames ++ codes "latches " ++ change r.read_latches (length r.circuit.aig.latches)

@@ -12,9 +12,9 @@ use Rattle.retimed_circuits.specs.Certified.{IsSameRetiming}
 use Rattle.retimed_circuits.specs.Frames.{AfterFrames, CleansTo, held_over, moved_over}
 use Rattle.retimed_circuits.specs.Retiming.{IsRetimedWith}
 
--- What a circuit is retimed to is one, and so are its certificates but for their routes. It depends
--- on merging, the bound, the choice, the latches that are asked to be held and the limit of frames
--- alone. If latches are merged, it depends on which are, and what they read as.
+-- What a circuit is retimed to, and its certificates but for routes, follow from merging, bound,
+-- choice, holding and limit of frames. If latches are merged, also from which are, and what they
+-- read as.
 abbrev pub IsDetermined : Bool → Option ℕ → Choice → Netlist → Holding → ℕ → Type 0
 IsDetermined merge bound choice c holding max_frames = (certify other : Bool) (r s : Retimed) → IsRetimedWith merge bound choice c holding max_frames certify r
     → IsRetimedWith merge bound choice c holding max_frames other s → r.merged ≡ s.merged → IsSameRetiming certify other r s

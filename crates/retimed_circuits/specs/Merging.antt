@@ -6,9 +6,8 @@ use Rattle.merged_circuits.specs.Inductive.{IsMergedBy}
 use Rattle.merged_circuits.specs.Lines.{IsSaidBy}
 use Rattle.retimed_circuits.specs.Frames.{CleansTo}
 
--- d is c cleaned, and then merged by the reading that the lines say. The held latches take no part,
--- and merging leaves their positions, which are `now`. kept has the places of the free latches that
--- stay.
+-- d is c cleaned, then merged by the reading that the lines say. Held latches, then at `now`, take
+-- no part. kept has the places of the free latches that stay.
 pub record MergesIn (held : List ℕ) (c d : Netlist) (kept now : List ℕ) (lines : List MergedLatch) : Type 0 where
   pub clean : Netlist
   pub cleaned : CleansTo held c clean kept now

@@ -7,8 +7,8 @@ use Rattle.rebuild.specs.Moved.{moved_of}
 use Rattle.path_levels.specs.Levels.{levels}
 use Rattle.path_levels.specs.Arrivals.{IsClosedWithin}
 
--- latches that move over gates which arrive within the bound leave no path longer than the bound,
--- but for those that the circuit has
+-- a move over gates that arrive within the bound leaves no path longer than both it and the longest
+-- before
 abbrev pub MovingKeepsLevels : Type 0
 MovingKeepsLevels = (bound : ℕ) (c : Netlist) (held s : List ℕ) → IsGraph c.aig → IsNetlist c → IsClosedWithin bound c.aig held s
     → levels (moved_of (move_of c held s)) ≤ max bound (levels c)

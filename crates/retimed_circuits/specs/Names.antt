@@ -46,8 +46,8 @@ latches_at held c = map (latch_placed c) held
 abbrev pub Covers : List (List ℕ) → List ℕ → Netlist → Type 0
 Covers names held c = All (λ j. has held j ≡ true) (held_in names c)
 
--- d has at `now` the latches that c has at `held`, with their names and resets. So names hold these
--- latches in both, if each of those is held. No others are held in d if no others are in c.
+-- d has at `now` the latches that c has at `held`, with names and resets. Names that hold none but
+-- these hold the same in both. If they hold just these in c, they do in d.
 pub record StayHeld (held : List ℕ) (c : Netlist) (now : List ℕ) (d : Netlist) : Type 0 where
   pub stay : latches_at now d ≡ latches_at held c
   pub named : (names : List (List ℕ)) → Covers names held c → held_latches names d ≡ held_latches names c

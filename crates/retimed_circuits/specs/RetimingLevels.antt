@@ -8,7 +8,7 @@ use Rattle.path_levels.specs.Levels.{levels}
 use Rattle.retimed_circuits.specs.Retiming.{IsRetimedWith}
 use Rattle.retimed_circuits.specs.declared.report.Retimed.{Retimed}
 
--- d has no path longer than the bound, but for those that c has; without a bound nothing is said
+-- d has no path longer than both the bound and c's longest; without a bound nothing is said
 abbrev pub KeepsLevels : Option ℕ → Netlist → Netlist → Type 0
 KeepsLevels None c d = ⊤
 KeepsLevels (Some bound) c d = levels d ≤ max bound (levels c)

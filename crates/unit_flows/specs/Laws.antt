@@ -26,8 +26,8 @@ ShownLaw = (c : Netlist) (held : List ℕ) (flows : List GateFlow) (before after
     → HasFullCut c held flows (mark_at (first_latch c.aig) before) (mark_at (first_latch c.aig) after) → ReachSink c held flows before after
     → IsStrictlyIncreasing s → ((v : ℕ) → has s v ≡ is_off c held (mark_at (first_latch c.aig) before) v) → IsGreatestLeast c held s
 
--- The passable gates off the marks of a full cut are the smallest least set. For that each of them
--- has to be reached from a node at which a unit is left.
+-- the passable gates off the marks of a full cut, each reached from a node where a unit is left,
+-- are the smallest least set
 abbrev pub ShownSmallestLaw : Type 0
 ShownSmallestLaw = (c : Netlist) (held : List ℕ) (flows : List GateFlow) (went came : List ℕ) (before after : List Bool) (s : List ℕ) → IsGraph c.aig
     → AreTallies c.aig flows (length c.aig.gates) went came → IsBalanced c.aig flows went came

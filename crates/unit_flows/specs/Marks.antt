@@ -35,7 +35,6 @@ pub record AreWithin (first : ℕ) (marks_before marks_after : List Bool) (befor
   pub each_before : (v : ℕ) → mark_at first marks_before v ≡ true → before v ≡ true
   pub each_after : (v : ℕ) → mark_at first marks_after v ≡ true → after v ≡ true
 
--- all that is marked reaches the sink over residual arcs: it lies in each set that these lead back
--- to from there
+-- all that is marked reaches the sink over residual arcs
 abbrev pub ReachSink : Netlist → List ℕ → List GateFlow → List Bool → List Bool → Type 0
 ReachSink c held flows marks_before marks_after = (before after : ℕ → Bool) → IsUpstream c held flows before after → AreWithin (first_latch c.aig) marks_before marks_after before after

@@ -16,8 +16,7 @@ first_places n all = map (λ i. Some i) (range_with_len 0 n) ++ replicate (all -
 abbrev pub first_shared : Netlist → Netlist → Sharing
 first_shared c r = record { inputs = first_places c.aig.inputs r.aig.inputs; latches = first_places (length c.aig.latches) (length r.aig.latches) }
 
--- if a circuit has a map to another one, a witness circuit of that one, lifted, is one of the
--- circuit
+-- a witness circuit of d, lifted by a map of c's states to d's, is one of c
 abbrev pub LiftsWitnesses : Netlist → Netlist → List ℕ → Netlist → Netlist → Sharing → Netlist → Type 0
 LiftsWitnesses c d kept m w k r = IsGraph c.aig → IsNetlist c → IsGraph r.aig → IsMapCircuit c d kept m → IsSharing d w k → IsWitness d w k → IsLifted c m w k r
     → IsSharing c r (first_shared c r) × IsWitness c r (first_shared c r)

@@ -46,9 +46,9 @@ literal_name first i = record { position = i; name = codes "= " ++ decimal (2 * 
 abbrev pub literal_names : ℕ → ℕ → List Symbol
 literal_names first n = table 0 n (literal_name first)
 
--- r has the inputs and latches of c, with c's resets and steps, and after them those of w that are
--- its own. These read through the map what w shares. Its constraints are c's. It is good if the
--- map's constraints hold, w's do, and w is.
+-- r has the inputs and latches of c with their resets and steps, then w's own, which read through
+-- the map what w shares. Its constraints are c's. It is good if the map's and w's constraints hold,
+-- and w is good.
 pub record IsLiftedOver (c m w : Netlist) (k : Sharing) (r : Netlist) : Type 0 where
   pub inputs : r.aig.inputs ≡ c.aig.inputs + own_count k.inputs
   pub latches : length r.aig.latches ≡ length c.aig.latches + own_count k.latches

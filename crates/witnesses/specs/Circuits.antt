@@ -8,8 +8,8 @@ use Rattle.witnesses.specs.declared.widths.Widths.{Widths}
 abbrev pub bad_literals : Props → List ℕ
 bad_literals p = if length p.bad == 0 then p.outputs else p.bad
 
--- how many bad states, justice properties, latches and inputs a circuit has; without bad states its
--- outputs count as those
+-- how many bad states, justice properties, latches and inputs there are; without bad states outputs
+-- count as those
 abbrev pub widths_of : Netlist → Widths
 widths_of c = record {
   bad = length (bad_literals c.props);

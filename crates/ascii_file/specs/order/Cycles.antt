@@ -19,6 +19,6 @@ abbrev pub LeadsTo : List Reads → ℕ → List ℕ → ℕ → Type 0
 LeadsTo gates g [] end = ReadsGate gates g end
 LeadsTo gates g (h ∷ rest) end = ReadsGate gates g h × LeadsTo gates h rest end
 
--- a list of gates, not empty, in which each reads the next and the last reads the first
+-- there are gates of which each reads the next, and the last the first
 abbrev pub HasCycle : List Reads → Type 0
 HasCycle gates = (g : ℕ) × (rest : List ℕ) × LeadsTo gates g rest g

@@ -18,7 +18,7 @@ pub record StandsOnce (order : List ℕ) (g : ℕ) : Type 0 where
   pub stands : Contains order g
   pub alone : (i j : ℕ) → slice_get order i ≡ Some g → slice_get order j ≡ Some g → i ≡ j
 
--- each gate of the file stands at one place of the order, and at one alone
+-- each gate of the file stands at just one place of the order
 abbrev pub HasEachGateOnce : List Reads → List ℕ → Type 0
 HasEachGateOnce gates order = IsOrder gates order → (g : ℕ) → g < length gates → StandsOnce order g
 
@@ -27,11 +27,11 @@ abbrev pub ReadsBefore : List Reads → List ℕ → Type 0
 ReadsBefore gates order =
     IsOrder gates order → (k g h : ℕ) → slice_get order k ≡ Some g → ReadsGate gates g h → (j : ℕ) × (j < k) × (slice_get order j ≡ Some h)
 
--- none is computed if and only if there is a cycle
+-- none is computed exactly if there is a cycle
 abbrev pub CycleLaw : List Reads → Type 0
 CycleLaw gates = AreReadsInFile gates → ((ordered gates ≡ None) ↔ HasCycle gates)
 
--- there is an order if and only if there is no cycle
+-- there is an order exactly if there is no cycle
 abbrev pub ExistsLaw : List Reads → Type 0
 ExistsLaw gates = AreReadsInFile gates → (((order : List ℕ) × IsOrder gates order) ↔ ¬ HasCycle gates)
 

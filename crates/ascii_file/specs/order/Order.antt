@@ -27,7 +27,7 @@ pub record IsNextGate (gates : List Reads) (placed : List ℕ) (g : ℕ) : Type 
   pub follows : may_follow gates placed g ≡ true
   pub first : (h : ℕ) → may_follow gates placed h ≡ true → g ≤ h
 
--- as many gates as in the file, of which each is the next one after those at the places below
+-- as many gates as in the file, each of which is the next one after those before it
 pub record IsOrder (gates : List Reads) (order : List ℕ) : Type 0 where
   pub as_many : length order ≡ length gates
   pub each : (k g : ℕ) → slice_get order k ≡ Some g → IsNextGate gates (take k order) g

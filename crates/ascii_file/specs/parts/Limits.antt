@@ -11,7 +11,7 @@ limits h =
     (nat_lt (2 ^ 28 - 1) h.greatest, TooLarge 0) ∷ (nat_lt (2 ^ 24) h.outputs, TooLarge 0) ∷ (nat_lt (2 ^ 24) h.bad, TooLarge 0) ∷ (nat_lt (2 ^ 24) h.constraints, TooLarge 0)
     ∷ (nat_lt (2 ^ 24) h.justice, TooLarge 0) ∷ (nat_lt (2 ^ 24) h.fairness, TooLarge 0) ∷ []
 
--- the header, if there is one and each of its numbers is within its limit
+-- the header, if there is one and its numbers are within their limits
 abbrev pub limited : Option Header → Result Header ReadError
 limited None = Err (BadHeader 0)
 limited (Some h) = unless (limits h) (Ok h)

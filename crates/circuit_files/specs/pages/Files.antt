@@ -3,7 +3,7 @@ use Rattle.std.specs.Prelude.{ℕ, List, [], codes, Option, Some, None}
 use Rattle.circuit_files.specs.declared.pages.named_fault.Fault.{Fault}
 use Rattle.circuit_files.specs.declared.pages.named_fault.Fault.TheVariants.{BadHeader, TooLarge, MaxIndex, BadLine, BadLiteral, DefinedTwice, Undefined, Cycle, BadReset, BadDelta, Truncated, BadSymbol, Trailing}
 
--- a file of as few bytes as any with this fault of a circuit; none if no circuit has the fault
+-- a smallest file with this fault of a circuit; none if no circuit has the fault
 abbrev pub smallest_file : Fault → Option (List ℕ)
 smallest_file BadHeader = Some []
 smallest_file TooLarge = Some (codes "aag 0 0 0 16777217 0")

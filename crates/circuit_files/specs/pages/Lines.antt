@@ -5,7 +5,7 @@ use Rattle.std.specs.Prelude.{ℕ, ◌==◌, nat_lt, ◌||◌, List, [], ◌∷�
 abbrev pub line_length : List ℕ → ℕ
 line_length bytes = unwrap_or (position (λ b. b == 10) bytes) (length bytes)
 
--- printable ASCII stands for itself, every other byte is shown as a question mark
+-- printable ASCII stands for itself, any other byte is a question mark
 abbrev pub printable : ℕ → ℕ
 printable b = if nat_lt b 32 || nat_lt 126 b then 63 else b
 

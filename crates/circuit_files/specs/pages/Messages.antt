@@ -14,7 +14,7 @@ abbrev pub said : Bool → List ℕ → List ℕ
 said true text = map said_byte text
 said false text = text
 
--- the text was put into a message; the argument `output` is the member of `CountedWrite`
+-- the text was put into a message; `output` is the member of `CountedWrite`
 pub record Says {W : Type 0} (output : W → Output) (old new : Message W) (text : List ℕ) : Type 0 where
   pub puts : Puts output old.out new.out (said old.is_terminal text)
   pub terminal : new.is_terminal ≡ old.is_terminal

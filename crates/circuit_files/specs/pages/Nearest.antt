@@ -12,7 +12,7 @@ are_alike_in_length name other = nat_le (length name) 64 && nat_le ((length name
 abbrev pub near_edits : ℕ → ℕ → ℕ
 near_edits size count = if nat_le count (size / 2) then count else 3
 
--- the edits that make the one name of the other; names that aren't alike in length aren't compared
+-- how many edits make one name of the other; names unlike in length aren't compared
 unfoldable pub edits : List ℕ → List ℕ → ℕ
 edits name other = if are_alike_in_length name other then near_edits (length name) (levenshtein_row nat_eq name other (length other)) else 3
 
@@ -20,8 +20,7 @@ abbrev pub or_else : Option ℕ → Option ℕ → Option ℕ
 or_else None later = later
 or_else (Some place) later = Some place
 
--- the place of the nearest name, by the edits to each: that of the first 0, else of the first 1 or
--- 2
+-- the place of the first 0 among the numbers of edits, else of the first 1, else of the first 2
 unfoldable pub nearest_of : List ℕ → Option ℕ
 nearest_of counts =
     or_else (position (λ count. count == 0) counts)
