@@ -20,7 +20,11 @@ use std::marker::Model;
 const LONGEST: u8 = 32;
 
 /// The list of a variable that no gate has as its larger fan-in.
-const NO_LIST: GateList = GateList { last: 0, length: 0 };
+const NO_LIST: GateList = GateList {
+    last: 0,
+    smaller: Lit::FALSE,
+    length: 0,
+};
 
 /// A gate, and the link to the one before it in its list: its place plus one, and 0 at the end of
 /// the list.
@@ -30,10 +34,12 @@ pub(crate) struct SharedGate {
     pub(crate) before: u32,
 }
 
-/// The link to the last gate of a list, and how many it has.
+/// The link to the last gate of a list, that gate's smaller fan-in, and how many gates it has. So
+/// most gates that aren't there are known not to be by the list alone.
 #[derive(Clone, Copy)]
 struct GateList {
     last: u32,
+    smaller: Lit,
     length: u8,
 }
 
@@ -110,6 +116,47 @@ impl SharedGates {
         let _gates = self.gates.as_slice();
     }
 
+    /// Returns the place of a gate, if a link leads to it.
+    fn linked_to(&self, link: u32, gate: &Gate) -> Option<usize>
+        ensures { IfSome result (λ place. slice_get self.now.gates place ≡ Some gate.now) }
+    {
+        if link == 0 {
+            return None;
+        }
+        let place = (link - 1) as usize;
+        let shared = self.gates.get(place)?;
+        if shared.gate == *gate {
+            Some(place)
+        } else {
+            None
+        }
+    }
+
+    /// Returns the link that leads on from the gate to which a link leads.
+    fn link_before(&self, link: u32) -> u32 {
+        if link == 0 {
+            return 0;
+        }
+        match self.gates.get((link - 1) as usize) {
+            Some(shared) => shared.before,
+            None => 0,
+        }
+    }
+
+    /// Returns the place of a gate on the list of its larger fan-in, before the last gate of it.
+    fn listed_before(&self, list: GateList, gate: &Gate) -> Option<usize>
+        ensures { IfSome result (λ place. slice_get self.now.gates place ≡ Some gate.now) }
+    {
+        let mut link = list.last;
+        for _ in 1..list.length {
+            link = self.link_before(link);
+            if let Some(place) = self.linked_to(link, gate) {
+                return Some(place);
+            }
+        }
+        None
+    }
+
     /// Returns the place of a gate on the list of its larger fan-in.
     fn listed(&self, gate: &Gate) -> Option<usize>
         ensures { IfSome result (λ place. slice_get self.now.gates place ≡ Some gate.now) }
@@ -118,21 +165,12 @@ impl SharedGates {
         if var >= self.lists.len() {
             return None;
         }
-        let mut link = self.lists[var].last;
-        for _ in 0..LONGEST {
-            if link == 0 {
-                return None;
-            }
-            let place = (link - 1) as usize;
-            let Some(shared) = self.gates.get(place) else {
-                return None;
-            };
-            if shared.gate == *gate {
-                return Some(place);
-            }
-            link = shared.before;
+        let list = self.lists[var];
+        if list.smaller == gate.rhs1 {
+            self.linked_to(list.last, gate)
+        } else {
+            self.listed_before(list, gate)
         }
-        None
     }
 
     /// Returns the place of a gate that no list took.
@@ -176,6 +214,7 @@ impl SharedGates {
         }
         self.lists[var] = GateList {
             last: (place + 1) as u32,
+            smaller: gate.rhs1,
             length: list.length + 1,
         };
         Ok(list.last)
