@@ -19,6 +19,7 @@ use Rattle.frame_runs.specs.declared.follower.NoFollower.{NoFollower}
 use Rattle.frame_runs.specs.declared.options.Options.{Options}
 use Rattle.frame_runs.specs.declared.run.ReadCircuit.{ReadCircuit}
 use Rattle.frame_runs.specs.declared.run.Run.{Run}
+use Rattle.retimed_circuits.specs.declared.report.Retimed.{Retimed}
 use Rattle.pictures.specs.Looks.{everything}
 use Rattle.pictures.specs.Near.{has_node, is_centre, is_near}
 use Rattle.pictures.specs.Pictures.{picture}
@@ -57,11 +58,11 @@ comes_anyhow follower c d kept = ⊤
 
 -- The run of c by the options before its first frame, under the bound for c. If latches of c were
 -- merged, this is reported of it.
-abbrev pub IsRunBy : Options → Netlist → Option ReadCircuit → Run NoFollower → Type 0
+abbrev pub IsRunBy : Options → Netlist → Option ReadCircuit → Run Retimed NoFollower → Type 0
 IsRunBy options c read run = IsRunBegun comes_anyhow options run.bound c (all_free c.aig) c read run.retimed run.keep run.follower
 
 -- what a run came to, its held latches, and the set that its next frame takes
-pub record IsShownOf (options : Options) (run : Run NoFollower) (scene : Scene) : Type 0 where
+pub record IsShownOf (options : Options) (run : Run Retimed NoFollower) (scene : Scene) : Type 0 where
   pub circuit : scene.circuit ≡ run.retimed.circuit
   pub keep : scene.keep ≡ run.keep
   pub set : IsNextSet options run.bound run.keep run.retimed.circuit scene.set
@@ -73,7 +74,7 @@ pub record IsNextShown (task : Drawing) (c : Netlist) (scene : Scene) : Type 0 w
   pub options : Options
   pub are : AreOptionsOf task.options 0 false options
   pub read : Option ReadCircuit
-  pub run : Run NoFollower
+  pub run : Run Retimed NoFollower
   pub is : IsRunBy options c read run
   pub shown : IsShownOf options run scene
 

@@ -45,7 +45,7 @@ fn begun_by(
 }
 
 /// Returns a run that has begun, and drops what is reported of the circuit that was read.
-fn run_of(begun: Begun<NoFollower>) -> Run<NoFollower>
+fn run_of(begun: Begun<NoFollower>) -> Run<Retimed, NoFollower>
     ensures { result ≡ begun.run }
 {
     let Begun { run, read } = begun;
@@ -59,7 +59,7 @@ fn run_by<'a>(
     circuit: &Circuit,
     options: &Options,
     task: &Drawing<'a>,
-) -> Result<Run<NoFollower>, Failure<'a>>
+) -> Result<Run<Retimed, NoFollower>, Failure<'a>>
     ensures { IfOk result (λ run. (read : Option ReadCircuit)
         × IsRunBy options.now circuit.now read run) }
 {
@@ -70,7 +70,7 @@ fn run_by<'a>(
 }
 
 /// Makes a scene of the circuit of a run, with `set`.
-fn scene_with(run: Run<NoFollower>, set: Option<ClosedSet>) -> Scene
+fn scene_with(run: Run<Retimed, NoFollower>, set: Option<ClosedSet>) -> Scene
     ensures circuit { result.circuit ≡ run.retimed.circuit }
     ensures keep { result.keep ≡ run.keep }
     ensures set { result.set ≡ set }
@@ -89,7 +89,7 @@ fn scene_with(run: Run<NoFollower>, set: Option<ClosedSet>) -> Scene
 fn shown_of<'a, R: Threads + Sync>(
     rt: &R,
     alloc: Global,
-    run: Run<NoFollower>,
+    run: Run<Retimed, NoFollower>,
     options: &Options,
 ) -> Result<Scene, Failure<'a>>
     ensures { IfOk result (IsShownOf options.now run) }

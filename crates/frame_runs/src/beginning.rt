@@ -31,7 +31,7 @@ fn begun<F>(
     read_latches: u32,
     follower: F,
     bound: Option<u32>,
-) -> Run<F>
+) -> Run<Retimed, F>
     ensures circuit { result.retimed.circuit ≡ start.circuit }
     ensures kept_free { result.retimed.kept_free ≡ start.kept_free }
     ensures read_latches { result.retimed.read_latches ≡ read_latches }
@@ -102,7 +102,7 @@ fn cleaned_run<F: RunFollower + Drop>(
     keep: &Keep,
     bound: Option<u32>,
     options: &Options,
-) -> Result<Run<F>, F::Stop>
+) -> Result<Run<Retimed, F>, F::Stop>
     requires there { HasComeTo F.has_come follower (circuit_of given) }
     requires in_range { All (λ j. j < length (circuit_of given).aig.latches) keep.now }
     ensures { IfOk result (λ run. IsCleanedRun F.has_come options.now bound

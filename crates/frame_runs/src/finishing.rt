@@ -55,12 +55,13 @@ fn reported_of_read(alloc: Global, retimed: Retimed, read: ReadCircuit) -> Resul
 /// Reports a run from a merged circuit as one from the circuit that was read.
 fn run_of_read<F: RunFollower + Drop>(
     alloc: Global,
-    run: Run<F>,
+    run: Run<Retimed, F>,
     read: ReadCircuit,
-) -> Result<Run<F>, F::Stop>
+) -> Result<Run<Retimed, F>, F::Stop>
     requires { All (λ place. place < length read.kept_free) run.retimed.kept_free }
     ensures { IfOk result (λ end. (end.retimed ≡ reported_of_read read run.retimed)
-        × (end.keep ≡ run.keep) × (end.follower ≡ run.follower)) }
+        × (end.keep ≡ run.keep) × (end.follower ≡ run.follower)
+        × (end.bound ≡ run.bound)) }
 {
     let Run {
         retimed,
@@ -98,7 +99,7 @@ pub fn finish<F: RunFollower + Drop, G: PhaseGate, V: FrameWatcher>(
     options: &Options,
     crew: &Crew<G>,
     watcher: &mut V,
-) -> Result<Run<F>, F::Stop>
+) -> Result<Run<Retimed, F>, F::Stop>
     requires { (b : Netlist) × (before : List ℕ) × (c : Netlist)
         × IsRunBegun F.has_come options.now begun.run.bound b before c begun.read
         begun.run.retimed begun.run.keep begun.run.follower }
@@ -108,6 +109,7 @@ pub fn finish<F: RunFollower + Drop, G: PhaseGate, V: FrameWatcher>(
         → IsRetimedFollowed F.has_come options.now b before c end.retimed end.keep
         end.follower) }
     ensures merged { IfOk result (λ end. end.retimed.merged ≡ merged_before begun.read) }
+    ensures bound { IfOk result (λ end. end.bound ≡ begun.run.bound) }
     ensures notified { IfOk result (λ end. Notifies V.was_notified watcher.old watcher.new
         (looks_of options.now.max_frames end.retimed)) }
 {

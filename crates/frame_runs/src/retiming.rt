@@ -69,10 +69,10 @@ fn after_frame(
 /// Takes `frame`, which was followed, into the run.
 fn taken<F: RunFollower + Drop>(
     alloc: Global,
-    run: Run<F>,
+    run: Run<Retimed, F>,
     frame: Frame,
     options: &Options,
-) -> Result<Run<F>, F::Stop>
+) -> Result<Run<Retimed, F>, F::Stop>
     requires underway { (d : Netlist) × (held : List ℕ) × (n : ℕ)
         × IsUnderway options.now run.bound d held n run.retimed run.keep }
     requires moves { Moves options.now run.bound run.keep run.retimed.circuit frame }
@@ -125,12 +125,12 @@ fn enter_looking<V: FrameWatcher>(retimed: &Retimed, watcher: &mut V)
 fn all_frames<F: RunFollower + Drop, G: PhaseGate, V: FrameWatcher>(
     rt: &(impl Threads + Sync),
     alloc: Global,
-    start: Run<F>,
+    start: Run<Retimed, F>,
     options: &Options,
     crew: &Crew<G>,
     records: &mut Records,
     watcher: &mut V,
-) -> Result<Run<F>, F::Stop>
+) -> Result<Run<Retimed, F>, F::Stop>
     requires begun { (c : Netlist)
         × IsReady F.has_come options.now start.bound c start.retimed start.keep start.follower }
     requires wanted { records.old.certify ≡ options.now.certify }
@@ -140,6 +140,7 @@ fn all_frames<F: RunFollower + Drop, G: PhaseGate, V: FrameWatcher>(
         start.follower
         → EndsFollowed F.has_come options.now start.bound c d held kept records.new end.retimed
         end.keep end.follower) }
+    ensures bound { IfOk result (λ end. end.bound ≡ start.bound) }
     ensures notified { IfOk result (λ end. Notifies V.was_notified watcher.old watcher.new
         (looks_of options.now.max_frames end.retimed)) }
 {
@@ -159,7 +160,7 @@ fn all_frames<F: RunFollower + Drop, G: PhaseGate, V: FrameWatcher>(
 }
 
 /// Puts the recorded certificates into the run. Takes no memory.
-fn certified<F>(run: Run<F>, records: Records) -> Run<F>
+fn certified<F>(run: Run<Retimed, F>, records: Records) -> Run<Retimed, F>
     ensures circuit { result.retimed.circuit ≡ run.retimed.circuit }
     ensures kept_free { result.retimed.kept_free ≡ run.retimed.kept_free }
     ensures read_latches { result.retimed.read_latches ≡ run.retimed.read_latches }
@@ -168,6 +169,7 @@ fn certified<F>(run: Run<F>, records: Records) -> Run<F>
     ensures keep { result.keep ≡ run.keep }
     ensures certificates { result.retimed.certificates ≡ records.certificates.items }
     ensures follower { result.follower ≡ run.follower }
+    ensures bound { result.bound ≡ run.bound }
 {
     let Run {
         retimed,
@@ -204,11 +206,11 @@ fn certified<F>(run: Run<F>, records: Records) -> Run<F>
 pub(crate) fn run_to_end<F: RunFollower + Drop, G: PhaseGate, V: FrameWatcher>(
     rt: &(impl Threads + Sync),
     alloc: Global,
-    start: Run<F>,
+    start: Run<Retimed, F>,
     options: &Options,
     crew: &Crew<G>,
     watcher: &mut V,
-) -> Result<Run<F>, F::Stop>
+) -> Result<Run<Retimed, F>, F::Stop>
     requires { (c : Netlist)
         × IsReady F.has_come options.now start.bound c start.retimed start.keep start.follower }
     ensures retimed { IfOk result (λ end. (c d : Netlist) (held kept : List ℕ)
@@ -216,6 +218,7 @@ pub(crate) fn run_to_end<F: RunFollower + Drop, G: PhaseGate, V: FrameWatcher>(
         start.follower
         → IsRetimedFrom F.has_come options.now start.bound c d held kept end.retimed end.keep
         end.follower) }
+    ensures bound { IfOk result (λ end. end.bound ≡ start.bound) }
     ensures notified { IfOk result (λ end. Notifies V.was_notified watcher.old watcher.new
         (looks_of options.now.max_frames end.retimed)) }
 {

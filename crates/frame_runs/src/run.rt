@@ -4,9 +4,9 @@ use retimed_circuits::Retimed;
 
 /// A run under way: the circuit that it has come to, and the follower that went with it.
 #[derive(Drop)]
-pub struct Run<F> {
+pub struct Run<R, F> {
     /// The circuit that the run has come to, and its report so far.
-    pub retimed: Retimed,
+    pub retimed: R,
     /// The latches of it that are held.
     pub keep: Keep,
     /// The follower that went with the run.
@@ -33,7 +33,7 @@ pub struct ReadCircuit {
 #[derive(Drop)]
 pub struct Begun<F> {
     /// The run at its cleaned circuit.
-    pub run: Run<F>,
+    pub run: Run<Retimed, F>,
     /// The report of the circuit that was read, if its latches were merged.
     pub read: Option<ReadCircuit>,
 }

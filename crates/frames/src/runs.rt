@@ -11,10 +11,10 @@ ghost use Rattle.retimed_circuits.specs.RetimingLevels.{KeepsLevels};
 
 use aig_graph::Circuit;
 use frame_runs::{
-    Begun, FrameWatcher, GivenCircuit, NoFollower, NoWatcher, Options, RetimeError, RunError,
+    Begun, FrameWatcher, GivenCircuit, NoFollower, NoWatcher, Options, RetimeError, Run, RunError,
     RunFollower, Stage, begin, hold_by,
 };
-use merging_rounds::{Rounds, RoundsRun, finish_rounds};
+use merging_rounds::{Rounds, finish_rounds};
 use pulse::{Crew, PhaseGate};
 use std::alloc::Global;
 use std::thread::Threads;
@@ -57,12 +57,12 @@ fn finish_plain<G: PhaseGate, V: FrameWatcher>(
     options: &Options,
     crew: &Crew<G>,
     watcher: &mut V,
-) -> Result<RoundsRun<NoFollower>, RunError>
+) -> Result<Run<Rounds, NoFollower>, RunError>
     requires { (c : Netlist)
         × AreRoundsBegun ⟦<NoFollower as RunFollower>⟧.has_come options.now c begun }
     ensures { IfOk result (λ run. (c : Netlist)
         → AreRoundsBegun ⟦<NoFollower as RunFollower>⟧.has_come options.now c begun
-        → AreRoundsSeen V.was_notified [] [] options.now c run.rounds run.keep watcher.old
+        → AreRoundsSeen V.was_notified [] [] options.now c run.retimed run.keep watcher.old
         watcher.new) }
 {
     let end = finish_rounds(rt, alloc, begun, options, crew, watcher)?;
@@ -70,12 +70,12 @@ fn finish_plain<G: PhaseGate, V: FrameWatcher>(
 }
 
 /// Returns the report of rounds that ended, and drops the held latches.
-pub(crate) fn rounds_of(run: RoundsRun<NoFollower>) -> Rounds
-    ensures { result ≡ run.rounds }
+pub(crate) fn rounds_of(run: Run<Rounds, NoFollower>) -> Rounds
+    ensures { result ≡ run.retimed }
 {
-    let RoundsRun { rounds, keep, .. } = run;
+    let Run { retimed, keep, .. } = run;
     drop(keep);
-    rounds
+    retimed
 }
 
 /// Cleans a circuit and retimes it forward in rounds. In each round latches are merged, if the
@@ -135,9 +135,9 @@ pub fn run_watched<G: PhaseGate, V: FrameWatcher>(
     options: &Options,
     crew: &Crew<G>,
     watcher: &mut V,
-) -> Result<RoundsRun<NoFollower>, RetimeError>
+) -> Result<Run<Rounds, NoFollower>, RetimeError>
     ensures retimed { IfOk result (λ run. AreRoundsSeen V.was_notified (Cleaning ∷ []) []
-        options.now (circuit_of given.entry) run.rounds run.keep watcher.old watcher.new) }
+        options.now (circuit_of given.entry) run.retimed run.keep watcher.old watcher.new) }
     ensures latches { OnOk result (AreLatchesBy options.now (circuit_of given.entry)) }
     ensures none_missing { OnOk result (NoneMissingBy options.now (circuit_of given.entry)) }
     ensures no_latch { (place : ℕ) → IsErrOf result (NoSuchLatch place)
