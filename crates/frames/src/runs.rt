@@ -11,11 +11,12 @@ ghost use Rattle.retimed_circuits.specs.RetimingLevels.{KeepsLevels};
 
 use aig_graph::Circuit;
 use frame_runs::{
-    Begun, FrameWatcher, GivenCircuit, NoFollower, NoWatcher, Options, RetimeError, Run, RunError,
+    FrameWatcher, GivenCircuit, NoFollower, NoWatcher, Options, RetimeError, Run, RunError,
     RunFollower, Stage, begin, hold_by,
 };
 use merging_rounds::{Rounds, finish_rounds};
 use pulse::{Crew, PhaseGate};
+use retimed_circuits::Retimed;
 use std::alloc::Global;
 use std::thread::Threads;
 
@@ -24,7 +25,7 @@ fn begin_plain(
     alloc: Global,
     given: GivenCircuit<'_>,
     options: &Options,
-) -> Result<Begun<NoFollower>, RetimeError>
+) -> Result<Run<Retimed, NoFollower>, RetimeError>
     ensures begun { IfOk result (AreRoundsBegun ⟦<NoFollower as RunFollower>⟧.has_come options.now
         (circuit_of given.entry)) }
     ensures latches { OnOk result (AreLatchesBy options.now (circuit_of given.entry)) }
@@ -53,7 +54,7 @@ fn begin_plain(
 fn finish_plain<G: PhaseGate, V: FrameWatcher>(
     rt: &(impl Threads + Sync),
     alloc: Global,
-    begun: Begun<NoFollower>,
+    begun: Run<Retimed, NoFollower>,
     options: &Options,
     crew: &Crew<G>,
     watcher: &mut V,

@@ -10,7 +10,6 @@ use Rattle.frame_runs.specs.Bounds.{bound_in}
 use Rattle.frame_runs.specs.Following.{IsRetimedFollowed}
 use Rattle.frame_runs.specs.Stages.{Cleaning, Notification, Notifies, looks_of, stages_of}
 use Rattle.frame_runs.specs.declared.options.Options.{Options}
-use Rattle.frame_runs.specs.declared.run.Begun.{Begun}
 use Rattle.frame_runs.specs.declared.run.Run.{Run}
 use Rattle.merging_rounds.specs.Asking.{AreMergedAsGiven, IsInRounds}
 use Rattle.merging_rounds.specs.declared.rounds.Rounds.{Rounds}
@@ -51,10 +50,10 @@ pub record EndInRounds {F W : Type 0} (has_come : F → Netlist → Netlist → 
   pub notified : Notifies was_notified old new (looks_of_runs options.max_frames runs ++ last_cleaning nothing)
 
 -- a circuit c before the first frame of its first round; the follower had come to it from itself
-pub record AreRoundsBegun {F : Type 0} (has_come : F → Netlist → Netlist → List ℕ → Type 0) (options : Options) (c : Netlist) (begun : Begun F) : Type 0 where
+pub record AreRoundsBegun {F : Type 0} (has_come : F → Netlist → Netlist → List ℕ → Type 0) (options : Options) (c : Netlist) (begun : Run Retimed F) : Type 0 where
   pub graph : IsGraph c.aig
   pub netlist : IsNetlist c
-  pub starts : IsRunBegun has_come options begun.run.bound c (all_free c.aig) c begun.read begun.run.retimed begun.run.keep begun.run.follower
+  pub starts : IsRunBegun has_come options c (all_free c.aig) c begun
 
 -- a run of c that ended, and the follower has come with it from c
 pub record IsFirstRun {F : Type 0} (has_come : F → Netlist → Netlist → List ℕ → Type 0) (options : Options) (c : Netlist) (run : Run Retimed F) : Type 0 where

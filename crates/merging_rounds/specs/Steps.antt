@@ -7,8 +7,6 @@ use Rattle.frame_runs.specs.Bounds.{bound_in}
 use Rattle.frame_runs.specs.Following.{IsRetimedFollowed}
 use Rattle.frame_runs.specs.Stages.{Cleaning, Notification, Notifies, looks_of, stages_of}
 use Rattle.frame_runs.specs.declared.options.Options.{Options}
-use Rattle.frame_runs.specs.declared.run.Begun.{Begun}
-use Rattle.frame_runs.specs.declared.run.ReadCircuit.{ReadCircuit}
 use Rattle.frame_runs.specs.declared.run.Run.{Run}
 use Rattle.merging_rounds.specs.Asking.{AreRoundOptions, Guesses}
 use Rattle.merging_rounds.specs.Following.{AreRoundsFollowed, last_cleaning, later_stages}
@@ -20,16 +18,6 @@ use Rattle.merging_rounds.specs.declared.running.BegunAgain.{BegunAgain}
 use Rattle.merging_rounds.specs.declared.running.BegunAgain.TheVariants.{Merges, Nothing}
 use Rattle.merging_rounds.specs.declared.running.Further.{Further}
 use Rattle.merging_rounds.specs.declared.running.Further.TheVariants.{Ended, Round}
-
--- a latch was merged before the first frame
-abbrev pub HasLines : Option ReadCircuit → Type 0
-HasLines None = ⊥
-HasLines (Some read) = 0 < length read.merged
-
--- if latches were to be merged, none was
-abbrev pub HasNoLine : Option ReadCircuit → Type 0
-HasNoLine None = ⊤
-HasNoLine (Some read) = read.merged ≡ []
 
 -- A run of c by its own options, after rounds of which this is reported, and their report with it.
 -- It merged a latch. The follower came from b.
@@ -57,10 +45,10 @@ pub record IsReportOf (r : Rounds) (report : Report) : Type 0 where
   pub parts : report.parts ≡ r.parts
 
 -- a round after others that was begun, and merged a latch
-pub record HasBegunAgain {F : Type 0} (has_come : F → Netlist → Netlist → List ℕ → Type 0) (c : Netlist) (state : Run Rounds F) (asked : Options) (report : Report) (begun : Begun F) : Type 0 where
-  pub merges : HasLines begun.read
+pub record HasBegunAgain {F : Type 0} (has_come : F → Netlist → Netlist → List ℕ → Type 0) (c : Netlist) (state : Run Rounds F) (asked : Options) (report : Report) (begun : Run Retimed F) : Type 0 where
+  pub merges : MergesSome begun.retimed
   pub reported : IsReportOf state.retimed report
-  pub begins : IsRunBegun has_come asked begun.run.bound c report.kept_free state.retimed.circuit begun.read begun.run.retimed begun.run.keep begun.run.follower
+  pub begins : IsRunBegun has_come asked c report.kept_free state.retimed.circuit begun
 
 -- a round after others, or the others if it finds nothing to merge
 abbrev pub IsBegunAgain : {F : Type 0} → (F → Netlist → Netlist → List ℕ → Type 0) → Options → Netlist → List Retimed → Run Rounds F → Options → BegunAgain F → Type 0

@@ -7,27 +7,26 @@ ghost use Rattle.retimed_circuits.specs.declared.report.Retimed.{Retimed};
 ghost use Rattle.merging_rounds.specs.Asking.{AreRoundOptions, Guesses};
 ghost use Rattle.merging_rounds.specs.Following.{AreRoundsBegun, AreRoundsFollowed, EndInRounds, IsFirstRun};
 ghost use Rattle.merging_rounds.specs.Joining.{IsJoined};
-ghost use Rattle.merging_rounds.specs.Steps.{EndsInMoreRounds, HasLines, HasNoLine, IsBegunAgain, IsFinishedAgain, IsFurther, IsRoundAsked};
+ghost use Rattle.merging_rounds.specs.Rounds.{MergesNone, MergesSome};
+ghost use Rattle.merging_rounds.specs.Steps.{EndsInMoreRounds, IsBegunAgain, IsFinishedAgain, IsFurther, IsRoundAsked};
 
 use crate::asking::round_options;
 use crate::joining::{Report, of_first, report_of, with_run};
 use crate::rounds::Rounds;
 use aig_graph::NoMemory;
-use frame_runs::{
-    Begun, FrameWatcher, GivenCircuit, Options, ReadCircuit, Run, RunFollower, Stage, begin, finish,
-};
+use frame_runs::{FrameWatcher, GivenCircuit, Options, Run, RunFollower, Stage, begin, finish};
 use pulse::{Crew, PhaseGate};
 use retimed_circuits::Retimed;
 use std::alloc::Global;
 use std::thread::Threads;
 
 /// Returns true if latches were merged before the first frame.
-fn merges_some(read: &Option<ReadCircuit>) -> bool
-    ensures some { result ≡ true → HasLines read.now }
-    ensures none { result ≡ false → HasNoLine read.now }
+fn merges_some(retimed: &Retimed) -> bool
+    ensures some { result ≡ true → MergesSome retimed.now }
+    ensures none { result ≡ false → MergesNone retimed.now }
 {
-    match read {
-        Some(read) => !read.merged.is_empty(),
+    match &retimed.merged {
+        Some(lines) => !lines.is_empty(),
         None => false,
     }
 }
@@ -116,18 +115,16 @@ fn finished<F: RunFollower + Drop, G: PhaseGate, V: FrameWatcher>(
     rt: &(impl Threads + Sync),
     alloc: Global,
     report: Report,
-    begun: Begun<F>,
+    begun: Run<Retimed, F>,
     asked: &Options,
     crew: &Crew<G>,
     watcher: &mut V,
 ) -> Result<Run<Rounds, F>, F::Stop>
-    requires begun { (b : Netlist) × (c : Netlist) × IsRunBegun F.has_come asked.now
-        begun.run.bound b report.kept_free c begun.read begun.run.retimed begun.run.keep
-        begun.run.follower }
-    requires merges { HasLines begun.read }
-    ensures { IfOk result (λ next. (b c : Netlist) → IsRunBegun F.has_come asked.now
-        begun.run.bound b report.kept_free c begun.read begun.run.retimed begun.run.keep
-        begun.run.follower
+    requires begun { (b : Netlist) × (c : Netlist)
+        × IsRunBegun F.has_come asked.now b report.kept_free c begun }
+    requires merges { MergesSome begun.retimed }
+    ensures { IfOk result (λ next. (b c : Netlist)
+        → IsRunBegun F.has_come asked.now b report.kept_free c begun
         → IsFinishedAgain F.has_come V.was_notified asked.now b report c next watcher.old
         watcher.new) }
 {
@@ -144,25 +141,23 @@ fn finished<F: RunFollower + Drop, G: PhaseGate, V: FrameWatcher>(
 #[derive(Drop)]
 enum BegunAgain<F> {
     /// It merged a latch. Of the rounds before it the report is left.
-    Merges(Report, Begun<F>),
+    Merges(Report, Run<Retimed, F>),
     /// It found no latch to merge, so it is given up: the rounds before it.
     Nothing(Run<Rounds, F>),
 }
 
 /// Returns the follower of a run that was begun, and gives the run up.
-fn follower_of<F>(begun: Begun<F>) -> F
-    ensures { result ≡ begun.run.follower }
+fn follower_of<F>(begun: Run<Retimed, F>) -> F
+    ensures { result ≡ begun.follower }
 {
-    let Begun { run, read } = begun;
     let Run {
         retimed,
         keep,
         follower,
         ..
-    } = run;
+    } = begun;
     drop(retimed);
     drop(keep);
-    drop(read);
     follower
 }
 
@@ -187,7 +182,7 @@ fn begun_again<F: RunFollower + Drop>(
     let lent = GivenCircuit::Lent(&rounds.circuit);
     match begin(alloc, lent, &keep, asked, follower) {
         Ok(begun) => {
-            if merges_some(&begun.read) {
+            if merges_some(&begun.retimed) {
                 drop(keep);
                 Ok(BegunAgain::Merges(report_of(rounds), begun))
             } else {
@@ -345,7 +340,7 @@ fn rounds_after<F: RunFollower + Drop, G: PhaseGate, V: FrameWatcher>(
 pub fn finish_rounds<F: RunFollower + Drop, G: PhaseGate, V: FrameWatcher>(
     rt: &(impl Threads + Sync),
     alloc: Global,
-    begun: Begun<F>,
+    begun: Run<Retimed, F>,
     options: &Options,
     crew: &Crew<G>,
     watcher: &mut V,
