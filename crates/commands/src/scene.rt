@@ -1,6 +1,6 @@
 //! The scene that `dot` draws: the circuit that is read, or the circuit before the next frame and
 //! that frame's set.
-ghost use Rattle.std.specs.Prelude.{◌≡◌, IfOk, Option, false};
+ghost use Rattle.std.specs.Prelude.{◌≡◌, IfOk, false};
 ghost use Rattle.command_endings.specs.RunOptions.{AreOptionsOf};
 ghost use Rattle.commands.specs.Drawings.{IsNextShown, IsRunBy, IsSceneOf, IsShownFor, IsShownOf};
 

@@ -3,6 +3,7 @@ use Rattle.std.proofs.Common.{ℕ, ◌≡◌, ◌<◌, ◌∙◌, true, false, a
 use Rattle.std.specs.List.{All}
 use Rattle.std.proofs.lemmas.List.{length-map}
 use Rattle.aig_graph.specs.Circuits.{Netlist}
+use Rattle.aig_graph.specs.Graph.{free_latches}
 use Rattle.aig_graph.specs.Laws.{composed}
 use Rattle.aig_graph.specs.Streams.{SameStreams}
 use Rattle.aig_graph.proofs.PositionLaws.{held_of-names}
@@ -10,8 +11,10 @@ use Rattle.clean.proofs.CleaningLaws.{composed-then}
 use Rattle.cleaned_circuits.proofs.PassLaws.{IsCircuit}
 use Rattle.latch_merging.specs.declared.start.MergedStart.{MergedStart}
 use Rattle.retimed_circuits.specs.declared.report.Retimed.{Retimed}
+use Rattle.retimed_circuits.specs.Frames.{AfterFrames}
 use Rattle.retimed_circuits.specs.Merging.{MergesIn}
 use Rattle.retimed_circuits.specs.Names.{Covers, StayHeld}
+use Rattle.retimed_circuits.specs.Retiming.{since_merged}
 use Rattle.frame_runs.specs.declared.options.Options.{Options}
 use Rattle.frame_runs.specs.declared.run.Run.{Run}
 use Rattle.chosen_cuts.specs.declared.records.Records.{Records}
@@ -20,7 +23,8 @@ use Rattle.frame_runs.specs.Bounds.{bound_in}
 use Rattle.frame_runs.specs.Following.{ComesOn, EndsFollowed, HasComeFrom, IsFollowed, IsReady, IsRetimedFollowed}
 use Rattle.frame_runs.specs.Merging.{AreGivenLines, IsRunStart, ReadCircuit, reported_of_read}
 use Rattle.frame_runs.specs.Named.{holding_in, kept_by, names_in}
-use Rattle.frame_runs.specs.Retiming.{IsRetimedHeld}
+use Rattle.frame_runs.specs.Retiming.{IsRetimedHeld, KeepsStreamsAndHeld}
+use Rattle.frame_runs.specs.Underway.{IsReportedOf}
 use Rattle.frame_runs.proofs.FrameLaws.{ended, reported_as_is, with_certificates}
 use Rattle.frame_runs.proofs.MergedLaws.{as-it-is, merged-retimed}
 
@@ -38,6 +42,33 @@ plain-begun has_come options bound b before c held old run valid unasked keep ri
       read = None;
       starts = record { unasked = unasked; followed = record { underway = is.underway; come = is.comes b before there.places there.come } };
     }
+
+-- the places of the free latches of a merged circuit that is cleaned are among its own
+pub merged-below : {F : Type 0} (has_come : F → Netlist → Netlist → List ℕ → Type 0) (options : Options) (bound : Option ℕ) (m : MergedStart) (old : F) (run : Run Retimed F) → length m.kept_free ≡ free_latches m.circuit.aig
+    → IsCleanedRun has_come options bound m.circuit m.keep old run.follower run.retimed run.keep → All (λ place. place < length m.kept_free) run.retimed.kept_free
+merged-below has_come options bound m old run places is =
+    let below : All (λ place. place < length m.kept_free) is.underway.kept = λ k a h. omega (arith, is.underway.keeps.streams.places.below k a h, places) in
+    subst (λ (kept : List ℕ). All (λ place. place < length m.kept_free) kept) (sym is.underway.reported.0) below
+
+-- a merged circuit that is cleaned, reported of the circuit that was merged
+pub merged-reported : {F : Type 0} (has_come : F → Netlist → Netlist → List ℕ → Type 0) (options : Options) (bound : Option ℕ) (m : MergedStart) (latches : ℕ) (old : F) (run end : Run Retimed F)
+    → IsCleanedRun has_come options bound m.circuit m.keep old run.follower run.retimed run.keep → run.bound ≡ bound → end.retimed ≡ since_merged latches m.kept_free m.merged run.retimed → end.keep ≡ run.keep
+    → end.follower ≡ run.follower → end.bound ≡ run.bound → IsMergedFrom has_come options m latches old end × (end.bound ≡ bound)
+merged-reported {F = F} has_come options bound m latches old run end is right reported stand same equal =
+    let kept : List ℕ = is.underway.kept in
+    let c : Netlist = m.circuit in
+    let held : List ℕ = m.keep in
+    let read : ReadCircuit = read_before m latches in
+    let r : Retimed = run.retimed in
+    let P : Option ℕ → Retimed → List ℕ → F → Type 0 = λ b x now f. IsReportedOf (Some read) c kept x × AfterFrames b options.choice held c 0 x.circuit kept now x.frames × KeepsStreamsAndHeld held c x.circuit kept now
+    × ComesOn has_come old f c x.circuit kept in
+    let comes : ComesOn has_come old run.follower c r.circuit kept = subst (λ (js : List ℕ). ComesOn has_come old run.follower c r.circuit js) is.underway.reported.0 is.comes in
+    let whole : Retimed = since_merged latches m.kept_free m.merged r in
+    let first : P bound whole run.keep run.follower = ((ap (composed m.kept_free) is.underway.reported.0, refl, refl), is.underway.frames, is.underway.keeps, comes) in
+    let bounds : end.bound ≡ bound = equal ∙ right in
+    let all = subst (λ (b : Option ℕ). P b end.retimed end.keep end.follower) (sym bounds) (subst (λ (x : Retimed). P bound x end.keep end.follower) (sym reported)
+        (subst (λ (js : List ℕ). P bound whole js end.follower) (sym stand) (subst (λ f. P bound whole run.keep f) (sym same) first))) in
+    (record { underway = record { kept = kept; reported = all.0; frames = all.1; keeps = all.2 }; comes = all.3 }, bounds)
 
 -- what a merged circuit is cleaned to is what the circuit that was read is cleaned, merged and
 -- cleaned to

@@ -5,6 +5,7 @@
 //! gives it up as the run begins.
 ghost use Rattle.std.specs.Prelude.{ℕ, ◌≡◌, ◌<◌, false, All, IfOk, [], List, None, length, true};
 ghost use Rattle.aig_graph.specs.Circuits.{Netlist};
+ghost use Rattle.aig_graph.specs.Graph.{free_latches};
 ghost use Rattle.cleaned_circuits.specs.Cleaned.{Cleans};
 ghost use Rattle.cleaned_circuits.specs.Held.{HeldAfter};
 ghost use Rattle.frame_runs.specs.Beginning.{IsRunBegun, IsCleanedRun, IsMergedFrom};
@@ -228,6 +229,7 @@ fn merged_run<F: RunFollower + Drop>(
 ) -> Result<Run<Retimed, F>, F::Stop>
     requires there { HasComeTo F.has_come follower start.circuit }
     requires in_range { All (λ j. j < length start.circuit.aig.latches) start.keep }
+    requires places { length start.kept_free ≡ free_latches start.circuit.aig }
     ensures { IfOk result (λ run. IsMergedFrom F.has_come options.now start latches follower run
         × (run.bound ≡ bound)) }
 {
@@ -258,8 +260,7 @@ fn begun_merged<F: RunFollower + Drop>(
     requires merge { options.now.merge ≡ true }
     ensures { IfOk result (λ begun. (b : Netlist) (before : List ℕ)
         → HasComeFrom F.has_come follower b before circuit.now
-        → IsRunBegun F.has_come options.now begun.run.bound b before circuit.now begun.read
-        begun.run.retimed begun.run.keep begun.run.follower) }
+        → IsRunBegun F.has_come options.now b before circuit.now begun) }
 {
     circuit.known();
     let latches = circuit.aig().latches().len() as u32;
