@@ -67,7 +67,7 @@ merged-reported {F = F} has_come options bound m latches old run end is right re
     let first : P bound whole run.keep run.follower = ((ap (composed m.kept_free) is.underway.reported.0, refl, refl), is.underway.frames, is.underway.keeps, comes) in
     let bounds : end.bound ≡ bound = equal ∙ right in
     let all = subst (λ (b : Option ℕ). P b end.retimed end.keep end.follower) (sym bounds) (subst (λ (x : Retimed). P bound x end.keep end.follower) (sym reported)
-        (subst (λ (js : List ℕ). P bound whole js end.follower) (sym stand) (subst (λ f. P bound whole run.keep f) (sym same) first))) in
+    (subst (λ (js : List ℕ). P bound whole js end.follower) (sym stand) (subst (λ f. P bound whole run.keep f) (sym same) first))) in
     (record { underway = record { kept = kept; reported = all.0; frames = all.1; keeps = all.2 }; comes = all.3 }, bounds)
 
 -- what a merged circuit is cleaned to is what the circuit that was read is cleaned, merged and
