@@ -22,7 +22,7 @@ const FOR_LATCH: u64 = 64;
 const IN_RESERVE: u64 = 512;
 
 /// The units that the guess of a large circuit may take.
-const MOST: u64 = 1 << 27;
+const MOST: u64 = 1 << 26;
 
 /// Returns the budget of a guess. It grows with the circuit, as the time does that retiming takes,
 /// up to a bound.
