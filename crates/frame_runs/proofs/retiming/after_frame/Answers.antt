@@ -1,4 +1,4 @@
-use Rattle.std.proofs.Common.{ℕ, List, ◌≡◌, ◌∙◌, ◌++◌, ◌∷◌, ◌<◌, [], None, arith, ap, get_or, length, sym, subst, suc}
+use Rattle.std.proofs.Common.{ℕ, List, ◌≡◌, ◌∙◌, ◌++◌, ◌∷◌, ◌<◌, [], arith, ap, get_or, length, sym, subst, suc}
 use Rattle.std.specs.List.{All}
 use Rattle.aig_graph.specs.Graph.{free_latches}
 use Rattle.aig_graph.specs.Laws.{composed}
