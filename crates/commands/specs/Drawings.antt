@@ -17,8 +17,8 @@ use Rattle.frame_runs.specs.Beginning.{IsRunBegun}
 use Rattle.frame_runs.specs.Retiming.{IsNextSet}
 use Rattle.frame_runs.specs.declared.follower.NoFollower.{NoFollower}
 use Rattle.frame_runs.specs.declared.options.Options.{Options}
-use Rattle.frame_runs.specs.declared.run.ReadCircuit.{ReadCircuit}
 use Rattle.frame_runs.specs.declared.run.Run.{Run}
+use Rattle.retimed_circuits.specs.declared.report.Retimed.{Retimed}
 use Rattle.pictures.specs.Looks.{everything}
 use Rattle.pictures.specs.Near.{has_node, is_centre, is_near}
 use Rattle.pictures.specs.Pictures.{picture}
@@ -55,13 +55,12 @@ IsRefusal None c input failure = (2000 < nodes c) × OfSource input (λ path. fa
 abbrev pub comes_anyhow : NoFollower → Netlist → Netlist → List ℕ → Type 0
 comes_anyhow follower c d kept = ⊤
 
--- The run of c by the options before its first frame, under the bound for c. If latches of c were
--- merged, this is reported of it.
-abbrev pub IsRunBy : Options → Netlist → Option ReadCircuit → Run NoFollower → Type 0
-IsRunBy options c read run = IsRunBegun comes_anyhow options run.bound c (all_free c.aig) c read run.retimed run.keep run.follower
+-- the run of c by the options before its first frame, under the bound for c
+abbrev pub IsRunBy : Options → Netlist → Run Retimed NoFollower → Type 0
+IsRunBy options c run = IsRunBegun comes_anyhow options c (all_free c.aig) c run
 
 -- what a run came to, its held latches, and the set that its next frame takes
-pub record IsShownOf (options : Options) (run : Run NoFollower) (scene : Scene) : Type 0 where
+pub record IsShownOf (options : Options) (run : Run Retimed NoFollower) (scene : Scene) : Type 0 where
   pub circuit : scene.circuit ≡ run.retimed.circuit
   pub keep : scene.keep ≡ run.keep
   pub set : IsNextSet options run.bound run.keep run.retimed.circuit scene.set
@@ -72,9 +71,8 @@ pub record IsShownOf (options : Options) (run : Run NoFollower) (scene : Scene) 
 pub record IsNextShown (task : Drawing) (c : Netlist) (scene : Scene) : Type 0 where
   pub options : Options
   pub are : AreOptionsOf task.options 0 false options
-  pub read : Option ReadCircuit
-  pub run : Run NoFollower
-  pub is : IsRunBy options c read run
+  pub run : Run Retimed NoFollower
+  pub is : IsRunBy options c run
   pub shown : IsShownOf options run scene
 
 -- What is shown of c: itself with the latches that the task holds. If the next frame is asked for,

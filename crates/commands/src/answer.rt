@@ -22,11 +22,11 @@ use command_endings::{missing_latch, missing_name};
 use command_line::{Retiming, RetimingOptions};
 use counted_io::{CountedWrite, Source, Target, WriteError};
 use file_words::ReadError;
-use frame_runs::{BytesError, FrameWatcher, NoFollower, Options, RetimeError};
+use frame_runs::{BytesError, FrameWatcher, NoFollower, Options, RetimeError, Run};
 use frames::run_spelt;
 use json_reports::{MapCounts, ReadLevels};
 use mapped_answers::{AnswerError, Made, StateMap, retime_spelt_mapped, write_state_map};
-use merging_rounds::{Rounds, RoundsRun};
+use merging_rounds::Rounds;
 use path_levels::levels;
 use pulse::{Crew, OpenGate};
 use std::alloc::Global;
@@ -152,10 +152,10 @@ fn plain_to<'a, R: Threads + Sync, W: CountedWrite, V: FrameWatcher>(
     spelt: SpeltCircuit,
     writer: &mut W,
     watcher: &mut V,
-) -> Result<RoundsRun<NoFollower>, Failure<'a>>
+) -> Result<Run<Rounds, NoFollower>, Failure<'a>>
     ensures written { IfOk result (λ run. IsWritten options.now spelt (W.output writer.old)
-        (W.output writer.new) run.rounds) }
-    ensures held { IfOk result (λ run. AreRoundsOf options.now spelt.circuit run.rounds
+        (W.output writer.new) run.retimed) }
+    ensures held { IfOk result (λ run. AreRoundsOf options.now spelt.circuit run.retimed
         run.keep) }
     ensures prints { IfErr result (λ failure. Prints (outcome_of failure) (W.output writer.old)
         (W.output writer.new)) }
@@ -189,14 +189,18 @@ fn mapped_to<R: Threads + Sync, W: CountedWrite, V: FrameWatcher>(
 }
 
 /// Makes an answer of a run without a map.
-fn plain_answer(run: RoundsRun<NoFollower>, levels: ReadLevels, spelling: Spelling) -> Answer
-    ensures rounds { result.rounds ≡ run.rounds }
+fn plain_answer(run: Run<Rounds, NoFollower>, levels: ReadLevels, spelling: Spelling) -> Answer
+    ensures rounds { result.rounds ≡ run.retimed }
     ensures keep { result.keep ≡ run.keep }
     ensures levels { result.levels ≡ levels }
     ensures spelling { result.spelling ≡ spelling }
     ensures map { result.map ≡ None }
 {
-    let RoundsRun { rounds, keep, .. } = run;
+    let Run {
+        retimed: rounds,
+        keep,
+        ..
+    } = run;
     Answer {
         rounds,
         keep,

@@ -1,9 +1,8 @@
 //! The scene that `dot` draws: the circuit that is read, or the circuit before the next frame and
 //! that frame's set.
-ghost use Rattle.std.specs.Prelude.{◌≡◌, IfOk, Option, false};
+ghost use Rattle.std.specs.Prelude.{◌≡◌, IfOk, false};
 ghost use Rattle.command_endings.specs.RunOptions.{AreOptionsOf};
 ghost use Rattle.commands.specs.Drawings.{IsNextShown, IsRunBy, IsSceneOf, IsShownFor, IsShownOf};
-ghost use Rattle.frame_runs.specs.declared.run.ReadCircuit.{ReadCircuit};
 
 use crate::answer::failure_of_run;
 use crate::drawable::check_drawable;
@@ -13,7 +12,7 @@ use command_endings::{held_latches, run_options};
 use command_line::Drawing;
 use counted_io::CountedRead;
 use frame_runs::{
-    Begun, GivenCircuit, NoFollower, Options, RetimeError, Retimed, Run, begin, hold_by, next_set,
+    GivenCircuit, NoFollower, Options, RetimeError, Retimed, Run, begin, hold_by, next_set,
 };
 use pulse::{Crew, OpenGate};
 use std::alloc::Global;
@@ -35,22 +34,13 @@ fn begun_by(
     alloc: Global,
     circuit: &Circuit,
     options: &Options,
-) -> Result<Begun<NoFollower>, RetimeError>
-    ensures { IfOk result (λ begun. IsRunBy options.now circuit.now begun.read begun.run) }
+) -> Result<Run<Retimed, NoFollower>, RetimeError>
+    ensures { IfOk result (IsRunBy options.now circuit.now) }
 {
     let keep = hold_by(alloc, circuit, options)?;
     let lent = GivenCircuit::Lent(circuit);
     let begun = begin(alloc, lent, &keep, options, NoFollower)?;
     Ok(begun)
-}
-
-/// Returns a run that has begun, and drops what is reported of the circuit that was read.
-fn run_of(begun: Begun<NoFollower>) -> Run<NoFollower>
-    ensures { result ≡ begun.run }
-{
-    let Begun { run, read } = begun;
-    drop(read);
-    run
 }
 
 /// Runs the circuit up to its first frame.
@@ -59,18 +49,17 @@ fn run_by<'a>(
     circuit: &Circuit,
     options: &Options,
     task: &Drawing<'a>,
-) -> Result<Run<NoFollower>, Failure<'a>>
-    ensures { IfOk result (λ run. (read : Option ReadCircuit)
-        × IsRunBy options.now circuit.now read run) }
+) -> Result<Run<Retimed, NoFollower>, Failure<'a>>
+    ensures { IfOk result (IsRunBy options.now circuit.now) }
 {
     match begun_by(alloc, circuit, options) {
-        Ok(begun) => Ok(run_of(begun)),
+        Ok(run) => Ok(run),
         Err(error) => Err(failure_of_run(error, task.input, task.input, &task.options)),
     }
 }
 
 /// Makes a scene of the circuit of a run, with `set`.
-fn scene_with(run: Run<NoFollower>, set: Option<ClosedSet>) -> Scene
+fn scene_with(run: Run<Retimed, NoFollower>, set: Option<ClosedSet>) -> Scene
     ensures circuit { result.circuit ≡ run.retimed.circuit }
     ensures keep { result.keep ≡ run.keep }
     ensures set { result.set ≡ set }
@@ -89,7 +78,7 @@ fn scene_with(run: Run<NoFollower>, set: Option<ClosedSet>) -> Scene
 fn shown_of<'a, R: Threads + Sync>(
     rt: &R,
     alloc: Global,
-    run: Run<NoFollower>,
+    run: Run<Retimed, NoFollower>,
     options: &Options,
 ) -> Result<Scene, Failure<'a>>
     ensures { IfOk result (IsShownOf options.now run) }

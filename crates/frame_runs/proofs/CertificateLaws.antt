@@ -5,6 +5,7 @@ use Rattle.std.proofs.lemmas.Option.{slice_get_within}
 use Rattle.aig_graph.specs.Circuits.{Netlist}
 use Rattle.aig_graph.proofs.PlacesLaws.{slice_get_push}
 use Rattle.certificates.specs.declared.certificate.Certificate.{Certificate}
+use Rattle.chosen_cuts.specs.Certified.{AddsNone}
 use Rattle.chosen_cuts.specs.declared.records.Records.{Records}
 use Rattle.aig_graph.specs.declared.choice.Choice.{Choice}
 use Rattle.retimed_circuits.specs.declared.report.FrameReport.{FrameReport}
@@ -41,6 +42,15 @@ one-more-certificate bound choice held c certs cert d kept now reports before ru
       subst (IsCertificate bound choice later e) (sym last.1)
       (subst (λ (x : Netlist). IsCertificate bound choice later x cert) same.circuit (subst (λ (js : List ℕ). IsCertificate bound choice js d cert) same.held is)))
 ]
+
+-- what is added as a set is found stays added while no certificate changes
+pub still-added : (options : Options) (bound : Option ℕ) (held : List ℕ) (c : Netlist) (old mid later new : Records) → AddsFound options bound held c old mid → AddsNone mid later → AddsNone later new
+    → AddsFound options bound held c old new
+still-added options bound held c old mid later new found first second = record {
+  certify = second.certify ∙ first.certify ∙ found.certify;
+  added = λ yes. let one = found.added yes in (one.0, one.1, second.certificates ∙ first.certificates ∙ one.2);
+  none = λ no. second.certificates ∙ first.certificates ∙ found.none no;
+}
 
 -- with what is added for the circuit that n frames make, the certificates of the first n + 1
 -- circuits are collected, if wanted

@@ -1,5 +1,5 @@
 -- What follows a frame follows the frame's move and its cleaning.
-use Rattle.std.proofs.Common.{ℕ, List, ◌≡◌, ◌∙◌, ◌++◌, ◌∷◌, ◌<◌, [], Option, Result, Ok, Err, ap, arith, get_or, length, suc, sym, subst, zero-add}
+use Rattle.std.proofs.Common.{ℕ, List, ◌≡◌, ◌∙◌, ◌++◌, ◌∷◌, ◌<◌, [], Option, None, Some, Result, Ok, Err, ap, arith, get_or, length, suc, sym, subst, zero-add}
 use Rattle.std.specs.Result.{IfOk}
 use Rattle.std.specs.List.{All, range_with_len}
 use Rattle.std.proofs.lemmas.List.{length-map}
@@ -19,13 +19,14 @@ use Rattle.retimed_circuits.specs.Frames.{AfterFrames, frame, held_over, moved_o
 use Rattle.retimed_circuits.proofs.RunLaws.{SameEnd, after-one}
 use Rattle.frame_runs.specs.declared.frame.Frame.{Frame}
 use Rattle.frame_runs.specs.declared.options.Options.{Options}
-use Rattle.frame_runs.specs.Following.{ComesOn, ComesWhole, IsCleanedFollowed, IsFollowed, IsMovedFollowed}
+use Rattle.frame_runs.specs.Following.{ComesOn, ComesWhole, IsCleanedFollowed, IsMovedFollowed}
 use Rattle.frame_runs.specs.Found.{Moves}
-use Rattle.frame_runs.specs.Underway.{IsUnderway}
+use Rattle.frame_runs.specs.Merging.{ReadCircuit}
+use Rattle.frame_runs.specs.Underway.{IsReportedOf, IsUnderway}
 use Rattle.clean.specs.Normalised.{IsNormalised}
 use Rattle.aig_graph.specs.Tables.{table}
 use Rattle.aig_graph.proofs.TableLaws.{table-from}
-use Rattle.frame_runs.proofs.FrameLaws.{cleaned-by, moved-by, own-cleaned}
+use Rattle.frame_runs.proofs.FrameLaws.{cleaned-by, many-reported, moved-by, own-cleaned}
 
 -- all of what is kept
 composed-whole : (n : ℕ) (kept : List ℕ) → length kept ≡ n → composed kept (range_with_len 0 n) ≡ kept
@@ -73,29 +74,36 @@ moved-followed has_come held c after set there old mid new (Ok d) netlist in_ran
 }
 moved-followed has_come held c after set there old mid new (Err e) netlist in_range same stand streams whole is = tt
 
--- places among those that were kept are as many as the run's circuit has free latches
-pub many-kept : (options : Options) (bound : Option ℕ) (d : Netlist) (held kept : List ℕ) (n : ℕ) (r : Retimed) (now : List ℕ) → IsUnderway options bound d held n r now
-    → length (composed kept r.kept_free) ≡ free_latches r.circuit.aig
-many-kept options bound d held kept n r now underway = length-map r.kept_free (λ place. get_or kept place 0) ∙ underway.keeps.streams.places.each
+-- places among those that are reported are as many as the run's circuit has free latches
+pub many-kept : (options : Options) (bound : Option ℕ) (d : Netlist) (read : Option ReadCircuit) (held before : List ℕ) (n : ℕ) (r : Retimed) (now : List ℕ) → IsUnderway options bound d read held n r now
+    → length (composed before r.kept_free) ≡ free_latches r.circuit.aig
+many-kept options bound d read held before n r now underway = length-map r.kept_free (λ place. get_or before place 0) ∙ many-reported options bound d read held n r now underway
 
--- what n frames make is one
-pub one-taken : {F : Type 0} (has_come : F → Netlist → Netlist → List ℕ → Type 0) (options : Options) (bound : Option ℕ) (c d : Netlist) (held kept : List ℕ) (n : ℕ) (r after : Retimed) (now later : List ℕ) (taken : Frame) (f : F)
-    → IsUnderway options bound d held n r now → Moves options bound now r.circuit taken → IsUnderway options bound d held (suc n) after later
-    → has_come f c taken.cleaned.circuit (composed (composed kept r.kept_free) taken.cleaned.kept_free) → IsFollowed has_come options bound c d held kept (suc n) after later f
-one-taken has_come options bound c d held kept n r after now later taken f before moves underway come =
+-- what is reported after a frame that leaves these free latches
+left-reported : (read : Option ReadCircuit) (c : Netlist) (kept later left : List ℕ) (r after : Retimed) → All (λ place. place < length kept) left → later ≡ composed kept left → IsReportedOf read c kept r
+    → IsReportedOf read c later after → after.kept_free ≡ composed r.kept_free left
+left-reported None c kept later left r after below same is next = next.0 ∙ same ∙ ap (λ (xs : List ℕ). composed xs left) (sym is.0)
+left-reported (Some read) c kept later left r after below same is next =
+    next.0 ∙ ap (composed read.kept_free) same ∙ composed-then read.kept_free kept left below ∙ ap (λ (xs : List ℕ). composed xs left) (sym is.0)
+
+-- who follows a frame has come to what it makes
+pub one-taken : {F : Type 0} (has_come : F → Netlist → Netlist → List ℕ → Type 0) (options : Options) (bound : Option ℕ) (b d : Netlist) (read : Option ReadCircuit) (held from : List ℕ) (n : ℕ) (r after : Retimed) (now later : List ℕ) (taken : Frame) (f : F)
+    → IsUnderway options bound d read held n r now → Moves options bound now r.circuit taken → IsUnderway options bound d read held (suc n) after later
+    → has_come f b taken.cleaned.circuit (composed (composed from r.kept_free) taken.cleaned.kept_free) → has_come f b after.circuit (composed from after.kept_free)
+one-taken has_come options bound b d read held from n r after now later taken f before moves underway come =
     let choice = options.choice in
     let left : List ℕ = taken.cleaned.kept_free in
     let keep : List ℕ = taken.cleaned.keep in
-    let places : List ℕ = composed r.kept_free left in
+    let places : List ℕ = composed before.kept left in
     let reports : List FrameReport = r.frames ++ taken.report ∷ [] in
     let made : AfterFrames bound choice held d (suc n) taken.cleaned.circuit places keep reports =
-    frame n r.circuit taken.cleaned.circuit r.kept_free left now keep r.frames taken.report before.frames moves.moves in
-    let same : SameEnd taken.cleaned.circuit after.circuit places after.kept_free keep later reports after.frames =
-    after-one bound choice held d (suc n) taken.cleaned.circuit places keep reports made after.circuit after.kept_free later after.frames underway.frames in
-    let below : All (λ place. place < length r.kept_free) left = λ k a h. omega (arith, moves.keeps.streams.places.below k a h, before.keeps.streams.places.each) in
-    let P : Netlist → List ℕ → Type 0 = λ e js. has_come f c e js in
-    let one : P taken.cleaned.circuit (composed kept places) = subst (P taken.cleaned.circuit) (sym (composed-then kept r.kept_free left below)) come in
-    record {
-      underway = underway;
-      come = subst (λ (e : Netlist). P e (composed kept after.kept_free)) same.circuit (subst (λ (js : List ℕ). P taken.cleaned.circuit (composed kept js)) same.free one);
-    }
+    frame n r.circuit taken.cleaned.circuit before.kept left now keep r.frames taken.report before.frames moves.moves in
+    let same : SameEnd taken.cleaned.circuit after.circuit places underway.kept keep later reports after.frames =
+    after-one bound choice held d (suc n) taken.cleaned.circuit places keep reports made after.circuit underway.kept later after.frames underway.frames in
+    let many : length r.kept_free ≡ free_latches r.circuit.aig = many-reported options bound d read held n r now before in
+    let below : All (λ place. place < length r.kept_free) left = λ k a h. omega (arith, moves.keeps.streams.places.below k a h, many) in
+    let among : All (λ place. place < length before.kept) left = λ k a h. omega (arith, moves.keeps.streams.places.below k a h, before.keeps.streams.places.each) in
+    let whole : after.kept_free ≡ composed r.kept_free left = left-reported read d before.kept underway.kept left r after among (sym same.free) before.reported underway.reported in
+    let P : Netlist → List ℕ → Type 0 = λ e js. has_come f b e js in
+    let one : P taken.cleaned.circuit (composed from (composed r.kept_free left)) = subst (P taken.cleaned.circuit) (sym (composed-then from r.kept_free left below)) come in
+    subst (λ (e : Netlist). P e (composed from after.kept_free)) same.circuit (subst (λ (js : List ℕ). P taken.cleaned.circuit (composed from js)) (sym whole) one)

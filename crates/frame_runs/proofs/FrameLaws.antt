@@ -1,7 +1,8 @@
 -- What the frames of a run rest on.
-use Rattle.std.proofs.Common.{ℕ, ◌≡◌, ◌<◌, ◌≤◌, ◌++◌, suc, refl, List, [], ◌∷◌, length, get_or, arith, ap, sym, ◌∙◌, subst, Result, Ok, Err, Option, None}
+use Rattle.std.proofs.Common.{ℕ, ◌≡◌, ◌<◌, ◌≤◌, ◌++◌, suc, refl, List, [], ◌∷◌, length, get_or, arith, ap, sym, ◌∙◌, subst, Result, Ok, Err, Option, Some, None}
 use Rattle.std.specs.Result.{IfOk}
 use Rattle.std.specs.List.{All}
+use Rattle.std.proofs.lemmas.List.{length-map}
 use Rattle.std.proofs.lemmas.List.FromFn.{length-range_with_len}
 use Rattle.aig_graph.specs.declared.literal.TheConstants.{MAX_VARIABLES}
 use Rattle.aig_graph.specs.declared.memory.NoMemory.{NoMemory}
@@ -15,7 +16,7 @@ use Rattle.aig_graph.proofs.StreamLaws.{same_streams-reflexive, same_streams-tra
 use Rattle.certificates.specs.declared.certificate.Certificate.{Certificate}
 use Rattle.chosen_cuts.specs.declared.records.Records.{Records}
 use Rattle.clean.specs.declared.cleaning.Cleaned.{Cleaned}
-use Rattle.clean.proofs.CleaningLaws.{composed-all}
+use Rattle.clean.proofs.CleaningLaws.{composed-all, composed-then}
 use Rattle.cleaned_circuits.proofs.HeldLaws.{held_after-in_range}
 use Rattle.cleaned_circuits.proofs.PassLaws.{IsCircuit}
 use Rattle.aig_graph.specs.Counting.{places}
@@ -24,6 +25,7 @@ use Rattle.aig_graph.proofs.MemberLaws.{places-members}
 use Rattle.aig_graph.proofs.PlacesLaws.{length-places, count-bound}
 use Rattle.rebuild.specs.Moved.{moved_of}
 use Rattle.rebuild.proofs.MovedLaws.{members-below}
+use Rattle.retimed_circuits.specs.declared.report.FrameReport.{FrameReport}
 use Rattle.retimed_circuits.specs.declared.report.Retimed.{Retimed}
 use Rattle.retimed_circuits.specs.Names.{StayHeld}
 use Rattle.retimed_circuits.specs.Frames.{AfterFrames, CleansTo, cleaned, frame, held_over, moved_over}
@@ -36,7 +38,8 @@ use Rattle.frame_runs.specs.declared.frame.Frame.{Frame}
 use Rattle.frame_runs.specs.declared.options.Options.{Options}
 use Rattle.frame_runs.specs.Found.{IsAfterMove, Moves}
 use Rattle.frame_runs.specs.Retiming.{IsCleanedBy, IsMovedBy, IsRetimedAsIs, KeepsStreamsAndHeld}
-use Rattle.frame_runs.specs.Underway.{IsUnderway, IsWholeRun}
+use Rattle.frame_runs.specs.Merging.{ReadCircuit}
+use Rattle.frame_runs.specs.Underway.{IsReportedOf, IsUnderway, IsWholeRun}
 use Rattle.frame_runs.proofs.CertificateLaws.{certified}
 
 -- a moved circuit is the circuit after the move, with its streams
@@ -108,24 +111,39 @@ moved-by held c after set there d netlist in_range same stand streams is =
 
 -- a cleaned circuit is what no frame makes
 pub underway-first : (options : Options) (bound : Option ℕ) (c : Netlist) (held : List ℕ) (d : Cleaned) (r : Retimed) (now : List ℕ) → IsCleanedBy held c d
-    → r.circuit ≡ d.circuit → r.kept_free ≡ d.kept_free → now ≡ d.keep → r.read_latches ≡ length c.aig.latches → r.merged ≡ None → r.frames ≡ [] → IsUnderway options bound c held 0 r now
+    → r.circuit ≡ d.circuit → r.kept_free ≡ d.kept_free → now ≡ d.keep → r.read_latches ≡ length c.aig.latches → r.merged ≡ None → r.frames ≡ [] → IsUnderway options bound c None held 0 r now
 underway-first options bound c held d r now is circuit free keep latches unmerged none =
     let s : Retimed = record { circuit = d.circuit; kept_free = d.kept_free; read_latches = length c.aig.latches; merged = None; frames = []; certificates = r.certificates } in
     let same : r ≡ s = λ i. record { circuit = circuit i; kept_free = free i; read_latches = latches i; merged = unmerged i; frames = none i; certificates = r.certificates } in
-    let first : IsUnderway options bound c held 0 s d.keep = record { frames = cleaned d.circuit d.kept_free d.keep is.cleaned; read_latches = refl; none_merged = refl; keeps = is.keeps } in
-    subst (λ (x : Retimed). IsUnderway options bound c held 0 x now) (sym same) (subst (IsUnderway options bound c held 0 s) (sym keep) first)
+    let first : IsUnderway options bound c None held 0 s d.keep = record { kept = d.kept_free; reported = (refl, refl, refl); frames = cleaned d.circuit d.kept_free d.keep is.cleaned; keeps = is.keeps } in
+    subst (λ (x : Retimed). IsUnderway options bound c None held 0 x now) (sym same) (subst (IsUnderway options bound c None held 0 s) (sym keep) first)
+
+-- as many places are reported as the run's circuit has free latches
+pub many-reported : (options : Options) (bound : Option ℕ) (c : Netlist) (read : Option ReadCircuit) (held : List ℕ) (n : ℕ) (r : Retimed) (now : List ℕ) → IsUnderway options bound c read held n r now
+    → length r.kept_free ≡ free_latches r.circuit.aig
+many-reported options bound c None held n r now is = ap (λ (xs : List ℕ). length xs) is.reported.0 ∙ is.keeps.streams.places.each
+many-reported options bound c (Some read) held n r now is =
+    ap (λ (xs : List ℕ). length xs) is.reported.0 ∙ length-map is.kept (λ (place : ℕ). get_or read.kept_free place 0) ∙ is.keeps.streams.places.each
+
+-- what is reported stays so as a frame keeps these free latches
+reported-more : (read : Option ReadCircuit) (c : Netlist) (kept left : List ℕ) (r : Retimed) (after : Netlist) (frames : List FrameReport) (certs : List Certificate) → All (λ place. place < length kept) left
+    → IsReportedOf read c kept r
+    → IsReportedOf read c (composed kept left) (record { circuit = after; kept_free = composed r.kept_free left; read_latches = r.read_latches; merged = r.merged; frames = frames; certificates = certs })
+reported-more None c kept left r after frames certs below is = (ap (λ (xs : List ℕ). composed xs left) is.0, is.1, is.2)
+reported-more (Some read) c kept left r after frames certs below is = (ap (λ (xs : List ℕ). composed xs left) is.0 ∙ sym (composed-then read.kept_free kept left below), is.1, is.2)
 
 -- whatever certificates the next state has
-pub one-more : (options : Options) (bound : Option ℕ) (c : Netlist) (held : List ℕ) (n : ℕ) (r : Retimed) (now : List ℕ) (taken : Frame) (certs : List Certificate)
-    → IsUnderway options bound c held n r now → Moves options bound now r.circuit taken → IsUnderway options bound c held (suc n)
-    (record { circuit = taken.cleaned.circuit; kept_free = composed r.kept_free taken.cleaned.kept_free; read_latches = r.read_latches; merged = None; frames = r.frames ++ taken.report ∷ []; certificates = certs })
+pub one-more : (options : Options) (bound : Option ℕ) (c : Netlist) (read : Option ReadCircuit) (held : List ℕ) (n : ℕ) (r : Retimed) (now : List ℕ) (taken : Frame) (certs : List Certificate)
+    → IsUnderway options bound c read held n r now → Moves options bound now r.circuit taken → IsUnderway options bound c read held (suc n)
+    (record { circuit = taken.cleaned.circuit; kept_free = composed r.kept_free taken.cleaned.kept_free; read_latches = r.read_latches; merged = r.merged; frames = r.frames ++ taken.report ∷ []; certificates = certs })
     taken.cleaned.keep
-one-more options bound c held n r now taken certs before moves = record {
-  frames = frame n r.circuit taken.cleaned.circuit r.kept_free taken.cleaned.kept_free now taken.cleaned.keep r.frames taken.report before.frames moves.moves;
-  read_latches = before.read_latches;
-  none_merged = refl;
+one-more options bound c read held n r now taken certs before moves = record {
+  kept = composed before.kept taken.cleaned.kept_free;
+  reported = reported-more read c before.kept taken.cleaned.kept_free r taken.cleaned.circuit (r.frames ++ taken.report ∷ []) certs
+      (λ k a h. omega (arith, moves.keeps.streams.places.below k a h, before.keeps.streams.places.each)) before.reported;
+  frames = frame n r.circuit taken.cleaned.circuit before.kept taken.cleaned.kept_free now taken.cleaned.keep r.frames taken.report before.frames moves.moves;
   keeps = record {
-    streams = same_streams-transitive c r.circuit taken.cleaned.circuit r.kept_free taken.cleaned.kept_free before.keeps.streams moves.keeps.streams;
+    streams = same_streams-transitive c r.circuit taken.cleaned.circuit before.kept taken.cleaned.kept_free before.keeps.streams moves.keeps.streams;
     stays = stays-then held now taken.cleaned.keep c r.circuit taken.cleaned.circuit before.keeps.stays moves.keeps.stays;
     in_range = moves.keeps.in_range;
     normalised = moves.keeps.normalised;
@@ -137,22 +155,28 @@ abbrev pub with_certificates : Retimed → Records → Retimed
 with_certificates r records =
     record { circuit = r.circuit; kept_free = r.kept_free; read_latches = r.read_latches; merged = r.merged; frames = r.frames; certificates = records.certificates.items }
 
+-- the same, reported of the circuit c that its frames began with
+abbrev pub reported_as_is : Netlist → List ℕ → Retimed → Records → Retimed
+reported_as_is c kept r records =
+    record { circuit = r.circuit; kept_free = kept; read_latches = length c.aig.latches; merged = None; frames = r.frames; certificates = records.certificates.items }
+
 -- a run ends at the limit of frames, or if none counts less; it has the certificates that were
 -- collected
-pub ended : (options : Options) (bound : Option ℕ) (c : Netlist) (held : List ℕ) (records : Records) (r : Retimed) (now : List ℕ) → IsWholeRun options bound c held records r now
-    → (is : IsRetimedAsIs options bound c held (with_certificates r records)) × (now ≡ is.now)
-ended options bound c held records r now run =
-    let s : Retimed = with_certificates r records in
+pub ended : (options : Options) (bound : Option ℕ) (c : Netlist) (read : Option ReadCircuit) (held : List ℕ) (records : Records) (r : Retimed) (now : List ℕ)
+    → (run : IsWholeRun options bound c read held records r now) → (is : IsRetimedAsIs options bound c held (reported_as_is c run.underway.kept r records)) × (now ≡ is.now)
+ended options bound c read held records r now run =
+    let kept : List ℕ = run.underway.kept in
+    let s : Retimed = reported_as_is c kept r records in
     let choice = options.choice in
-    let taken : AfterFrames bound choice held c run.taken r.circuit r.kept_free now r.frames = run.underway.frames in
-    let long : length r.frames ≡ run.taken = after-length bound choice held c run.taken r.circuit r.kept_free now r.frames taken in (
+    let taken : AfterFrames bound choice held c run.taken r.circuit kept now r.frames = run.underway.frames in
+    let long : length r.frames ≡ run.taken = after-length bound choice held c run.taken r.circuit kept now r.frames taken in (
       record {
         now = now;
-        frames = subst (λ (m : ℕ). AfterFrames bound choice held c m r.circuit r.kept_free now r.frames) (sym long) taken;
+        frames = subst (λ (m : ℕ). AfterFrames bound choice held c m r.circuit kept now r.frames) (sym long) taken;
         within = omega (arith, long, run.within);
         last = λ less. run.last (omega (arith, long, less));
-        read_latches = run.underway.read_latches;
-        none_merged = run.underway.none_merged;
+        read_latches = refl;
+        none_merged = refl;
         streams = run.underway.keeps.streams;
         certified = certified options bound c held run.looked s now records run.collected refl run.taken taken
             (λ limit. run.limited (sym long ∙ limit) ∙ sym long) (λ less. run.ended (omega (arith, long, less)) ∙ ap suc (sym long));

@@ -1,6 +1,5 @@
 -- Runs that merge latches before the first frame.
-use Rattle.std.proofs.Common.{ℕ, Bool, true, false, List, Option, Some, None, ◌≡◌, ◌<◌, ◌∙◌, length, arith, ap, sym, subst}
-use Rattle.std.specs.List.{All}
+use Rattle.std.proofs.Common.{ℕ, Bool, true, false, List, Option, Some, None, ◌≡◌, ◌∙◌, ap, sym, subst}
 use Rattle.std.proofs.lemmas.Bool.{true≢false}
 use Rattle.aig_graph.specs.Circuits.{Netlist}
 use Rattle.aig_graph.specs.Laws.{composed}
@@ -12,16 +11,10 @@ use Rattle.retimed_circuits.specs.Retiming.{since_merged}
 use Rattle.retimed_circuits.proofs.StayLaws.{stays-then}
 use Rattle.certificates.specs.declared.merged.MergedLatch.{MergedLatch}
 use Rattle.frame_runs.specs.declared.options.Options.{Options}
-use Rattle.frame_runs.specs.declared.run.ReadCircuit.{ReadCircuit}
 use Rattle.frame_runs.specs.Bounds.{bound_in}
-use Rattle.frame_runs.specs.Merging.{AreGivenLines, IsRunStart, reported_of_read}
+use Rattle.frame_runs.specs.Merging.{AreGivenLines, IsRunStart, ReadCircuit, reported_of_read}
 use Rattle.frame_runs.specs.Named.{holding_in, kept_by, names_in}
 use Rattle.frame_runs.specs.Retiming.{IsRetimedAsIs, IsRetimedHeld, IsRetimedTo}
-
--- the places of its free latches that stay are among those that cleaning kept
-pub places-below : (options : Options) (bound : Option ℕ) (c start : Netlist) (held : List ℕ) (read : ReadCircuit) (r : Retimed) → IsRunStart options c start held read → IsRetimedAsIs options bound start held r
-    → All (λ place. place < length read.kept_free) r.kept_free
-places-below options bound c start held read r is retimed = λ k a h. omega (arith, retimed.streams.places.below k a h, is.streams.places.each)
 
 same-lines : (a b : List MergedLatch) → ◌≡◌ {A = Option (List MergedLatch)} (Some a) (Some b) → a ≡ b
 same-lines a b e = cc

@@ -7,6 +7,7 @@ use Rattle.aig_graph.specs.Circuits.{Netlist}
 use Rattle.aig_graph.specs.Graph.{known_latches}
 use Rattle.retimed_circuits.proofs.RunLaws.{after-length}
 use Rattle.frame_runs.specs.declared.options.Options.{Options}
+use Rattle.frame_runs.specs.Merging.{ReadCircuit}
 use Rattle.frame_runs.specs.Underway.{IsUnderway}
 use Rattle.frame_runs.specs.Stages.{Looking, Moving, Notifies, Notification, frame_stages, last_look, looks_of}
 
@@ -35,16 +36,16 @@ look-never zero taken latches none = refl
 look-never (suc left) taken latches none = absurd (omega (arith, none))
 
 -- a run has as many reports as it took frames
-pub many-taken : (options : Options) (bound : Option ℕ) (c : Netlist) (held : List ℕ) (n : ℕ) (r : Retimed) (now : List ℕ) → IsUnderway options bound c held n r now → length r.frames ≡ n
-many-taken options bound c held n r now run = after-length bound options.choice held c n r.circuit r.kept_free now r.frames run.frames
+pub many-taken : (options : Options) (bound : Option ℕ) (c : Netlist) (read : Option ReadCircuit) (held : List ℕ) (n : ℕ) (r : Retimed) (now : List ℕ) → IsUnderway options bound c read held n r now → length r.frames ≡ n
+many-taken options bound c read held n r now run = after-length bound options.choice held c n r.circuit run.kept now r.frames run.frames
 
 none-listed : (reports : List FrameReport) → length reports ≡ 0 → reports ≡ []
 none-listed [] none = refl
 none-listed (report ∷ reports) none = absurd (omega (arith, none))
 
 -- a run that took no frames yet has no reports of frames
-pub none-taken : (options : Options) (bound : Option ℕ) (c : Netlist) (held : List ℕ) (r : Retimed) (now : List ℕ) → IsUnderway options bound c held 0 r now → r.frames ≡ []
-none-taken options bound c held r now run = none-listed r.frames (many-taken options bound c held 0 r now run)
+pub none-taken : (options : Options) (bound : Option ℕ) (c : Netlist) (read : Option ReadCircuit) (held : List ℕ) (r : Retimed) (now : List ℕ) → IsUnderway options bound c read held 0 r now → r.frames ≡ []
+none-taken options bound c read held r now run = none-listed r.frames (many-taken options bound c read held 0 r now run)
 
 module _ {W : Type 0} (was_notified : W → List Notification → Type 0) where
   -- a watcher who stays as it was, was notified of nothing more

@@ -8,11 +8,12 @@ use Rattle.aig_graph.specs.Laws.{composed}
 use Rattle.chosen_cuts.specs.declared.records.Records.{Records}
 use Rattle.clean.specs.declared.cleaning.Cleaned.{Cleaned}
 use Rattle.retimed_circuits.specs.declared.report.Retimed.{Retimed}
-use Rattle.retimed_circuits.specs.Names.{StayHeld}
 use Rattle.frame_runs.specs.declared.frame.Frame.{Frame}
 use Rattle.frame_runs.specs.declared.options.Options.{Options}
+use Rattle.frame_runs.specs.declared.run.Run.{Run}
 use Rattle.frame_runs.specs.Found.{Moves}
-use Rattle.frame_runs.specs.Retiming.{IsCleanedBy, IsMovedBy, IsRetimedAsIs, IsRetimedHeld}
+use Rattle.frame_runs.specs.Merging.{ReadCircuit}
+use Rattle.frame_runs.specs.Retiming.{IsCleanedBy, IsMovedBy, IsRetimedHeld}
 use Rattle.frame_runs.specs.Underway.{IsWholeRun, IsUnderway}
 
 -- it has come to d, from whatever circuit
@@ -48,34 +49,24 @@ pub record MovesFollowed {F : Type 0} (has_come : F → Netlist → Netlist → 
   pub moves : Moves options bound held c frame
   pub comes : ComesOn has_come old new c frame.cleaned.circuit frame.cleaned.kept_free
 
--- r is what n frames make of d, which is cleaned first. The follower has come there from c: that is
--- d itself, or was merged to d. kept has the places of d's free latches among c's. The latches held
--- in d are at the positions `now`.
-pub record IsFollowed {F : Type 0} (has_come : F → Netlist → Netlist → List ℕ → Type 0) (options : Options) (bound : Option ℕ) (c d : Netlist) (held kept : List ℕ) (n : ℕ) (r : Retimed)
-    (now : List ℕ) (f : F) : Type 0 where
-  pub underway : IsUnderway options bound d held n r now
-  pub come : has_come f c r.circuit (composed kept r.kept_free)
+-- The run is what n frames make of d, which is cleaned first. It is reported of c, which is d itself,
+-- or was merged to d. The follower has come there from b, as it had come to c, at these places of b.
+pub record IsFollowed {F : Type 0} (has_come : F → Netlist → Netlist → List ℕ → Type 0) (options : Options) (b d : Netlist) (read : Option ReadCircuit) (held before : List ℕ) (n : ℕ) (run : Run Retimed F) : Type 0 where
+  pub underway : IsUnderway options run.bound d read held n run.retimed run.keep
+  pub come : has_come run.follower b run.retimed.circuit (composed before run.retimed.kept_free)
 
--- r is some circuit cleaned, and the follower has come there from c
-pub record IsReady {F : Type 0} (has_come : F → Netlist → Netlist → List ℕ → Type 0) (options : Options) (bound : Option ℕ) (c : Netlist) (r : Retimed) (now : List ℕ) (f : F) : Type 0 where
+-- the run is some circuit cleaned, and the follower has come there from b
+pub record IsReady {F : Type 0} (has_come : F → Netlist → Netlist → List ℕ → Type 0) (options : Options) (b : Netlist) (run : Run Retimed F) : Type 0 where
   pub start : Netlist
+  pub read : Option ReadCircuit
   pub held : List ℕ
-  pub kept : List ℕ
-  pub followed : IsFollowed has_come options bound c start held kept 0 r now f
+  pub before : List ℕ
+  pub followed : IsFollowed has_come options b start read held before 0 run
 
--- a run from d that ended, and the follower has come from c to what it came to
-pub record EndsFollowed {F : Type 0} (has_come : F → Netlist → Netlist → List ℕ → Type 0) (options : Options) (bound : Option ℕ) (c d : Netlist) (held kept : List ℕ) (records : Records)
-    (r : Retimed) (now : List ℕ) (f : F) : Type 0 where
-  pub run : IsWholeRun options bound d held records r now
-  pub come : has_come f c r.circuit (composed kept r.kept_free)
-
--- d retimed, whose held latches stand at now, and the follower has come there from c
-pub record IsRetimedFrom {F : Type 0} (has_come : F → Netlist → Netlist → List ℕ → Type 0) (options : Options) (bound : Option ℕ) (c d : Netlist) (held kept : List ℕ) (r : Retimed)
-    (now : List ℕ) (f : F) : Type 0 where
-  pub retimed : IsRetimedAsIs options bound d held r
-  pub ends : now ≡ retimed.now
-  pub stays : StayHeld held d now r.circuit
-  pub come : has_come f c r.circuit (composed kept r.kept_free)
+-- a run from d that ended, and the follower has come from b to what it came to
+pub record EndsFollowed {F : Type 0} (has_come : F → Netlist → Netlist → List ℕ → Type 0) (options : Options) (b d : Netlist) (read : Option ReadCircuit) (held before : List ℕ) (records : Records) (end : Run Retimed F) : Type 0 where
+  pub run : IsWholeRun options end.bound d read held records end.retimed end.keep
+  pub come : has_come end.follower b end.retimed.circuit (composed before end.retimed.kept_free)
 
 -- c retimed by the options, whose held latches stand at now. The follower had come to c from b,
 -- with the free latches at these places of b, and has come on.

@@ -7,9 +7,15 @@ use Rattle.retimed_circuits.specs.declared.report.Retimed.{Retimed}
 use Rattle.retimed_circuits.specs.Merging.{MergesIn}
 use Rattle.retimed_circuits.specs.Names.{StayHeld}
 use Rattle.retimed_circuits.specs.Retiming.{since_merged}
-use Rattle.frame_runs.specs.declared.run.ReadCircuit.{ReadCircuit}
 use Rattle.frame_runs.specs.declared.options.Options.{Options}
 use Rattle.frame_runs.specs.Named.{kept_by}
+
+-- a circuit that was read and merged: how many latches it has, the places of its free latches that
+-- the merged circuit has, and the latches that were merged
+pub record ReadCircuit : Type 0 where
+  pub latches : ℕ
+  pub kept_free : List ℕ
+  pub merged : List MergedLatch
 
 -- the lines are those that the options have, if any
 abbrev pub AreGivenLines : Options → List MergedLatch → Type 0

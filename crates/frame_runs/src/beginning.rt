@@ -5,6 +5,7 @@
 //! gives it up as the run begins.
 ghost use Rattle.std.specs.Prelude.{ℕ, ◌≡◌, ◌<◌, false, All, IfOk, [], List, None, length, true};
 ghost use Rattle.aig_graph.specs.Circuits.{Netlist};
+ghost use Rattle.aig_graph.specs.Graph.{free_latches};
 ghost use Rattle.cleaned_circuits.specs.Cleaned.{Cleans};
 ghost use Rattle.cleaned_circuits.specs.Held.{HeldAfter};
 ghost use Rattle.frame_runs.specs.Beginning.{IsRunBegun, IsCleanedRun, IsMergedFrom};
@@ -12,13 +13,15 @@ ghost use Rattle.frame_runs.specs.Bounds.{bound_in};
 ghost use Rattle.frame_runs.specs.Following.{ComesOn, HasComeFrom, HasComeTo};
 ghost use Rattle.frame_runs.specs.Given.{circuit_of};
 ghost use Rattle.frame_runs.specs.Named.{kept_by};
+ghost use Rattle.retimed_circuits.specs.Retiming.{since_merged};
 
 use crate::follower::RunFollower;
 use crate::given::GivenCircuit;
 use crate::options::Options;
-use crate::run::{Begun, ReadCircuit, Run};
-use aig_graph::{Circuit, Keep, Sequence};
-use clean::Cleaned;
+use crate::run::Run;
+use aig_graph::{Circuit, Keep, NoMemory, Sequence};
+use certificates::MergedLatch;
+use clean::{Cleaned, composed};
 use latch_merging::MergedStart;
 use retimed_circuits::Retimed;
 use std::alloc::Global;
@@ -31,7 +34,7 @@ fn begun<F>(
     read_latches: u32,
     follower: F,
     bound: Option<u32>,
-) -> Run<F>
+) -> Run<Retimed, F>
     ensures circuit { result.retimed.circuit ≡ start.circuit }
     ensures kept_free { result.retimed.kept_free ≡ start.kept_free }
     ensures read_latches { result.retimed.read_latches ≡ read_latches }
@@ -102,7 +105,7 @@ fn cleaned_run<F: RunFollower + Drop>(
     keep: &Keep,
     bound: Option<u32>,
     options: &Options,
-) -> Result<Run<F>, F::Stop>
+) -> Result<Run<Retimed, F>, F::Stop>
     requires there { HasComeTo F.has_come follower (circuit_of given) }
     requires in_range { All (λ j. j < length (circuit_of given).aig.latches) keep.now }
     ensures { IfOk result (λ run. IsCleanedRun F.has_come options.now bound
@@ -131,7 +134,7 @@ fn begun_as_is<F: RunFollower + Drop>(
     keep: &Keep,
     bound: Option<u32>,
     options: &Options,
-) -> Result<Begun<F>, F::Stop>
+) -> Result<Run<Retimed, F>, F::Stop>
     requires there { (b : Netlist) × (before : List ℕ)
         × HasComeFrom F.has_come follower b before (circuit_of given) }
     requires keep { keep.now ≡ kept_by options.now (circuit_of given) }
@@ -139,12 +142,80 @@ fn begun_as_is<F: RunFollower + Drop>(
     requires merge { options.now.merge ≡ false }
     ensures { IfOk result (λ begun. (b : Netlist) (before : List ℕ)
         → HasComeFrom F.has_come follower b before (circuit_of given.entry)
-        → IsRunBegun F.has_come options.now begun.run.bound b before (circuit_of given.entry)
-        begun.read begun.run.retimed begun.run.keep begun.run.follower) }
+        → IsRunBegun F.has_come options.now b before (circuit_of given.entry) begun) }
 {
     given.circuit().known();
-    let run = cleaned_run(alloc, follower, given, keep, bound, options)?;
-    Ok(Begun { run, read: None })
+    cleaned_run(alloc, follower, given, keep, bound, options)
+}
+
+/// Reports `retimed`, the merged circuit, as the circuit that was read. That one had `latches`
+/// latches. `before` has the places of the merged circuit's free latches.
+fn reported_of_read(
+    alloc: Global,
+    retimed: Retimed,
+    latches: u32,
+    before: Sequence<u32>,
+    merged: Sequence<MergedLatch>,
+) -> Result<Retimed, NoMemory>
+    requires { All (λ place. place < length before) retimed.kept_free }
+    ensures { IfOk result (λ r. r ≡ since_merged latches before merged retimed) }
+{
+    let Retimed {
+        circuit,
+        kept_free,
+        frames,
+        certificates,
+        ..
+    } = retimed;
+    match composed(alloc, before.as_slice(), kept_free.as_slice()) {
+        Ok(places) => Ok(Retimed {
+            circuit,
+            kept_free: Sequence::from_vec(places),
+            read_latches: latches,
+            merged: Some(merged),
+            frames,
+            certificates,
+        }),
+        Err(error) => {
+            drop(circuit);
+            drop(certificates);
+            Err(error)
+        }
+    }
+}
+
+/// Reports a run from a merged circuit as one from the circuit that was read.
+fn run_of_read<F: RunFollower + Drop>(
+    alloc: Global,
+    run: Run<Retimed, F>,
+    latches: u32,
+    before: Sequence<u32>,
+    merged: Sequence<MergedLatch>,
+) -> Result<Run<Retimed, F>, F::Stop>
+    requires { All (λ place. place < length before) run.retimed.kept_free }
+    ensures { IfOk result (λ end. (end.retimed ≡ since_merged latches before merged run.retimed)
+        × (end.keep ≡ run.keep) × (end.follower ≡ run.follower)
+        × (end.bound ≡ run.bound)) }
+{
+    let Run {
+        retimed,
+        keep,
+        follower,
+        bound,
+    } = run;
+    match reported_of_read(alloc, retimed, latches, before, merged) {
+        Ok(retimed) => Ok(Run {
+            retimed,
+            keep,
+            follower,
+            bound,
+        }),
+        Err(error) => {
+            drop(keep);
+            drop(follower);
+            Err(F::Stop::from(error))
+        }
+    }
 }
 
 /// Cleans the merged circuit of `start`. The circuit that was read had `latches` latches.
@@ -155,12 +226,12 @@ fn merged_run<F: RunFollower + Drop>(
     latches: u32,
     bound: Option<u32>,
     options: &Options,
-) -> Result<Begun<F>, F::Stop>
+) -> Result<Run<Retimed, F>, F::Stop>
     requires there { HasComeTo F.has_come follower start.circuit }
     requires in_range { All (λ j. j < length start.circuit.aig.latches) start.keep }
-    ensures { IfOk result (λ begun. IsMergedFrom F.has_come options.now bound start latches
-        follower begun.run.follower begun.run.retimed begun.run.keep begun.read
-        × (begun.run.bound ≡ bound)) }
+    requires places { length start.kept_free ≡ free_latches start.circuit.aig }
+    ensures { IfOk result (λ run. IsMergedFrom F.has_come options.now start latches follower run
+        × (run.bound ≡ bound)) }
 {
     let MergedStart {
         circuit,
@@ -170,14 +241,7 @@ fn merged_run<F: RunFollower + Drop>(
     } = start;
     let owned = GivenCircuit::Owned(circuit);
     let run = cleaned_run(alloc, follower, owned, &keep, bound, options)?;
-    Ok(Begun {
-        run,
-        read: Some(ReadCircuit {
-            latches,
-            kept_free,
-            merged,
-        }),
-    })
+    run_of_read(alloc, run, latches, kept_free, merged)
 }
 
 /// Begins a run that merges latches that always agree.
@@ -188,7 +252,7 @@ fn begun_merged<F: RunFollower + Drop>(
     keep: &Keep,
     bound: Option<u32>,
     options: &Options,
-) -> Result<Begun<F>, F::Stop>
+) -> Result<Run<Retimed, F>, F::Stop>
     requires there { (b : Netlist) × (before : List ℕ)
         × HasComeFrom F.has_come follower b before circuit.now }
     requires keep { keep.now ≡ kept_by options.now circuit.now }
@@ -196,8 +260,7 @@ fn begun_merged<F: RunFollower + Drop>(
     requires merge { options.now.merge ≡ true }
     ensures { IfOk result (λ begun. (b : Netlist) (before : List ℕ)
         → HasComeFrom F.has_come follower b before circuit.now
-        → IsRunBegun F.has_come options.now begun.run.bound b before circuit.now begun.read
-        begun.run.retimed begun.run.keep begun.run.follower) }
+        → IsRunBegun F.has_come options.now b before circuit.now begun) }
 {
     circuit.known();
     let latches = circuit.aig().latches().len() as u32;
@@ -219,15 +282,14 @@ fn begun_under<F: RunFollower + Drop>(
     keep: &Keep,
     bound: Option<u32>,
     options: &Options,
-) -> Result<Begun<F>, F::Stop>
+) -> Result<Run<Retimed, F>, F::Stop>
     requires there { (b : Netlist) × (before : List ℕ)
         × HasComeFrom F.has_come follower b before (circuit_of given) }
     requires keep { keep.now ≡ kept_by options.now (circuit_of given) }
     requires bound { bound ≡ bound_in options.now (circuit_of given) }
     ensures { IfOk result (λ begun. (b : Netlist) (before : List ℕ)
         → HasComeFrom F.has_come follower b before (circuit_of given.entry)
-        → IsRunBegun F.has_come options.now begun.run.bound b before (circuit_of given.entry)
-        begun.read begun.run.retimed begun.run.keep begun.run.follower) }
+        → IsRunBegun F.has_come options.now b before (circuit_of given.entry) begun) }
 {
     if options.merge {
         let begun = begun_merged(alloc, follower, given.circuit(), keep, bound, options);
@@ -255,14 +317,13 @@ pub fn begin<F: RunFollower + Drop>(
     keep: &Keep,
     options: &Options,
     follower: F,
-) -> Result<Begun<F>, F::Stop>
+) -> Result<Run<Retimed, F>, F::Stop>
     requires there { (b : Netlist) × (before : List ℕ)
         × HasComeFrom F.has_come follower b before (circuit_of given) }
     requires keep { keep.now ≡ kept_by options.now (circuit_of given) }
     ensures { IfOk result (λ begun. (b : Netlist) (before : List ℕ)
         → HasComeFrom F.has_come follower b before (circuit_of given.entry)
-        → IsRunBegun F.has_come options.now begun.run.bound b before (circuit_of given.entry)
-        begun.read begun.run.retimed begun.run.keep begun.run.follower) }
+        → IsRunBegun F.has_come options.now b before (circuit_of given.entry) begun) }
 {
     match options.bound.for_circuit(alloc, given.circuit()) {
         Ok(bound) => begun_under(alloc, follower, given, keep, bound, options),

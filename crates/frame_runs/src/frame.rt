@@ -19,7 +19,7 @@ use chosen_cuts::Records;
 use clean::Cleaned;
 use pulse::{Crew, PhaseGate};
 use rebuild::{MoveTables, moved_in};
-use retimed_circuits::FrameReport;
+use retimed_circuits::{FrameReport, Retimed};
 use std::alloc::Global;
 use std::mem;
 use std::thread::Threads;
@@ -111,7 +111,7 @@ fn carried(
 pub(crate) fn next_frame<F: RunFollower, G: PhaseGate, V: FrameWatcher>(
     rt: &(impl Threads + Sync),
     alloc: Global,
-    run: &mut Run<F>,
+    run: &mut Run<Retimed, F>,
     options: &Options,
     crew: &Crew<G>,
     records: &mut Records,

@@ -11,7 +11,7 @@ use chosen_cuts::{Records, chosen_least_along};
 use path_levels::bounded;
 use pulse::{Crew, PhaseGate};
 use rebuild::MoveMarks;
-use retimed_circuits::FrameReport;
+use retimed_circuits::{FrameReport, Retimed};
 use std::alloc::Global;
 use std::thread::Threads;
 
@@ -90,7 +90,7 @@ fn least_helping<G: PhaseGate>(
 pub(crate) fn helping_set<F, G: PhaseGate>(
     rt: &(impl Threads + Sync),
     alloc: Global,
-    run: &Run<F>,
+    run: &Run<Retimed, F>,
     options: &Options,
     crew: &Crew<G>,
     records: &mut Records,

@@ -4,16 +4,18 @@ ghost use Rattle.std.specs.List.{All};
 ghost use Rattle.aig_graph.specs.Laws.{composed};
 
 use aig_graph::{NoMemory, Sequence};
+use certificates::MergedLatch;
 use clean::composed;
 use retimed_circuits::{FrameReport, Retimed};
 use std::alloc::Global;
 
-/// The places of the free latches that are left, the number of latches that were read, and the
-/// reports of the frames.
+/// The places of the free latches that are left, the number of latches that were read, those that
+/// were merged, and the reports of the frames.
 #[derive(Drop)]
 pub(crate) struct History {
     pub kept_free: Sequence<u32>,
     pub read_latches: u32,
+    pub merged: Option<Sequence<MergedLatch>>,
     pub frames: Sequence<FrameReport>,
 }
 
@@ -21,12 +23,14 @@ pub(crate) struct History {
 pub(crate) fn history_of(retimed: Retimed) -> History
     ensures kept_free { result.kept_free ≡ retimed.kept_free }
     ensures read_latches { result.read_latches ≡ retimed.read_latches }
+    ensures merged { result.merged ≡ retimed.merged }
     ensures frames { result.frames ≡ retimed.frames }
 {
     let Retimed {
         circuit,
         kept_free,
         read_latches,
+        merged,
         frames,
         ..
     } = retimed;
@@ -34,6 +38,7 @@ pub(crate) fn history_of(retimed: Retimed) -> History
     History {
         kept_free,
         read_latches,
+        merged,
         frames,
     }
 }
@@ -62,6 +67,7 @@ pub(crate) fn with_frame(
     ensures kept_free { IfOk result (λ after. after.kept_free
         ≡ composed history.kept_free places.now) }
     ensures read_latches { IfOk result (λ after. after.read_latches ≡ history.read_latches) }
+    ensures merged { IfOk result (λ after. after.merged ≡ history.merged) }
     ensures frames { IfOk result (λ after. after.frames ≡ history.frames ++ report ∷ []) }
 {
     let left = composed(alloc, history.kept_free.as_slice(), places)?;
@@ -69,6 +75,7 @@ pub(crate) fn with_frame(
     Ok(History {
         kept_free: Sequence::from_vec(left),
         read_latches: history.read_latches,
+        merged: history.merged,
         frames,
     })
 }

@@ -9,6 +9,7 @@ use crate::run::Run;
 use aig_graph::{ClosedSet, NoMemory};
 use chosen_cuts::Records;
 use pulse::{Crew, PhaseGate};
+use retimed_circuits::Retimed;
 use std::alloc::Global;
 use std::thread::Threads;
 
@@ -33,7 +34,7 @@ fn set_of(found: Helping) -> ClosedSet
 pub fn next_set<F, G: PhaseGate>(
     rt: &(impl Threads + Sync),
     alloc: Global,
-    run: &Run<F>,
+    run: &Run<Retimed, F>,
     options: &Options,
     crew: &Crew<G>,
 ) -> Result<Option<ClosedSet>, NoMemory>

@@ -3,7 +3,9 @@ ghost use Rattle.std.specs.Prelude.{ℕ, ◌≡◌, suc, List, [], ◌∷◌, �
 ghost use Rattle.aig_graph.specs.Circuits.{Netlist};
 ghost use Rattle.aig_graph.specs.Graph.{known_latches};
 ghost use Rattle.aig_graph.specs.Laws.{composed};
-ghost use Rattle.frame_runs.specs.Following.{EndsFollowed, IsFollowed, IsReady, IsRetimedFrom};
+ghost use Rattle.frame_runs.specs.Beginning.{IsRunBegun};
+ghost use Rattle.frame_runs.specs.Following.{EndsFollowed, IsFollowed, IsReady, IsRetimedFollowed};
+ghost use Rattle.frame_runs.specs.Merging.{ReadCircuit};
 ghost use Rattle.frame_runs.specs.Found.{Moves};
 ghost use Rattle.frame_runs.specs.Stages.{Looking, Notifies, looks_of};
 ghost use Rattle.frame_runs.specs.Underway.{IsUnderway};
@@ -29,14 +31,14 @@ fn after_frame(
     frame: Frame,
     options: &Options,
 ) -> Result<(Retimed, Keep), NoMemory>
-    requires { (bound : Option ℕ) × (c : Netlist) × (held : List ℕ) × (n : ℕ) × (now : List ℕ)
-        × IsUnderway options.now bound c held n retimed now
+    requires { (bound : Option ℕ) × (c : Netlist) × (read : Option ReadCircuit) × (held : List ℕ)
+        × (n : ℕ) × (now : List ℕ) × IsUnderway options.now bound c read held n retimed now
         × Moves options.now bound now retimed.circuit frame }
-    ensures underway { IfOk result (λ after. (bound : Option ℕ) (c : Netlist) (held : List ℕ)
-        (n : ℕ) (now : List ℕ)
-        → IsUnderway options.now bound c held n retimed now
+    ensures underway { IfOk result (λ after. (bound : Option ℕ) (c : Netlist)
+        (read : Option ReadCircuit) (held : List ℕ) (n : ℕ) (now : List ℕ)
+        → IsUnderway options.now bound c read held n retimed now
         → Moves options.now bound now retimed.circuit frame
-        → IsUnderway options.now bound c held (suc n) after.0 after.1) }
+        → IsUnderway options.now bound c read held (suc n) after.0 after.1) }
     ensures frames { IfOk result (λ after. after.0.frames
         ≡ retimed.frames ++ frame.report ∷ []) }
 {
@@ -53,7 +55,7 @@ fn after_frame(
                 circuit: cleaned.circuit,
                 kept_free: after.kept_free,
                 read_latches: after.read_latches,
-                merged: None,
+                merged: after.merged,
                 frames: after.frames,
                 certificates: Sequence::empty(alloc),
             };
@@ -69,19 +71,19 @@ fn after_frame(
 /// Takes `frame`, which was followed, into the run.
 fn taken<F: RunFollower + Drop>(
     alloc: Global,
-    run: Run<F>,
+    run: Run<Retimed, F>,
     frame: Frame,
     options: &Options,
-) -> Result<Run<F>, F::Stop>
-    requires underway { (d : Netlist) × (held : List ℕ) × (n : ℕ)
-        × IsUnderway options.now run.bound d held n run.retimed run.keep }
+) -> Result<Run<Retimed, F>, F::Stop>
+    requires underway { (d : Netlist) × (read : Option ReadCircuit) × (held : List ℕ) × (n : ℕ)
+        × IsUnderway options.now run.bound d read held n run.retimed run.keep }
     requires moves { Moves options.now run.bound run.keep run.retimed.circuit frame }
-    ensures followed { IfOk result (λ after. (c d : Netlist) (held kept : List ℕ) (n : ℕ)
-        → IsUnderway options.now run.bound d held n run.retimed run.keep
+    ensures followed { IfOk result (λ after. (c d : Netlist) (read : Option ReadCircuit)
+        (held before : List ℕ) (n : ℕ)
+        → IsUnderway options.now run.bound d read held n run.retimed run.keep
         → F.has_come run.follower c frame.cleaned.circuit
-        (composed (composed kept run.retimed.kept_free) frame.cleaned.kept_free)
-        → IsFollowed F.has_come options.now run.bound c d held kept (suc n) after.retimed
-        after.keep after.follower) }
+        (composed (composed before run.retimed.kept_free) frame.cleaned.kept_free)
+        → IsFollowed F.has_come options.now c d read held before (suc n) after) }
     ensures frames { IfOk result (λ after. after.retimed.frames
         ≡ run.retimed.frames ++ frame.report ∷ []) }
     ensures bound { IfOk result (λ after. after.bound ≡ run.bound) }
@@ -125,21 +127,21 @@ fn enter_looking<V: FrameWatcher>(retimed: &Retimed, watcher: &mut V)
 fn all_frames<F: RunFollower + Drop, G: PhaseGate, V: FrameWatcher>(
     rt: &(impl Threads + Sync),
     alloc: Global,
-    start: Run<F>,
+    start: Run<Retimed, F>,
     options: &Options,
     crew: &Crew<G>,
     records: &mut Records,
     watcher: &mut V,
-) -> Result<Run<F>, F::Stop>
+) -> Result<Run<Retimed, F>, F::Stop>
     requires begun { (c : Netlist)
-        × IsReady F.has_come options.now start.bound c start.retimed start.keep start.follower }
+        × IsReady F.has_come options.now c start }
     requires wanted { records.old.certify ≡ options.now.certify }
     requires none_yet { records.old.certificates.items ≡ [] }
-    ensures run { IfOk result (λ end. (c d : Netlist) (held kept : List ℕ)
-        → IsFollowed F.has_come options.now start.bound c d held kept 0 start.retimed start.keep
-        start.follower
-        → EndsFollowed F.has_come options.now start.bound c d held kept records.new end.retimed
-        end.keep end.follower) }
+    ensures run { IfOk result (λ end. (c d : Netlist) (read : Option ReadCircuit)
+        (held before : List ℕ)
+        → IsFollowed F.has_come options.now c d read held before 0 start
+        → EndsFollowed F.has_come options.now c d read held before records.new end) }
+    ensures bound { IfOk result (λ end. end.bound ≡ start.bound) }
     ensures notified { IfOk result (λ end. Notifies V.was_notified watcher.old watcher.new
         (looks_of options.now.max_frames end.retimed)) }
 {
@@ -159,7 +161,7 @@ fn all_frames<F: RunFollower + Drop, G: PhaseGate, V: FrameWatcher>(
 }
 
 /// Puts the recorded certificates into the run. Takes no memory.
-fn certified<F>(run: Run<F>, records: Records) -> Run<F>
+fn certified<F>(run: Run<Retimed, F>, records: Records) -> Run<Retimed, F>
     ensures circuit { result.retimed.circuit ≡ run.retimed.circuit }
     ensures kept_free { result.retimed.kept_free ≡ run.retimed.kept_free }
     ensures read_latches { result.retimed.read_latches ≡ run.retimed.read_latches }
@@ -168,6 +170,7 @@ fn certified<F>(run: Run<F>, records: Records) -> Run<F>
     ensures keep { result.keep ≡ run.keep }
     ensures certificates { result.retimed.certificates ≡ records.certificates.items }
     ensures follower { result.follower ≡ run.follower }
+    ensures bound { result.bound ≡ run.bound }
 {
     let Run {
         retimed,
@@ -199,23 +202,30 @@ fn certified<F>(run: Run<F>, records: Records) -> Run<F>
     }
 }
 
-/// Runs from a cleaned circuit to the end, with certificates if they are wanted. The answer holds
-/// for every circuit that it is the cleaning of.
-pub(crate) fn run_to_end<F: RunFollower + Drop, G: PhaseGate, V: FrameWatcher>(
+/// Takes the frames of a run that was begun, with certificates if they are wanted. The answer holds
+/// for every circuit that the run may have begun with.
+///
+/// The watcher is notified of each look for a set and of each move over one.
+///
+/// # Errors
+///
+/// An error of the follower; `NoMemory` if memory is refused.
+pub fn finish<F: RunFollower + Drop, G: PhaseGate, V: FrameWatcher>(
     rt: &(impl Threads + Sync),
     alloc: Global,
-    start: Run<F>,
+    start: Run<Retimed, F>,
     options: &Options,
     crew: &Crew<G>,
     watcher: &mut V,
-) -> Result<Run<F>, F::Stop>
-    requires { (c : Netlist)
-        × IsReady F.has_come options.now start.bound c start.retimed start.keep start.follower }
-    ensures retimed { IfOk result (λ end. (c d : Netlist) (held kept : List ℕ)
-        → IsFollowed F.has_come options.now start.bound c d held kept 0 start.retimed start.keep
-        start.follower
-        → IsRetimedFrom F.has_come options.now start.bound c d held kept end.retimed end.keep
-        end.follower) }
+) -> Result<Run<Retimed, F>, F::Stop>
+    requires { (b : Netlist) × (before : List ℕ) × (c : Netlist)
+        × IsRunBegun F.has_come options.now b before c start }
+    ensures retimed { IfOk result (λ end. (b : Netlist) (before : List ℕ) (c : Netlist)
+        → IsRunBegun F.has_come options.now b before c start
+        → IsRetimedFollowed F.has_come options.now b before c end.retimed
+        end.keep end.follower) }
+    ensures merged { IfOk result (λ end. end.retimed.merged ≡ start.retimed.merged) }
+    ensures bound { IfOk result (λ end. end.bound ≡ start.bound) }
     ensures notified { IfOk result (λ end. Notifies V.was_notified watcher.old watcher.new
         (looks_of options.now.max_frames end.retimed)) }
 {

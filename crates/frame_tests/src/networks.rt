@@ -54,7 +54,7 @@ fn takes_frames<R: Threads + Sync>(rt: &R, alloc: Global, circuit: &Circuit, wor
     let run = run_watched(rt, alloc, lent, &options, &crew, &mut networks);
     drop(options);
     let taken = match &run {
-        Ok(run) => has_two_frames(&run.rounds),
+        Ok(run) => has_two_frames(&run.retimed),
         Err(_) => false,
     };
     drop(run);

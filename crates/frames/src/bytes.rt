@@ -15,8 +15,10 @@ use aig_binary::{AnyReader, CircuitReader, Spelling, SpeltCircuit, read_circuit,
 use aig_graph::Circuit;
 use counted_io::{CountedRead, CountedWrite, WriteError};
 use file_words::ReadError;
-use frame_runs::{BytesError, FrameWatcher, GivenCircuit, NoFollower, NoWatcher, Options, Stage};
-use merging_rounds::{Rounds, RoundsRun};
+use frame_runs::{
+    BytesError, FrameWatcher, GivenCircuit, NoFollower, NoWatcher, Options, Run, Stage,
+};
+use merging_rounds::Rounds;
 use pulse::{Crew, PhaseGate};
 use std::alloc::Global;
 use std::thread::Threads;
@@ -61,20 +63,20 @@ pub fn run_spelt<W: CountedWrite, G: PhaseGate, V: FrameWatcher>(
     options: &Options,
     crew: &Crew<G>,
     watcher: &mut V,
-) -> Result<RoundsRun<NoFollower>, BytesError>
+) -> Result<Run<Rounds, NoFollower>, BytesError>
     ensures ok { IfOk result (λ run. IsWritten options.now spelt (W.output writer.old)
-        (W.output writer.new) run.rounds) }
+        (W.output writer.new) run.retimed) }
     ensures held { IfOk result (λ run. AreRoundsSeen V.was_notified (Cleaning ∷ [])
-        (Writing ∷ []) options.now spelt.circuit run.rounds run.keep watcher.old watcher.new) }
+        (Writing ∷ []) options.now spelt.circuit run.retimed run.keep watcher.old watcher.new) }
     ensures err { IfErr result (IsStop options.now spelt (W.output writer.old)
         (W.output writer.new)) }
 {
     let SpeltCircuit { circuit, spelling } = spelt;
     let owned = GivenCircuit::Owned(circuit);
     let run = run_watched(rt, alloc, owned, options, crew, watcher)?;
-    in_range(&run.rounds.circuit);
+    in_range(&run.retimed.circuit);
     watcher.enter(Stage::Writing);
-    match write_answer(&run.rounds, spelling, writer, options) {
+    match write_answer(&run.retimed, spelling, writer, options) {
         Ok(()) => Ok(run),
         Err(error) => {
             drop(run);

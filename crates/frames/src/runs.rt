@@ -11,11 +11,12 @@ ghost use Rattle.retimed_circuits.specs.RetimingLevels.{KeepsLevels};
 
 use aig_graph::Circuit;
 use frame_runs::{
-    Begun, FrameWatcher, GivenCircuit, NoFollower, NoWatcher, Options, RetimeError, RunError,
+    FrameWatcher, GivenCircuit, NoFollower, NoWatcher, Options, RetimeError, Run, RunError,
     RunFollower, Stage, begin, hold_by,
 };
-use merging_rounds::{Rounds, RoundsRun, finish_rounds};
+use merging_rounds::{Rounds, finish_rounds};
 use pulse::{Crew, PhaseGate};
+use retimed_circuits::Retimed;
 use std::alloc::Global;
 use std::thread::Threads;
 
@@ -24,7 +25,7 @@ fn begin_plain(
     alloc: Global,
     given: GivenCircuit<'_>,
     options: &Options,
-) -> Result<Begun<NoFollower>, RetimeError>
+) -> Result<Run<Retimed, NoFollower>, RetimeError>
     ensures begun { IfOk result (AreRoundsBegun ⟦<NoFollower as RunFollower>⟧.has_come options.now
         (circuit_of given.entry)) }
     ensures latches { OnOk result (AreLatchesBy options.now (circuit_of given.entry)) }
@@ -53,16 +54,16 @@ fn begin_plain(
 fn finish_plain<G: PhaseGate, V: FrameWatcher>(
     rt: &(impl Threads + Sync),
     alloc: Global,
-    begun: Begun<NoFollower>,
+    begun: Run<Retimed, NoFollower>,
     options: &Options,
     crew: &Crew<G>,
     watcher: &mut V,
-) -> Result<RoundsRun<NoFollower>, RunError>
+) -> Result<Run<Rounds, NoFollower>, RunError>
     requires { (c : Netlist)
         × AreRoundsBegun ⟦<NoFollower as RunFollower>⟧.has_come options.now c begun }
     ensures { IfOk result (λ run. (c : Netlist)
         → AreRoundsBegun ⟦<NoFollower as RunFollower>⟧.has_come options.now c begun
-        → AreRoundsSeen V.was_notified [] [] options.now c run.rounds run.keep watcher.old
+        → AreRoundsSeen V.was_notified [] [] options.now c run.retimed run.keep watcher.old
         watcher.new) }
 {
     let end = finish_rounds(rt, alloc, begun, options, crew, watcher)?;
@@ -70,12 +71,12 @@ fn finish_plain<G: PhaseGate, V: FrameWatcher>(
 }
 
 /// Returns the report of rounds that ended, and drops the held latches.
-pub(crate) fn rounds_of(run: RoundsRun<NoFollower>) -> Rounds
-    ensures { result ≡ run.rounds }
+pub(crate) fn rounds_of(run: Run<Rounds, NoFollower>) -> Rounds
+    ensures { result ≡ run.retimed }
 {
-    let RoundsRun { rounds, keep, .. } = run;
+    let Run { retimed, keep, .. } = run;
     drop(keep);
-    rounds
+    retimed
 }
 
 /// Cleans a circuit and retimes it forward in rounds. In each round latches are merged, if the
@@ -135,9 +136,9 @@ pub fn run_watched<G: PhaseGate, V: FrameWatcher>(
     options: &Options,
     crew: &Crew<G>,
     watcher: &mut V,
-) -> Result<RoundsRun<NoFollower>, RetimeError>
+) -> Result<Run<Rounds, NoFollower>, RetimeError>
     ensures retimed { IfOk result (λ run. AreRoundsSeen V.was_notified (Cleaning ∷ []) []
-        options.now (circuit_of given.entry) run.rounds run.keep watcher.old watcher.new) }
+        options.now (circuit_of given.entry) run.retimed run.keep watcher.old watcher.new) }
     ensures latches { OnOk result (AreLatchesBy options.now (circuit_of given.entry)) }
     ensures none_missing { OnOk result (NoneMissingBy options.now (circuit_of given.entry)) }
     ensures no_latch { (place : ℕ) → IsErrOf result (NoSuchLatch place)

@@ -9,8 +9,8 @@ ghost use Rattle.retiming_maps.specs.Mapping.{IsMapTo};
 use crate::errors::{AnswerError, FollowError};
 use crate::following::GrowingMap;
 use aig_graph::{Circuit, Keep, NoMemory};
-use frame_runs::{FrameWatcher, GivenCircuit, Options, Stage, begin, hold_by};
-use merging_rounds::{Rounds, RoundsRun, finish_rounds};
+use frame_runs::{FrameWatcher, GivenCircuit, Options, Run, Stage, begin, hold_by};
+use merging_rounds::{Rounds, finish_rounds};
 use pulse::{Crew, PhaseGate};
 use retiming_maps::{MapError, StateMap, identity, state_map};
 use std::alloc::Global;
@@ -27,15 +27,20 @@ pub struct Made {
 }
 
 /// Makes the map of `circuit` to the circuit at the rounds' end, and puts it beside that circuit.
-fn with_map(alloc: Global, circuit: &Circuit, end: RoundsRun<GrowingMap>) -> Result<Made, MapError>
-    requires { IsMapTo circuit.now end.rounds.circuit end.rounds.kept_free end.follower.parts }
+fn with_map(
+    alloc: Global,
+    circuit: &Circuit,
+    end: Run<Rounds, GrowingMap>,
+) -> Result<Made, MapError>
+    requires { IsMapTo circuit.now end.retimed.circuit end.retimed.kept_free end.follower.parts }
     ensures mapped { IfOk result (IsMapped circuit.now) }
-    ensures same { IfOk result (λ made. (made.rounds ≡ end.rounds) × (made.keep ≡ end.keep)) }
+    ensures same { IfOk result (λ made. (made.rounds ≡ end.retimed) × (made.keep ≡ end.keep)) }
 {
-    let RoundsRun {
-        rounds,
+    let Run {
+        retimed: rounds,
         keep,
         follower,
+        ..
     } = end;
     match state_map(alloc, follower.parts, circuit, &rounds.circuit) {
         Ok(map) => Ok(Made { rounds, keep, map }),

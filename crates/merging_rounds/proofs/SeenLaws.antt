@@ -5,15 +5,17 @@ use Rattle.retimed_circuits.specs.RetimingLevels.{KeepsLevels}
 use Rattle.frame_runs.specs.Bounds.{bound_in}
 use Rattle.frame_runs.specs.Stages.{Notification, Notifies}
 use Rattle.frame_runs.specs.declared.options.Options.{Options}
+use Rattle.frame_runs.specs.declared.run.Run.{Run}
 use Rattle.frame_runs.proofs.StageLaws.{notifies-then}
 use Rattle.merging_rounds.specs.Following.{AreRoundsOf, AreRoundsSeen, EndInRounds, last_cleaning, looks_of_runs}
 use Rattle.merging_rounds.specs.declared.rounds.Rounds.{Rounds}
 
 -- what ends in rounds
-pub ended-rounds : {F W : Type 0} (has_come : F → Netlist → Netlist → List ℕ → Type 0) (was_notified : W → List Notification → Type 0) (options : Options) (bound : Option ℕ) (c : Netlist) (r : Rounds) (now : List ℕ) (f : F) (a b : W)
-    → EndInRounds has_come was_notified options bound c r now f a b → AreRoundsSeen was_notified [] [] options c r now a b
-ended-rounds has_come was_notified options bound c r now f a b end =
-    let of : AreRoundsOf options c r now = record { runs = end.runs; is = end.followed.is; given = end.followed.given } in
+pub ended-rounds : {F W : Type 0} (has_come : F → Netlist → Netlist → List ℕ → Type 0) (was_notified : W → List Notification → Type 0) (options : Options) (c : Netlist) (run : Run Rounds F) (a b : W)
+    → EndInRounds has_come was_notified options c run a b → AreRoundsSeen was_notified [] [] options c run.retimed run.keep a b
+ended-rounds has_come was_notified options c run a b end =
+    let r : Rounds = run.retimed in
+    let of : AreRoundsOf options c r run.keep = record { runs = end.runs; is = end.followed.is; given = end.followed.given } in
     record {
       rounds = of;
       levels = subst (λ (most : Option ℕ). KeepsLevels most c r.circuit) end.followed.bound_is end.followed.levels;

@@ -10,7 +10,6 @@ use Rattle.frame_runs.specs.Bounds.{bound_in}
 use Rattle.frame_runs.specs.Following.{IsRetimedFollowed}
 use Rattle.frame_runs.specs.Stages.{Cleaning, Notification, Notifies, looks_of, stages_of}
 use Rattle.frame_runs.specs.declared.options.Options.{Options}
-use Rattle.frame_runs.specs.declared.run.Begun.{Begun}
 use Rattle.frame_runs.specs.declared.run.Run.{Run}
 use Rattle.merging_rounds.specs.Asking.{AreMergedAsGiven, IsInRounds}
 use Rattle.merging_rounds.specs.declared.rounds.Rounds.{Rounds}
@@ -27,15 +26,14 @@ looks_of_runs limit (run ∷ runs) = looks_of limit run ++ later_stages (limit -
 
 -- A circuit c retimed in rounds, under the bound that the options have for it, which is kept. The
 -- follower has come there from c.
-pub record AreRoundsFollowed {F : Type 0} (has_come : F → Netlist → Netlist → List ℕ → Type 0) (options : Options) (bound : Option ℕ) (c : Netlist) (runs : List Retimed) (r : Rounds)
-    (now : List ℕ) (f : F) : Type 0 where
+pub record AreRoundsFollowed {F : Type 0} (has_come : F → Netlist → Netlist → List ℕ → Type 0) (options : Options) (c : Netlist) (runs : List Retimed) (state : Run Rounds F) : Type 0 where
   pub graph : IsGraph c.aig
   pub netlist : IsNetlist c
-  pub bound_is : bound ≡ bound_in options c
-  pub is : IsInRounds options c runs r now
-  pub given : AreMergedAsGiven options r
-  pub levels : KeepsLevels bound c r.circuit
-  pub come : has_come f c r.circuit r.kept_free
+  pub bound_is : state.bound ≡ bound_in options c
+  pub is : IsInRounds options c runs state.retimed state.keep
+  pub given : AreMergedAsGiven options state.retimed
+  pub levels : KeepsLevels state.bound c state.retimed.circuit
+  pub come : has_come state.follower c state.retimed.circuit state.retimed.kept_free
 
 -- the cleaning before a last round that found no latch to merge, if there was one
 abbrev pub last_cleaning : Bool → List Notification
@@ -44,24 +42,24 @@ last_cleaning true = Cleaning ∷ []
 
 -- So by some runs, and the watcher was notified of their stages, but for the cleaning before the
 -- first. At the end a further round may have found nothing.
-pub record EndInRounds {F W : Type 0} (has_come : F → Netlist → Netlist → List ℕ → Type 0) (was_notified : W → List Notification → Type 0) (options : Options) (bound : Option ℕ) (c : Netlist)
-    (r : Rounds) (now : List ℕ) (f : F) (old new : W) : Type 0 where
+pub record EndInRounds {F W : Type 0} (has_come : F → Netlist → Netlist → List ℕ → Type 0) (was_notified : W → List Notification → Type 0) (options : Options) (c : Netlist) (end : Run Rounds F)
+    (old new : W) : Type 0 where
   pub runs : List Retimed
-  pub followed : AreRoundsFollowed has_come options bound c runs r now f
+  pub followed : AreRoundsFollowed has_come options c runs end
   pub nothing : Bool
   pub notified : Notifies was_notified old new (looks_of_runs options.max_frames runs ++ last_cleaning nothing)
 
 -- a circuit c before the first frame of its first round; the follower had come to it from itself
-pub record AreRoundsBegun {F : Type 0} (has_come : F → Netlist → Netlist → List ℕ → Type 0) (options : Options) (c : Netlist) (begun : Begun F) : Type 0 where
+pub record AreRoundsBegun {F : Type 0} (has_come : F → Netlist → Netlist → List ℕ → Type 0) (options : Options) (c : Netlist) (begun : Run Retimed F) : Type 0 where
   pub graph : IsGraph c.aig
   pub netlist : IsNetlist c
-  pub starts : IsRunBegun has_come options begun.run.bound c (all_free c.aig) c begun.read begun.run.retimed begun.run.keep begun.run.follower
+  pub starts : IsRunBegun has_come options c (all_free c.aig) c begun
 
 -- a run of c that ended, and the follower has come with it from c
-pub record IsFirstRun {F : Type 0} (has_come : F → Netlist → Netlist → List ℕ → Type 0) (options : Options) (bound : Option ℕ) (c : Netlist) (run : Run F) : Type 0 where
+pub record IsFirstRun {F : Type 0} (has_come : F → Netlist → Netlist → List ℕ → Type 0) (options : Options) (c : Netlist) (run : Run Retimed F) : Type 0 where
   pub graph : IsGraph c.aig
   pub netlist : IsNetlist c
-  pub bound_is : bound ≡ bound_in options c
+  pub bound_is : run.bound ≡ bound_in options c
   pub followed : IsRetimedFollowed has_come options c (all_free c.aig) c run.retimed run.keep run.follower
 
 -- c retimed in rounds by the options, whichever runs those are; its held latches stand at now

@@ -38,6 +38,10 @@ pub record MergesSome (run : Retimed) : Type 0 where
   pub merged : run.merged ≡ Some lines
   pub some : 0 < length lines
 
+-- the run was to merge latches, and merged none
+abbrev pub MergesNone : Retimed → Type 0
+MergesNone run = (lines : List MergedLatch) → run.merged ≡ Some lines → lines ≡ []
+
 -- These runs lead from c to d, one after another. The first is c retimed as is asked for. Each
 -- later one merges a latch of the circuit that it begins with, and takes at most the frames that
 -- are left. Held latches are known by their positions then. kept has the places of the free latches

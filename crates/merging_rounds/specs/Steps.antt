@@ -3,49 +3,39 @@ use Rattle.std.specs.Prelude.{ℕ, ◌-◌, ◌<◌, ◌≡◌, ⊤, Bool, List,
 use Rattle.aig_graph.specs.Circuits.{Netlist}
 use Rattle.retimed_circuits.specs.declared.report.Retimed.{Retimed}
 use Rattle.frame_runs.specs.Beginning.{IsRunBegun}
+use Rattle.frame_runs.specs.Bounds.{bound_in}
 use Rattle.frame_runs.specs.Following.{IsRetimedFollowed}
 use Rattle.frame_runs.specs.Stages.{Cleaning, Notification, Notifies, looks_of, stages_of}
 use Rattle.frame_runs.specs.declared.options.Options.{Options}
-use Rattle.frame_runs.specs.declared.run.Begun.{Begun}
-use Rattle.frame_runs.specs.declared.run.ReadCircuit.{ReadCircuit}
+use Rattle.frame_runs.specs.declared.run.Run.{Run}
 use Rattle.merging_rounds.specs.Asking.{AreRoundOptions, Guesses}
 use Rattle.merging_rounds.specs.Following.{AreRoundsFollowed, last_cleaning, later_stages}
 use Rattle.merging_rounds.specs.Joining.{IsJoined}
 use Rattle.merging_rounds.specs.Rounds.{MergesSome, frames_of}
 use Rattle.merging_rounds.specs.declared.joining.Report.{Report}
 use Rattle.merging_rounds.specs.declared.rounds.Rounds.{Rounds}
-use Rattle.merging_rounds.specs.declared.rounds.RoundsRun.{RoundsRun}
 use Rattle.merging_rounds.specs.declared.running.BegunAgain.{BegunAgain}
 use Rattle.merging_rounds.specs.declared.running.BegunAgain.TheVariants.{Merges, Nothing}
 use Rattle.merging_rounds.specs.declared.running.Further.{Further}
 use Rattle.merging_rounds.specs.declared.running.Further.TheVariants.{Ended, Round}
 
--- a latch was merged before the first frame
-abbrev pub HasLines : Option ReadCircuit → Type 0
-HasLines None = ⊥
-HasLines (Some read) = 0 < length read.merged
-
--- if latches were to be merged, none was
-abbrev pub HasNoLine : Option ReadCircuit → Type 0
-HasNoLine None = ⊤
-HasNoLine (Some read) = read.merged ≡ []
-
 -- A run of c by its own options, after rounds of which this is reported, and their report with it.
 -- It merged a latch. The follower came from b.
 pub record IsFinishedAgain {F W : Type 0} (has_come : F → Netlist → Netlist → List ℕ → Type 0) (was_notified : W → List Notification → Type 0) (asked : Options) (b : Netlist) (report : Report)
-    (c : Netlist) (next : RoundsRun F) (old new : W) : Type 0 where
+    (c : Netlist) (next : Run Rounds F) (old new : W) : Type 0 where
   pub run : Retimed
+  pub bound_is : next.bound ≡ bound_in asked c
   pub merges : MergesSome run
   pub followed : IsRetimedFollowed has_come asked b report.kept_free c run next.keep next.follower
-  pub is_joined : IsJoined report run next.rounds
+  pub is_joined : IsJoined report run next.retimed
   pub notified : Notifies was_notified old new (looks_of asked.max_frames run)
 
 -- rounds that are to go on, and the options of the next one
-pub record IsRoundAsked {F : Type 0} (has_come : F → Netlist → Netlist → List ℕ → Type 0) (options : Options) (bound : Option ℕ) (c : Netlist) (runs : List Retimed) (state : RoundsRun F)
+pub record IsRoundAsked {F : Type 0} (has_come : F → Netlist → Netlist → List ℕ → Type 0) (options : Options) (c : Netlist) (runs : List Retimed) (state : Run Rounds F)
     (asked : Options) : Type 0 where
   pub guesses : Guesses options
-  pub followed : AreRoundsFollowed has_come options bound c runs state.rounds state.keep state.follower
-  pub asked_are : AreRoundOptions options bound state.keep (options.max_frames - length state.rounds.frames) asked
+  pub followed : AreRoundsFollowed has_come options c runs state
+  pub asked_are : AreRoundOptions options state.bound state.keep (options.max_frames - length state.retimed.frames) asked
 
 -- what is reported of rounds
 pub record IsReportOf (r : Rounds) (report : Report) : Type 0 where
@@ -55,43 +45,43 @@ pub record IsReportOf (r : Rounds) (report : Report) : Type 0 where
   pub parts : report.parts ≡ r.parts
 
 -- a round after others that was begun, and merged a latch
-pub record HasBegunAgain {F : Type 0} (has_come : F → Netlist → Netlist → List ℕ → Type 0) (c : Netlist) (state : RoundsRun F) (asked : Options) (report : Report) (begun : Begun F) : Type 0 where
-  pub merges : HasLines begun.read
-  pub reported : IsReportOf state.rounds report
-  pub begins : IsRunBegun has_come asked begun.run.bound c report.kept_free state.rounds.circuit begun.read begun.run.retimed begun.run.keep begun.run.follower
+pub record HasBegunAgain {F : Type 0} (has_come : F → Netlist → Netlist → List ℕ → Type 0) (c : Netlist) (state : Run Rounds F) (asked : Options) (report : Report) (begun : Run Retimed F) : Type 0 where
+  pub merges : MergesSome begun.retimed
+  pub reported : IsReportOf state.retimed report
+  pub begins : IsRunBegun has_come asked c report.kept_free state.retimed.circuit begun
 
 -- a round after others, or the others if it finds nothing to merge
-abbrev pub IsBegunAgain : {F : Type 0} → (F → Netlist → Netlist → List ℕ → Type 0) → Options → Option ℕ → Netlist → List Retimed → RoundsRun F → Options → BegunAgain F → Type 0
-IsBegunAgain has_come options bound c runs state asked (Merges report begun) = HasBegunAgain has_come c state asked report begun
-IsBegunAgain has_come options bound c runs state asked (Nothing same) = AreRoundsFollowed has_come options bound c runs same.rounds same.keep same.follower
+abbrev pub IsBegunAgain : {F : Type 0} → (F → Netlist → Netlist → List ℕ → Type 0) → Options → Netlist → List Retimed → Run Rounds F → Options → BegunAgain F → Type 0
+IsBegunAgain has_come options c runs state asked (Merges report begun) = HasBegunAgain has_come c state asked report begun
+IsBegunAgain has_come options c runs state asked (Nothing same) = AreRoundsFollowed has_come options c runs same
 
 -- the rounds with one run more, and the watcher was notified of its stages
-pub record IsNextRound {F W : Type 0} (has_come : F → Netlist → Netlist → List ℕ → Type 0) (was_notified : W → List Notification → Type 0) (options : Options) (bound : Option ℕ) (c : Netlist)
-    (runs : List Retimed) (next : RoundsRun F) (old new : W) : Type 0 where
+pub record IsNextRound {F W : Type 0} (has_come : F → Netlist → Netlist → List ℕ → Type 0) (was_notified : W → List Notification → Type 0) (options : Options) (c : Netlist)
+    (runs : List Retimed) (next : Run Rounds F) (old new : W) : Type 0 where
   pub run : Retimed
-  pub followed : AreRoundsFollowed has_come options bound c (runs ++ run ∷ []) next.rounds next.keep next.follower
+  pub followed : AreRoundsFollowed has_come options c (runs ++ run ∷ []) next
   pub notified : Notifies was_notified old new (stages_of (options.max_frames - length (frames_of runs)) run)
 
 -- the same rounds, and the watcher was notified of a cleaning alone
-pub record IsLastRound {F W : Type 0} (has_come : F → Netlist → Netlist → List ℕ → Type 0) (was_notified : W → List Notification → Type 0) (options : Options) (bound : Option ℕ) (c : Netlist)
-    (runs : List Retimed) (last : RoundsRun F) (old new : W) : Type 0 where
-  pub followed : AreRoundsFollowed has_come options bound c runs last.rounds last.keep last.follower
+pub record IsLastRound {F W : Type 0} (has_come : F → Netlist → Netlist → List ℕ → Type 0) (was_notified : W → List Notification → Type 0) (options : Options) (c : Netlist)
+    (runs : List Retimed) (last : Run Rounds F) (old new : W) : Type 0 where
+  pub followed : AreRoundsFollowed has_come options c runs last
   pub notified : Notifies was_notified old new (Cleaning ∷ [])
 
 -- what becomes of a further round
-abbrev pub IsFurther : {F W : Type 0} → (F → Netlist → Netlist → List ℕ → Type 0) → (W → List Notification → Type 0) → Options → Option ℕ → Netlist → List Retimed → Further F → W → W → Type 0
-IsFurther has_come was_notified options bound c runs (Round next) old new = IsNextRound has_come was_notified options bound c runs next old new
-IsFurther has_come was_notified options bound c runs (Ended last) old new = IsLastRound has_come was_notified options bound c runs last old new
+abbrev pub IsFurther : {F W : Type 0} → (F → Netlist → Netlist → List ℕ → Type 0) → (W → List Notification → Type 0) → Options → Netlist → List Retimed → Further F → W → W → Type 0
+IsFurther has_come was_notified options c runs (Round next) old new = IsNextRound has_come was_notified options c runs next old new
+IsFurther has_come was_notified options c runs (Ended last) old new = IsLastRound has_come was_notified options c runs last old new
 
 -- Rounds with more runs, and the watcher was notified of their stages. At the end a further round
 -- may have found nothing to merge.
-pub record AreMoreRounds {F W : Type 0} (has_come : F → Netlist → Netlist → List ℕ → Type 0) (was_notified : W → List Notification → Type 0) (options : Options) (bound : Option ℕ) (c : Netlist)
-    (runs : List Retimed) (nothing : Bool) (state : RoundsRun F) (old new : W) : Type 0 where
+pub record AreMoreRounds {F W : Type 0} (has_come : F → Netlist → Netlist → List ℕ → Type 0) (was_notified : W → List Notification → Type 0) (options : Options) (c : Netlist)
+    (runs : List Retimed) (nothing : Bool) (state : Run Rounds F) (old new : W) : Type 0 where
   pub more : List Retimed
-  pub followed : AreRoundsFollowed has_come options bound c (runs ++ more) state.rounds state.keep state.follower
+  pub followed : AreRoundsFollowed has_come options c (runs ++ more) state
   pub notified : Notifies was_notified old new (later_stages (options.max_frames - length (frames_of runs)) more ++ last_cleaning nothing)
 
 -- more rounds, and perhaps a last one that found nothing to merge
-abbrev pub EndsInMoreRounds : {F W : Type 0} → (F → Netlist → Netlist → List ℕ → Type 0) → (W → List Notification → Type 0) → Options → Option ℕ → Netlist → List Retimed → RoundsRun F → W → W → Type 0
-EndsInMoreRounds has_come was_notified options bound c runs end old new =
-    (nothing : Bool) × AreMoreRounds has_come was_notified options bound c runs nothing end old new
+abbrev pub EndsInMoreRounds : {F W : Type 0} → (F → Netlist → Netlist → List ℕ → Type 0) → (W → List Notification → Type 0) → Options → Netlist → List Retimed → Run Rounds F → W → W → Type 0
+EndsInMoreRounds has_come was_notified options c runs end old new =
+    (nothing : Bool) × AreMoreRounds has_come was_notified options c runs nothing end old new

@@ -12,5 +12,5 @@ mod rounds;
 mod running;
 
 pub use laws::{round_answer_law, round_levels_law, round_limits_law};
-pub use rounds::{Rounds, RoundsRun};
+pub use rounds::Rounds;
 pub use running::finish_rounds;

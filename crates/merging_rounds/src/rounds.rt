@@ -1,4 +1,4 @@
-use aig_graph::{Circuit, Keep, Sequence};
+use aig_graph::{Circuit, Sequence};
 use certificate_files::CertPart;
 use retimed_circuits::FrameReport;
 
@@ -16,15 +16,4 @@ pub struct Rounds {
     pub frames: Sequence<FrameReport>,
     /// For each round the latches that it merged, if that was asked for, and its certificates.
     pub parts: Sequence<CertPart>,
-}
-
-/// Rounds that have come to a circuit.
-#[derive(Drop)]
-pub struct RoundsRun<F> {
-    /// The circuit, and the report so far.
-    pub rounds: Rounds,
-    /// The latches of the circuit that are held.
-    pub keep: Keep,
-    /// The follower that went with the rounds.
-    pub follower: F,
 }

@@ -7,26 +7,26 @@ ghost use Rattle.retimed_circuits.specs.declared.report.Retimed.{Retimed};
 ghost use Rattle.merging_rounds.specs.Asking.{AreRoundOptions, Guesses};
 ghost use Rattle.merging_rounds.specs.Following.{AreRoundsBegun, AreRoundsFollowed, EndInRounds, IsFirstRun};
 ghost use Rattle.merging_rounds.specs.Joining.{IsJoined};
-ghost use Rattle.merging_rounds.specs.Steps.{EndsInMoreRounds, HasLines, HasNoLine, IsBegunAgain, IsFinishedAgain, IsFurther, IsRoundAsked};
+ghost use Rattle.merging_rounds.specs.Rounds.{MergesNone, MergesSome};
+ghost use Rattle.merging_rounds.specs.Steps.{EndsInMoreRounds, IsBegunAgain, IsFinishedAgain, IsFurther, IsRoundAsked};
 
 use crate::asking::round_options;
 use crate::joining::{Report, of_first, report_of, with_run};
-use crate::rounds::RoundsRun;
+use crate::rounds::Rounds;
 use aig_graph::NoMemory;
-use frame_runs::{
-    Begun, FrameWatcher, GivenCircuit, Options, ReadCircuit, Run, RunFollower, Stage, begin, finish,
-};
+use frame_runs::{FrameWatcher, GivenCircuit, Options, Run, RunFollower, Stage, begin, finish};
 use pulse::{Crew, PhaseGate};
+use retimed_circuits::Retimed;
 use std::alloc::Global;
 use std::thread::Threads;
 
 /// Returns true if latches were merged before the first frame.
-fn merges_some(read: &Option<ReadCircuit>) -> bool
-    ensures some { result ≡ true → HasLines read.now }
-    ensures none { result ≡ false → HasNoLine read.now }
+fn merges_some(retimed: &Retimed) -> bool
+    ensures some { result ≡ true → MergesSome retimed.now }
+    ensures none { result ≡ false → MergesNone retimed.now }
 {
-    match read {
-        Some(read) => !read.merged.is_empty(),
+    match &retimed.merged {
+        Some(lines) => !lines.is_empty(),
         None => false,
     }
 }
@@ -34,28 +34,26 @@ fn merges_some(read: &Option<ReadCircuit>) -> bool
 /// Makes a first round of a run.
 fn first_round<F: RunFollower + Drop>(
     alloc: Global,
-    run: Run<F>,
-    bound: Option<u32>,
+    run: Run<Retimed, F>,
     options: &Options,
-) -> Result<RoundsRun<F>, F::Stop>
+) -> Result<Run<Rounds, F>, F::Stop>
     ensures { IfOk result (λ state. (c : Netlist)
-        → IsFirstRun F.has_come options.now bound c run
-        → AreRoundsFollowed F.has_come options.now bound c (run.retimed ∷ []) state.rounds
-        state.keep state.follower) }
+        → IsFirstRun F.has_come options.now c run
+        → AreRoundsFollowed F.has_come options.now c (run.retimed ∷ []) state) }
 {
-    let _bound = bound;
     let _options = options;
     let Run {
         retimed,
         keep,
         follower,
-        ..
+        bound,
     } = run;
     match of_first(alloc, retimed) {
-        Ok(rounds) => Ok(RoundsRun {
-            rounds,
+        Ok(rounds) => Ok(Run {
+            retimed: rounds,
             keep,
             follower,
+            bound,
         }),
         Err(error) => {
             drop(keep);
@@ -68,39 +66,40 @@ fn first_round<F: RunFollower + Drop>(
 /// Returns the options of the round after `state`.
 fn options_after<F>(
     alloc: Global,
-    state: &RoundsRun<F>,
-    bound: Option<u32>,
+    state: &Run<Rounds, F>,
     options: &Options,
 ) -> Result<Options, NoMemory>
-    requires { length state.now.rounds.frames ≤ options.now.max_frames }
-    ensures { IfOk result (λ asked. AreRoundOptions options.now bound state.now.keep
-        (options.now.max_frames - length state.now.rounds.frames) asked) }
+    requires { length state.now.retimed.frames ≤ options.now.max_frames }
+    ensures { IfOk result (λ asked. AreRoundOptions options.now state.now.bound state.now.keep
+        (options.now.max_frames - length state.now.retimed.frames) asked) }
 {
-    let left = options.max_frames - state.rounds.frames.len() as u32;
-    round_options(alloc, options, bound, &state.keep, left)
+    let left = options.max_frames - state.retimed.frames.len() as u32;
+    round_options(alloc, options, state.bound, &state.keep, left)
 }
 
 /// Adds a run to the rounds before it.
 fn joined<F: RunFollower + Drop>(
     alloc: Global,
     report: Report,
-    run: Run<F>,
-) -> Result<RoundsRun<F>, F::Stop>
+    run: Run<Retimed, F>,
+) -> Result<Run<Rounds, F>, F::Stop>
     requires { All (λ place. place < length report.kept_free) run.retimed.kept_free }
-    ensures { IfOk result (λ state. IsJoined report run.retimed state.rounds
-        × (state.keep ≡ run.keep) × (state.follower ≡ run.follower)) }
+    ensures { IfOk result (λ state. IsJoined report run.retimed state.retimed
+        × (state.keep ≡ run.keep) × (state.follower ≡ run.follower)
+        × (state.bound ≡ run.bound)) }
 {
     let Run {
         retimed,
         keep,
         follower,
-        ..
+        bound,
     } = run;
     match with_run(alloc, report, retimed) {
-        Ok(rounds) => Ok(RoundsRun {
-            rounds,
+        Ok(rounds) => Ok(Run {
+            retimed: rounds,
             keep,
             follower,
+            bound,
         }),
         Err(error) => {
             drop(keep);
@@ -116,18 +115,16 @@ fn finished<F: RunFollower + Drop, G: PhaseGate, V: FrameWatcher>(
     rt: &(impl Threads + Sync),
     alloc: Global,
     report: Report,
-    begun: Begun<F>,
+    begun: Run<Retimed, F>,
     asked: &Options,
     crew: &Crew<G>,
     watcher: &mut V,
-) -> Result<RoundsRun<F>, F::Stop>
-    requires begun { (b : Netlist) × (c : Netlist) × IsRunBegun F.has_come asked.now
-        begun.run.bound b report.kept_free c begun.read begun.run.retimed begun.run.keep
-        begun.run.follower }
-    requires merges { HasLines begun.read }
-    ensures { IfOk result (λ next. (b c : Netlist) → IsRunBegun F.has_come asked.now
-        begun.run.bound b report.kept_free c begun.read begun.run.retimed begun.run.keep
-        begun.run.follower
+) -> Result<Run<Rounds, F>, F::Stop>
+    requires begun { (b : Netlist) × (c : Netlist)
+        × IsRunBegun F.has_come asked.now b report.kept_free c begun }
+    requires merges { MergesSome begun.retimed }
+    ensures { IfOk result (λ next. (b c : Netlist)
+        → IsRunBegun F.has_come asked.now b report.kept_free c begun
         → IsFinishedAgain F.has_come V.was_notified asked.now b report c next watcher.old
         watcher.new) }
 {
@@ -144,58 +141,57 @@ fn finished<F: RunFollower + Drop, G: PhaseGate, V: FrameWatcher>(
 #[derive(Drop)]
 enum BegunAgain<F> {
     /// It merged a latch. Of the rounds before it the report is left.
-    Merges(Report, Begun<F>),
+    Merges(Report, Run<Retimed, F>),
     /// It found no latch to merge, so it is given up: the rounds before it.
-    Nothing(RoundsRun<F>),
+    Nothing(Run<Rounds, F>),
 }
 
 /// Returns the follower of a run that was begun, and gives the run up.
-fn follower_of<F>(begun: Begun<F>) -> F
-    ensures { result ≡ begun.run.follower }
+fn follower_of<F>(begun: Run<Retimed, F>) -> F
+    ensures { result ≡ begun.follower }
 {
-    let Begun { run, read } = begun;
     let Run {
         retimed,
         keep,
         follower,
         ..
-    } = run;
+    } = begun;
     drop(retimed);
     drop(keep);
-    drop(read);
     follower
 }
 
 /// Begins a further round by options of its own.
 fn begun_again<F: RunFollower + Drop>(
     alloc: Global,
-    state: RoundsRun<F>,
+    state: Run<Rounds, F>,
     asked: &Options,
 ) -> Result<BegunAgain<F>, F::Stop>
-    requires { (options : Options) × (bound : Option ℕ) × (c : Netlist) × (runs : List Retimed)
-        × IsRoundAsked F.has_come options bound c runs state asked.now }
-    ensures { IfOk result (λ again. (options : Options) (bound : Option ℕ) (c : Netlist)
-        (runs : List Retimed)
-        → IsRoundAsked F.has_come options bound c runs state asked.now
-        → IsBegunAgain F.has_come options bound c runs state asked.now again) }
+    requires { (options : Options) × (c : Netlist) × (runs : List Retimed)
+        × IsRoundAsked F.has_come options c runs state asked.now }
+    ensures { IfOk result (λ again. (options : Options) (c : Netlist) (runs : List Retimed)
+        → IsRoundAsked F.has_come options c runs state asked.now
+        → IsBegunAgain F.has_come options c runs state asked.now again) }
 {
-    let RoundsRun {
-        rounds,
+    let Run {
+        retimed: rounds,
         keep,
         follower,
+        bound,
     } = state;
     let lent = GivenCircuit::Lent(&rounds.circuit);
     match begin(alloc, lent, &keep, asked, follower) {
         Ok(begun) => {
-            if merges_some(&begun.read) {
+            if merges_some(&begun.retimed) {
                 drop(keep);
                 Ok(BegunAgain::Merges(report_of(rounds), begun))
             } else {
                 let follower = follower_of(begun);
-                Ok(BegunAgain::Nothing(RoundsRun {
-                    rounds,
+                Ok(BegunAgain::Nothing(Run {
+                    retimed: rounds,
                     keep,
                     follower,
+                    bound,
                 }))
             }
         }
@@ -211,27 +207,25 @@ fn begun_again<F: RunFollower + Drop>(
 #[derive(Drop)]
 enum Further<F> {
     /// It merged a latch: the rounds with it.
-    Round(RoundsRun<F>),
+    Round(Run<Rounds, F>),
     /// It found no latch to merge: the rounds before it.
-    Ended(RoundsRun<F>),
+    Ended(Run<Rounds, F>),
 }
 
 /// Takes a further round by options of its own, if it finds a latch to merge.
 fn taken_by<F: RunFollower + Drop, G: PhaseGate, V: FrameWatcher>(
     rt: &(impl Threads + Sync),
     alloc: Global,
-    state: RoundsRun<F>,
+    state: Run<Rounds, F>,
     asked: &Options,
     crew: &Crew<G>,
     watcher: &mut V,
 ) -> Result<Further<F>, F::Stop>
-    requires { (options : Options) × (bound : Option ℕ) × (c : Netlist) × (runs : List Retimed)
-        × IsRoundAsked F.has_come options bound c runs state asked.now }
-    ensures { IfOk result (λ further. (options : Options) (bound : Option ℕ) (c : Netlist)
-        (runs : List Retimed)
-        → IsRoundAsked F.has_come options bound c runs state asked.now
-        → IsFurther F.has_come V.was_notified options bound c runs further watcher.old
-        watcher.new) }
+    requires { (options : Options) × (c : Netlist) × (runs : List Retimed)
+        × IsRoundAsked F.has_come options c runs state asked.now }
+    ensures { IfOk result (λ further. (options : Options) (c : Netlist) (runs : List Retimed)
+        → IsRoundAsked F.has_come options c runs state asked.now
+        → IsFurther F.has_come V.was_notified options c runs further watcher.old watcher.new) }
 {
     watcher.enter(Stage::Cleaning);
     match begun_again(alloc, state, asked) {
@@ -250,23 +244,20 @@ fn taken_by<F: RunFollower + Drop, G: PhaseGate, V: FrameWatcher>(
 fn taken<F: RunFollower + Drop, G: PhaseGate, V: FrameWatcher>(
     rt: &(impl Threads + Sync),
     alloc: Global,
-    state: RoundsRun<F>,
-    bound: Option<u32>,
+    state: Run<Rounds, F>,
     options: &Options,
     crew: &Crew<G>,
     watcher: &mut V,
 ) -> Result<Further<F>, F::Stop>
     requires guesses { Guesses options.now }
     requires rounds { (c : Netlist) × (runs : List Retimed)
-        × AreRoundsFollowed F.has_come options.now bound c runs state.rounds state.keep
-        state.follower }
+        × AreRoundsFollowed F.has_come options.now c runs state }
     ensures { IfOk result (λ further. (c : Netlist) (runs : List Retimed)
-        → AreRoundsFollowed F.has_come options.now bound c runs state.rounds state.keep
-        state.follower
-        → IsFurther F.has_come V.was_notified options.now bound c runs further watcher.old
+        → AreRoundsFollowed F.has_come options.now c runs state
+        → IsFurther F.has_come V.was_notified options.now c runs further watcher.old
         watcher.new) }
 {
-    match options_after(alloc, &state, bound, options) {
+    match options_after(alloc, &state, options) {
         Ok(asked) => taken_by(rt, alloc, state, &asked, crew, watcher),
         Err(error) => {
             drop(state);
@@ -279,31 +270,28 @@ fn taken<F: RunFollower + Drop, G: PhaseGate, V: FrameWatcher>(
 fn further_rounds<F: RunFollower + Drop, G: PhaseGate, V: FrameWatcher>(
     rt: &(impl Threads + Sync),
     alloc: Global,
-    first: RoundsRun<F>,
-    bound: Option<u32>,
+    first: Run<Rounds, F>,
     options: &Options,
     crew: &Crew<G>,
     watcher: &mut V,
-) -> Result<RoundsRun<F>, F::Stop>
+) -> Result<Run<Rounds, F>, F::Stop>
     requires guesses { Guesses options.now }
     requires rounds { (c : Netlist) × (runs : List Retimed)
-        × AreRoundsFollowed F.has_come options.now bound c runs first.rounds first.keep
-        first.follower }
+        × AreRoundsFollowed F.has_come options.now c runs first }
     ensures { IfOk result (λ end. (c : Netlist) (runs : List Retimed)
-        → AreRoundsFollowed F.has_come options.now bound c runs first.rounds first.keep
-        first.follower
-        → EndsInMoreRounds F.has_come V.was_notified options.now bound c runs end watcher.old
+        → AreRoundsFollowed F.has_come options.now c runs first
+        → EndsInMoreRounds F.has_come V.was_notified options.now c runs end watcher.old
         watcher.new) }
 {
     let mut state = first;
     let mut before = 0;
     for _ in 0..options.max_frames {
-        let frames = state.rounds.frames.len();
+        let frames = state.retimed.frames.len();
         if frames == before {
             return Ok(state);
         }
         before = frames;
-        match taken(rt, alloc, state, bound, options, crew, watcher)? {
+        match taken(rt, alloc, state, options, crew, watcher)? {
             Further::Round(next) => state = next,
             Further::Ended(last) => return Ok(last),
         }
@@ -315,23 +303,20 @@ fn further_rounds<F: RunFollower + Drop, G: PhaseGate, V: FrameWatcher>(
 fn rounds_after<F: RunFollower + Drop, G: PhaseGate, V: FrameWatcher>(
     rt: &(impl Threads + Sync),
     alloc: Global,
-    first: RoundsRun<F>,
-    bound: Option<u32>,
+    first: Run<Rounds, F>,
     options: &Options,
     crew: &Crew<G>,
     watcher: &mut V,
-) -> Result<RoundsRun<F>, F::Stop>
+) -> Result<Run<Rounds, F>, F::Stop>
     requires { (c : Netlist) × (runs : List Retimed)
-        × AreRoundsFollowed F.has_come options.now bound c runs first.rounds first.keep
-        first.follower }
+        × AreRoundsFollowed F.has_come options.now c runs first }
     ensures { IfOk result (λ end. (c : Netlist) (runs : List Retimed)
-        → AreRoundsFollowed F.has_come options.now bound c runs first.rounds first.keep
-        first.follower
-        → EndsInMoreRounds F.has_come V.was_notified options.now bound c runs end watcher.old
+        → AreRoundsFollowed F.has_come options.now c runs first
+        → EndsInMoreRounds F.has_come V.was_notified options.now c runs end watcher.old
         watcher.new) }
 {
     if options.merge && options.classes.is_none() {
-        further_rounds(rt, alloc, first, bound, options, crew, watcher)
+        further_rounds(rt, alloc, first, options, crew, watcher)
     } else {
         Ok(first)
     }
@@ -355,19 +340,17 @@ fn rounds_after<F: RunFollower + Drop, G: PhaseGate, V: FrameWatcher>(
 pub fn finish_rounds<F: RunFollower + Drop, G: PhaseGate, V: FrameWatcher>(
     rt: &(impl Threads + Sync),
     alloc: Global,
-    begun: Begun<F>,
+    begun: Run<Retimed, F>,
     options: &Options,
     crew: &Crew<G>,
     watcher: &mut V,
-) -> Result<RoundsRun<F>, F::Stop>
+) -> Result<Run<Rounds, F>, F::Stop>
     requires { (c : Netlist) × AreRoundsBegun F.has_come options.now c begun }
     ensures { IfOk result (λ end. (c : Netlist)
         → AreRoundsBegun F.has_come options.now c begun
-        → EndInRounds F.has_come V.was_notified options.now begun.run.bound c end.rounds
-        end.keep end.follower watcher.old watcher.new) }
+        → EndInRounds F.has_come V.was_notified options.now c end watcher.old watcher.new) }
 {
-    let bound = begun.run.bound;
     let run = finish(rt, alloc, begun, options, crew, watcher)?;
-    let first = first_round(alloc, run, bound, options)?;
-    rounds_after(rt, alloc, first, bound, options, crew, watcher)
+    let first = first_round(alloc, run, options)?;
+    rounds_after(rt, alloc, first, options, crew, watcher)
 }

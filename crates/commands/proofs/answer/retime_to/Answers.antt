@@ -22,7 +22,7 @@ pub returns-in-Ok-plain_to-clause-answer : goal.returns-in-Ok-plain_to-clause-an
 returns-in-Ok-plain_to-clause-answer g c =
     let made = c.plain_answer.ensures in
     let run = c.in-Ok-plain_to.run' in
-    is_answer c.args.task.now c.args.options.now c.args.spelt _ _ run.rounds run.keep c.plain_answer.result
+    is_answer c.args.task.now c.args.options.now c.args.spelt _ _ run.retimed run.keep c.plain_answer.result
     made.rounds made.keep (made.levels ∙ c.in-Ok.ensures) (made.spelling ∙ c.unwrap_or-spelling.ensures)
-    (subst (λ (map : Option Netlist). IsMapOf c.args.spelt.circuit run.rounds map) (sym made.map) tt)
+    (subst (λ (map : Option Netlist). IsMapOf c.args.spelt.circuit run.retimed map) (sym made.map) tt)
     (ap is_some made.map ∙ sym (ap is_some c.in-None.is)) c.in-Ok-plain_to.ensures.held c.in-Ok-plain_to.ensures.written

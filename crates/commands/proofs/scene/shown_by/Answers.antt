@@ -4,4 +4,4 @@ use Rattle.commands.proofs.scene.shown_by.Goals as goal
 pub returns : goal.returns
 returns g c =
     IfOk-weaker c.shown_of.result _ _
-    (λ scene shown. record { options = c.args.options.now; are = c.requires; read = c.in_ok-run.ensures.0; run = c.in_ok-run.run'; is = c.in_ok-run.ensures.1; shown = shown }) c.shown_of.ensures
+    (λ scene shown. record { options = c.args.options.now; are = c.requires; run = c.in_ok-run.run'; is = c.in_ok-run.ensures; shown = shown }) c.shown_of.ensures

@@ -1,5 +1,6 @@
 use Rattle.std.proofs.Common.{ℕ, List, ◌<◌, length, sym, subst}
 use Rattle.std.specs.List.{All}
+use Rattle.std.proofs.lemmas.Result.{IfOk-weaker}
 use Rattle.aig_graph.specs.Circuits.{IsNetlist}
 use Rattle.aig_graph.proofs.PositionLaws.{held_of-below}
 use Rattle.cleaned_circuits.proofs.PassLaws.{IsCircuit}
@@ -17,7 +18,9 @@ cleaned_run-requires-clause-in_range g c =
     subst P (sym c.requires.keep) (held_of-below (holding_in c.args.options.now) (circuit_of c.args.given) (subst IsNetlist c.circuit.ensures c.known.ensures.netlist))
 
 pub returns : goal.returns
-returns g c = λ b before there.
-    let run = c.in_ok-run.run' in
-    plain-begun g.F.RunFollower.has_come c.args.options.now c.args.bound run.bound b before (circuit_of c.args.given) c.args.keep.now c.args.follower run.follower run.retimed run.keep
-    (subst IsCircuit c.circuit.ensures (record { graph = c.known.ensures.graph; netlist = c.known.ensures.netlist })) c.requires.merge c.requires.keep c.requires.bound c.in_ok-run.ensures.1 there c.in_ok-run.ensures.0
+returns g c =
+    let has_come = g.F.RunFollower.has_come in
+    let given = circuit_of c.args.given in
+    let valid : IsCircuit given = subst IsCircuit c.circuit.ensures (record { graph = c.known.ensures.graph; netlist = c.known.ensures.netlist }) in
+    IfOk-weaker c.cleaned_run.result _ _
+    (λ run is. λ b before there. plain-begun has_come c.args.options.now c.args.bound b before given c.args.keep.now c.args.follower run valid c.requires.merge c.requires.keep c.requires.bound is.1 there is.0) c.cleaned_run.ensures

@@ -26,6 +26,9 @@ merged_run-requires-clause-there g c =
 pub merged_run-requires-clause-in_range : goal.merged_run-requires-clause-in_range
 merged_run-requires-clause-in_range g c = c.in-Ok.ensures.in_range
 
+pub merged_run-requires-clause-places : goal.merged_run-requires-clause-places
+merged_run-requires-clause-places g c = c.in-Ok.ensures.streams.places.each
+
 pub returns-in-Ok : goal.returns-in-Ok
 returns-in-Ok g c =
     let has_come = g.F.RunFollower.has_come in
@@ -35,7 +38,7 @@ returns-in-Ok g c =
     let mid = c.clean_and_merge.new.self in
     let latches : length c.latches.result.now ≡ length before.aig.latches = ap (λ (xs : List Latch). length xs) (c.latches.ensures.value ∙ ap (λ (g : Graph). g.latches) c.aig.ensures.value) in
     IfOk-weaker c.merged_run.result _ _
-    (λ x from. λ b places there. merged-begun has_come options c.args.bound x.run.bound b places before c.args.keep.now c.args.follower mid start x.run.follower x.run.retimed x.run.keep x.read
+    (λ x from. λ b places there. merged-begun has_come options c.args.bound b places before c.args.keep.now c.args.follower mid start x
     (record { graph = c.known.ensures.graph; netlist = c.known.ensures.netlist }) c.requires.merge c.requires.keep c.requires.bound from.1 there
     c.in-Ok.ensures.merges c.in-Ok.ensures.streams c.in-Ok.ensures.stay c.in-Ok.ensures.given c.in-Ok.ensures.comes
-    (subst (λ (n : ℕ). IsMergedFrom has_come options c.args.bound start n mid x.run.follower x.run.retimed x.run.keep x.read) latches from.0)) c.merged_run.ensures
+    (subst (λ (n : ℕ). IsMergedFrom has_come options start n mid x) latches from.0)) c.merged_run.ensures

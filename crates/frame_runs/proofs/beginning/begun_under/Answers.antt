@@ -23,5 +23,5 @@ returns-then-options g c =
     let has_come = g.F.RunFollower.has_come in
     let options = c.args.options.now in
     let P : Netlist → Type 0 = λ d. IfOk c.begun_merged-begun.result (λ begun. (b : Netlist) (before : List ℕ) → HasComeFrom has_come c.args.follower b before d
-    → IsRunBegun has_come options begun.run.bound b before d begun.read begun.run.retimed begun.run.keep begun.run.follower) in
+    → IsRunBegun has_come options b before d begun) in
     subst P c.circuit.ensures c.begun_merged-begun.ensures

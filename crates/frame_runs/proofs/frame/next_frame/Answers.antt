@@ -4,6 +4,7 @@ use Rattle.std.proofs.lemmas.Result.{IfOk-from_err}
 use Rattle.frame_runs.specs.declared.helping.Helping.{Helping}
 use Rattle.frame_runs.specs.Found.{Helps}
 use Rattle.frame_runs.specs.Retiming.{NoneHelpsBy}
+use Rattle.frame_runs.proofs.CertificateLaws.{still-added}
 use Rattle.frame_runs.proofs.LookLaws.{helps-saves}
 use Rattle.frame_runs.proofs.StageLaws.{notifies-nothing}
 use Rattle.frame_runs.proofs.frame.next_frame.Goals as goal
@@ -73,11 +74,13 @@ returns-in_err-cleaned-in-Some-clause-notified g c = IfOk-from_err c.from_residu
 pub returns-in-None-clause-certificate : goal.returns-in-None-clause-certificate
 returns-in-None-clause-certificate g c = c.in_ok-found.ensures.adds
 
--- the flows that are carried on are none of the certificates' business
+-- the tables and flows that are carried on are none of the certificates' business
 pub returns-in_ok-records-in-Some-clause-certificate : goal.returns-in_ok-records-in-Some-clause-certificate
 returns-in_ok-records-in-Some-clause-certificate g c =
-    let found = c.in_ok-found.ensures.adds in
-    record { certify = found.certify; added = found.added; none = found.none }
+    let run = c.args.run.now in
+    let added = still-added c.args.options.now run.bound run.keep run.retimed.circuit c.args.records.now c.helping_set.new.records c.take_tables-tables.new.self c.keep_tables.new.self
+    c.in_ok-found.ensures.adds c.take_tables-tables.ensures c.keep_tables.ensures in
+    record { certify = added.certify; added = added.added; none = added.none }
 
 pub moved_over-requires-clause-prepared : goal.moved_over-requires-clause-prepared
 moved_over-requires-clause-prepared g c =

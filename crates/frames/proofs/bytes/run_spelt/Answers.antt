@@ -18,7 +18,7 @@ returns-in-Ok-clause-ok g c =
     let options = c.args.options.now in
     let spelt = c.args.spelt in
     let run = c.in_ok-run.run' in
-    let r = run.rounds in
+    let r = run.retimed in
     let of = c.in_ok-run.ensures.retimed.rounds in
     record {
       answer = record { latches = c.in_ok-run.ensures.latches; names = c.in_ok-run.ensures.none_missing; now = run.keep; rounds = of };
@@ -31,7 +31,7 @@ returns-in-Ok-clause-ok g c =
 pub returns-in-Ok-clause-held : goal.returns-in-Ok-clause-held
 returns-in-Ok-clause-held g c =
     let run = c.in_ok-run.run' in
-    seen-after g.V.FrameWatcher.was_notified c.args.options.now c.args.spelt.circuit run.rounds run.keep c.args.watcher.now c.run_watched.new.watcher c.enter.new.self (Cleaning ∷ []) (Writing ∷ [])
+    seen-after g.V.FrameWatcher.was_notified c.args.options.now c.args.spelt.circuit run.retimed run.keep c.args.watcher.now c.run_watched.new.watcher c.enter.new.self (Cleaning ∷ []) (Writing ∷ [])
     c.in_ok-run.ensures.retimed c.enter.ensures
 
 pub returns-in_err-run-clause-ok : goal.returns-in_err-run-clause-ok
@@ -55,7 +55,7 @@ returns-in-Err-clause-err g c =
     let run = c.in_ok-run.ensures in
     let end = c.in_ok-run.run' in
     record {
-      rounds = end.rounds;
+      rounds = end.retimed;
       answer = record { latches = run.latches; names = run.none_missing; now = end.keep; rounds = run.retimed.rounds };
       writes = c.in-Err.ensures.err;
     }

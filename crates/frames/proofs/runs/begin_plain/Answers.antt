@@ -5,7 +5,8 @@ use Rattle.aig_graph.specs.declared.keep.Keep.{Keep}
 use Rattle.aig_graph.specs.Graph.{IsGraph, free_latches}
 use Rattle.aig_graph.specs.Laws.{all_free}
 use Rattle.frame_runs.specs.declared.follower.NoFollower.{NoFollower}
-use Rattle.frame_runs.specs.declared.run.Begun.{Begun}
+use Rattle.frame_runs.specs.declared.run.Run.{Run}
+use Rattle.retimed_circuits.specs.declared.report.Retimed.{Retimed}
 use Rattle.frame_runs.specs.declared.errors.RetimeError.{RetimeError}
 use Rattle.frame_runs.specs.declared.errors.RetimeError.TheVariants.{NoSuchName}
 use Rattle.frame_runs.specs.Given.{circuit_of}
@@ -37,7 +38,7 @@ returns-in_ok-begun-in-Ok-clause-none_missing c = subst (NoneMissingBy c.args.op
 
 pub returns-in-Err-clause-no_latch : goal.returns-in-Err-clause-no_latch
 returns-in-Err-clause-no_latch c =
-    at-latch {T = Begun NoFollower} (Err c.in-Err.error) c.in-Err.error (IsFirstNoLatchBy c.args.options.now (circuit_of c.args.given)) refl
+    at-latch {T = Run Retimed NoFollower} (Err c.in-Err.error) c.in-Err.error (IsFirstNoLatchBy c.args.options.now (circuit_of c.args.given)) refl
     (λ place is. subst (λ (d : Netlist). IsFirstNoLatchBy c.args.options.now d place) c.circuit-lent.ensures (c.in-Err.ensures.no_latch place (ap (λ (x : RetimeError). Err x) is)))
 
 pub returns-in-Err-clause-missing : goal.returns-in-Err-clause-missing

@@ -6,5 +6,4 @@ finish_rounds-requires-after_bounds g c κs within = c.requires
 
 pub returns : goal.returns
 returns g c = λ d begun.
-    let end = c.in_ok-end.end in
-    ended-rounds _ g.V.FrameWatcher.was_notified c.args.options.now c.args.begun.run.bound d end.rounds end.keep end.follower c.args.watcher.now c.finish_rounds.new.watcher (c.in_ok-end.ensures d begun)
+    ended-rounds _ g.V.FrameWatcher.was_notified c.args.options.now d c.in_ok-end.end c.args.watcher.now c.finish_rounds.new.watcher (c.in_ok-end.ensures d begun)

@@ -13,7 +13,7 @@ finish_plain-requires-after_bounds g c κs within = (circuit_of c.args.given, c.
 pub returns-clause-retimed : goal.returns-clause-retimed
 returns-clause-retimed g c =
     let run = c.in_ok-run.run' in
-    seen-before g.V.FrameWatcher.was_notified c.args.options.now (circuit_of c.args.given) run.rounds run.keep c.args.watcher.now c.enter.new.self c.finish_plain.new.watcher (Cleaning ∷ []) c.enter.ensures
+    seen-before g.V.FrameWatcher.was_notified c.args.options.now (circuit_of c.args.given) run.retimed run.keep c.args.watcher.now c.enter.new.self c.finish_plain.new.watcher (Cleaning ∷ []) c.enter.ensures
     (c.in_ok-run.ensures (circuit_of c.args.given) c.in_ok-begun.ensures.begun)
 
 pub returns-clause-latches : goal.returns-clause-latches

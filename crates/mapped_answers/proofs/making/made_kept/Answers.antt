@@ -49,6 +49,6 @@ returns-clause-seen g c =
       netlist = c.known.ensures.netlist;
       starts = c.in_ok-begun.ensures d (all_free d.aig) (record { places = length-range_with_len 0 (free_latches d.aig); come = c.in_ok-identity.ensures });
     }) in
-    let seen = ended-rounds _ was_notified options c.in_ok-begun.begun.run.bound d end.rounds end.keep end.follower c.args.watcher.now c.finish_rounds.new.watcher ends in
+    let seen = ended-rounds _ was_notified options d end c.args.watcher.now c.finish_rounds.new.watcher ends in
     let P : Rounds → List ℕ → Type 0 = λ r now. AreRoundsSeen was_notified [] [] options d r now c.args.watcher.now c.finish_rounds.new.watcher in
-    subst (λ (r : Rounds). P r c.in_ok-made.made.keep) (sym same.0) (subst (P end.rounds) (sym same.1) seen)
+    subst (λ (r : Rounds). P r c.in_ok-made.made.keep) (sym same.0) (subst (P end.retimed) (sym same.1) seen)

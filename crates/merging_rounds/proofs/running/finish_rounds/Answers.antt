@@ -1,4 +1,4 @@
-use Rattle.std.proofs.Common.{List, [], ◌∷◌}
+use Rattle.std.proofs.Common.{List, [], ◌∷◌, ◌∙◌}
 use Rattle.std.proofs.lemmas.Result.{IfOk-weaker}
 use Rattle.aig_graph.specs.Laws.{all_free}
 use Rattle.merging_rounds.proofs.StageLaws.{notified-all}
@@ -18,7 +18,7 @@ rounds_after-requires-after_bounds g c κs within =
       c.in_ok-first.ensures read (record {
         graph = is.1.graph;
         netlist = is.1.netlist;
-        bound_is = begun.bound_is;
+        bound_is = c.in_ok-run.ensures.bound ∙ begun.bound_is;
         followed = c.in_ok-run.ensures.retimed read (all_free read.aig) read begun;
       }),
     )
@@ -31,7 +31,7 @@ returns g c =
     let all = more read (run.retimed ∷ []) (c.in_ok-first.ensures read (record {
       graph = is.graph;
       netlist = is.netlist;
-      bound_is = begun.bound_is;
+      bound_is = c.in_ok-run.ensures.bound ∙ begun.bound_is;
       followed = c.in_ok-run.ensures.retimed read (all_free read.aig) read begun;
     })) in
     record {

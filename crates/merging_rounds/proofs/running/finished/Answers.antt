@@ -1,4 +1,4 @@
-use Rattle.std.proofs.Common.{subst, sym}
+use Rattle.std.proofs.Common.{◌∙◌, subst, sym}
 use Rattle.std.proofs.lemmas.Result.{IfOk-weaker}
 use Rattle.frame_runs.specs.Following.{IsRetimedFollowed}
 use Rattle.merging_rounds.proofs.AgainLaws.{merges-some}
@@ -25,7 +25,8 @@ returns-in-Ok g c =
     let followed = c.in-Ok.ensures.retimed b before d begun in
     record {
       run = run.retimed;
-      merges = merges-some c.args.begun.read run.retimed c.requires.merges c.in-Ok.ensures.merged;
+      bound_is = is.3 ∙ c.in-Ok.ensures.bound ∙ begun.bound_is;
+      merges = merges-some c.args.begun.retimed run.retimed c.requires.merges c.in-Ok.ensures.merged;
       followed = subst (λ js. IsRetimedFollowed has_come asked b before d run.retimed js next.follower) (sym is.1)
           (subst (λ f. IsRetimedFollowed has_come asked b before d run.retimed run.keep f) (sym is.2) followed);
       is_joined = is.0;

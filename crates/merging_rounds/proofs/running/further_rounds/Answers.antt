@@ -9,7 +9,7 @@ use Rattle.merging_rounds.proofs.running.further_rounds.Goals as goal
 
 pub loop-init : goal.loop-init
 loop-init g c = λ d runs is.
-    let P : List Retimed → Type 0 = λ xs. AreRoundsFollowed g.F.RunFollower.has_come c.args.options.now c.args.bound d xs c.args.first.rounds c.args.first.keep c.args.first.follower in
+    let P : List Retimed → Type 0 = λ xs. AreRoundsFollowed g.F.RunFollower.has_come c.args.options.now d xs c.args.first in
     record { more = []; followed = subst P (sym (append-nil runs)) is; notified = notified-none g.V.FrameWatcher.was_notified c.args.watcher.now (c.args.options.now.max_frames - length (frames_of runs)) }
 
 pub returns-then-frames-before : goal.returns-then-frames-before
@@ -30,7 +30,7 @@ returns-in-Ended g c = λ d runs is.
     let was_notified = g.V.FrameWatcher.was_notified in
     let options = c.args.options.now in
     let before = c.loop.invariant d runs is in
-    let P : Further g.row.F.Denot → Type 0 = λ x. IsFurther has_come was_notified options c.args.bound d (runs ++ before.more) x c.loop.watcher c.taken.new.watcher in
+    let P : Further g.row.F.Denot → Type 0 = λ x. IsFurther has_come was_notified options d (runs ++ before.more) x c.loop.watcher c.taken.new.watcher in
     let last = subst P c.in-Ended.is (c.in_ok-next.ensures d (runs ++ before.more) before.followed) in (
       true,
       record {
@@ -47,9 +47,9 @@ loop-preserved g c = λ d runs is.
     let options = c.args.options.now in
     let before = c.loop.invariant d runs is in
     let state = c.in-Round.next in
-    let P : Further g.row.F.Denot → Type 0 = λ x. IsFurther has_come was_notified options c.args.bound d (runs ++ before.more) x c.loop.watcher c.taken.new.watcher in
+    let P : Further g.row.F.Denot → Type 0 = λ x. IsFurther has_come was_notified options d (runs ++ before.more) x c.loop.watcher c.taken.new.watcher in
     let next = subst P c.in-Round.is (c.in_ok-next.ensures d (runs ++ before.more) before.followed) in
-    let Q : List Retimed → Type 0 = λ xs. AreRoundsFollowed has_come options c.args.bound d xs state.rounds state.keep state.follower in
+    let Q : List Retimed → Type 0 = λ xs. AreRoundsFollowed has_come options d xs state in
     record {
       more = before.more ++ next.run ∷ [];
       followed = subst Q (append_assoc runs before.more (next.run ∷ [])) next.followed;

@@ -7,5 +7,5 @@ use Rattle.merging_rounds.proofs.running.rounds_after.Goals as goal
 
 pub returns-else-options : goal.returns-else-options
 returns-else-options g c = λ d runs is.
-    let P : List Retimed → Type 0 = λ xs. AreRoundsFollowed g.F.RunFollower.has_come c.args.options.now c.args.bound d xs c.args.first.rounds c.args.first.keep c.args.first.follower in
+    let P : List Retimed → Type 0 = λ xs. AreRoundsFollowed g.F.RunFollower.has_come c.args.options.now d xs c.args.first in
     (false, record { more = []; followed = subst P (sym (append-nil runs)) is; notified = notified-none g.V.FrameWatcher.was_notified c.args.watcher.now (c.args.options.now.max_frames - length (frames_of runs)) })

@@ -1,13 +1,15 @@
-use Rattle.std.proofs.Common.{◌≡◌, List, ℕ, sym, subst}
+use Rattle.std.proofs.Common.{◌≡◌, ◌∙◌, List, ℕ, sym, subst}
 use Rattle.retimed_circuits.specs.declared.report.Retimed.{Retimed}
-use Rattle.frame_runs.specs.Following.{IsRetimedFrom}
-use Rattle.frame_runs.proofs.FrameLaws.{ended, with_certificates}
+use Rattle.frame_runs.specs.Following.{IsRetimedFollowed}
+use Rattle.frame_runs.proofs.FrameLaws.{with_certificates}
+use Rattle.frame_runs.proofs.BeginningLaws.{begun-ready, finished, merged-same}
 use Rattle.frame_runs.specs.Stages.{looks_of}
 use Rattle.frame_runs.proofs.StageLaws.{notifies-same, same-looks}
-use Rattle.frame_runs.proofs.retiming.run_to_end.Goals as goal
+use Rattle.frame_runs.proofs.retiming.finish.Goals as goal
 
 pub all_frames-requires-clause-begun : goal.all_frames-requires-clause-begun
-all_frames-requires-clause-begun g c κs within = c.requires
+all_frames-requires-clause-begun g c κs within =
+    let is = c.requires in (is.0, begun-ready g.F.RunFollower.has_come c.args.options.now is.0 is.1 is.2 c.args.start is.3)
 
 pub all_frames-requires-clause-wanted : goal.all_frames-requires-clause-wanted
 all_frames-requires-clause-wanted g c κs within = c.new-records.ensures.certify
@@ -16,15 +18,13 @@ pub all_frames-requires-clause-none_yet : goal.all_frames-requires-clause-none_y
 all_frames-requires-clause-none_yet g c κs within = c.new-records.ensures.certificates
 
 pub returns-in-Ok-clause-retimed : goal.returns-in-Ok-clause-retimed
-returns-in-Ok-clause-retimed g c = λ read d held kept start.
+returns-in-Ok-clause-retimed g c = λ b before d begun.
     let has_come = g.F.RunFollower.has_come in
     let options = c.args.options.now in
-    let bound = c.args.start.bound in
     let run = c.in-Ok.run' in
-    let r = run.retimed in
     let records = c.all_frames.new.records in
     let whole = c.certified.ensures in
-    let s : Retimed = with_certificates r records in
+    let s : Retimed = with_certificates run.retimed records in
     let same : c.certified.result.retimed ≡ s = λ i. record {
       circuit = whole.circuit i;
       kept_free = whole.kept_free i;
@@ -33,12 +33,15 @@ returns-in-Ok-clause-retimed g c = λ read d held kept start.
       frames = whole.frames i;
       certificates = whole.certificates i;
     } in
-    let ends = c.in-Ok.ensures.run read d held kept start in
-    let done = ended options bound d held records r run.keep ends.run in
-    let is : IsRetimedFrom has_come options bound read d held kept s run.keep run.follower = record { retimed = done.0; ends = done.1; stays = ends.run.underway.keeps.stays; come = ends.come } in
-    subst (λ (x : Retimed). IsRetimedFrom has_come options bound read d held kept x c.certified.result.keep c.certified.result.follower) (sym same)
-    (subst (λ (js : List ℕ). IsRetimedFrom has_come options bound read d held kept s js c.certified.result.follower) (sym whole.keep)
-    (subst (λ f. IsRetimedFrom has_come options bound read d held kept s run.keep f) (sym whole.follower) is))
+    let is : IsRetimedFollowed has_come options b before d s run.keep run.follower = finished has_come options b before d c.args.start run records c.in-Ok.ensures.bound (c.in-Ok.ensures.run b) begun in
+    subst (λ (x : Retimed). IsRetimedFollowed has_come options b before d x c.certified.result.keep c.certified.result.follower) (sym same)
+    (subst (λ (js : List ℕ). IsRetimedFollowed has_come options b before d s js c.certified.result.follower) (sym whole.keep)
+    (subst (λ f. IsRetimedFollowed has_come options b before d s run.keep f) (sym whole.follower) is))
+
+pub returns-in-Ok-clause-merged : goal.returns-in-Ok-clause-merged
+returns-in-Ok-clause-merged g c =
+    let is = c.requires in
+    c.certified.ensures.merged ∙ merged-same g.F.RunFollower.has_come c.args.options.now is.0 is.1 is.2 c.args.start c.in-Ok.run' c.all_frames.new.records (c.in-Ok.ensures.run is.0) is.3
 
 pub returns-in-Ok-clause-notified : goal.returns-in-Ok-clause-notified
 returns-in-Ok-clause-notified g c =

@@ -1,7 +1,7 @@
 use Rattle.std.proofs.Common.{ℕ, List, ◌<◌, ◌≡◌, ◌∙◌, Some, ap, length, subst, sym}
 use Rattle.std.specs.List.{All}
 use Rattle.aig_graph.specs.Laws.{composed}
-use Rattle.frame_runs.proofs.finishing.reported_of_read.Goals as goal
+use Rattle.frame_runs.proofs.beginning.reported_of_read.Goals as goal
 
 pub composed-requires : goal.composed-requires
 composed-requires c =
@@ -12,7 +12,6 @@ composed-requires c =
 pub returns-in-Ok : goal.returns-in-Ok
 returns-in-Ok c =
     let r = c.args.retimed in
-    let read = c.args.read in
-    let kept : c.from_vec.result ≡ composed read.kept_free r.kept_free = c.from_vec.ensures ∙ c.in-Ok.ensures
-    ∙ ap (λ (xs : List ℕ). composed xs c.as_slice-2.result.now) c.as_slice.ensures ∙ ap (composed read.kept_free) c.as_slice-2.ensures in
-    λ i. record { circuit = r.circuit; kept_free = kept i; read_latches = read.latches; merged = Some read.merged; frames = r.frames; certificates = r.certificates }
+    let kept : c.from_vec.result ≡ composed c.args.before r.kept_free = c.from_vec.ensures ∙ c.in-Ok.ensures
+    ∙ ap (λ (xs : List ℕ). composed xs c.as_slice-2.result.now) c.as_slice.ensures ∙ ap (composed c.args.before) c.as_slice-2.ensures in
+    λ i. record { circuit = r.circuit; kept_free = kept i; read_latches = c.args.latches; merged = Some c.args.merged; frames = r.frames; certificates = r.certificates }
