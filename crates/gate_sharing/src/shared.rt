@@ -35,7 +35,8 @@ pub(crate) struct SharedGate {
 }
 
 /// The link to the last gate of a list, that gate's smaller fan-in, and how many gates it has. So
-/// most gates that aren't there are known not to be by the list alone.
+/// most gates that aren't there are known not to be by the list alone. The larger fan-ins of a list
+/// are of one variable, but may differ in their signs.
 #[derive(Clone, Copy)]
 struct GateList {
     last: u32,
@@ -167,10 +168,11 @@ impl SharedGates {
         }
         let list = self.lists[var];
         if list.smaller == gate.rhs1 {
-            self.linked_to(list.last, gate)
-        } else {
-            self.listed_before(list, gate)
+            if let Some(place) = self.linked_to(list.last, gate) {
+                return Some(place);
+            }
         }
+        self.listed_before(list, gate)
     }
 
     /// Returns the place of a gate that no list took.
