@@ -1,12 +1,11 @@
 -- A further round that merges no latch, and one that merges some.
-use Rattle.std.proofs.Common.{ℕ, ◌-◌, ◌<◌, ◌≡◌, ◌∙◌, true, false, [], List, Option, Some, None, length, ap, sym, subst}
+use Rattle.std.proofs.Common.{ℕ, ◌<◌, ◌≡◌, ◌∙◌, true, false, [], List, Option, Some, None, length, ap, sym, subst}
 use Rattle.std.specs.List.{All}
 use Rattle.std.proofs.lemmas.List.FromFn.{length-range_with_len}
 use Rattle.aig_graph.specs.Circuits.{Netlist}
 use Rattle.aig_graph.specs.Graph.{free_latches}
 use Rattle.aig_graph.specs.Laws.{all_free, composed}
 use Rattle.aig_graph.proofs.StreamLaws.{composed-every}
-use Rattle.certificates.specs.declared.merged.MergedLatch.{MergedLatch}
 use Rattle.clean.specs.Normalised.{IsNormalised}
 use Rattle.cleaned_circuits.proofs.PassLaws.{IsCircuit}
 use Rattle.retimed_circuits.specs.declared.report.Retimed.{Retimed}

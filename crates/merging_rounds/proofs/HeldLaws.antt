@@ -4,11 +4,10 @@ use Rattle.std.specs.List.{All}
 use Rattle.std.specs.List.Sorted.{IsStrictlyIncreasing}
 use Rattle.aig_graph.specs.Circuits.{Netlist}
 use Rattle.aig_graph.specs.Counting.{places}
-use Rattle.aig_graph.specs.Keep.{Holding, held_by, held_in, held_of}
+use Rattle.aig_graph.specs.Keep.{Holding, held_by, held_of}
 use Rattle.aig_graph.specs.Marking.{has}
 use Rattle.aig_graph.specs.Move.{move_of}
 use Rattle.aig_graph.specs.declared.choice.Choice.{Choice}
-use Rattle.aig_graph.specs.declared.graph.Latch.{Latch}
 use Rattle.aig_graph.specs.declared.properties.Symbol.{Symbol}
 use Rattle.aig_graph.proofs.MemberLaws.{places-members}
 use Rattle.aig_graph.proofs.PositionLaws.{held_of-below, held_of-rising}
@@ -23,7 +22,6 @@ use Rattle.retimed_circuits.specs.declared.report.FrameReport.{FrameReport}
 use Rattle.retimed_circuits.specs.declared.report.Retimed.{Retimed}
 use Rattle.retimed_circuits.specs.Frames.{AfterFrames, cleaned, frame}
 use Rattle.retimed_circuits.specs.Merging.{MergesIn}
-use Rattle.retimed_circuits.specs.Names.{StayHeld}
 use Rattle.retimed_circuits.specs.Retiming.{IsMergedRetimed}
 use Rattle.retimed_circuits.proofs.CircuitLaws.{Held, after-held}
 use Rattle.retimed_circuits.proofs.HeldLaws.{cleaning-keeps, merging-keeps}

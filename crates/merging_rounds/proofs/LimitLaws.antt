@@ -1,5 +1,5 @@
 -- Rounds stay within the limits of a header.
-use Rattle.std.proofs.Common.{ℕ, ◌-◌, ◌≡◌, Bool, true, List, Option, length}
+use Rattle.std.proofs.Common.{ℕ, ◌-◌, Bool, true, List, Option, length}
 use Rattle.aig_graph.specs.Circuits.{Netlist}
 use Rattle.aig_graph.specs.Keep.{Holding}
 use Rattle.aig_graph.specs.declared.choice.Choice.{Choice}

@@ -20,8 +20,8 @@ use Rattle.retimed_circuits.specs.Retiming.{IsMergedRetimed, IsRetimedOver}
 use Rattle.retimed_circuits.proofs.MergedRunLaws.{merges-one, retiming-with-one}
 use Rattle.retimed_circuits.proofs.RunLaws.{after-one, run-one}
 use Rattle.frame_runs.specs.Retiming.{IsRetimedTo}
-use Rattle.merging_rounds.specs.Laws.{AreDetermined, AreSameRounds, IsSamePart}
-use Rattle.merging_rounds.specs.Rounds.{AfterRuns, IsRetimedInRounds, MergesSome, again, at_positions, first, frames_of, merged_in, part_of}
+use Rattle.merging_rounds.specs.Laws.{AreDetermined, IsSamePart}
+use Rattle.merging_rounds.specs.Rounds.{AfterRuns, again, at_positions, first, frames_of, merged_in, part_of}
 use Rattle.merging_rounds.specs.declared.rounds.Rounds.{Rounds}
 
 -- lists with one element more are equal if the lists and the elements are

@@ -1,10 +1,8 @@
 -- Rounds, one run after another.
-use Rattle.std.proofs.Common.{ℕ, ◌+◌, ◌-◌, ◌<◌, ◌≤◌, ◌≡◌, ◌≢◌, ◌∙◌, Bool, true, false, List, [], ◌∷◌, ◌++◌, Option, Some, None, length, map, max, refl, arith, ap, sym, subst, append-nil}
-use Rattle.std.specs.List.{flat_map}
+use Rattle.std.proofs.Common.{ℕ, ◌+◌, ◌-◌, ◌<◌, ◌≤◌, ◌≡◌, ◌∙◌, Bool, true, List, [], ◌∷◌, ◌++◌, Option, Some, None, length, refl, arith, ap, sym, subst, append-nil}
 use Rattle.std.proofs.lemmas.List.{length-append, map-append}
 use Rattle.std.proofs.lemmas.Grind.{flat_map-append}
-use Rattle.aig_graph.specs.Circuits.{IsNetlist, Netlist}
-use Rattle.aig_graph.specs.Graph.{IsGraph}
+use Rattle.aig_graph.specs.Circuits.{Netlist}
 use Rattle.aig_graph.specs.Keep.{Holding, held_of}
 use Rattle.aig_graph.specs.Laws.{composed}
 use Rattle.aig_graph.specs.Streams.{SameStreams}
@@ -13,7 +11,6 @@ use Rattle.aig_graph.proofs.PositionLaws.{held_of-names}
 use Rattle.aig_graph.proofs.StreamLaws.{same_streams-transitive}
 use Rattle.certificate_files.specs.declared.file.CertPart.{CertPart}
 use Rattle.cleaned_circuits.proofs.PassLaws.{IsCircuit}
-use Rattle.path_levels.specs.Levels.{levels}
 use Rattle.retimed_circuits.specs.declared.report.FrameReport.{FrameReport}
 use Rattle.retimed_circuits.specs.declared.report.Retimed.{Retimed}
 use Rattle.retimed_circuits.specs.Frames.{NoneHelps}

@@ -1,5 +1,5 @@
 -- What is so of each run, with merging or without.
-use Rattle.std.proofs.Common.{ℕ, ◌<◌, ◌≤◌, ◌≡◌, ◌∙◌, Bool, true, false, List, Option, length, refl, ap, sym, subst}
+use Rattle.std.proofs.Common.{ℕ, ◌<◌, ◌≤◌, Bool, true, false, List, Option, length, sym, subst}
 use Rattle.aig_graph.specs.Circuits.{Netlist}
 use Rattle.aig_graph.specs.Keep.{Holding}
 use Rattle.aig_graph.specs.Streams.{SameStreams}

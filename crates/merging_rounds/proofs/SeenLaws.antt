@@ -2,7 +2,6 @@
 use Rattle.std.proofs.Common.{ℕ, ◌≡◌, ◌∙◌, List, [], ◌++◌, Option, ap, sym, subst, append-nil, append_assoc}
 use Rattle.aig_graph.specs.Circuits.{Netlist}
 use Rattle.retimed_circuits.specs.RetimingLevels.{KeepsLevels}
-use Rattle.frame_runs.specs.Bounds.{bound_in}
 use Rattle.frame_runs.specs.Stages.{Notification, Notifies}
 use Rattle.frame_runs.specs.declared.options.Options.{Options}
 use Rattle.frame_runs.specs.declared.run.Run.{Run}

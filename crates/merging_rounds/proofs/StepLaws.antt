@@ -6,7 +6,7 @@ use Rattle.std.proofs.lemmas.Option.{same_Some}
 use Rattle.aig_graph.specs.Circuits.{Netlist}
 use Rattle.aig_graph.specs.Graph.{free_latches}
 use Rattle.aig_graph.specs.Keep.{Holding, held_of}
-use Rattle.aig_graph.specs.Laws.{all_free, composed}
+use Rattle.aig_graph.specs.Laws.{composed}
 use Rattle.aig_graph.specs.declared.choice.Choice.{Choice}
 use Rattle.certificate_files.specs.declared.file.CertPart.{CertPart}
 use Rattle.certificates.specs.declared.merged.MergedLatch.{MergedLatch}

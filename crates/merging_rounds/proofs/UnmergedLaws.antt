@@ -1,14 +1,13 @@
 -- What is merged by no lines stays as it was.
-use Rattle.std.proofs.Common.{ℕ, zero, suc, ◌+◌, ◌-◌, ◌*◌, ◌<◌, ◌≤◌, ◌≡◌, ◌∙◌, inl, inr, not, false, true, List, [], Option, length, get_or, refl, zero-add, add-one, arith, ap, sym, subst}
+use Rattle.std.proofs.Common.{ℕ, zero, suc, ◌+◌, ◌-◌, ◌*◌, ◌<◌, ◌≤◌, ◌≡◌, ◌∙◌, inl, inr, not, false, List, [], Option, length, get_or, refl, zero-add, add-one, arith, ap, sym, subst}
 use Rattle.std.specs.List.{All}
 use Rattle.std.proofs.lemmas.Bool.{cases_lt, eq-eqb}
 use Rattle.std.proofs.lemmas.List.{ext_get_or}
 use Rattle.aig_graph.specs.Circuits.{Netlist}
 use Rattle.aig_graph.specs.Graph.{Graph, first_gate, first_latch, variables_end}
-use Rattle.aig_graph.specs.Laws.{all_free, composed}
+use Rattle.aig_graph.specs.Laws.{all_free}
 use Rattle.aig_graph.specs.Tables.{table}
 use Rattle.aig_graph.specs.declared.choice.Choice.{Choice}
-use Rattle.aig_graph.proofs.StreamLaws.{composed-every}
 use Rattle.aig_graph.proofs.TableLaws.{length-table, table-at}
 use Rattle.certificates.specs.declared.merged.MergedLatch.{MergedLatch}
 use Rattle.clean.specs.Normalised.{IsNormalised}
@@ -19,7 +18,7 @@ use Rattle.cleaned_circuits.specs.Merged.{merge_gates, merging_from, replaced_ci
 use Rattle.cleaned_circuits.proofs.OwnLaws.{substitutes-leaf}
 use Rattle.cleaned_circuits.proofs.PassLaws.{IsCircuit}
 use Rattle.cleaned_circuits.proofs.UnchangedLaws.{replaced_circuit-same}
-use Rattle.merged_circuits.specs.Lines.{IsSaidBy, is_merged, latch_line, merged_lines}
+use Rattle.merged_circuits.specs.Lines.{IsSaidBy, is_merged, latch_line}
 use Rattle.merged_circuits.specs.Readings.{leaves, own_literal, own_reading, read, substitutes_by}
 use Rattle.merged_circuits.proofs.LineLaws.{lines_below, lines-all, lines-none, lines-stay, one-reading}
 use Rattle.merged_circuits.proofs.OwnLaws.{own-long}

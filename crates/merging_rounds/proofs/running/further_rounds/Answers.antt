@@ -1,4 +1,4 @@
-use Rattle.std.proofs.Common.{ℕ, ◌-◌, List, [], ◌∷◌, ◌++◌, true, false, append-nil, append_assoc, length, subst, sym}
+use Rattle.std.proofs.Common.{◌-◌, List, [], ◌∷◌, ◌++◌, true, false, append-nil, append_assoc, length, subst, sym}
 use Rattle.retimed_circuits.specs.declared.report.Retimed.{Retimed}
 use Rattle.merging_rounds.specs.Following.{AreRoundsFollowed}
 use Rattle.merging_rounds.specs.Rounds.{frames_of}
