@@ -7,7 +7,7 @@ ghost use Rattle.aig_graph.specs.Graph.{first_gate};
 ghost use Rattle.map_checks.specs.Answers.{AreFitting};
 ghost use Rattle.map_checks.specs.Parts.{AreMarkedEqual, ArePairMarks, AreShownWhere, AssumesCase};
 
-use crate::choosing::chosen;
+use crate::choosing::{Choice, chosen};
 use crate::comparing::{first_unmarked, is_marked, mark_equal};
 use crate::pairs::{Pairs, pairs_of};
 use crate::refuting::mark_refuted;
@@ -21,7 +21,7 @@ pub(crate) struct Asked {
     /// By part, whether it is shown.
     pub(crate) marks: Vec<bool>,
     /// An input or latch whose value may settle the part that was asked for, if it is open.
-    pub(crate) split: Option<Lit>,
+    pub(crate) split: Option<Choice>,
 }
 
 impl Drop for Asked {

@@ -21,6 +21,8 @@ pub(crate) struct Tree {
     pub(crate) pending: Vec<Sequence<Lit>>,
     pub(crate) shown: Vec<bool>,
     pub(crate) left: u32,
+    /// What the next case is split by before it is asked, if it is.
+    then: Option<Lit>,
 }
 
 impl Drop for Tree {
@@ -30,6 +32,7 @@ impl Drop for Tree {
             pending: _pending,
             shown: _shown,
             left: _left,
+            then: _then,
         } = self;
     }
 }
@@ -99,6 +102,7 @@ impl Tree {
             pending,
             shown,
             left,
+            then: None,
         })
     }
 
@@ -112,6 +116,7 @@ impl Tree {
             pending: Vec::new(alloc),
             shown: vec![in alloc; true; count]?,
             left,
+            then: None,
         };
         tree.answer(alloc, &[], asked)?;
         Ok(tree)
@@ -151,12 +156,24 @@ impl Tree {
             None
         };
         match open {
-            Some(lit) => split(alloc, &mut self.pending, case, lit, lit.not()),
+            Some(choice) => {
+                self.then = choice.then;
+                split(alloc, &mut self.pending, case, choice.lit, choice.lit.not())
+            }
             None => {
                 narrow(self.shown.as_mut_slice(), asked.marks.as_slice());
                 Ok(())
             }
         }
+    }
+
+    /// Splits the case that was taken out last, unasked.
+    fn part(&mut self, alloc: Global, case: &[Lit], lit: Lit) -> Result<(), NoMemory>
+        ensures { OnOk result ((c d m : Netlist) → IsGraph c.aig
+            → IsTree c d m (self.old.pending.items ++ case.now ∷ []) self.old.shown.items
+            → IsTree c d m self.new.pending.items self.new.shown.items) }
+    {
+        split(alloc, &mut self.pending, case, lit, lit.not())
     }
 
     /// Adds the marks of the parts that all cases show.
@@ -194,6 +211,12 @@ pub(crate) fn step(
     let Some(case) = tree.pending.pop() else {
         return Ok(());
     };
+    if let Some(lit) = tree.then.take() {
+        if case.len() < DEEPEST {
+            tree.part(alloc, case.as_slice(), lit)?;
+            return Ok(());
+        }
+    }
     let asked = ask(alloc, first, second, map, case.as_slice(), part)?;
     tree.answer(alloc, case.as_slice(), &asked)?;
     Ok(())

@@ -7,7 +7,7 @@ use Rattle.map_checks.proofs.trees.Tree.answer.Goals as goal
 
 pub returns-in-Some : goal.returns-in-Some
 returns-in-Some c = on_ok_weaker c.split.result (λ split n d m valid shown tree.
-    tree-split n d m valid c.args.self.now.pending.items c.split.new.pending.items c.args.case.now c.args.self.now.shown.items c.in-Some.lit c.not.result c.not.ensures.same_variable c.not.ensures.other_sign split tree) c.split.ensures
+    tree-split n d m valid c.args.self.now.pending.items c.split.new.pending.items c.args.case.now c.args.self.now.shown.items c.in-Some.choice.lit c.not.result c.not.ensures.same_variable c.not.ensures.other_sign split tree) c.split.ensures
 
 pub returns-in-None : goal.returns-in-None
 returns-in-None c = λ n d m valid shown tree.
