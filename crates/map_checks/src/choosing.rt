@@ -76,10 +76,7 @@ fn most_read(aig: &Aig, counts: &[u32], marks: &[bool], besides: u32) -> Option<
     for var in 1..aig.first_gate() {
         let lit = Lit::new(var, false);
         let many = reads(counts, lit);
-        if is_marked(marks, var as usize)
-            && var != besides
-            && (best.is_none() || many > most)
-        {
+        if is_marked(marks, var as usize) && var != besides && (best.is_none() || many > most) {
             best = Some(lit);
             most = many;
         }
@@ -116,13 +113,7 @@ pub(crate) struct Choice {
 
 /// Returns the choice of a literal that is read as a reset is, if there is one. Then another
 /// variable that is read as often is taken with it.
-fn reset_of(
-    aig: &Aig,
-    counts: &[u32],
-    own: &[bool],
-    all: &[bool],
-    parts: usize,
-) -> Option<Choice> {
+fn reset_of(aig: &Aig, counts: &[u32], own: &[bool], all: &[bool], parts: usize) -> Option<Choice> {
     let most = reads(counts, most_read(aig, counts, all, 0)?);
     let least = parts.max(most as usize) / 2;
     let lit = most_read_once(aig, counts, own)?;
