@@ -172,16 +172,40 @@ def are_equal(shared, a, b, learns):
     return a == b or is_refuted(gates, (a, b ^ 1), variables) and is_refuted(gates, (a ^ 1, b), variables)
 
 
+def most_read(counts, variables):
+    """The variable that is read most often, the first of those that are read as often."""
+    return max(sorted(variables), key=lambda var: counts[2 * var] + counts[2 * var + 1], default=None)
+
+
+def reset_of(counts, own, wide, lines):
+    """A literal that is read with one sign, as a reset is, and the variable that is split by where it is 1; or None."""
+    often = most_read(counts, wide)
+    alone = {max(2 * var, 2 * var + 1, key=counts.get) for var in own if 0 in (counts[2 * var], counts[2 * var + 1])}
+    lit = max(sorted(alone), key=counts.get, default=None)
+    if lit is None:
+        return None
+    least = max(lines, counts[2 * often] + counts[2 * often + 1]) // 2
+    if counts[lit] <= least:
+        return None
+    other = most_read(counts, wide - {lit // 2})
+    return lit, None if other is None or counts[2 * other] + counts[2 * other + 1] <= least else 2 * other
+
+
 def split_of(shared, parts, shown, part):
-    """The variable before the gates on which a part rests that most gates read of those on which open parts rest."""
+    """The literal to make cases of, and the one to split the case by in which it is 1, before that is asked; or None. The literal is of
+    a variable before the gates on which a part rests. Gates are counted on which open parts rest."""
     gates = shared.gates()
     wide = cone(gates, [lit for (_, *lits), yes in zip(parts, shown) if not yes for lit in lits])
-    counts = {var: 0 for var in cone(gates, parts[part][1:]) if 0 < var < shared.first}
+    counts = dict.fromkeys(range(2 * shared.first), 0)
     for own, a, b in gates:
         for lit in (a, b) if own // 2 in wide else ():
-            if lit // 2 in counts:
-                counts[lit // 2] += 1
-    return max(counts, key=lambda var: (counts[var], -var), default=None)
+            if lit // 2 < shared.first:
+                counts[lit] += 1
+    leaves = set(range(1, shared.first))
+    own = leaves & set(cone(gates, parts[part][1:]))
+    reset = reset_of(counts, own, leaves & set(wide), len(parts))
+    often = most_read(counts, own)
+    return reset or (None if often is None else (2 * often, None))
 
 
 class Cases:
@@ -198,17 +222,19 @@ class Cases:
 
     def settled(self, part, count):
         """By part whether all cases show it, of which there are as many as this part needs."""
-        pending, shown = [[]], [True] * count
+        pending, shown, then = [[]], [True] * count, None
         for _ in range(FOR_ONE):
             if not (self.left and pending and shown[part]):
                 break
             self.left -= 1
-            case = pending.pop()
-            found, split = self.asked(case, part)
-            if split is None or len(case) == DEEPEST:
-                shown = [a and b for a, b in zip(shown, found)]
-            else:
-                pending += [[2 * split + 1, *case], [2 * split, *case]]
+            case, lit, then = pending.pop(), then, None
+            if lit is None or len(case) == DEEPEST:
+                found, split = self.asked(case, part)
+                if split is None or len(case) == DEEPEST:
+                    shown = [a and b for a, b in zip(shown, found)]
+                    continue
+                lit, then = split
+            pending += [[lit ^ 1, *case], [lit, *case]]
         return [not pending and yes for yes in shown]
 
 

@@ -1,8 +1,8 @@
 //! What to make cases of: an input or latch that gates read often in the cones of all open parts.
-//! One that more gates read than half as many as there are parts, all with one sign, goes first, as
-//! a reset does: the other value of it settles most. Else it is the one that is read most often,
-//! among those on which one open part depends. So an enable or a reset is found without knowing what
-//! one is. Nothing that is proved depends on the choice.
+//! One that gates read with one sign alone goes first if it is read often, as a reset is: one value
+//! of it settles most. Else it is the one that is read most often, among those on which one open
+//! part depends. So an enable or a reset is found without knowing what one is. Nothing that is
+//! proved depends on the choice.
 use crate::comparing::is_marked;
 use crate::pairs::Pairs;
 use aig_graph::{Aig, Lit, NoMemory};
@@ -107,12 +107,13 @@ fn most_read_once(aig: &Aig, counts: &[u32], marks: &[bool]) -> Option<Lit> {
 #[derive(Clone, Copy)]
 pub(crate) struct Choice {
     pub(crate) lit: Lit,
-    /// What to make cases of where the literal is 1, if that settles little.
+    /// What splits the case in which the literal is 1, before that is asked.
     pub(crate) then: Option<Lit>,
 }
 
-/// Returns the choice of a literal that is read as a reset is, if there is one. Then another
-/// variable that is read as often is taken with it.
+/// Returns the choice of a literal that is read as a reset is, if there is one: with one sign, by
+/// more gates than half the parts, and than half of those that read the most read variable. Another
+/// variable that is read so often is taken with it.
 fn reset_of(aig: &Aig, counts: &[u32], own: &[bool], all: &[bool], parts: usize) -> Option<Choice> {
     let most = reads(counts, most_read(aig, counts, all, 0)?);
     let least = parts.max(most as usize) / 2;
