@@ -49,8 +49,9 @@ pub record MovesFollowed {F : Type 0} (has_come : F → Netlist → Netlist → 
   pub moves : Moves options bound held c frame
   pub comes : ComesOn has_come old new c frame.cleaned.circuit frame.cleaned.kept_free
 
--- The run is what n frames make of d, which is cleaned first. It is reported of c, which is d itself,
--- or was merged to d. The follower has come there from b, as it had come to c, at these places of b.
+-- The run is what n frames make of d, which is cleaned first. It is reported of c, which is d
+-- itself, or was merged to d. The follower has come there from b, as it had come to c, at these
+-- places of b.
 pub record IsFollowed {F : Type 0} (has_come : F → Netlist → Netlist → List ℕ → Type 0) (options : Options) (b d : Netlist) (read : Option ReadCircuit) (held before : List ℕ) (n : ℕ) (run : Run Retimed F) : Type 0 where
   pub underway : IsUnderway options run.bound d read held n run.retimed run.keep
   pub come : has_come run.follower b run.retimed.circuit (composed before run.retimed.kept_free)

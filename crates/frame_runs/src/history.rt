@@ -9,8 +9,8 @@ use clean::composed;
 use retimed_circuits::{FrameReport, Retimed};
 use std::alloc::Global;
 
-/// The places of the free latches that are left, the number of latches that were read, those that
-/// were merged, and the reports of the frames.
+/// The places of the free latches that are left, the number of latches that were read, the merged
+/// ones, and the reports of the frames.
 #[derive(Drop)]
 pub(crate) struct History {
     pub kept_free: Sequence<u32>,

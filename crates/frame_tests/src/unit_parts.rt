@@ -276,9 +276,9 @@ fn each_part_has_marks_of_its_own(rt: HostRuntime) {
     assert!(rt; meet_in(&rt, rt.alloc(), SIX_PAIRS, EACH, [0, 0], 6));
 }
 
-// As the head of `Sizes::OF_RUN` says. A circuit of 2^19 latches and gates is cut into parts of
-// 2^13 for several workers, and one of 2^22 for one worker. A part of over 2^16 is large. A size
-// that nothing reaches would change no set.
+// As the head of `Sizes::OF_RUN` says. Several workers cut a circuit of 2^19 latches and gates into
+// parts of 2^13, one worker one of 2^22. A part of over 2^16 is large. A size that nothing reaches
+// would change no set.
 #[test]
 fn a_run_cuts_from_the_sizes_that_are_told(rt: HostRuntime) {
     let Sizes {
