@@ -10,8 +10,8 @@ use Rattle.retimed_circuits.specs.Retiming.{since_merged}
 use Rattle.frame_runs.specs.declared.options.Options.{Options}
 use Rattle.frame_runs.specs.Named.{kept_by}
 
--- a circuit that was read and merged: how many latches it has, at which places the free ones stand
--- that the merged circuit has, and which were merged
+-- a circuit that was read and merged: how many latches it has, at which places free ones stand that
+-- stay, and which were merged
 pub record ReadCircuit : Type 0 where
   pub latches : ℕ
   pub kept_free : List ℕ

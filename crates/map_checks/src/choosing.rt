@@ -112,8 +112,8 @@ pub(crate) struct Choice {
 }
 
 /// Returns the choice of a literal that is read as a reset is, if there is one. It is read with one
-/// sign, and often: by more gates than half the parts, and than half of those that read the most
-/// read variable. Another variable that is read so often is taken with it.
+/// sign, and often: by more gates than half the parts, and than half the readers of the most read
+/// variable. Another variable that is read so often is taken with it.
 fn reset_of(aig: &Aig, counts: &[u32], own: &[bool], all: &[bool], parts: usize) -> Option<Choice> {
     let most = reads(counts, most_read(aig, counts, all, 0)?);
     let least = parts.max(most as usize) / 2;
